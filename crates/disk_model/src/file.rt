@@ -1,0 +1,78 @@
+ghost use Rattle.std.specs.Prelude.{◌≡◌, ◌^◌, ◌<◌};
+ghost use Rattle.disk_model.specs.Faults.{faults_after, counted};
+
+use crate::disk::{DeviceFault, Disk};
+use std::fs::OpenFile;
+use std::io;
+use std::os::unix::fs::FileExt;
+
+/// A device over a file of at least its size, by positioned reads and writes.
+#[derive(Drop)]
+pub struct FileDisk<F: FileExt + OpenFile> {
+    file: F,
+    size: u64,
+    failures: u64,
+    ghost size_fits: { size < 2 ^ 64 },
+    ghost failures_fit: { failures < 2 ^ 64 },
+}
+
+impl<F: FileExt + OpenFile> FileDisk<F> {
+    /// The first `size` bytes of the file.
+    pub fn new(file: F, size: u64) -> FileDisk<F> {
+        FileDisk {
+            file,
+            size,
+            failures: 0,
+        }
+    }
+
+    /// The file, after the device is no longer needed.
+    pub fn into_file(self) -> F
+    where
+        F: Drop,
+    {
+        let FileDisk { file, .. } = self;
+        file
+    }
+}
+
+// What the device answers to an outcome of the file, with the fault counted.
+fn outcome(done: io::Result<()>, failures: &mut u64) -> Result<(), DeviceFault>
+    ensures { failures.new ≡ faults_after result failures.old }
+{
+    match done {
+        Ok(()) => Ok(()),
+        Err(_) => {
+            *failures = failures.saturating_add(1);
+            Err(DeviceFault)
+        }
+    }
+}
+
+impl<F: FileExt + OpenFile> Disk for FileDisk<F> {
+    ghost extent = { λ disk. disk.size };
+
+    ghost faults = { λ disk. disk.failures };
+
+    fn size(&self) -> u64 {
+        self.size
+    }
+
+    fn read(&mut self, offset: u64, into: &mut [u8]) -> Result<(), DeviceFault> {
+        outcome(self.file.read_exact_at(into, offset), &mut self.failures)
+    }
+
+    fn write_at(&mut self, offset: u64, from: &[u8]) -> Result<(), DeviceFault> {
+        outcome(self.file.write_all_at(from, offset), &mut self.failures)
+    }
+
+    fn sync(&mut self) -> Result<(), DeviceFault> {
+        outcome(self.file.sync_data(), &mut self.failures)
+    }
+
+    fn failures(&self) -> u64 {
+        self.failures
+    }
+
+    ghost extent_fits = { λ disk. disk.size_fits };
+}

@@ -1,0 +1,10 @@
+//! Block devices as the layers above see them.
+#![tactic(auto)]
+
+mod disk;
+mod file;
+mod sim;
+
+pub use disk::{DeviceFault, Disk};
+pub use file::FileDisk;
+pub use sim::SimDisk;
