@@ -1,0 +1,56 @@
+ghost use Rattle.std.specs.Prelude.{◌≡◌, ◌+◌, ◌*◌, ◌%◌, ◌≤◌, ◌<◌, ◌^◌, ◌↔◌, IsSome, IfSome};
+ghost use Rattle.image_model.specs.Geometry.{device_bytes_of, map_bytes_of};
+
+/// The bytes of a block.
+pub const BLOCK_BYTES: u64 = 4096;
+
+/// The most blocks of an image.
+pub const MOST_BLOCKS: u64 = 1 << 24;
+
+/// The fewest and the most bytes of a journal area, which are a multiple of 8,192.
+pub const LEAST_AREA_BYTES: u32 = 2_097_152;
+
+pub const MOST_AREA_BYTES: u32 = 1_073_741_824;
+
+/// The size of an image in blocks, and of a journal area in bytes, within their limits.
+#[derive(Clone, Copy, Debug, PartialEq, Eq)]
+pub struct Geometry {
+    pub blocks: u64,
+    pub area: u32,
+    pub ghost some_blocks: { 1 ≤ blocks },
+    pub ghost not_too_many: { blocks ≤ 16777216 },
+    pub ghost area_not_too_small: { 2097152 ≤ area },
+    pub ghost area_not_too_large: { area ≤ 1073741824 },
+    pub ghost area_whole: { area % 8192 ≡ 0 },
+}
+
+impl Geometry {
+    /// The geometry of these sizes; none where one of them is outside its limits.
+    pub fn new(blocks: u64, area: u32) -> Option<Geometry>
+        ensures given { IfSome result (λ geometry. (geometry.blocks ≡ blocks) × (geometry.area ≡ area)) }
+        ensures within { IsSome result ↔
+            ((1 ≤ blocks) × (blocks ≤ 16777216) × (2097152 ≤ area) × (area ≤ 1073741824) × (area % 8192 ≡ 0)) }
+    {
+        if blocks < 1 || blocks > MOST_BLOCKS {
+            return None;
+        }
+        if area < LEAST_AREA_BYTES || area > MOST_AREA_BYTES || area % 8192 != 0 {
+            return None;
+        }
+        Some(Geometry { blocks, area })
+    }
+
+    /// The bytes of a map slot.
+    pub fn map_bytes(&self) -> u64
+        ensures { result ≡ map_bytes_of self.now.blocks }
+    {
+        self.blocks.div_ceil(16384) * 4096
+    }
+
+    /// The bytes of the whole device.
+    pub fn device_bytes(&self) -> u64
+        ensures { result ≡ device_bytes_of self.now.blocks self.now.area }
+    {
+        8192 + 2 * self.area as u64 + 2 * self.map_bytes() + BLOCK_BYTES * self.blocks
+    }
+}

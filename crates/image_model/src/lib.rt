@@ -1,0 +1,8 @@
+//! What a device holds: its geometry, the states of its blocks, and the commands that change them.
+#![tactic(auto)]
+
+mod command;
+mod geometry;
+
+pub use command::{Command, Kind};
+pub use geometry::{BLOCK_BYTES, Geometry, LEAST_AREA_BYTES, MOST_AREA_BYTES, MOST_BLOCKS};
