@@ -1,5 +1,5 @@
 -- groups as callers see them
-use Rattle.std.specs.Prelude.{ℕ, ◌+◌, ◌≤◌, List, length}
+use Rattle.std.specs.Prelude.{ℕ, ◌+◌, ◌≤◌, ◌%◌, List, length}
 use Rattle.image_model.specs.declared.command.Command.{Command}
 use Rattle.image_model.specs.Command.{bodies_of}
 
@@ -13,3 +13,7 @@ pub record IsGroup (first : ℕ) (commands : List Command) : Type 0 where
   pub some : 1 ≤ length commands
   pub bodies : bodies_of commands ≤ 8388608
   pub numbers : first + length commands ≤ 18446744073709551616
+
+-- the number behind a group's last; 0 where no number is left
+abbrev pub number_after : Numbered → ℕ
+number_after group = (group.first + length group.commands) % 18446744073709551616

@@ -1,3 +1,7 @@
+ghost use Rattle.std.specs.Prelude.{◌≡◌};
+ghost use Rattle.journal.specs.declared.fault.JournalFault.TheVariants as JournalFault;
+
+use disk_model::DeviceFault;
 use std::alloc::AllocError;
 use thiserror::Error;
 
@@ -19,4 +23,20 @@ pub enum JournalFault {
     /// 12: behind an open gate stands no whole group.
     #[error("damaged group")]
     DamagedGroup,
+}
+
+impl From<DeviceFault> for JournalFault {
+    ghost from_gives = { λ _ fault. fault ≡ JournalFault.DeviceFault };
+
+    fn from(_fault: DeviceFault) -> JournalFault {
+        JournalFault::DeviceFault
+    }
+}
+
+impl From<AllocError> for JournalFault {
+    ghost from_gives = { λ _ fault. fault ≡ JournalFault.NoMemory };
+
+    fn from(_error: AllocError) -> JournalFault {
+        JournalFault::NoMemory
+    }
 }

@@ -1,9 +1,18 @@
-ghost use Rattle.std.specs.Prelude.{◌≡◌, ◌+◌, ◌≤◌, ◌<◌, ◌^◌, length, vec_len, take};
+ghost use Rattle.std.specs.Prelude.{◌≡◌, ◌+◌, ◌≤◌, ◌<◌, ◌^◌, length, vec_len, OnOk};
 ghost use Rattle.image_model.specs.Command.{bodies_of, body_of};
-ghost use Rattle.journal.specs.Group.{IsGroup};
+ghost use Rattle.journal.specs.Group.{IsGroup, number_after};
 
-use image_model::Command;
+use crate::area::CLOSED;
+use image_model::{BLOCK_BYTES, Command, Kind};
+use std::alloc::AllocError;
 use std::marker::Model;
+
+// The kinds of a command in a group.
+pub const PUT: u8 = 1;
+
+pub const HOLE: u8 = 2;
+
+pub const ALLOCATED_ZERO: u8 = 3;
 
 /// Commands with consecutive numbers, which are stored whole or not at all.
 ///
@@ -65,5 +74,82 @@ impl Group {
             body: _,
         } = self;
         (first, commands)
+    }
+
+    /// The number of the first command.
+    pub fn first(&self) -> u64
+        ensures { result ≡ self.now.first }
+    {
+        self.first
+    }
+
+    // The bytes of the commands.
+    pub(crate) fn body_bytes(&self) -> u32
+        ensures exact { result ≡ bodies_of self.now.commands }
+        ensures bounded { result ≤ 8388608 }
+    {
+        self.body
+    }
+
+    // The number behind the last; 0 where no number is left.
+    pub(crate) fn number_after(&self) -> u64
+        ensures { result ≡ number_after self.now }
+    {
+        self.first.wrapping_add(self.commands.len() as u64)
+    }
+
+    // The number of commands: each takes 13 bytes at least, so it fits.
+    #[tactic(auto, using(crate::proofs::Bodies::count_within_bodies))]
+    pub(crate) fn count(&self) -> u32
+        ensures { result ≡ length self.now.commands }
+    {
+        self.commands.len() as u32
+    }
+
+    // What is written behind the group's gate: its head, its commands, and the next gate closed.
+    #[tactic(auto, using(std::proofs::lemmas::List::Sums::sum_by_more, std::proofs::lemmas::List::Sums::sum_by_more_le))]
+    pub(crate) fn spell(&self, buffer: &mut Vec<u8>) -> Result<(), AllocError>
+        ensures length { OnOk result (vec_len buffer.new ≡ 17 + bodies_of self.now.commands) }
+    {
+        buffer.clear();
+        buffer.reserve(self.body as usize + 17)?;
+        buffer.extend_from_slice(&self.body.to_be_bytes())?;
+        buffer.extend_from_slice(&self.first.to_be_bytes())?;
+        buffer.extend_from_slice(&self.count().to_be_bytes())?;
+        for command in &self.commands {
+            spell_command(command, buffer)?;
+        }
+        buffer.push(CLOSED)?;
+        Ok(())
+    }
+}
+
+// A command of a group: its kind, its first block, its blocks, and a put's bytes.
+fn spell_command(command: &Command, buffer: &mut Vec<u8>) -> Result<(), AllocError>
+    requires { body_of command.now ≤ 8388608 }
+    ensures length { OnOk result (vec_len buffer.new ≡ vec_len buffer.old + body_of command.now) }
+{
+    let (kind, first, blocks) = match command {
+        Command::Put { first, bytes } => (PUT, *first, (bytes.len() / BLOCK_BYTES as usize) as u32),
+        Command::Clear {
+            first,
+            blocks,
+            kind,
+        } => (cleared_kind(*kind), *first, *blocks),
+    };
+    buffer.push(kind)?;
+    buffer.extend_from_slice(&first.to_be_bytes())?;
+    buffer.extend_from_slice(&blocks.to_be_bytes())?;
+    if let Command::Put { first: _, bytes } = command {
+        buffer.extend_from_slice(bytes)?;
+    }
+    Ok(())
+}
+
+// The byte that stands for a Clear to this kind.
+fn cleared_kind(kind: Kind) -> u8 {
+    match kind {
+        Kind::Zero => ALLOCATED_ZERO,
+        Kind::Data | Kind::Hole => HOLE,
     }
 }

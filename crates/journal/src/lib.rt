@@ -1,8 +1,12 @@
 //! The journal: groups of commands in an area of a device, each behind a gate.
 #![tactic(auto)]
 
+mod area;
 mod fault;
 mod group;
+mod scan;
+mod window;
 
+pub use area::Area;
 pub use fault::JournalFault;
 pub use group::Group;
