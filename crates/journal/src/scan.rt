@@ -4,6 +4,7 @@ use crate::area::{GROUP_HEAD_BYTES, OPEN};
 use crate::fault::JournalFault;
 use crate::group::{ALLOCATED_ZERO, HOLE, PUT};
 use crate::window::Window;
+use byteorder::{BigEndian, ByteOrder};
 use disk_model::Disk;
 use image_model::BLOCK_BYTES;
 use std::alloc::Global;
@@ -185,9 +186,9 @@ fn group_head(bytes: &[u8]) -> GroupHead
     requires { length bytes.now ≡ 17 }
 {
     GroupHead {
-        body: number_32(&bytes[1..]),
-        first: number_64(&bytes[5..]),
-        count: number_32(&bytes[13..]),
+        body: BigEndian::read_u32(&bytes[1..]),
+        first: BigEndian::read_u64(&bytes[5..]),
+        count: BigEndian::read_u32(&bytes[13..]),
     }
 }
 
@@ -196,23 +197,7 @@ fn command_head(bytes: &[u8]) -> CommandHead
 {
     CommandHead {
         kind: bytes[0],
-        first: number_64(&bytes[1..]),
-        blocks: number_32(&bytes[9..]),
+        first: BigEndian::read_u64(&bytes[1..]),
+        blocks: BigEndian::read_u32(&bytes[9..]),
     }
-}
-
-// The number that the first four bytes spell, the highest first.
-fn number_32(bytes: &[u8]) -> u32
-    requires { 4 ≤ length bytes.now }
-{
-    u32::from_be_bytes([bytes[0], bytes[1], bytes[2], bytes[3]])
-}
-
-// The number that the first eight bytes spell, the highest first.
-fn number_64(bytes: &[u8]) -> u64
-    requires { 8 ≤ length bytes.now }
-{
-    u64::from_be_bytes([
-        bytes[0], bytes[1], bytes[2], bytes[3], bytes[4], bytes[5], bytes[6], bytes[7],
-    ])
 }

@@ -1,0 +1,10 @@
+//! The two header slots of a device, of which one holds the header in force.
+#![tactic(auto)]
+
+mod fault;
+mod header;
+mod slots;
+
+pub use fault::HeaderFault;
+pub use header::{Areas, Header, Side};
+pub use slots::{close_gate, open_gate, read_current, write_body, SLOT_BYTES};
