@@ -99,7 +99,10 @@ impl Header {
         };
         Some(Header {
             generation: BigEndian::read_u64(&bytes[8..]),
-            geometry: Geometry::new(BigEndian::read_u64(&bytes[16..]), BigEndian::read_u32(&bytes[24..]))?,
+            geometry: Geometry::new(
+                BigEndian::read_u64(&bytes[16..]),
+                BigEndian::read_u32(&bytes[24..]),
+            )?,
             areas,
             first_area: Side::of(bytes[29])?,
             map_slot: Side::of(bytes[30])?,

@@ -7,4 +7,4 @@ mod slots;
 
 pub use fault::HeaderFault;
 pub use header::{Areas, Header, Side};
-pub use slots::{close_gate, open_gate, read_current, write_body, SLOT_BYTES};
+pub use slots::{SLOT_BYTES, close_gate, open_gate, read_current, write_body};

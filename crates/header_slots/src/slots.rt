@@ -3,7 +3,7 @@ ghost use Rattle.disk_model.specs.Faults.{faults_after};
 ghost use Rattle.image_model.specs.Geometry.{device_bytes_of};
 
 use crate::fault::HeaderFault;
-use crate::header::{Header, Side, HEADER_BYTES};
+use crate::header::{HEADER_BYTES, Header, Side};
 use byteorder::{BigEndian, ByteOrder};
 use disk_model::{DeviceFault, Disk};
 
@@ -12,6 +12,7 @@ pub const SLOT_BYTES: u64 = 4096;
 
 // A gate that is open; every other byte is a closed one.
 const OPEN: u8 = 1;
+
 const CLOSED: u8 = 0;
 
 // A slot as it is read: its gate and the header's bytes behind it.

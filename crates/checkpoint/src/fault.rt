@@ -1,0 +1,75 @@
+ghost use Rattle.std.specs.Prelude.{◌≡◌};
+ghost use Rattle.checkpoint.specs.declared.fault.KeeperFault.TheVariants as KeeperFault;
+
+use disk_model::DeviceFault;
+use header_slots::HeaderFault;
+use journal::JournalFault;
+use std::alloc::AllocError;
+use thiserror::Error;
+
+/// Why a call of the keeper was refused; `docs/FORMATS.md`, "Refusals", has the numbers.
+#[derive(Clone, Copy, Debug, PartialEq, Eq, Error)]
+pub enum KeeperFault {
+    /// 0: a growth of memory was refused.
+    #[error("no memory")]
+    NoMemory,
+    /// 1: a call of the device failed.
+    #[error("device fault")]
+    DeviceFault,
+    /// 7: no header is in force.
+    #[error("no header")]
+    NoHeader,
+    /// 8: the header in force breaks a rule.
+    #[error("bad header")]
+    BadHeader,
+    /// 10: the group doesn't fit the area.
+    #[error("area full")]
+    AreaFull,
+    /// 11: the group's first number isn't the next.
+    #[error("out of order")]
+    OutOfOrder,
+    /// 12: behind an open gate stands no whole group.
+    #[error("damaged group")]
+    DamagedGroup,
+    /// 16: a call of the device has failed before; open the device again.
+    #[error("failed")]
+    Failed,
+}
+
+impl From<DeviceFault> for KeeperFault {
+    ghost from_gives = { λ _ fault. fault ≡ KeeperFault.DeviceFault };
+
+    fn from(_fault: DeviceFault) -> KeeperFault {
+        KeeperFault::DeviceFault
+    }
+}
+
+impl From<AllocError> for KeeperFault {
+    ghost from_gives = { λ _ fault. fault ≡ KeeperFault.NoMemory };
+
+    fn from(_error: AllocError) -> KeeperFault {
+        KeeperFault::NoMemory
+    }
+}
+
+impl From<HeaderFault> for KeeperFault {
+    fn from(fault: HeaderFault) -> KeeperFault {
+        match fault {
+            HeaderFault::DeviceFault => KeeperFault::DeviceFault,
+            HeaderFault::NoHeader => KeeperFault::NoHeader,
+            HeaderFault::BadHeader => KeeperFault::BadHeader,
+        }
+    }
+}
+
+impl From<JournalFault> for KeeperFault {
+    fn from(fault: JournalFault) -> KeeperFault {
+        match fault {
+            JournalFault::NoMemory => KeeperFault::NoMemory,
+            JournalFault::DeviceFault => KeeperFault::DeviceFault,
+            JournalFault::AreaFull => KeeperFault::AreaFull,
+            JournalFault::OutOfOrder => KeeperFault::OutOfOrder,
+            JournalFault::DamagedGroup => KeeperFault::DamagedGroup,
+        }
+    }
+}
