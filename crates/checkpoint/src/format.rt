@@ -5,7 +5,7 @@ use crate::fault::KeeperFault;
 use crate::keeper::Keeper;
 use crate::layout::{area_at, map_slot_at};
 use disk_model::Disk;
-use header_slots::{close_gate, open_gate, write_body, Areas, Header, Side};
+use header_slots::{Areas, Header, Side, close_gate, open_gate, write_body};
 use image_model::Geometry;
 use journal::Area;
 use std::alloc::Global;
@@ -14,11 +14,7 @@ impl<D: Disk> Keeper<D> {
     /// Makes the device an image of holes with an empty journal.
     ///
     /// Both header gates are closed and synced first; the header's gate is opened last, when all else is stable.
-    pub fn format(
-        alloc: Global,
-        disk: &mut D,
-        geometry: Geometry,
-    ) -> Result<(), KeeperFault>
+    pub fn format(alloc: Global, disk: &mut D, geometry: Geometry) -> Result<(), KeeperFault>
         requires { D.extent disk.old ≡ device_bytes_of geometry.blocks geometry.area }
         ensures extent { D.extent disk.new ≡ D.extent disk.old }
     {

@@ -4,7 +4,7 @@ ghost use Rattle.image_model.specs.Geometry.{device_bytes_of};
 use crate::fault::KeeperFault;
 use crate::layout::area_at;
 use disk_model::Disk;
-use header_slots::{read_current, Areas, Header};
+use header_slots::{Areas, Header, read_current};
 use image_model::Geometry;
 use journal::{Area, Group};
 use std::alloc::Global;
@@ -28,11 +28,12 @@ impl<D: Disk> Model for Keeper<D> {
     ghost Value = { KeeperState D };
 
     ghost view = { λ keeper. record {
-        disk = keeper.disk;
-        geometry = keeper.geometry;
-        count = (keeper.area.next + 18446744073709551615) % 18446744073709551616;
-        base = keeper.base;
-        failed = keeper.failed } };
+      disk = keeper.disk;
+      geometry = keeper.geometry;
+      count = (keeper.area.next + 18446744073709551615) % 18446744073709551616;
+      base = keeper.base;
+      failed = keeper.failed;
+    } };
 
     ghost invariant = { λ keeper. keeper.area.from + keeper.area.bytes ≤ D.extent keeper.disk };
 }

@@ -3,7 +3,7 @@ ghost use Rattle.image_model.specs.Geometry.{device_bytes_of, map_bytes_of};
 ghost use Rattle.checkpoint.specs.Layout.{area_from, map_from};
 ghost use Rattle.header_slots.specs.Place.{index_of};
 
-use header_slots::{Side, SLOT_BYTES};
+use header_slots::{SLOT_BYTES, Side};
 use image_model::Geometry;
 
 // The first byte of an area.

@@ -1,0 +1,45 @@
+use thiserror::Error;
+
+/// The four bytes in a message's place aren't its magic number: refusal 3.
+#[derive(Clone, Copy, Debug, PartialEq, Eq, Error)]
+#[error("bad magic")]
+pub struct BadMagic;
+
+/// Why no further request can be read from a stream.
+#[derive(Clone, Copy, Debug, PartialEq, Eq, Error)]
+pub enum WireFault {
+    /// Refusal 0: memory ran out.
+    #[error("no memory")]
+    NoMemory,
+    /// Refusal 3: where a request should begin stands another magic number.
+    #[error("bad magic")]
+    BadMagic,
+    /// Refusal 4: a WRITE announces more data than a server reads.
+    #[error("too long")]
+    TooLong,
+}
+
+/// An error that a reply carries ("Error values" of NBD's `proto.md`).
+#[derive(Clone, Copy, Debug, PartialEq, Eq)]
+pub enum Errno {
+    /// EIO: the device failed.
+    Io,
+    /// ENOMEM: memory ran out.
+    NoMemory,
+    /// EINVAL: the request is malformed.
+    Invalid,
+    /// ENOSPC: the request reaches past the end of the export.
+    NoSpace,
+}
+
+impl Errno {
+    /// The number on the wire.
+    pub fn number(self) -> u32 {
+        match self {
+            Errno::Io => 5,
+            Errno::NoMemory => 12,
+            Errno::Invalid => 22,
+            Errno::NoSpace => 28,
+        }
+    }
+}
