@@ -1,0 +1,4 @@
+//! The order in which write commands count: their numbers, those that wait for the journal, and the groups cut of them.
+#![tactic(auto)]
+
+mod dirty;
