@@ -1,1 +1,3 @@
+pub mod Backlog
 pub mod Blocks
+pub mod Pending
