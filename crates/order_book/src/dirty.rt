@@ -1,10 +1,12 @@
-ghost use Rattle.std.specs.Prelude.{◌≡◌, ◌+◌, ◌-◌, ◌<◌, ◌≤◌, ◌||◌, ◌&&◌, ℕ, not, nat_eq, nat_le, nat_lt, OnOk, OnErr};
+ghost use Rattle.std.specs.Prelude.{◌≡◌, ◌+◌, ◌-◌, ◌/◌, ◌<◌, ◌≤◌, ◌||◌, ◌&&◌, ℕ, not, nat_eq, nat_le, nat_lt, OnOk, OnErr, vec_len};
 ghost use Rattle.std.specs.HashSet as bag;
 ghost use Rattle.std.specs.FinSet as set;
 ghost use Rattle.std.specs.Ordering.{nat_cmp};
 ghost use Rattle.std.specs.Coded.{coded_ℕ};
-ghost use Rattle.order_book.specs.Blocks.{blocks_from};
+ghost use Rattle.order_book.specs.Blocks.{blocks_from, dirty_after, has_frames};
+ghost use Rattle.order_book.specs.Order.{IsWrite};
 
+use image_model::{BLOCK_BYTES, Command};
 use std::alloc::{AllocError, Global};
 use std::collections::HashSet;
 use std::marker::Model;
@@ -21,6 +23,13 @@ impl Model for DirtyBlocks {
     ghost coded = { set.code coded_ℕ };
 
     ghost view = { λ dirty. set.from_list dirty.blocks.keys };
+}
+
+// The blocks that the bytes fill.
+fn blocks_in(bytes: &Vec<u8>) -> u64
+    ensures { result ≡ vec_len bytes.now / 4096 }
+{
+    bytes.len() as u64 / BLOCK_BYTES
 }
 
 // How many blocks of the range the set lacks.
@@ -107,6 +116,32 @@ impl DirtyBlocks {
             remove_range(&mut self.blocks, first, end);
         } else {
             retain_outside(&mut self.blocks, first, end);
+        }
+    }
+
+    /// Whether `frames` frames hold the dirty blocks and those of the command.
+    pub(crate) fn has_frames(&self, command: &Command, frames: u32) -> bool
+        requires { IsWrite command.now }
+        ensures { result ≡ has_frames self.now frames command.now }
+    {
+        match command {
+            Command::Put { first, bytes } => self.len_with(*first, *first + blocks_in(bytes)) <= frames as u64,
+            Command::Clear { .. } => true,
+        }
+    }
+
+    /// Changes the set as the command does.
+    pub(crate) fn apply(&mut self, command: &Command) -> Result<(), AllocError>
+        requires { IsWrite command.now }
+        ensures ok { OnOk result (self.new ≡ dirty_after self.old command.now) }
+        ensures err { OnErr result (self.new ≡ self.old) }
+    {
+        match command {
+            Command::Put { first, bytes } => self.put(*first, *first + blocks_in(bytes)),
+            Command::Clear { first, blocks, .. } => {
+                self.clear(*first, *first + *blocks as u64);
+                Ok(())
+            }
         }
     }
 }

@@ -3,4 +3,9 @@
 
 mod backlog;
 mod dirty;
+mod fault;
+mod order;
 mod pending;
+
+pub use fault::OrderFault;
+pub use order::Order;

@@ -1,0 +1,137 @@
+ghost use Rattle.std.specs.Prelude.{◌≡◌, ◌+◌, ◌-◌, ◌<◌, ◌≤◌, ◌↔◌, [], true, false, All, IsErrAnd, IfErr, IfOk, IfSome, IfNone, OnErr, OnOk};
+ghost use Rattle.std.specs.FinSet as set;
+ghost use Rattle.order_book.specs.Order.{new_order, IsWrite, has_room, with_command, Seals, IsInHand, with_group, with_durable, body_limit};
+ghost use Rattle.order_book.specs.Pending.{HasSmallBody};
+
+use crate::backlog::Backlog;
+use crate::dirty::DirtyBlocks;
+use crate::fault::OrderFault;
+use crate::pending::PendingCommands;
+use image_model::Command;
+use journal::Group;
+use std::alloc::{AllocError, Global};
+use std::marker::Model;
+
+/// The most bytes that the commands which aren't durable take in groups.
+const MOST_BACKLOG_BYTES: u64 = 67_108_864;
+
+/// The most bytes of a group's body.
+const MOST_BODY_BYTES: u64 = 8_388_608;
+
+/// The bytes of an area round a group's body: what stands before it, and the gate behind it.
+const BYTES_ROUND_BODY: u64 = 18;
+
+/// The order in which write commands count.
+#[derive(Drop)]
+pub struct Order {
+    opening: u64,
+    durable: u64,
+    sealed: u64,
+    mark: u64,
+    pending: PendingCommands,
+    backlog: Backlog,
+    dirty: DirtyBlocks,
+    frames: u32,
+    area: u32,
+    stopped: bool,
+}
+
+impl Model for Order {
+    ghost use Rattle.std.specs.Coded.{codes, coded_ℕ};
+    ghost use Rattle.std.specs.Ordering.{nat_cmp};
+    ghost use Rattle.std.specs.FinSet as set;
+    ghost use Rattle.order_book.specs.Order.{OrderState, IsOrder};
+
+    ghost Value = { OrderState };
+
+    ghost coded = { Prim.hlevel (codes, set.code {R = nat_cmp} coded_ℕ) };
+
+    ghost view = { λ order. record {
+        opening = order.opening;
+        durable = order.durable;
+        sealed = order.sealed;
+        mark = order.mark;
+        pending = order.pending.commands;
+        bodies = order.backlog.bodies;
+        dirty = order.dirty;
+        frames = order.frames;
+        area = order.area;
+        stopped = order.stopped;
+    } };
+
+    ghost invariant = { λ order. IsOrder (record {
+        opening = order.opening;
+        durable = order.durable;
+        sealed = order.sealed;
+        mark = order.mark;
+        pending = order.pending.commands;
+        bodies = order.backlog.bodies;
+        dirty = order.dirty;
+        frames = order.frames;
+        area = order.area;
+        stopped = order.stopped;
+    }) order.pending.spare };
+}
+
+impl Order {
+    /// An order whose next number is `opening` + 1, for at most `frames` dirty blocks and journal areas of `area` bytes.
+    pub fn new(alloc: Global, opening: u64, frames: u32, area: u32) -> Order
+        requires { 2097152 ≤ area }
+        ensures { result ≡ new_order opening frames area }
+    {
+        Order {
+            opening,
+            durable: opening,
+            sealed: opening,
+            mark: opening,
+            pending: PendingCommands::new(alloc),
+            backlog: Backlog::new(alloc),
+            dirty: DirtyBlocks::new(alloc),
+            frames,
+            area,
+            stopped: false,
+        }
+    }
+
+    /// The last number before the first command.
+    pub fn opening(&self) -> u64
+        ensures { result ≡ self.now.opening }
+    {
+        self.opening
+    }
+
+    /// The number of the last command that was accepted.
+    pub fn mark(&self) -> u64
+        ensures { result ≡ self.now.mark }
+    {
+        self.mark
+    }
+
+    /// The last number of which it is known that it and all before it are durable.
+    pub fn durable(&self) -> u64
+        ensures { result ≡ self.now.durable }
+    {
+        self.durable
+    }
+
+    /// The last number that is in a group.
+    pub fn sealed(&self) -> u64
+        ensures { result ≡ self.now.sealed }
+    {
+        self.sealed
+    }
+
+    /// Refuses all commands from now on.
+    pub fn stop(&mut self)
+        ensures { self.new ≡ record self.old { stopped = true } }
+    {
+        self.stopped = true;
+    }
+
+    /// Whether the order was stopped.
+    pub fn stopped(&self) -> bool
+        ensures { result ≡ self.now.stopped }
+    {
+        self.stopped
+    }
+}
