@@ -1,10 +1,12 @@
 -- the order of write commands as callers see it
-use Rattle.std.specs.Prelude.{◌≡◌, ℕ, ◌+◌, ◌-◌, ◌<◌, ◌≤◌, ◌&&◌, Bool, false, nat_le, min, if◌then◌else◌, List, [], ◌∷◌, ◌++◌, length, drop, take, sum, All}
+use Rattle.std.specs.Prelude.{◌≡◌, ℕ, ◌+◌, ◌-◌, ◌<◌, ◌≤◌, ◌&&◌, ◌==◌, Option, Some, None, Bool, false, nat_le, min, if◌then◌else◌, List, [], ◌∷◌, ◌++◌, length, drop, take, sum, All}
 use Rattle.std.specs.Ordering.{nat_cmp}
 use Rattle.std.specs.FinSet.{FinSet, empty}
 use Rattle.image_model.specs.declared.command.Command.{Command}
 use Rattle.image_model.specs.Command.{IsCommand, body_of, bodies_of}
 use Rattle.journal.specs.Group.{Numbered}
+use Rattle.order_book.specs.declared.fault.OrderFault.{OrderFault}
+use Rattle.order_book.specs.declared.fault.OrderFault.TheVariants.{NumbersFull, NoRoom, Stopped}
 use Rattle.order_book.specs.Blocks.{dirty_after, has_frames}
 use Rattle.order_book.specs.Pending.{HasSmallBody}
 
@@ -49,6 +51,13 @@ IsWrite command = (image : ℕ) × (image < 18446744073709551616) × IsCommand i
 -- whether a command has room: in the frames, and in the 67,108,864 bytes for what isn't durable
 abbrev pub has_room : OrderState → Command → Bool
 has_room order command = has_frames order.dirty order.frames command && nat_le (sum order.bodies + body_of command) 67108864
+
+-- why a command is refused before any growth of memory: the first reason that holds
+abbrev pub refusal_of : OrderState → Command → Option OrderFault
+refusal_of order command =
+    if order.stopped then Some Stopped
+    else (if order.mark == 18446744073709551615 then Some NumbersFull
+    else (if has_room order command then None else Some NoRoom))
 
 -- the order with one command more
 abbrev pub with_command : OrderState → Command → OrderState

@@ -1,6 +1,6 @@
 ghost use Rattle.std.specs.Prelude.{◌≡◌, ◌+◌, ◌-◌, ◌<◌, ◌≤◌, ◌↔◌, [], true, false, All, IsErrAnd, IfErr, IfOk, IfSome, IfNone, OnErr, OnOk};
 ghost use Rattle.std.specs.FinSet as set;
-ghost use Rattle.order_book.specs.Order.{new_order, IsWrite, has_room, with_command, Seals, IsInHand, with_group, with_durable, body_limit};
+ghost use Rattle.order_book.specs.Order.{new_order, IsWrite, has_room, refusal_of, with_command, Seals, IsInHand, with_group, with_durable, body_limit};
 ghost use Rattle.order_book.specs.Pending.{HasSmallBody};
 
 use crate::backlog::Backlog;
@@ -73,6 +73,22 @@ impl Model for Order {
     }) order.pending.spare };
 }
 
+// Makes room for `count` commands more to be pending, and for one more that isn't durable.
+fn make_room(
+    pending: &mut PendingCommands,
+    backlog: &mut Backlog,
+    count: usize,
+) -> Result<(), AllocError>
+    ensures commands { pending.new.commands ≡ pending.old.commands }
+    ensures bodies { backlog.new.bodies ≡ backlog.old.bodies }
+    ensures kept { pending.old.spare ≤ pending.new.spare }
+    ensures pending { OnOk result (count ≤ pending.new.spare) }
+    ensures backlog { OnOk result (1 ≤ backlog.new.spare) }
+{
+    pending.reserve(count)?;
+    backlog.reserve()
+}
+
 impl Order {
     /// An order whose next number is `opening` + 1, for at most `frames` dirty blocks and journal areas of `area` bytes.
     pub fn new(alloc: Global, opening: u64, frames: u32, area: u32) -> Order
@@ -133,5 +149,64 @@ impl Order {
         ensures { result ≡ self.now.stopped }
     {
         self.stopped
+    }
+
+    /// Takes the command as the last one, and gives its number; a refusal hands it back.
+    ///
+    /// The refusals, in the order in which they are looked for: 18 (stopped), 9 (numbers full), 17 (no room), 0 (no memory).
+    pub fn accept(&mut self, command: Command) -> Result<u64, (OrderFault, Command)>
+        requires { IsWrite command }
+        ensures number { IfOk result (λ number. number ≡ self.old.mark + 1) }
+        ensures accepted { OnOk result (self.new ≡ with_command self.old command) }
+        ensures handed_back { IfErr result (λ refused. refused.1 ≡ command) }
+        ensures unchanged { OnErr result (self.new ≡ self.old) }
+
+        // A refusal that comes later says that none before it was due.
+        ensures stopped { IsErrAnd result (λ refused. refused.0 ≡ OrderFault.Stopped) ↔ (self.old.stopped ≡ true) }
+        ensures numbers_full { IsErrAnd result (λ refused. refused.0 ≡ OrderFault.NumbersFull)
+            ↔ ((self.old.stopped ≡ false) × (self.old.mark ≡ 18446744073709551615)) }
+        ensures no_room { IsErrAnd result (λ refused. refused.0 ≡ OrderFault.NoRoom)
+            ↔ ((self.old.stopped ≡ false) × (self.old.mark < 18446744073709551615) × (has_room self.old command ≡ false)) }
+    {
+        if let Some(fault) = self.refusal(&command) {
+            return Err((fault, command));
+        }
+        let in_hand = self.sealed.saturating_sub(self.durable) as usize;
+        let Ok(()) = make_room(&mut self.pending, &mut self.backlog, in_hand + 1) else {
+            return Err((OrderFault::NoMemory, command));
+        };
+        let Ok(()) = self.dirty.apply(&command) else {
+            return Err((OrderFault::NoMemory, command));
+        };
+        let body = command.body_bytes();
+        self.backlog.push(body as u32);
+        self.pending.push(command);
+        self.mark += 1;
+        Ok(self.mark)
+    }
+
+    // Why a command is refused before any growth.
+    fn refusal(&self, command: &Command) -> Option<OrderFault>
+        requires { IsWrite command.now }
+        ensures { result ≡ refusal_of self.now command.now }
+    {
+        if self.stopped {
+            return Some(OrderFault::Stopped);
+        }
+        if self.mark == u64::MAX {
+            return Some(OrderFault::NumbersFull);
+        }
+        if self.has_room(command) {
+            return None;
+        }
+        Some(OrderFault::NoRoom)
+    }
+
+    fn has_room(&self, command: &Command) -> bool
+        requires { IsWrite command.now }
+        ensures { result ≡ has_room self.now command.now }
+    {
+        self.dirty.has_frames(command, self.frames)
+            && self.backlog.total() + command.body_bytes() <= MOST_BACKLOG_BYTES
     }
 }
