@@ -1,4 +1,4 @@
-ghost use Rattle.std.specs.Prelude.{◌≡◌, ◌+◌, ◌-◌, ◌<◌, ◌≤◌, ◌↔◌, [], true, false, All, IsErrAnd, IfErr, IfOk, IfSome, IfNone, OnErr, OnOk};
+ghost use Rattle.std.specs.Prelude.{◌≡◌, ◌+◌, ◌-◌, ◌<◌, ◌≤◌, ◌↔◌, [], true, false, All, ◌⊎◌, Ok, None, IsErrAnd, IfErr, IfOk, IfSome, IfNone, OnErr, OnOk};
 ghost use Rattle.std.specs.FinSet as set;
 ghost use Rattle.order_book.specs.Order.{new_order, IsWrite, has_room, refusal_of, with_command, Seals, IsInHand, with_group, with_durable, body_limit};
 ghost use Rattle.order_book.specs.Pending.{HasSmallBody};
@@ -208,5 +208,54 @@ impl Order {
     {
         self.dirty.has_frames(command, self.frames)
             && self.backlog.total() + command.body_bytes() <= MOST_BACKLOG_BYTES
+    }
+
+    /// The longest beginning of the pending commands that a group may hold, whose places stay free for `put_back`.
+    ///
+    /// None where nothing is pending, or where what was sealed isn't durable yet: a group is in hand, or was stored and not published.
+    pub fn seal(&mut self) -> Result<Option<Group>, OrderFault>
+        ensures group { IfOk result (λ sealed. IfSome sealed (Seals self.old self.new)) }
+        ensures none { (result ≡ Ok None) ↔ ((self.old.pending ≡ []) ⊎ (self.old.durable < self.old.sealed)) }
+        ensures unchanged { IfOk result (λ sealed. IfNone sealed (self.new ≡ self.old)) }
+        ensures fault { IfErr result (λ fault. fault ≡ OrderFault.NoMemory) }
+        ensures err { OnErr result (self.new ≡ self.old) }
+    {
+        if self.pending.is_empty() || self.durable < self.sealed {
+            return Ok(None);
+        }
+        let count = self.pending.longest(self.body_limit());
+        let Ok(commands) = self.pending.take(count) else {
+            return Err(OrderFault::NoMemory);
+        };
+        let first = self.sealed + 1;
+        self.sealed += count as u64;
+        Ok(Some(Group::of(first, commands)))
+    }
+
+    // The most bytes of a group's body.
+    fn body_limit(&self) -> u64
+        ensures { result ≡ body_limit self.now.area }
+    {
+        (self.area as u64 - BYTES_ROUND_BODY).min(MOST_BODY_BYTES)
+    }
+
+    /// Makes the group in hand pending again, before all that is; the list is as it was before that `seal`.
+    pub fn put_back(&mut self, group: Group)
+        requires { IsInHand self.old group }
+        ensures { self.new ≡ with_group self.old group }
+    {
+        let (first, commands) = group.into_parts();
+        self.pending.put_back(commands);
+        self.sealed = first - 1;
+    }
+
+    /// Raises the durable number to `count`, where it lies between the durable number and the last accepted one.
+    pub fn publish_count(&mut self, count: u64)
+        ensures { self.new ≡ with_durable self.old count }
+    {
+        if self.durable <= count && count <= self.mark {
+            self.backlog.forget(count - self.durable);
+            self.durable = count;
+        }
     }
 }
