@@ -79,6 +79,7 @@ pub record Seals (old new : OrderState) (group : Numbered) : Type 0 where
   pub fits : bodies_of group.commands ≤ body_limit old.area
   -- one that is longer doesn't fit
   pub longest : (count : ℕ) → length group.commands < count → count ≤ length old.pending → body_limit old.area < bodies_of (take count old.pending)
+  pub small : All HasSmallBody group.commands
   -- nothing else changed
   pub rest : new ≡ record old { sealed = old.sealed + length group.commands; pending = new.pending }
 
@@ -99,12 +100,16 @@ with_durable order count =
     then record order { durable = count; bodies = drop (count - order.durable) order.bodies }
     else order
 
+-- the numbers from the last sealed one to the mark are those of the pending commands, and from the durable one of the backlog
+pub record IsNumbered (order : OrderState) : Type 0 where
+  pub pending : order.sealed + length order.pending ≡ order.mark
+  pub backlog : order.durable + length order.bodies ≡ order.mark
+  pub opened : (order.opening ≤ order.durable) × (order.opening ≤ order.sealed)
+  pub mark : order.mark < 18446744073709551616
+
 -- what holds of each order; `spare` is the room behind the pending commands
 pub record IsOrder (order : OrderState) (spare : ℕ) : Type 0 where
-  pub pending_numbers : order.sealed + length order.pending ≡ order.mark
-  pub backlog_numbers : order.durable + length order.bodies ≡ order.mark
-  pub opened : (order.opening ≤ order.durable) × (order.opening ≤ order.sealed)
-  pub numbers : order.mark < 18446744073709551616
+  pub numbers : IsNumbered order
   pub backlog : sum order.bodies ≤ 67108864
   pub small : All HasSmallBody order.pending
   pub area : (2097152 ≤ order.area) × (order.area < 4294967296)

@@ -1,6 +1,6 @@
 ghost use Rattle.std.specs.Prelude.{◌≡◌, ◌+◌, ◌-◌, ◌<◌, ◌≤◌, ◌↔◌, [], true, false, All, ◌⊎◌, Ok, None, IsErrAnd, IfErr, IfOk, IfSome, IfNone, OnErr, OnOk};
 ghost use Rattle.std.specs.FinSet as set;
-ghost use Rattle.order_book.specs.Order.{new_order, IsWrite, has_room, refusal_of, with_command, Seals, IsInHand, with_group, with_durable, body_limit};
+ghost use Rattle.order_book.specs.Order.{OrderState, new_order, IsNumbered, IsWrite, has_room, refusal_of, with_command, Seals, IsInHand, with_group, with_durable, body_limit};
 ghost use Rattle.order_book.specs.Pending.{HasSmallBody};
 
 use crate::backlog::Backlog;
@@ -118,7 +118,8 @@ impl Order {
 
     /// The number of the last command that was accepted.
     pub fn mark(&self) -> u64
-        ensures { result ≡ self.now.mark }
+        ensures mark { result ≡ self.now.mark }
+        ensures numbers { IsNumbered self.now }
     {
         self.mark
     }
@@ -242,7 +243,8 @@ impl Order {
     /// Makes the group in hand pending again, before all that is; the list is as it was before that `seal`.
     pub fn put_back(&mut self, group: Group)
         requires { IsInHand self.old group }
-        ensures { self.new ≡ with_group self.old group }
+        ensures pending { self.new ≡ with_group self.old group }
+        ensures restores { (before : OrderState) → Seals before self.old group → self.new ≡ before }
     {
         let (first, commands) = group.into_parts();
         self.pending.put_back(commands);
