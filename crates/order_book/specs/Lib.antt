@@ -1,0 +1,4 @@
+pub mod Backlog
+pub mod Blocks
+pub mod Order
+pub mod Pending

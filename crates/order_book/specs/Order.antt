@@ -1,0 +1,117 @@
+-- the order of write commands as callers see it
+use Rattle.std.specs.Prelude.{◌≡◌, ℕ, ◌+◌, ◌-◌, ◌<◌, ◌≤◌, ◌&&◌, ◌==◌, Option, Some, None, Bool, false, nat_le, min, if◌then◌else◌, List, [], ◌∷◌, ◌++◌, length, drop, take, sum, All}
+use Rattle.std.specs.Ordering.{nat_cmp}
+use Rattle.std.specs.FinSet.{FinSet, empty}
+use Rattle.image_model.specs.declared.command.Command.{Command}
+use Rattle.image_model.specs.Command.{IsCommand, body_of, bodies_of}
+use Rattle.journal.specs.Group.{Numbered}
+use Rattle.order_book.specs.declared.fault.OrderFault.{OrderFault}
+use Rattle.order_book.specs.declared.fault.OrderFault.TheVariants.{NumbersFull, NoRoom, Stopped}
+use Rattle.order_book.specs.Blocks.{dirty_after, has_frames}
+use Rattle.order_book.specs.Pending.{HasSmallBody}
+
+pub record OrderState : Type 0 where
+  -- the last number before the first command
+  pub opening : ℕ
+  -- the last number that is durable, the last that was sealed, and the last that was accepted
+  pub durable : ℕ
+  pub sealed : ℕ
+  pub mark : ℕ
+  -- the commands above the last sealed number, one number each
+  pub pending : List Command
+  -- the bytes that each command above the durable number takes in a group
+  pub bodies : List ℕ
+  -- the blocks whose last touch is a Put
+  pub dirty : FinSet nat_cmp
+  -- the most blocks that may be dirty, and the bytes of a journal area
+  pub frames : ℕ
+  pub area : ℕ
+  -- whether commands are refused from now on
+  pub stopped : Bool
+
+-- nothing was accepted yet
+abbrev pub new_order : ℕ → ℕ → ℕ → OrderState
+new_order last most bytes = record {
+  opening = last;
+  durable = last;
+  sealed = last;
+  mark = last;
+  pending = [];
+  bodies = [];
+  dirty = empty;
+  frames = most;
+  area = bytes;
+  stopped = false;
+}
+
+-- a write command of some image, whose blocks have numbers of 64 bits
+abbrev pub IsWrite : Command → Type 0
+IsWrite command = (image : ℕ) × (image < 18446744073709551616) × IsCommand image command
+
+-- whether a command has room: in the frames, and in the 67,108,864 bytes for what isn't durable
+abbrev pub has_room : OrderState → Command → Bool
+has_room order command = has_frames order.dirty order.frames command && nat_le (sum order.bodies + body_of command) 67108864
+
+-- why a command is refused before any growth of memory: the first reason that holds
+abbrev pub refusal_of : OrderState → Command → Option OrderFault
+refusal_of order command =
+    if order.stopped then Some Stopped
+    else (if order.mark == 18446744073709551615 then Some NumbersFull
+    else (if has_room order command then None else Some NoRoom))
+
+-- the order with one command more
+abbrev pub with_command : OrderState → Command → OrderState
+with_command order command = record order {
+  mark = order.mark + 1;
+  pending = order.pending ++ command ∷ [];
+  bodies = order.bodies ++ body_of command ∷ [];
+  dirty = dirty_after order.dirty command;
+}
+
+-- the most bytes of a group's body: 8,388,608, and with 18 bytes round it no more than an area
+abbrev pub body_limit : ℕ → ℕ
+body_limit area = min 8388608 (area - 18)
+
+-- the longest beginning of the pending list became a group
+pub record Seals (old new : OrderState) (group : Numbered) : Type 0 where
+  pub first : group.first ≡ old.sealed + 1
+  pub beginning : old.pending ≡ group.commands ++ new.pending
+  pub fits : bodies_of group.commands ≤ body_limit old.area
+  -- one that is longer doesn't fit
+  pub longest : (count : ℕ) → length group.commands < count → count ≤ length old.pending → body_limit old.area < bodies_of (take count old.pending)
+  pub small : All HasSmallBody group.commands
+  -- nothing else changed
+  pub rest : new ≡ record old { sealed = old.sealed + length group.commands; pending = new.pending }
+
+-- the group's numbers are the last that were sealed, and none of them is durable
+pub record IsInHand (order : OrderState) (group : Numbered) : Type 0 where
+  pub behind_durable : order.durable < group.first
+  pub up_to_sealed : group.first + length group.commands ≡ order.sealed + 1
+  pub small : All HasSmallBody group.commands
+
+-- the order once the group is pending again
+abbrev pub with_group : OrderState → Numbered → OrderState
+with_group order group = record order { sealed = group.first - 1; pending = group.commands ++ order.pending }
+
+-- the order once all numbers up to the count are durable; a count that lies outside says nothing
+abbrev pub with_durable : OrderState → ℕ → OrderState
+with_durable order count =
+    if nat_le order.durable count && nat_le count order.mark
+    then record order { durable = count; bodies = drop (count - order.durable) order.bodies }
+    else order
+
+-- the numbers from the last sealed one to the mark are those of the pending commands, and from the durable one of the backlog
+pub record IsNumbered (order : OrderState) : Type 0 where
+  pub pending : order.sealed + length order.pending ≡ order.mark
+  pub backlog : order.durable + length order.bodies ≡ order.mark
+  pub opened : (order.opening ≤ order.durable) × (order.opening ≤ order.sealed)
+  pub mark : order.mark < 18446744073709551616
+
+-- what holds of each order; `spare` is the room behind the pending commands
+pub record IsOrder (order : OrderState) (spare : ℕ) : Type 0 where
+  pub numbers : IsNumbered order
+  pub backlog : sum order.bodies ≤ 67108864
+  pub small : All HasSmallBody order.pending
+  pub area : (2097152 ≤ order.area) × (order.area < 4294967296)
+  -- a group in hand has its places
+  pub kept : order.sealed - order.durable ≤ spare

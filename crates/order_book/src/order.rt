@@ -1,0 +1,263 @@
+ghost use Rattle.std.specs.Prelude.{◌≡◌, ◌+◌, ◌-◌, ◌<◌, ◌≤◌, ◌↔◌, [], true, false, All, ◌⊎◌, Ok, None, IsErrAnd, IfErr, IfOk, IfSome, IfNone, OnErr, OnOk};
+ghost use Rattle.std.specs.FinSet as set;
+ghost use Rattle.order_book.specs.Order.{OrderState, new_order, IsNumbered, IsWrite, has_room, refusal_of, with_command, Seals, IsInHand, with_group, with_durable, body_limit};
+ghost use Rattle.order_book.specs.Pending.{HasSmallBody};
+
+use crate::backlog::Backlog;
+use crate::dirty::DirtyBlocks;
+use crate::fault::OrderFault;
+use crate::pending::PendingCommands;
+use image_model::Command;
+use journal::Group;
+use std::alloc::{AllocError, Global};
+use std::marker::Model;
+
+/// The most bytes that the commands which aren't durable take in groups.
+const MOST_BACKLOG_BYTES: u64 = 67_108_864;
+
+/// The most bytes of a group's body.
+const MOST_BODY_BYTES: u64 = 8_388_608;
+
+/// The bytes of an area round a group's body: what stands before it, and the gate behind it.
+const BYTES_ROUND_BODY: u64 = 18;
+
+/// The order in which write commands count.
+#[derive(Drop)]
+pub struct Order {
+    opening: u64,
+    durable: u64,
+    sealed: u64,
+    mark: u64,
+    pending: PendingCommands,
+    backlog: Backlog,
+    dirty: DirtyBlocks,
+    frames: u32,
+    area: u32,
+    stopped: bool,
+}
+
+impl Model for Order {
+    ghost use Rattle.std.specs.Coded.{codes, coded_ℕ};
+    ghost use Rattle.std.specs.Ordering.{nat_cmp};
+    ghost use Rattle.std.specs.FinSet as set;
+    ghost use Rattle.order_book.specs.Order.{OrderState, IsOrder};
+
+    ghost Value = { OrderState };
+
+    ghost coded = { Prim.hlevel (codes, set.code {R = nat_cmp} coded_ℕ) };
+
+    ghost view = { λ order. record {
+        opening = order.opening;
+        durable = order.durable;
+        sealed = order.sealed;
+        mark = order.mark;
+        pending = order.pending.commands;
+        bodies = order.backlog.bodies;
+        dirty = order.dirty;
+        frames = order.frames;
+        area = order.area;
+        stopped = order.stopped;
+    } };
+
+    ghost invariant = { λ order. IsOrder (record {
+        opening = order.opening;
+        durable = order.durable;
+        sealed = order.sealed;
+        mark = order.mark;
+        pending = order.pending.commands;
+        bodies = order.backlog.bodies;
+        dirty = order.dirty;
+        frames = order.frames;
+        area = order.area;
+        stopped = order.stopped;
+    }) order.pending.spare };
+}
+
+// Makes room for `count` commands more to be pending, and for one more that isn't durable.
+fn make_room(
+    pending: &mut PendingCommands,
+    backlog: &mut Backlog,
+    count: usize,
+) -> Result<(), AllocError>
+    ensures commands { pending.new.commands ≡ pending.old.commands }
+    ensures bodies { backlog.new.bodies ≡ backlog.old.bodies }
+    ensures kept { pending.old.spare ≤ pending.new.spare }
+    ensures pending { OnOk result (count ≤ pending.new.spare) }
+    ensures backlog { OnOk result (1 ≤ backlog.new.spare) }
+{
+    pending.reserve(count)?;
+    backlog.reserve()
+}
+
+impl Order {
+    /// An order whose next number is `opening` + 1, for at most `frames` dirty blocks and journal areas of `area` bytes.
+    pub fn new(alloc: Global, opening: u64, frames: u32, area: u32) -> Order
+        requires { 2097152 ≤ area }
+        ensures { result ≡ new_order opening frames area }
+    {
+        Order {
+            opening,
+            durable: opening,
+            sealed: opening,
+            mark: opening,
+            pending: PendingCommands::new(alloc),
+            backlog: Backlog::new(alloc),
+            dirty: DirtyBlocks::new(alloc),
+            frames,
+            area,
+            stopped: false,
+        }
+    }
+
+    /// The last number before the first command.
+    pub fn opening(&self) -> u64
+        ensures { result ≡ self.now.opening }
+    {
+        self.opening
+    }
+
+    /// The number of the last command that was accepted.
+    pub fn mark(&self) -> u64
+        ensures mark { result ≡ self.now.mark }
+        ensures numbers { IsNumbered self.now }
+    {
+        self.mark
+    }
+
+    /// The last number of which it is known that it and all before it are durable.
+    pub fn durable(&self) -> u64
+        ensures { result ≡ self.now.durable }
+    {
+        self.durable
+    }
+
+    /// The last number that is in a group.
+    pub fn sealed(&self) -> u64
+        ensures { result ≡ self.now.sealed }
+    {
+        self.sealed
+    }
+
+    /// Refuses all commands from now on.
+    pub fn stop(&mut self)
+        ensures { self.new ≡ record self.old { stopped = true } }
+    {
+        self.stopped = true;
+    }
+
+    /// Whether the order was stopped.
+    pub fn stopped(&self) -> bool
+        ensures { result ≡ self.now.stopped }
+    {
+        self.stopped
+    }
+
+    /// Takes the command as the last one, and gives its number; a refusal hands it back.
+    ///
+    /// The refusals, in the order in which they are looked for: 18 (stopped), 9 (numbers full), 17 (no room), 0 (no memory).
+    pub fn accept(&mut self, command: Command) -> Result<u64, (OrderFault, Command)>
+        requires { IsWrite command }
+        ensures number { IfOk result (λ number. number ≡ self.old.mark + 1) }
+        ensures accepted { OnOk result (self.new ≡ with_command self.old command) }
+        ensures handed_back { IfErr result (λ refused. refused.1 ≡ command) }
+        ensures unchanged { OnErr result (self.new ≡ self.old) }
+
+        // A refusal that comes later says that none before it was due.
+        ensures stopped { IsErrAnd result (λ refused. refused.0 ≡ OrderFault.Stopped) ↔ (self.old.stopped ≡ true) }
+        ensures numbers_full { IsErrAnd result (λ refused. refused.0 ≡ OrderFault.NumbersFull)
+            ↔ ((self.old.stopped ≡ false) × (self.old.mark ≡ 18446744073709551615)) }
+        ensures no_room { IsErrAnd result (λ refused. refused.0 ≡ OrderFault.NoRoom)
+            ↔ ((self.old.stopped ≡ false) × (self.old.mark < 18446744073709551615) × (has_room self.old command ≡ false)) }
+    {
+        if let Some(fault) = self.refusal(&command) {
+            return Err((fault, command));
+        }
+        let in_hand = self.sealed.saturating_sub(self.durable) as usize;
+        let Ok(()) = make_room(&mut self.pending, &mut self.backlog, in_hand + 1) else {
+            return Err((OrderFault::NoMemory, command));
+        };
+        let Ok(()) = self.dirty.apply(&command) else {
+            return Err((OrderFault::NoMemory, command));
+        };
+        let body = command.body_bytes();
+        self.backlog.push(body as u32);
+        self.pending.push(command);
+        self.mark += 1;
+        Ok(self.mark)
+    }
+
+    // Why a command is refused before any growth.
+    fn refusal(&self, command: &Command) -> Option<OrderFault>
+        requires { IsWrite command.now }
+        ensures { result ≡ refusal_of self.now command.now }
+    {
+        if self.stopped {
+            return Some(OrderFault::Stopped);
+        }
+        if self.mark == u64::MAX {
+            return Some(OrderFault::NumbersFull);
+        }
+        if self.has_room(command) {
+            return None;
+        }
+        Some(OrderFault::NoRoom)
+    }
+
+    fn has_room(&self, command: &Command) -> bool
+        requires { IsWrite command.now }
+        ensures { result ≡ has_room self.now command.now }
+    {
+        self.dirty.has_frames(command, self.frames)
+            && self.backlog.total() + command.body_bytes() <= MOST_BACKLOG_BYTES
+    }
+
+    /// The longest beginning of the pending commands that a group may hold, whose places stay free for `put_back`.
+    ///
+    /// None where nothing is pending, or where what was sealed isn't durable yet: a group is in hand, or was stored and not published.
+    pub fn seal(&mut self) -> Result<Option<Group>, OrderFault>
+        ensures group { IfOk result (λ sealed. IfSome sealed (Seals self.old self.new)) }
+        ensures none { (result ≡ Ok None) ↔ ((self.old.pending ≡ []) ⊎ (self.old.durable < self.old.sealed)) }
+        ensures unchanged { IfOk result (λ sealed. IfNone sealed (self.new ≡ self.old)) }
+        ensures fault { IfErr result (λ fault. fault ≡ OrderFault.NoMemory) }
+        ensures err { OnErr result (self.new ≡ self.old) }
+    {
+        if self.pending.is_empty() || self.durable < self.sealed {
+            return Ok(None);
+        }
+        let count = self.pending.longest(self.body_limit());
+        let Ok(commands) = self.pending.take(count) else {
+            return Err(OrderFault::NoMemory);
+        };
+        let first = self.sealed + 1;
+        self.sealed += count as u64;
+        Ok(Some(Group::of(first, commands)))
+    }
+
+    // The most bytes of a group's body.
+    fn body_limit(&self) -> u64
+        ensures { result ≡ body_limit self.now.area }
+    {
+        (self.area as u64 - BYTES_ROUND_BODY).min(MOST_BODY_BYTES)
+    }
+
+    /// Makes the group in hand pending again, before all that is; the list is as it was before that `seal`.
+    pub fn put_back(&mut self, group: Group)
+        requires { IsInHand self.old group }
+        ensures pending { self.new ≡ with_group self.old group }
+        ensures restores { (before : OrderState) → Seals before self.old group → self.new ≡ before }
+    {
+        let (first, commands) = group.into_parts();
+        self.pending.put_back(commands);
+        self.sealed = first - 1;
+    }
+
+    /// Raises the durable number to `count`, where it lies between the durable number and the last accepted one.
+    pub fn publish_count(&mut self, count: u64)
+        ensures { self.new ≡ with_durable self.old count }
+    {
+        if self.durable <= count && count <= self.mark {
+            self.backlog.forget(count - self.durable);
+            self.durable = count;
+        }
+    }
+}
