@@ -74,6 +74,7 @@ body_limit area = min 8388608 (area - 18)
 
 -- the longest beginning of the pending list became a group
 pub record Seals (old new : OrderState) (group : Numbered) : Type 0 where
+  pub some : 1 ≤ length group.commands
   pub first : group.first ≡ old.sealed + 1
   pub beginning : old.pending ≡ group.commands ++ new.pending
   pub fits : bodies_of group.commands ≤ body_limit old.area

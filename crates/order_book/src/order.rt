@@ -1,4 +1,4 @@
-ghost use Rattle.std.specs.Prelude.{◌≡◌, ◌+◌, ◌-◌, ◌<◌, ◌≤◌, ◌↔◌, [], true, false, All, ◌⊎◌, Ok, None, IsErrAnd, IfErr, IfOk, IfSome, IfNone, OnErr, OnOk};
+ghost use Rattle.std.specs.Prelude.{◌≡◌, ◌≢◌, ◌+◌, ◌-◌, ◌<◌, ◌≤◌, ◌↔◌, [], true, false, All, ◌⊎◌, Ok, None, IsErrAnd, IfErr, IfOk, IfSome, IfNone, OnErr, OnOk};
 ghost use Rattle.std.specs.FinSet as set;
 ghost use Rattle.order_book.specs.Order.{OrderState, new_order, IsNumbered, IsWrite, has_room, refusal_of, with_command, Seals, IsInHand, with_group, with_durable, body_limit};
 ghost use Rattle.order_book.specs.Pending.{HasSmallBody};
@@ -7,6 +7,8 @@ use crate::backlog::Backlog;
 use crate::dirty::DirtyBlocks;
 use crate::fault::OrderFault;
 use crate::pending::PendingCommands;
+use checkpoint::Keeper;
+use disk_model::Disk;
 use image_model::Command;
 use journal::Group;
 use std::alloc::{AllocError, Global};
@@ -216,12 +218,13 @@ impl Order {
     /// None where nothing is pending, or where what was sealed isn't durable yet: a group is in hand, or was stored and not published.
     pub fn seal(&mut self) -> Result<Option<Group>, OrderFault>
         ensures group { IfOk result (λ sealed. IfSome sealed (Seals self.old self.new)) }
-        ensures none { (result ≡ Ok None) ↔ ((self.old.pending ≡ []) ⊎ (self.old.durable < self.old.sealed)) }
+        ensures in_hand { IfOk result (λ sealed. IfSome sealed (IsInHand self.new)) }
+        ensures none { (result ≡ Ok None) ↔ ((self.old.pending ≡ []) ⊎ (self.old.durable ≢ self.old.sealed)) }
         ensures unchanged { IfOk result (λ sealed. IfNone sealed (self.new ≡ self.old)) }
         ensures fault { IfErr result (λ fault. fault ≡ OrderFault.NoMemory) }
         ensures err { OnErr result (self.new ≡ self.old) }
     {
-        if self.pending.is_empty() || self.durable < self.sealed {
+        if self.pending.is_empty() || self.durable != self.sealed {
             return Ok(None);
         }
         let count = self.pending.longest(self.body_limit());
@@ -251,8 +254,15 @@ impl Order {
         self.sealed = first - 1;
     }
 
-    /// Raises the durable number to `count`, where it lies between the durable number and the last accepted one.
-    pub fn publish_count(&mut self, count: u64)
+    /// Raises the durable number to the keeper's count, where that lies between the durable number and the last accepted one.
+    pub fn publish<D: Disk>(&mut self, keeper: &Keeper<D>)
+        ensures { self.new ≡ with_durable self.old keeper.now.count }
+    {
+        self.publish_count(keeper.count());
+    }
+
+    // Raises the durable number to the count of a keeper.
+    fn publish_count(&mut self, count: u64)
         ensures { self.new ≡ with_durable self.old count }
     {
         if self.durable <= count && count <= self.mark {

@@ -1,5 +1,5 @@
 -- what becomes of a request before anything is done for it, by docs/FORMATS.md, "Judgement": the first rule that applies
-use Rattle.std.specs.Prelude.{ℕ, ◌+◌, ◌%◌, ◌*◌, Bool, ◌==◌, ◌||◌, ◌&&◌, not, nat_lt, if◌then◌else◌, Result, Ok, Err, bit_and, List, [], ◌∷◌}
+use Rattle.std.specs.Prelude.{ℕ, ◌≡◌, ◌<◌, ◌≤◌, ◌+◌, ◌%◌, ◌*◌, Bool, ◌==◌, ◌||◌, ◌&&◌, not, nat_lt, if◌then◌else◌, Result, Ok, Err, bit_and, List, [], ◌∷◌}
 use Rattle.nbd_wire.specs.declared.error.Errno.{Errno}
 use Rattle.nbd_wire.specs.declared.error.Errno.TheVariants.{Invalid, NoSpace}
 use Rattle.nbd_wire.specs.declared.head.RequestHead.{RequestHead}
@@ -50,3 +50,12 @@ verdict head geometry flags = first_of_rules (
     ∷ (head.kind == 3, Err Invalid)
     ∷ ((head.kind == 7) && not (flags.structured && flags.context), Err Invalid)
     ∷ []) (range_verdict head geometry)
+
+-- a WRITE of whole blocks inside the image, at most 1,048,576 bytes
+pub record IsServedWrite (head : RequestHead) (geometry : Geometry) : Type 0 where
+  pub kind : head.kind ≡ 1
+  pub some : 0 < head.length
+  pub most : head.length ≤ 1048576
+  pub from_block : head.offset % 4096 ≡ 0
+  pub whole_blocks : head.length % 4096 ≡ 0
+  pub inside : head.offset + head.length ≤ 4096 * geometry.blocks

@@ -1,5 +1,5 @@
-ghost use Rattle.std.specs.Prelude.{◌≡◌, ◌==◌, ◌||◌, ◌&&◌, not, nat_lt, ◌+◌, ◌*◌};
-ghost use Rattle.request_core.specs.Verdict.{verdict, is_known, allowed_flags, range_verdict};
+ghost use Rattle.std.specs.Prelude.{◌≡◌, ◌≢◌, ◌==◌, ◌||◌, ◌&&◌, not, nat_lt, ◌+◌, ◌*◌};
+ghost use Rattle.request_core.specs.Verdict.{verdict, is_known, allowed_flags, range_verdict, IsServedWrite};
 
 use bitflags::Flags;
 use image_model::{BLOCK_BYTES, Geometry};
@@ -19,7 +19,8 @@ pub enum Action {
 
 /// Judges a request by the rules of `docs/FORMATS.md`, "Judgement": the first that applies decides.
 pub fn judge(head: &RequestHead, geometry: &Geometry, flags: &SessionFlags) -> Result<Action, Errno>
-    ensures { result ≡ verdict head.now geometry.now flags.now }
+    ensures verdict { result ≡ verdict head.now geometry.now flags.now }
+    ensures write { result ≡ Ok Action.Serve → head.now.kind ≢ 3 → IsServedWrite head.now geometry.now }
 {
     if head.kind == DISCONNECT {
         return Ok(Action::End);
@@ -65,7 +66,8 @@ fn allowed(kind: u16, structured: bool) -> u16
 
 // Judges the range of a request that names one.
 fn judge_range(head: &RequestHead, geometry: &Geometry) -> Result<Action, Errno>
-    ensures { result ≡ range_verdict head.now geometry.now }
+    ensures verdict { result ≡ range_verdict head.now geometry.now }
+    ensures write { result ≡ Ok Action.Serve → IsServedWrite head.now geometry.now }
 {
     let blocks = BLOCK_BYTES as u32;
     if head.length == 0 || head.offset % BLOCK_BYTES != 0 || head.length % blocks != 0 {

@@ -1,0 +1,10 @@
+use Rattle.std.specs.Prelude.{ℕ, ◌≡◌}
+use Rattle.nbdj_run.specs.declared.plan.Plan.{Plan}
+use Rattle.nbdj_run.specs.declared.plan.Plan.TheVariants.{Format, Pipe, Recover}
+use Rattle.image_model.specs.Geometry.{device_bytes_of}
+
+-- a device of this size can be formatted as the plan says
+abbrev pub Suits : Plan → ℕ → Type 0
+Suits (Format path geometry) extent = extent ≡ device_bytes_of geometry.blocks geometry.area
+Suits (Pipe path options) extent = Unit {0}
+Suits (Recover path) extent = Unit {0}

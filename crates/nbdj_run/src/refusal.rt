@@ -1,0 +1,109 @@
+use checkpoint::KeeperFault;
+use disk_model::DeviceFault;
+use nbd_wire::WireFault;
+use order_book::OrderFault;
+use std::alloc::AllocError;
+use thiserror::Error;
+
+/// Why a run of the program ended early; `docs/FORMATS.md`, "Refusals", has the numbers.
+#[derive(Clone, Copy, Debug, PartialEq, Eq, Error)]
+pub enum Refusal {
+    #[error("no memory")]
+    NoMemory,
+    #[error("device fault")]
+    DeviceFault,
+    #[error("no header")]
+    NoHeader,
+    #[error("bad header")]
+    BadHeader,
+    #[error("numbers full")]
+    NumbersFull,
+    #[error("area full")]
+    AreaFull,
+    #[error("out of order")]
+    OutOfOrder,
+    #[error("damaged group")]
+    DamagedGroup,
+    #[error("failed")]
+    Failed,
+    #[error("no room")]
+    NoRoom,
+    #[error("stopped")]
+    Stopped,
+    #[error("peer closed")]
+    PeerClosed,
+    #[error("protocol end")]
+    ProtocolEnd,
+    #[error("stream fault")]
+    StreamFault,
+}
+
+impl Refusal {
+    /// The number that is printed behind the text.
+    pub fn number(self) -> u8 {
+        match self {
+            Refusal::NoMemory => 0,
+            Refusal::DeviceFault => 1,
+            Refusal::NoHeader => 7,
+            Refusal::BadHeader => 8,
+            Refusal::NumbersFull => 9,
+            Refusal::AreaFull => 10,
+            Refusal::OutOfOrder => 11,
+            Refusal::DamagedGroup => 12,
+            Refusal::Failed => 16,
+            Refusal::NoRoom => 17,
+            Refusal::Stopped => 18,
+            Refusal::PeerClosed => 19,
+            Refusal::ProtocolEnd => 20,
+            Refusal::StreamFault => 21,
+        }
+    }
+}
+
+impl From<AllocError> for Refusal {
+    fn from(_error: AllocError) -> Refusal {
+        Refusal::NoMemory
+    }
+}
+
+impl From<DeviceFault> for Refusal {
+    fn from(_fault: DeviceFault) -> Refusal {
+        Refusal::DeviceFault
+    }
+}
+
+impl From<KeeperFault> for Refusal {
+    fn from(fault: KeeperFault) -> Refusal {
+        match fault {
+            KeeperFault::NoMemory => Refusal::NoMemory,
+            KeeperFault::DeviceFault => Refusal::DeviceFault,
+            KeeperFault::NoHeader => Refusal::NoHeader,
+            KeeperFault::BadHeader => Refusal::BadHeader,
+            KeeperFault::AreaFull => Refusal::AreaFull,
+            KeeperFault::OutOfOrder => Refusal::OutOfOrder,
+            KeeperFault::DamagedGroup => Refusal::DamagedGroup,
+            KeeperFault::Failed => Refusal::Failed,
+        }
+    }
+}
+
+impl From<OrderFault> for Refusal {
+    fn from(fault: OrderFault) -> Refusal {
+        match fault {
+            OrderFault::NoMemory => Refusal::NoMemory,
+            OrderFault::NumbersFull => Refusal::NumbersFull,
+            OrderFault::NoRoom => Refusal::NoRoom,
+            OrderFault::Stopped => Refusal::Stopped,
+        }
+    }
+}
+
+impl From<WireFault> for Refusal {
+    fn from(fault: WireFault) -> Refusal {
+        match fault {
+            WireFault::NoMemory => Refusal::NoMemory,
+            WireFault::BadMagic => Refusal::ProtocolEnd,
+            WireFault::TooLong => Refusal::ProtocolEnd,
+        }
+    }
+}

@@ -1,0 +1,80 @@
+ghost use Rattle.std.specs.Prelude.{◌≡◌};
+ghost use Rattle.image_model.specs.Geometry.{device_bytes_of};
+ghost use Rattle.nbdj_run.specs.Plan.{Suits};
+
+use crate::connection::pipe;
+use crate::plan::Plan;
+use crate::refusal::Refusal;
+use checkpoint::Keeper;
+use disk_model::Disk;
+use image_model::Geometry;
+use std::alloc::Global;
+use std::fmt::Display;
+use std::io::{Read, Write};
+
+/// Carries out the plan on a device, and answers the exit status and the device: 0 where it is done, else 1 and a line
+/// `nbdj: TEXT (NUMBER)` on `errors`.
+///
+/// The device of a `Format` has the full size of its geometry.
+pub fn perform<D: Disk + Drop, R: Read, W: Write, E: Write>(
+    alloc: Global,
+    plan: &Plan<'_>,
+    disk: D,
+    input: &mut R,
+    output: &mut W,
+    errors: &mut E,
+) -> (u8, D)
+    requires { Suits plan.now (D.extent disk) }
+{
+    let (outcome, disk) = match *plan {
+        Plan::Format { path: _, geometry } => format(alloc, disk, geometry, output),
+        Plan::Pipe { path: _, options } => pipe(alloc, disk, options, input, output),
+        Plan::Recover { path: _ } => recover(alloc, disk, output),
+    };
+    (status(outcome, errors), disk)
+}
+
+// Prints one line.
+fn print<W: Write, T: Display + Drop>(output: &mut W, line: T) -> Result<(), Refusal> {
+    writeln!(output, "{line}").map_err(|_| Refusal::StreamFault)
+}
+
+// The exit status; a refusal is printed.
+fn status<E: Write>(outcome: Result<(), Refusal>, errors: &mut E) -> u8 {
+    match outcome {
+        Ok(()) => 0,
+        Err(refusal) => {
+            // Where not even that can be written, the status alone tells.
+            let _ = writeln!(errors, "nbdj: {refusal} ({})", refusal.number());
+            1
+        }
+    }
+}
+
+fn format<D: Disk, W: Write>(
+    alloc: Global,
+    mut disk: D,
+    geometry: Geometry,
+    output: &mut W,
+) -> (Result<(), Refusal>, D)
+    requires { D.extent disk ≡ device_bytes_of geometry.blocks geometry.area }
+{
+    let result = match Keeper::format(alloc, &mut disk, geometry) {
+        Ok(()) => print(
+            output,
+            format_args!("formatted {}", geometry.device_bytes()),
+        ),
+        Err(fault) => Err(Refusal::from(fault)),
+    };
+    (result, disk)
+}
+
+fn recover<D: Disk, W: Write>(alloc: Global, disk: D, output: &mut W) -> (Result<(), Refusal>, D) {
+    match Keeper::open(alloc, disk) {
+        Ok(keeper) => {
+            let result = print(output, format_args!("commands {}", keeper.count()));
+            (result, keeper.into_disk())
+        }
+        Err((fault, disk)) => (Err(Refusal::from(fault)), disk),
+    }
+}
