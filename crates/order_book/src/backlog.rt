@@ -19,8 +19,8 @@ impl Model for Backlog {
     ghost Value = { Tally };
 
     ghost view = { λ backlog. record {
-        bodies = backlog.bodies.items;
-        spare = deque_capacity backlog.bodies - deque_len backlog.bodies
+      bodies = backlog.bodies.items;
+      spare = deque_capacity backlog.bodies - deque_len backlog.bodies;
     } };
 
     ghost invariant = { λ backlog. backlog.total ≡ sum backlog.bodies.items };

@@ -125,7 +125,8 @@ impl DirtyBlocks {
         ensures { result ≡ has_frames self.now frames command.now }
     {
         match command {
-            Command::Put { first, bytes } => self.len_with(*first, *first + blocks_in(bytes)) <= frames as u64,
+            Command::Put { first, bytes } => self.len_with(*first, *first + blocks_in(bytes))
+                <= frames as u64,
             Command::Clear { .. } => true,
         }
     }

@@ -49,29 +49,29 @@ impl Model for Order {
     ghost coded = { Prim.hlevel (codes, set.code {R = nat_cmp} coded_ℕ) };
 
     ghost view = { λ order. record {
-        opening = order.opening;
-        durable = order.durable;
-        sealed = order.sealed;
-        mark = order.mark;
-        pending = order.pending.commands;
-        bodies = order.backlog.bodies;
-        dirty = order.dirty;
-        frames = order.frames;
-        area = order.area;
-        stopped = order.stopped;
+      opening = order.opening;
+      durable = order.durable;
+      sealed = order.sealed;
+      mark = order.mark;
+      pending = order.pending.commands;
+      bodies = order.backlog.bodies;
+      dirty = order.dirty;
+      frames = order.frames;
+      area = order.area;
+      stopped = order.stopped;
     } };
 
     ghost invariant = { λ order. IsOrder (record {
-        opening = order.opening;
-        durable = order.durable;
-        sealed = order.sealed;
-        mark = order.mark;
-        pending = order.pending.commands;
-        bodies = order.backlog.bodies;
-        dirty = order.dirty;
-        frames = order.frames;
-        area = order.area;
-        stopped = order.stopped;
+      opening = order.opening;
+      durable = order.durable;
+      sealed = order.sealed;
+      mark = order.mark;
+      pending = order.pending.commands;
+      bodies = order.backlog.bodies;
+      dirty = order.dirty;
+      frames = order.frames;
+      area = order.area;
+      stopped = order.stopped;
     }) order.pending.spare };
 }
 

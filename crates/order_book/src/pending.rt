@@ -22,8 +22,8 @@ impl Model for PendingCommands {
     ghost Value = { Waiting };
 
     ghost view = { λ pending. record {
-        commands = pending.commands.items;
-        spare = deque_capacity pending.commands - deque_len pending.commands
+      commands = pending.commands.items;
+      spare = deque_capacity pending.commands - deque_len pending.commands;
     } };
 }
 
