@@ -1,1 +1,3 @@
+pub mod Disk
 pub mod Faults
+pub mod FileDisk

@@ -1,5 +1,6 @@
 ghost use Rattle.std.specs.Prelude.{◌≡◌, ◌^◌, ◌<◌};
-ghost use Rattle.disk_model.specs.Faults.{faults_after, counted};
+ghost use Rattle.disk_model.specs.Faults.{faults_after};
+ghost use Rattle.disk_model.specs.FileDisk.{unknown};
 
 use crate::disk::{DeviceFault, Disk};
 use std::fs::OpenFile;
@@ -54,6 +55,11 @@ impl<F: FileExt + OpenFile> Disk for FileDisk<F> {
 
     ghost faults = { λ disk. disk.failures };
 
+    // Nothing is claimed of what a file holds.
+    ghost honest = { λ disk. ⊥ };
+
+    ghost state = { λ disk. unknown };
+
     fn size(&self) -> u64 {
         self.size
     }
@@ -75,4 +81,6 @@ impl<F: FileExt + OpenFile> Disk for FileDisk<F> {
     }
 
     ghost extent_fits = { λ disk. disk.size_fits };
+
+    ghost sound = { λ disk honest. absurd honest };
 }

@@ -4,7 +4,9 @@
 mod disk;
 mod file;
 mod sim;
+mod synced;
 
 pub use disk::{DeviceFault, Disk};
 pub use file::FileDisk;
 pub use sim::SimDisk;
+pub use synced::write_synced;

@@ -1,5 +1,6 @@
 ghost use Rattle.std.specs.Prelude.{◌≡◌, ◌^◌, ◌<◌, length, IfOk, vec_len};
 ghost use Rattle.disk_model.specs.Faults.{faults_after};
+ghost use Rattle.disk_model.specs.FileDisk.{unknown};
 
 use crate::disk::{DeviceFault, Disk};
 use std::alloc::{AllocError, Global};
@@ -26,6 +27,10 @@ impl Disk for SimDisk {
 
     ghost faults = { λ disk. 0 };
 
+    ghost honest = { λ disk. ⊥ };
+
+    ghost state = { λ disk. unknown };
+
     fn size(&self) -> u64 {
         self.bytes.len() as u64
     }
@@ -51,4 +56,6 @@ impl Disk for SimDisk {
     }
 
     ghost extent_fits = { λ disk. disk.bytes_fit };
+
+    ghost sound = { λ disk honest. absurd honest };
 }
