@@ -1,6 +1,6 @@
 -- What is said of a file's content: nothing, since a file device isn't honest in the sense of the model.
 use Rattle.std.specs.Prelude.{[]}
-use Rattle.disk_model.specs.Disk.{State, nowhere}
+use Rattle.disk_model.specs.Disk.{State}
 
 abbrev pub unknown : State
-unknown = record { seen = []; unsynced = nowhere; loose = nowhere; moment = 0; left_since = λ moment content. ⊥ }
+unknown = record { seen = []; unsynced = λ place. ⊥; loose = λ place. ⊥; moment = 0; left_since = λ moment content. ⊥ }

@@ -1,6 +1,6 @@
 ghost use Rattle.std.specs.Prelude.{◌≡◌, ◌+◌, ◌≤◌, ◌<◌, ◌^◌, ◌↔◌, ℕ, length, slice_index, OnOk, OnErr};
 ghost use Rattle.disk_model.specs.Faults.{faults_after};
-ghost use Rattle.disk_model.specs.Disk.{State, torn, MayLeave, MayLeaveTorn, IsKept, IsWritten, IsSynced, IsLoosened, LeavesOnly, IsSound};
+ghost use Rattle.disk_model.specs.Disk.{State, MayLeave, MayLeaveTorn, IsKept, IsWritten, IsWriteFailed, IsSynced, IsSyncFailed, LeavesOnly, IsSound};
 
 use thiserror::Error;
 
@@ -48,7 +48,7 @@ pub trait Disk {
 
         ensures written { honest self.old → OnOk result (IsWritten (state self.old) offset from.now (state self.new)) }
         ensures failed { honest self.old → OnErr result
-            (IsLoosened (torn (state self.old) offset (length from.now)) (state self.old) (state self.new)) }
+            (IsWriteFailed (state self.old) offset (length from.now) (state self.new)) }
         ensures any_moment { honest self.old → LeavesOnly (state self.old) (state self.new)
             (MayLeaveTorn (state self.old) offset (length from.now)) };
 
@@ -59,8 +59,7 @@ pub trait Disk {
         ensures honest { honest self.new ↔ honest self.old }
 
         ensures synced { honest self.old → OnOk result (IsSynced (state self.old) (state self.new)) }
-        ensures failed { honest self.old → OnErr result
-            (IsLoosened (state self.old).unsynced (state self.old) (state self.new)) }
+        ensures failed { honest self.old → OnErr result (IsSyncFailed (state self.old) (state self.new)) }
         ensures any_moment { honest self.old → LeavesOnly (state self.old) (state self.new) (MayLeave (state self.old)) };
 
     /// How many calls have failed; at 2^64 - 1 the count stays.
