@@ -1,1 +1,4 @@
+mod Entries
 pub mod Moments
+mod Patched
+mod Unwinding

@@ -1,3 +1,5 @@
 pub mod Disk
+pub mod FaultPlan
 pub mod Faults
 pub mod FileDisk
+pub mod History

@@ -2,11 +2,14 @@
 #![tactic(auto)]
 
 mod disk;
+mod fault_plan;
 mod file;
+mod history;
 mod sim;
 mod synced;
 
 pub use disk::{DeviceFault, Disk};
+pub use fault_plan::{CallKind, FaultPlan};
 pub use file::FileDisk;
 pub use sim::SimDisk;
 pub use synced::write_synced;
