@@ -1,4 +1,6 @@
 mod Entries
+mod Exits
 pub mod Moments
 mod Patched
+mod Steps
 mod Unwinding

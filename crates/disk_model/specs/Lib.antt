@@ -3,3 +3,5 @@ pub mod FaultPlan
 pub mod Faults
 pub mod FileDisk
 pub mod History
+pub mod HistoryLaws
+pub mod SimDisk

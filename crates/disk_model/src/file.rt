@@ -1,10 +1,9 @@
 ghost use Rattle.std.specs.Prelude.{◌≡◌, ◌^◌, ◌<◌};
-ghost use Rattle.disk_model.specs.Faults.{faults_after};
 ghost use Rattle.disk_model.specs.FileDisk.{unknown};
 
 use crate::disk::{DeviceFault, Disk};
+use crate::faults::outcome;
 use std::fs::OpenFile;
-use std::io;
 use std::os::unix::fs::FileExt;
 
 /// A device over a file of at least its size, by positioned reads and writes.
@@ -34,19 +33,6 @@ impl<F: FileExt + OpenFile> FileDisk<F> {
     {
         let FileDisk { file, .. } = self;
         file
-    }
-}
-
-// What the device answers to an outcome of the file, with the fault counted.
-fn outcome(done: io::Result<()>, failures: &mut u64) -> Result<(), DeviceFault>
-    ensures { failures.new ≡ faults_after result failures.old }
-{
-    match done {
-        Ok(()) => Ok(()),
-        Err(_) => {
-            *failures = failures.saturating_add(1);
-            Err(DeviceFault)
-        }
     }
 }
 

@@ -1,7 +1,8 @@
-ghost use Rattle.std.specs.Prelude.{◌≡◌, ◌+◌, ◌≤◌, ◌<◌, ◌-◌, ◌⊎◌, ℕ, [], ◌∷◌, ◌++◌, length, take, drop, reverse, slice_index, replicate, OnOk, OnErr, IfSome, IfNone};
+ghost use Rattle.std.specs.Prelude.{◌≡◌, ◌+◌, ◌≤◌, ◌<◌, ◌-◌, ◌⊎◌, ℕ, [], ◌∷◌, ◌++◌, length, take, drop, reverse, slice_index, replicate, OnOk, OnErr, IfSome, IfNone, false};
 ghost use Rattle.disk_model.specs.declared.history.Entry.TheVariants.{Written, Synced};
-ghost use Rattle.disk_model.specs.History.{patched, IsInside, unsynced_by, synced_content};
+ghost use Rattle.disk_model.specs.History.{patched, IsInside, IsPut, unsynced_by, synced_content, IsLeftBy};
 
+use crate::disk::DeviceFault;
 use std::alloc::{AllocError, Global};
 
 /// A write, and what it wrote over.
@@ -9,6 +10,17 @@ use std::alloc::{AllocError, Global};
 pub struct Write {
     pub offset: usize,
     pub before: Vec<u8>,
+}
+
+/// What a crash leaves at each unsynced byte of a simulated device.
+#[derive(Clone, Copy, Debug, PartialEq, Eq)]
+pub enum CrashChoice {
+    /// This byte.
+    Fill(u8),
+    /// What the last good sync left.
+    Old,
+    /// What was written last, also by a write that failed.
+    New,
 }
 
 /// What a simulated device did.
@@ -34,6 +46,21 @@ fn fill(bytes: &mut Vec<u8>, offset: usize, count: usize, byte: u8)
     bytes[offset..offset + count].fill(byte);
 }
 
+/// Notes a good sync, unless a fault is due. At `Err` nothing has changed.
+pub fn note_sync(history: &mut Vec<Entry>, due: bool) -> Result<(), DeviceFault>
+    ensures not_due { OnOk result (due ≡ false) }
+    ensures noted { OnOk result (history.new.items ≡ history.old.items ++ Synced ∷ []) }
+    ensures same { OnErr result (history.new.items ≡ history.old.items) }
+{
+    if due {
+        return Err(DeviceFault);
+    }
+    match history.push(Entry::Synced) {
+        Ok(()) => Ok(()),
+        Err(_) => Err(DeviceFault),
+    }
+}
+
 /// Writes the bytes at `offset` and notes what stood there. At `Err` nothing has changed.
 pub fn put(
     alloc: Global,
@@ -43,12 +70,10 @@ pub fn put(
     from: &[u8],
 ) -> Result<(), AllocError>
     requires { offset + length from.now ≤ length bytes.old.items }
-    ensures bytes { OnOk result (bytes.new.items ≡ patched bytes.old.items offset from.now) }
-    ensures history { OnOk result ((write : _) × (write.offset ≡ offset)
-        × (write.before.items ≡ take (length from.now) (drop offset bytes.old.items))
-        × (history.new.items ≡ history.old.items ++ Written write ∷ [])) }
+    ensures put { OnOk result (IsPut history.old.items bytes.old.items offset from.now history.new.items bytes.new.items) }
     ensures same_bytes { OnErr result (bytes.new.items ≡ bytes.old.items) }
     ensures same_history { OnErr result (history.new.items ≡ history.old.items) }
+    ensures are_bytes { (place : ℕ) → slice_index bytes.new.items place < 256 }
 {
     let before = bytes[offset..offset + from.len()].to_vec(alloc)?;
     history.push(Entry::Written(Write { offset, before }))?;
@@ -91,5 +116,21 @@ pub fn fill_unsynced(bytes: &mut Vec<u8>, history: &mut Vec<Entry>, byte: u8)
 {
     while let Some(write) = pop_write(history) {
         fill(bytes, write.offset, write.before.len(), byte);
+    }
+}
+
+/// Makes of the bytes what a crash leaves. Of the history nothing is said after it.
+pub fn crash_bytes(bytes: &mut Vec<u8>, history: &mut Vec<Entry>, choice: CrashChoice)
+    requires { IsInside history.old.items (length bytes.old.items) }
+    ensures left { IsLeftBy choice (reverse history.old.items) bytes.old.items bytes.new.items }
+    ensures others { (place : ℕ) → (unsynced_by (reverse history.old.items) place → ⊥)
+        → slice_index bytes.new.items place ≡ slice_index bytes.old.items place }
+    ensures size { length bytes.new.items ≡ length bytes.old.items }
+    ensures are_bytes { (place : ℕ) → slice_index bytes.new.items place < 256 }
+{
+    match choice {
+        CrashChoice::Fill(byte) => fill_unsynced(bytes, history, byte),
+        CrashChoice::Old => roll_back(bytes, history),
+        CrashChoice::New => {}
     }
 }

@@ -3,6 +3,7 @@
 
 mod disk;
 mod fault_plan;
+mod faults;
 mod file;
 mod history;
 mod sim;
@@ -11,5 +12,6 @@ mod synced;
 pub use disk::{DeviceFault, Disk};
 pub use fault_plan::{CallKind, FaultPlan};
 pub use file::FileDisk;
+pub use history::CrashChoice;
 pub use sim::SimDisk;
 pub use synced::write_synced;
