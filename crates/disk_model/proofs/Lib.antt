@@ -1,3 +1,4 @@
+pub mod Contents
 mod Entries
 mod Exits
 pub mod Moments

@@ -21,6 +21,18 @@ pub record State : Type 1 where
 abbrev pub InRange : ℕ → ℕ → ℕ → Type 0
 InRange offset count place = (offset ≤ place) × (place < offset + count)
 
+-- no place is unsynced, as after a good sync and after a crash
+abbrev pub IsAllSynced : State → Type 0
+IsAllSynced state = (place : ℕ) → state.unsynced place → ⊥
+
+-- no place of the range is unsynced
+abbrev pub IsSyncedIn : State → ℕ → ℕ → Type 0
+IsSyncedIn state offset count = (place : ℕ) → InRange offset count place → state.unsynced place → ⊥
+
+-- no place is loose, as long as no write or sync failed since the last good sync
+abbrev pub IsSteady : State → Type 0
+IsSteady state = (place : ℕ) → state.loose place → ⊥
+
 -- What a crash now may leave: as many bytes, any of them at unsynced places, and what a read gives at all others.
 pub record MayLeave (state : State) (content : List ℕ) : Type 0 where
   pub size : length content ≡ length state.seen
@@ -61,7 +73,7 @@ pub record IsWriteFailed (before : State) (offset count : ℕ) (after : State) :
 -- after a good sync: a crash leaves what a read gives, which is what it gave before but at places that were loose
 pub record IsSynced (before after : State) : Type 0 where
   pub seen : MayRead before after.seen
-  pub unsynced : (place : ℕ) → after.unsynced place → ⊥
+  pub synced : IsAllSynced after
 
 -- after a failed sync: any bytes may be read at the unsynced places
 pub record IsSyncFailed (before after : State) : Type 0 where
@@ -73,7 +85,7 @@ pub record IsSyncFailed (before after : State) : Type 0 where
 pub record IsStored (before : State) (offset : ℕ) (bytes : List ℕ) (after : State) : Type 0 where
   pub written : (k : ℕ) → k < length bytes → (before.loose (offset + k) → ⊥) → slice_index after.seen (offset + k) ≡ slice_index bytes k
   pub others : (place : ℕ) → (InRange offset (length bytes) place → ⊥) → (before.loose place → ⊥) → slice_index after.seen place ≡ slice_index before.seen place
-  pub unsynced : (place : ℕ) → after.unsynced place → ⊥
+  pub synced : IsAllSynced after
 
 -- A crash at any moment between two states, the first and the last among them, leaves only what has P.
 pub record LeavesOnly (before after : State) (P : List ℕ → Type 0) : Type 0 where

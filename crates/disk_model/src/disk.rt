@@ -69,6 +69,9 @@ pub trait Disk {
     /// The size is a 64-bit number.
     ghost extent_fits: { (disk : Self) → extent disk < 2 ^ 64 };
 
+    /// The number of faults is a 64-bit number.
+    ghost faults_fit: { (disk : Self) → faults disk < 2 ^ 64 };
+
     /// What an honest device is at each moment.
     ghost sound: { (disk : Self) → honest disk → IsSound (extent disk) (state disk) };
 }

@@ -1,5 +1,4 @@
 ghost use Rattle.std.specs.Prelude.{◌≡◌, ◌^◌, ◌<◌};
-ghost use Rattle.disk_model.specs.FileDisk.{unknown};
 
 use crate::disk::{DeviceFault, Disk};
 use crate::faults::outcome;
@@ -17,8 +16,14 @@ pub struct FileDisk<F: FileExt + OpenFile> {
 }
 
 impl<F: FileExt + OpenFile> FileDisk<F> {
+    ghost use Rattle.disk_model.specs.FileDisk.{file_of};
+
     /// The first `size` bytes of the file.
-    pub fn new(file: F, size: u64) -> FileDisk<F> {
+    pub fn new(file: F, size: u64) -> FileDisk<F>
+        ensures extent { ⟦<FileDisk<F> as Disk>⟧.extent result ≡ size }
+        ensures faults { ⟦<FileDisk<F> as Disk>⟧.faults result ≡ 0 }
+        ensures file { file_of result ≡ file }
+    {
         FileDisk {
             file,
             size,
@@ -30,6 +35,7 @@ impl<F: FileExt + OpenFile> FileDisk<F> {
     pub fn into_file(self) -> F
     where
         F: Drop,
+        ensures { result ≡ file_of self }
     {
         let FileDisk { file, .. } = self;
         file
@@ -37,6 +43,8 @@ impl<F: FileExt + OpenFile> FileDisk<F> {
 }
 
 impl<F: FileExt + OpenFile> Disk for FileDisk<F> {
+    ghost use Rattle.disk_model.specs.FileDisk.{unknown};
+
     ghost extent = { λ disk. disk.size };
 
     ghost faults = { λ disk. disk.failures };
@@ -67,6 +75,8 @@ impl<F: FileExt + OpenFile> Disk for FileDisk<F> {
     }
 
     ghost extent_fits = { λ disk. disk.size_fits };
+
+    ghost faults_fit = { λ disk. disk.failures_fit };
 
     ghost sound = { λ disk honest. absurd honest };
 }

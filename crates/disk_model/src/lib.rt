@@ -10,7 +10,7 @@ mod sim;
 mod synced;
 
 pub use disk::{DeviceFault, Disk};
-pub use fault_plan::{CallKind, FaultPlan};
+pub use fault_plan::CallKind;
 pub use file::FileDisk;
 pub use history::CrashChoice;
 pub use sim::SimDisk;

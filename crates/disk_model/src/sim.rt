@@ -1,6 +1,6 @@
 ghost use Rattle.std.specs.Prelude.{◌≡◌, ◌≤◌, ◌<◌, ◌+◌, ◌^◌, ◌↔◌, ◌⊎◌, ℕ, [], length, reverse, ◌&&◌, slice_index, replicate, false, not, is_ok, IfOk, IsOk, IsErr, OnOk, OnErr, IsTrue};
 ghost use Rattle.disk_model.specs.Faults.{faults_after};
-ghost use Rattle.disk_model.specs.Disk.{MayLeave, MayLeaveTorn, IsKept, IsWritten, IsWriteFailed, IsSynced, IsSyncFailed, LeavesOnly};
+ghost use Rattle.disk_model.specs.Disk.{IsAllSynced, MayLeave, MayLeaveTorn, IsKept, IsWritten, IsWriteFailed, IsSynced, IsSyncFailed, LeavesOnly};
 ghost use Rattle.disk_model.specs.FaultPlan.{armed, is_due, after_call, no_faults};
 ghost use Rattle.disk_model.specs.History.{IsInside, IsLeftBy, state_of};
 ghost use Rattle.disk_model.specs.HistoryLaws.{sound_state};
@@ -20,6 +20,7 @@ pub struct SimDisk {
     plan: FaultPlan,
     failures: u64,
     ghost size_fits: { length bytes.items < 2 ^ 64 },
+    ghost failures_fit: { failures < 2 ^ 64 },
     ghost are_bytes: { (place : ℕ) → slice_index bytes.items place < 256 },
     ghost inside: { IsInside history.items (length bytes.items) },
 }
@@ -85,6 +86,7 @@ impl SimDisk {
         ensures faults { ⟦<SimDisk as Disk>⟧.faults self.new ≡ ⟦<SimDisk as Disk>⟧.faults self.old }
         ensures left { IsLeftBy choice (history_of self.old) (seen_bytes self.old) (seen_bytes self.new) }
         ensures allowed { MayLeave (state_now self.old) (seen_bytes self.new) }
+        ensures synced { IsAllSynced (state_now self.new) }
         ensures history { history_of self.new ≡ [] }
         ensures plan { plan_of self.new ≡ record (plan_of self.old) { stopped = false } }
     {
@@ -182,6 +184,8 @@ impl Disk for SimDisk {
     }
 
     ghost extent_fits = { λ disk. disk.size_fits };
+
+    ghost faults_fit = { λ disk. disk.failures_fit };
 
     ghost sound = { λ disk honest. sound_state (reverse disk.history.items) disk.bytes.items disk.are_bytes };
 }
