@@ -1,5 +1,6 @@
-ghost use Rattle.std.specs.Prelude.{◌≡◌, ◌+◌, ◌≤◌, ◌<◌, ◌^◌, ℕ, length};
+ghost use Rattle.std.specs.Prelude.{◌≡◌, ◌+◌, ◌≤◌, ◌<◌, ◌^◌, ◌↔◌, ℕ, length, slice_index, OnOk, OnErr};
 ghost use Rattle.disk_model.specs.Faults.{faults_after};
+ghost use Rattle.disk_model.specs.Disk.{State, MayLeave, MayLeaveTorn, IsKept, IsWritten, IsWriteFailed, IsSynced, IsSyncFailed, LeavesOnly, IsSound};
 
 use thiserror::Error;
 
@@ -10,9 +11,17 @@ pub struct DeviceFault;
 
 /// A device of a fixed number of bytes.
 pub trait Disk {
+    /// The number of bytes.
     ghost extent: { Self → ℕ };
 
+    /// How many calls have failed.
     ghost faults: { Self → ℕ };
+
+    /// That it keeps to the disk model. Clauses on content say nothing of a device that doesn't.
+    ghost honest: { Self → Type 0 };
+
+    /// What it is now.
+    ghost state: { Self → State };
 
     /// The number of bytes.
     fn size(&self) -> u64
@@ -22,22 +31,47 @@ pub trait Disk {
     fn read(&mut self, offset: u64, into: &mut [u8]) -> Result<(), DeviceFault>
         requires { offset + length into.old ≤ extent self.old }
         ensures extent { extent self.new ≡ extent self.old }
-        ensures faults { faults self.new ≡ faults_after result (faults self.old) };
+        ensures faults { faults self.new ≡ faults_after result (faults self.old) }
+        ensures honest { honest self.new ↔ honest self.old }
+
+        ensures bytes { honest self.old → OnOk result
+            ((k : ℕ) → k < length into.new → slice_index into.new k ≡ slice_index (state self.new).seen (offset + k)) }
+        ensures kept { honest self.old → IsKept (state self.old) (state self.new) }
+        ensures any_moment { honest self.old → LeavesOnly (state self.old) (state self.new) (MayLeave (state self.old)) };
 
     /// Writes the bytes at `offset`; they are stable once a later sync was good.
     fn write_at(&mut self, offset: u64, from: &[u8]) -> Result<(), DeviceFault>
         requires { offset + length from.now ≤ extent self.old }
         ensures extent { extent self.new ≡ extent self.old }
-        ensures faults { faults self.new ≡ faults_after result (faults self.old) };
+        ensures faults { faults self.new ≡ faults_after result (faults self.old) }
+        ensures honest { honest self.new ↔ honest self.old }
+
+        ensures written { honest self.old → OnOk result (IsWritten (state self.old) offset from.now (state self.new)) }
+        ensures failed { honest self.old → OnErr result
+            (IsWriteFailed (state self.old) offset (length from.now) (state self.new)) }
+        ensures any_moment { honest self.old → LeavesOnly (state self.old) (state self.new)
+            (MayLeaveTorn (state self.old) offset (length from.now)) };
 
     /// Makes stable what was written before.
     fn sync(&mut self) -> Result<(), DeviceFault>
         ensures extent { extent self.new ≡ extent self.old }
-        ensures faults { faults self.new ≡ faults_after result (faults self.old) };
+        ensures faults { faults self.new ≡ faults_after result (faults self.old) }
+        ensures honest { honest self.new ↔ honest self.old }
+
+        ensures synced { honest self.old → OnOk result (IsSynced (state self.old) (state self.new)) }
+        ensures failed { honest self.old → OnErr result (IsSyncFailed (state self.old) (state self.new)) }
+        ensures any_moment { honest self.old → LeavesOnly (state self.old) (state self.new) (MayLeave (state self.old)) };
 
     /// How many calls have failed; at 2^64 - 1 the count stays.
     fn failures(&self) -> u64
         ensures { result ≡ faults self.now };
 
+    /// The size is a 64-bit number.
     ghost extent_fits: { (disk : Self) → extent disk < 2 ^ 64 };
+
+    /// The number of faults is a 64-bit number.
+    ghost faults_fit: { (disk : Self) → faults disk < 2 ^ 64 };
+
+    /// What an honest device is at each moment.
+    ghost sound: { (disk : Self) → honest disk → IsSound (extent disk) (state disk) };
 }

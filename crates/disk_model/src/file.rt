@@ -1,9 +1,8 @@
 ghost use Rattle.std.specs.Prelude.{◌≡◌, ◌^◌, ◌<◌};
-ghost use Rattle.disk_model.specs.Faults.{faults_after, counted};
 
 use crate::disk::{DeviceFault, Disk};
+use crate::faults::outcome;
 use std::fs::OpenFile;
-use std::io;
 use std::os::unix::fs::FileExt;
 
 /// A device over a file of at least its size, by positioned reads and writes.
@@ -17,8 +16,14 @@ pub struct FileDisk<F: FileExt + OpenFile> {
 }
 
 impl<F: FileExt + OpenFile> FileDisk<F> {
+    ghost use Rattle.disk_model.specs.FileDisk.{file_of};
+
     /// The first `size` bytes of the file.
-    pub fn new(file: F, size: u64) -> FileDisk<F> {
+    pub fn new(file: F, size: u64) -> FileDisk<F>
+        ensures extent { ⟦<FileDisk<F> as Disk>⟧.extent result ≡ size }
+        ensures faults { ⟦<FileDisk<F> as Disk>⟧.faults result ≡ 0 }
+        ensures file { file_of result ≡ file }
+    {
         FileDisk {
             file,
             size,
@@ -30,29 +35,24 @@ impl<F: FileExt + OpenFile> FileDisk<F> {
     pub fn into_file(self) -> F
     where
         F: Drop,
+        ensures { result ≡ file_of self }
     {
         let FileDisk { file, .. } = self;
         file
     }
 }
 
-// What the device answers to an outcome of the file, with the fault counted.
-fn outcome(done: io::Result<()>, failures: &mut u64) -> Result<(), DeviceFault>
-    ensures { failures.new ≡ faults_after result failures.old }
-{
-    match done {
-        Ok(()) => Ok(()),
-        Err(_) => {
-            *failures = failures.saturating_add(1);
-            Err(DeviceFault)
-        }
-    }
-}
-
 impl<F: FileExt + OpenFile> Disk for FileDisk<F> {
+    ghost use Rattle.disk_model.specs.FileDisk.{unknown};
+
     ghost extent = { λ disk. disk.size };
 
     ghost faults = { λ disk. disk.failures };
+
+    // Nothing is claimed of what a file holds.
+    ghost honest = { λ disk. ⊥ };
+
+    ghost state = { λ disk. unknown };
 
     fn size(&self) -> u64 {
         self.size
@@ -75,4 +75,8 @@ impl<F: FileExt + OpenFile> Disk for FileDisk<F> {
     }
 
     ghost extent_fits = { λ disk. disk.size_fits };
+
+    ghost faults_fit = { λ disk. disk.failures_fit };
+
+    ghost sound = { λ disk honest. absurd honest };
 }

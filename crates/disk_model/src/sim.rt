@@ -1,54 +1,191 @@
-ghost use Rattle.std.specs.Prelude.{◌≡◌, ◌^◌, ◌<◌, length, IfOk, vec_len};
+ghost use Rattle.std.specs.Prelude.{◌≡◌, ◌≤◌, ◌<◌, ◌+◌, ◌^◌, ◌↔◌, ◌⊎◌, ℕ, [], length, reverse, ◌&&◌, slice_index, replicate, false, not, is_ok, IfOk, IsOk, IsErr, OnOk, OnErr, IsTrue};
 ghost use Rattle.disk_model.specs.Faults.{faults_after};
+ghost use Rattle.disk_model.specs.Disk.{IsAllSynced, MayLeave, MayLeaveTorn, IsKept, IsWritten, IsWriteFailed, IsSynced, IsSyncFailed, LeavesOnly};
+ghost use Rattle.disk_model.specs.FaultPlan.{armed, is_due, after_call, no_faults};
+ghost use Rattle.disk_model.specs.History.{IsInside, IsLeftBy, state_of};
+ghost use Rattle.disk_model.specs.HistoryLaws.{sound_state};
 
 use crate::disk::{DeviceFault, Disk};
+use crate::fault_plan::{CallKind, FaultPlan};
+use crate::faults::outcome;
+use crate::history::{CrashChoice, Entry, crash_bytes, note_sync, put};
 use std::alloc::{AllocError, Global};
 
-/// A device of bytes in memory.
+/// A device in memory that keeps to the disk model, for tests: its calls can be made to fail, and it can crash.
 #[derive(Drop)]
 pub struct SimDisk {
+    alloc: Global,
     bytes: Vec<u8>,
-    ghost bytes_fit: { vec_len bytes < 2 ^ 64 },
+    history: Vec<Entry>,
+    plan: FaultPlan,
+    failures: u64,
+    ghost size_fits: { length bytes.items < 2 ^ 64 },
+    ghost failures_fit: { failures < 2 ^ 64 },
+    ghost are_bytes: { (place : ℕ) → slice_index bytes.items place < 256 },
+    ghost inside: { IsInside history.items (length bytes.items) },
+}
+
+// What a write answers that came out so, where a fault was due or not.
+fn settled(stored: Result<(), AllocError>, due: bool) -> Result<(), DeviceFault>
+    ensures { is_ok result ≡ (is_ok stored && not due) }
+{
+    match stored {
+        Ok(()) if !due => Ok(()),
+        _ => Err(DeviceFault),
+    }
 }
 
 impl SimDisk {
-    /// A device of `size` zero bytes.
+    ghost use Rattle.disk_model.specs.SimDisk.{seen_bytes, history_of, plan_of, with_plan, state_now};
+
+    /// A device of `size` zero bytes, with nothing armed.
     pub fn new(alloc: Global, size: u64) -> Result<SimDisk, AllocError>
-        ensures { IfOk result (λ disk. ⟦<SimDisk as Disk>⟧.extent disk ≡ size) }
+        ensures extent { IfOk result (λ disk. ⟦<SimDisk as Disk>⟧.extent disk ≡ size) }
+        ensures faults { IfOk result (λ disk. ⟦<SimDisk as Disk>⟧.faults disk ≡ 0) }
+        ensures seen { IfOk result (λ disk. seen_bytes disk ≡ replicate size 0) }
+        ensures history { IfOk result (λ disk. history_of disk ≡ []) }
+        ensures plan { IfOk result (λ disk. plan_of disk ≡ no_faults) }
     {
         let bytes = vec![in alloc; 0; size as usize]?;
-        Ok(SimDisk { bytes })
+        Ok(SimDisk {
+            alloc,
+            bytes,
+            history: Vec::new(alloc),
+            plan: FaultPlan::new(),
+            failures: 0,
+        })
+    }
+
+    /// Lets the `k`-th call of a kind from now on fail, the first being 1. It takes the place of an earlier one of
+    /// that kind that wasn't met; with 0 there is none.
+    pub fn fail(&mut self, kind: CallKind, k: u64)
+        ensures { self.new ≡ with_plan self.old (armed kind k (plan_of self.old)) }
+    {
+        self.plan.fail(kind, k);
+    }
+
+    /// Stops the device at the `k`-th call of any kind from now on, the first being 1: that call and all later ones
+    /// fail, until a crash. It takes the place of an earlier stop that wasn't met; with 0 there is none.
+    pub fn stop_at(&mut self, k: u64)
+        ensures { self.new ≡ with_plan self.old (record (plan_of self.old) { stop = k }) }
+    {
+        self.plan.stop_at(k);
+    }
+
+    /// Whether a stop was met and no crash came since.
+    pub fn stopped(&self) -> bool
+        ensures { result ≡ (plan_of self.now).stopped }
+    {
+        self.plan.stopped()
+    }
+
+    /// Crashes the device. Each unsynced byte is then as chosen, and all bytes are synced. What is armed and wasn't
+    /// met stays armed.
+    pub fn crash(&mut self, choice: CrashChoice)
+        ensures extent { ⟦<SimDisk as Disk>⟧.extent self.new ≡ ⟦<SimDisk as Disk>⟧.extent self.old }
+        ensures faults { ⟦<SimDisk as Disk>⟧.faults self.new ≡ ⟦<SimDisk as Disk>⟧.faults self.old }
+        ensures left { IsLeftBy choice (history_of self.old) (seen_bytes self.old) (seen_bytes self.new) }
+        ensures allowed { MayLeave (state_now self.old) (seen_bytes self.new) }
+        ensures synced { IsAllSynced (state_now self.new) }
+        ensures history { history_of self.new ≡ [] }
+        ensures plan { plan_of self.new ≡ record (plan_of self.old) { stopped = false } }
+    {
+        crash_bytes(&mut self.bytes, &mut self.history, choice);
+        self.history.clear();
+        self.plan.restart();
     }
 }
 
 impl Disk for SimDisk {
-    ghost extent = { λ disk. vec_len disk.bytes };
+    ghost use Rattle.disk_model.specs.SimDisk.{seen_bytes, plan_of, state_now, IsUnchanged, IsApplied, IsStable};
 
-    ghost faults = { λ disk. 0 };
+    ghost extent = { λ disk. length disk.bytes.items };
+
+    ghost faults = { λ disk. disk.failures };
+
+    ghost honest = { λ disk. Unit {0} };
+
+    ghost state = { λ disk. state_of (reverse disk.history.items) disk.bytes.items };
 
     fn size(&self) -> u64 {
         self.bytes.len() as u64
     }
 
-    fn read(&mut self, offset: u64, into: &mut [u8]) -> Result<(), DeviceFault> {
+    fn read(&mut self, offset: u64, into: &mut [u8]) -> Result<(), DeviceFault>
+        requires { offset + length into.old ≤ length (seen_bytes self.old) }
+        ensures extent { length (seen_bytes self.new) ≡ length (seen_bytes self.old) }
+        ensures faults { ⟦<SimDisk as Disk>⟧.faults self.new ≡ faults_after result (⟦<SimDisk as Disk>⟧.faults self.old) }
+        ensures honest { Unit {0} ↔ Unit {0} }
+        ensures bytes { Unit {0} → OnOk result
+            ((k : ℕ) → k < length into.new → slice_index into.new k ≡ slice_index (seen_bytes self.new) (offset + k)) }
+        ensures kept { Unit {0} → IsKept (state_now self.old) (state_now self.new) }
+        ensures any_moment { Unit {0} → LeavesOnly (state_now self.old) (state_now self.new) (MayLeave (state_now self.old)) }
+
+        // It fails exactly where a fault is due, and nothing has changed but the plan and the count.
+        ensures fails { is_ok result ≡ not (is_due CallKind.Read (plan_of self.old)) }
+        ensures unchanged { IsUnchanged self.old self.new }
+        ensures plan { plan_of self.new ≡ after_call CallKind.Read (plan_of self.old) }
+    {
+        let due = self.plan.count_call(CallKind::Read);
         let from = offset as usize;
         into.copy_from_slice(&self.bytes[from..from + into.len()]);
-        Ok(())
+        outcome(settled(Ok(()), due), &mut self.failures)
     }
 
-    fn write_at(&mut self, offset: u64, from: &[u8]) -> Result<(), DeviceFault> {
-        let at = offset as usize;
-        self.bytes[at..at + from.len()].copy_from_slice(from);
-        Ok(())
+    fn write_at(&mut self, offset: u64, from: &[u8]) -> Result<(), DeviceFault>
+        requires { offset + length from.now ≤ length (seen_bytes self.old) }
+        ensures extent { length (seen_bytes self.new) ≡ length (seen_bytes self.old) }
+        ensures faults { ⟦<SimDisk as Disk>⟧.faults self.new ≡ faults_after result (⟦<SimDisk as Disk>⟧.faults self.old) }
+        ensures honest { Unit {0} ↔ Unit {0} }
+        ensures written { Unit {0} → OnOk result (IsWritten (state_now self.old) offset from.now (state_now self.new)) }
+        ensures failed { Unit {0} → OnErr result (IsWriteFailed (state_now self.old) offset (length from.now) (state_now self.new)) }
+        ensures any_moment { Unit {0} → LeavesOnly (state_now self.old) (state_now self.new)
+            (MayLeaveTorn (state_now self.old) offset (length from.now)) }
+
+        // It fails where a fault is due, and else only where the record can't grow. A write that fails by plan is
+        // applied; where the record can't grow nothing is.
+        ensures fails { IsTrue (is_due CallKind.Write (plan_of self.old)) → IsErr result }
+        ensures applied { OnOk result (IsApplied self.old offset from.now self.new) }
+        ensures err { OnErr result (IsUnchanged self.old self.new
+            ⊎ (IsTrue (is_due CallKind.Write (plan_of self.old)) × IsApplied self.old offset from.now self.new)) }
+        ensures plan { plan_of self.new ≡ after_call CallKind.Write (plan_of self.old) }
+    {
+        let due = self.plan.count_call(CallKind::Write);
+        let stored = put(
+            self.alloc,
+            &mut self.bytes,
+            &mut self.history,
+            offset as usize,
+            from,
+        );
+        outcome(settled(stored, due), &mut self.failures)
     }
 
-    fn sync(&mut self) -> Result<(), DeviceFault> {
-        Ok(())
+    fn sync(&mut self) -> Result<(), DeviceFault>
+        ensures extent { length (seen_bytes self.new) ≡ length (seen_bytes self.old) }
+        ensures faults { ⟦<SimDisk as Disk>⟧.faults self.new ≡ faults_after result (⟦<SimDisk as Disk>⟧.faults self.old) }
+        ensures honest { Unit {0} ↔ Unit {0} }
+        ensures synced { Unit {0} → OnOk result (IsSynced (state_now self.old) (state_now self.new)) }
+        ensures failed { Unit {0} → OnErr result (IsSyncFailed (state_now self.old) (state_now self.new)) }
+        ensures any_moment { Unit {0} → LeavesOnly (state_now self.old) (state_now self.new) (MayLeave (state_now self.old)) }
+
+        // It fails where a fault is due, and else only where the record can't grow.
+        ensures fails { IsTrue (is_due CallKind.Sync (plan_of self.old)) → IsErr result }
+        ensures stable { OnOk result (IsStable self.old self.new) }
+        ensures err { OnErr result (IsUnchanged self.old self.new) }
+        ensures plan { plan_of self.new ≡ after_call CallKind.Sync (plan_of self.old) }
+    {
+        let due = self.plan.count_call(CallKind::Sync);
+        outcome(note_sync(&mut self.history, due), &mut self.failures)
     }
 
     fn failures(&self) -> u64 {
-        0
+        self.failures
     }
 
-    ghost extent_fits = { λ disk. disk.bytes_fit };
+    ghost extent_fits = { λ disk. disk.size_fits };
+
+    ghost faults_fit = { λ disk. disk.failures_fit };
+
+    ghost sound = { λ disk honest. sound_state (reverse disk.history.items) disk.bytes.items disk.are_bytes };
 }

@@ -1,0 +1,7 @@
+pub mod Contents
+mod Entries
+mod Exits
+pub mod Moments
+mod Patched
+mod Steps
+mod Unwinding

@@ -1,0 +1,14 @@
+use Rattle.std.proofs.Common.{◌≡◌, List, ℕ, reverse, refl, sym, ◌∙◌, ap}
+use Rattle.disk_model.specs.History.{patched, synced_content}
+use Rattle.disk_model.proofs.Unwinding.{unwinds_more, synced_rest}
+use Rattle.disk_model.proofs.history.roll_back.Goals as goal
+
+pub loop-write-preserved : goal.loop-write-preserved
+loop-write-preserved c =
+    let rest = c.pop_write.new.history.items in
+    let last = c.in-Some.ensures.newest in
+    let is : c.overwrite.new.bytes.items ≡ patched c.loop-write.bytes.items c.in-Some.write.offset c.in-Some.write.before.items = c.overwrite.ensures ∙ ap (λ (bytes : List ℕ). patched c.loop-write.bytes.items c.in-Some.write.offset bytes) c.deref.ensures.value in
+    record {
+      unwinds = unwinds_more _ rest c.in-Some.write last _ _ _ is refl _ _ c.loop-write.invariant.unwinds;
+      content = ap (λ (content : List ℕ). synced_content (reverse rest) content) is ∙ sym (synced_rest _ rest c.in-Some.write last c.loop-write.bytes.items) ∙ c.loop-write.invariant.content;
+    }
