@@ -1,3 +1,4 @@
 pub mod Head
 pub mod Request
 pub mod Stream
+pub mod State
