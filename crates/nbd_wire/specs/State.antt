@@ -42,3 +42,13 @@ found (Some request) = message request ∷ []
 -- what was kept, and these bytes behind it, is these requests, and then what is kept
 abbrev pub Advances : Kept → List ℕ → List Message → Kept → Type 0
 Advances old bytes requests new = (text : List ℕ) → Keeps old text → Reads (text ++ bytes) requests new
+
+abbrev pub IsGoing : Kept → Type 0
+IsGoing (in_head bytes) = Unit {0}
+IsGoing (in_data head bytes) = Unit {0}
+IsGoing (in_discard head count) = Unit {0}
+IsGoing (failed fault) = ⊥
+
+-- no request came, and no fault
+abbrev pub IsQuiet : State × Option Request → Type 0
+IsQuiet step = (step.1 ≡ None) × IsGoing (kept step.0)

@@ -1,5 +1,5 @@
 -- A stream of requests, and what a reader keeps of it.
-use Rattle.std.specs.Prelude.{◌≡◌, ◌≢◌, ℕ, ◌+◌, ◌<◌, ◌≤◌, List, [], ◌∷◌, ◌++◌, length, take, Result, Ok, Err}
+use Rattle.std.specs.Prelude.{◌≡◌, ◌≢◌, ℕ, ◌+◌, ◌-◌, ◌<◌, ◌≤◌, List, [], ◌∷◌, ◌++◌, length, take, Result, Ok, Err}
 use Rattle.std.specs.Global.{Vec}
 use Rattle.nbd_wire.specs.declared.error.WireFault.{WireFault}
 use Rattle.nbd_wire.specs.declared.error.WireFault.TheVariants.{NoMemory, BadMagic, TooLong}
@@ -61,6 +61,13 @@ held (in_head bytes) = length bytes
 held (in_data head bytes) = 28 + length bytes
 held (in_discard head missing) = 28
 held (failed fault) = 0
+
+-- how many bytes end the head or the data at hand
+abbrev pub missing_len : Kept → ℕ
+missing_len (in_head bytes) = 28 - length bytes
+missing_len (in_data head bytes) = head.length - length bytes
+missing_len (in_discard head count) = count
+missing_len (failed fault) = 0
 
 -- two readings of one stream are one
 abbrev pub OneReading : Type 0

@@ -1,8 +1,8 @@
-ghost use Rattle.std.specs.Prelude.{◌≡◌, ◌+◌, ◌-◌, ◌<◌, ◌≤◌, ℕ, List, [], ◌∷◌, ◌++◌, length, take, OnOk, IfOk, IfErr, vec_len, vec_capacity};
+ghost use Rattle.std.specs.Prelude.{◌≡◌, ◌+◌, ◌-◌, ◌<◌, ◌≤◌, ℕ, List, [], ◌∷◌, ◌++◌, length, take, IfOk, IfErr, IsOkAnd, vec_len, vec_capacity};
 ghost use Rattle.nbd_wire.specs.Head.{head_bytes, IsHead};
 ghost use Rattle.nbd_wire.specs.Request.{Message, message, messages};
-ghost use Rattle.nbd_wire.specs.Stream.{Kept, in_head, failed, Reads, ReadsOn, answered, held, OneReading};
-ghost use Rattle.nbd_wire.specs.State.{kept, IsKeptWrite, IsLongWrite, IsState, wanted_of, found, Advances};
+ghost use Rattle.nbd_wire.specs.Stream.{Kept, in_head, failed, Reads, ReadsOn, answered, held, missing_len, OneReading};
+ghost use Rattle.nbd_wire.specs.State.{kept, IsKeptWrite, IsLongWrite, IsState, wanted_of, found, Advances, IsGoing, IsQuiet};
 
 use crate::command::WRITE;
 use crate::error::WireFault;
@@ -74,12 +74,16 @@ impl StreamReader {
         ensures again { (fault : WireFault) → self.old ≡ failed fault → result ≡ Err fault }
         ensures first { (fault : WireFault) → self.new ≡ failed fault → IfOk result (λ requests. 0 < vec_len requests) }
 
+        // A piece that ends neither a head nor data is taken with no memory.
+        ensures part { length piece.now < missing_len self.old → IsOkAnd result (λ requests. requests.items ≡ []) }
+
         // Whatever is announced, no more than this is held.
         ensures held { held self.new < 28 + MAX_PAYLOAD }
     {
         if let State::Failed(fault) = self.state {
             return Err(fault);
         }
+        // The state is moved out and comes back; what stands in its place is never seen.
         let state = mem::replace(&mut self.state, State::Failed(WireFault::NoMemory));
         let (state, requests) = read_all(self.alloc, state, piece);
         self.state = state;
@@ -109,6 +113,7 @@ fn answer(state: &State, requests: Vec<Request>) -> Result<Vec<Request>, WireFau
     ensures answered { answered result ≡ messages requests.items }
     ensures fault { IfErr result (λ fault. kept state.now ≡ failed fault) }
     ensures first { (fault : WireFault) → kept state.now ≡ failed fault → IfOk result (λ handed. 0 < vec_len handed) }
+    ensures going { IsGoing (kept state.now) → result ≡ Ok requests }
 {
     match state {
         State::Failed(fault) if requests.is_empty() => Err(*fault),
@@ -121,6 +126,7 @@ fn read_all(alloc: Global, state: State, piece: &[u8]) -> (State, Vec<Request>)
     requires { IsState state }
     ensures sound { IsState result.0 }
     ensures reads { Advances (kept state) piece.now (messages result.1.items) (kept result.0) }
+    ensures part { length piece.now < missing_len (kept state) → (result.1.items ≡ []) × IsGoing (kept result.0) }
 {
     let mut requests = Vec::new(alloc);
     let mut state = state;
@@ -154,45 +160,39 @@ fn wanted(state: &State) -> usize
 }
 
 // Takes the next bytes, and answers the request that is whole now.
-fn advance(alloc: Global, state: State, bytes: &[u8]) -> (State, Option<Request>)
+fn advance(alloc: Global, state: State, more: &[u8]) -> (State, Option<Request>)
     requires sound { IsState state }
-    requires wanted { length bytes.now ≤ wanted_of state }
+    requires wanted { length more.now ≤ wanted_of state }
     ensures sound { IsState result.0 }
-    ensures reads { Advances (kept state) bytes.now (found result.1) (kept result.0) }
+    ensures reads { Advances (kept state) more.now (found result.1) (kept result.0) }
+    ensures part { length more.now < missing_len (kept state) → IsQuiet result }
 {
     match state {
-        State::Head { bytes: head, count } => take_head(alloc, head, count, bytes),
-        State::Data {
-            head,
-            bytes: so_far,
-        } => take_data(head, so_far, bytes),
-        State::Discard { head, missing } => discard(alloc, head, missing, bytes.len() as u32),
+        State::Head { bytes, count } => take_head(alloc, bytes, count, more),
+        State::Data { head, bytes } => take_data(head, bytes, more),
+        State::Discard { head, missing } => discard(alloc, head, missing, more.len() as u32),
         State::Failed(fault) => (State::Failed(fault), None),
     }
 }
 
 fn take_head(
     alloc: Global,
-    mut head: [u8; 28],
+    mut bytes: [u8; 28],
     count: usize,
-    bytes: &[u8],
+    more: &[u8],
 ) -> (State, Option<Request>)
-    requires wanted { count + length bytes.now ≤ 28 }
+    requires wanted { count + length more.now ≤ 28 }
     ensures sound { IsState result.0 }
-    ensures reads { Reads (take count head ++ bytes.now) (found result.1) (kept result.0) }
+    ensures reads { Reads (take count bytes ++ more.now) (found result.1) (kept result.0) }
+    ensures part { count + length more.now < 28 → IsQuiet result }
 {
-    let end = count + bytes.len();
-    head[count..end].copy_from_slice(bytes);
+    let end = count + more.len();
+    bytes[count..end].copy_from_slice(more);
     if end < HEAD_LEN {
-        return (
-            State::Head {
-                bytes: head,
-                count: end,
-            },
-            None,
-        );
+        let count = end;
+        return (State::Head { bytes, count }, None);
     }
-    begin(alloc, &head)
+    begin(alloc, &bytes)
 }
 
 // Decides by a head what follows it; a request with no data is whole.
@@ -236,20 +236,19 @@ fn with_room(alloc: Global, head: RequestHead) -> State
     }
 }
 
-fn take_data(head: RequestHead, mut so_far: Vec<u8>, bytes: &[u8]) -> (State, Option<Request>)
+fn take_data(head: RequestHead, mut bytes: Vec<u8>, more: &[u8]) -> (State, Option<Request>)
     requires write { IsKeptWrite head }
-    requires wanted { vec_len so_far + length bytes.now ≤ head.length }
-    requires room { head.length ≤ vec_capacity so_far }
+    requires wanted { vec_len bytes + length more.now ≤ head.length }
+    requires room { head.length ≤ vec_capacity bytes }
     ensures sound { IsState result.0 }
-    ensures reads { Reads (head_bytes head ++ (so_far.items ++ bytes.now)) (found result.1) (kept result.0) }
+    ensures reads { Reads (head_bytes head ++ (bytes.items ++ more.now)) (found result.1) (kept result.0) }
+    ensures part { vec_len bytes + length more.now < head.length → IsQuiet result }
 {
     // The room was reserved.
-    so_far.extend_from_slice(bytes).unwrap();
-    if so_far.len() < head.length as usize {
-        let bytes = so_far;
+    bytes.extend_from_slice(more).unwrap();
+    if bytes.len() < head.length as usize {
         return (State::Data { head, bytes }, None);
     }
-    let bytes = so_far;
     (at_start(), Some(Request { head, bytes }))
 }
 
@@ -261,6 +260,7 @@ fn discard(alloc: Global, head: RequestHead, missing: u32, count: u32) -> (State
     ensures sound { IsState result.0 }
     ensures reads { (sent : List ℕ) → length sent + (missing - count) ≡ head.length
         → Reads (head_bytes head ++ sent) (found result.1) (kept result.0) }
+    ensures part { count < missing → IsQuiet result }
 {
     let missing = missing - count;
     if missing > 0 {

@@ -1,9 +1,9 @@
 use crate::{
-    BLOCK_STATUS, BadMagic, DISCONNECT, FLUSH, READ, Request, RequestHead, StreamReader, TRIM,
-    WRITE, WRITE_ZEROES, WireFault, decode_request, encode_request, encode_simple,
+    BLOCK_STATUS, BadMagic, CommandFlags, DISCONNECT, Errno, FLUSH, READ, Request, RequestHead,
+    StreamReader, TRIM, WRITE, WRITE_ZEROES, WireFault, decode_request, encode_request,
+    encode_simple,
 };
 use std::alloc::{AllocError, Global};
-use std::process::Abort;
 use std::test::Fail;
 
 const ROW: RequestHead = RequestHead {
@@ -102,6 +102,24 @@ fn heads_and_simple_replies(rt: HostRuntime) -> Result<(), Fail> {
         encode_simple(22, 0x0102_0304_0506_0708).as_slice(),
         [0x67, 0x44, 0x66, 0x98, 0, 0, 0, 22, 1, 2, 3, 4, 5, 6, 7, 8].as_slice()
     );
+    let flags = CommandFlags::from_bits_retain(9);
+    assert!(rt; flags.contains(CommandFlags::FUA) && flags.contains(CommandFlags::REQ_ONE));
+    assert!(rt; !flags.contains(CommandFlags::NO_HOLE) && !flags.contains(CommandFlags::DF));
+    let numbers = [
+        Errno::Io.number(),
+        Errno::NoMemory.number(),
+        Errno::Invalid.number(),
+        Errno::NoSpace.number(),
+    ];
+    assert_eq!(rt; numbers.as_slice(), [5, 12, 22, 28].as_slice());
+    let texts = format!(in rt.alloc();
+        "{}, {}, {}, {}",
+        WireFault::NoMemory,
+        WireFault::BadMagic,
+        WireFault::TooLong,
+        BadMagic
+    )?;
+    assert_eq!(rt; texts.as_str(), "no memory, bad magic, too long, bad magic");
     Ok(())
 }
 

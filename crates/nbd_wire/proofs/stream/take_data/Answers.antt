@@ -9,7 +9,7 @@ use Rattle.nbd_wire.proofs.stream.take_data.Goals as goal
 pub returns-clause-reads : goal.returns-clause-reads
 returns-clause-reads c =
     let bytes : List ℕ = c.extend_from_slice.new.self.items in
-    let items : bytes ≡ c.args.so_far.items ++ c.args.bytes.now = search rules in
+    let items : bytes ≡ c.args.bytes.items ++ c.args.more.now = search rules in
     let len : length bytes ≡ c.args.head.length = search rules in
     let write = c.requires.write in
     subst (λ (b : List ℕ). Reads (head_bytes c.args.head ++ b) (record { head = c.args.head; bytes = bytes } ∷ []) (kept c.at_start.result)) items

@@ -1,6 +1,10 @@
-use Rattle.std.proofs.Common.{◌≡◌, List, [], ◌++◌, sym, subst, ap, ◌∙◌}
+use Rattle.std.proofs.Common.{◌≡◌, ◌<◌, List, [], ◌++◌, length, sym, subst, ap, ◌∙◌}
+use Rattle.std.specs.Prelude.{Result, IsOkAnd}
+use Rattle.std.specs.Global.{Vec}
+use Rattle.nbd_wire.specs.declared.error.WireFault.{WireFault}
+use Rattle.nbd_wire.specs.declared.message.Request.{Request}
 use Rattle.nbd_wire.specs.Request.{Message, messages}
-use Rattle.nbd_wire.specs.Stream.{Kept, failed, Reads, ReadsOn}
+use Rattle.nbd_wire.specs.Stream.{Kept, failed, Reads, ReadsOn, missing_len}
 use Rattle.nbd_wire.specs.State.{kept, Advances}
 use Rattle.nbd_wire.proofs.Streams.{Reads-then, Advances-failed, state_failed, held_bound}
 use Rattle.nbd_wire.proofs.stream.StreamReader.feed.Goals as goal
@@ -24,5 +28,9 @@ returns c =
       fault = c.answer.ensures.fault;
       again = λ fault was. absurd (c.in_default.not-Failed fault (state_failed c.self.inside.state fault (c.self.view_is ∙ was)));
       first = c.answer.ensures.first;
+      part = λ part.
+          let part' : length c.args.piece.now < missing_len (kept c.replace-state.result) = rw old part in
+          let quiet = c.read_all-state.ensures.part part' in
+          subst (λ (r : Result (Vec Request) WireFault). IsOkAnd r (λ requests. requests.items ≡ [])) (sym (c.answer.ensures.going quiet.1)) quiet.0;
       held = held_bound c.read_all-state.result.0 c.read_all-state.ensures.sound;
     }
