@@ -1,6 +1,6 @@
 -- A piece that ends neither a head nor data: no request comes of it, and no fault.
-use Rattle.std.proofs.Common.{◌≡◌, ℕ, ◌-◌, ◌<◌, ◌≤◌, ◌⊎◌, inl, inr, List, [], length, take, drop, refl, sym, ap, subst, ◌∙◌, length-take, arith}
-use Rattle.std.specs.Prelude.{Option, Some, None, min}
+use Rattle.std.proofs.Common.{◌≡◌, ℕ, ◌<◌, ◌≤◌, ◌⊎◌, inl, inr, List, [], length, take, drop, refl, ap, ◌∙◌, length-take, arith}
+use Rattle.std.specs.Prelude.{Option, min}
 use Rattle.std.proofs.lemmas.List.{take_all, drop_all}
 use Rattle.nbd_wire.specs.declared.message.Request.{Request}
 use Rattle.nbd_wire.specs.declared.stream.State.{State}

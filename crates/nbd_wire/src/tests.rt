@@ -3,6 +3,7 @@ use crate::{
     StreamReader, TRIM, WRITE, WRITE_ZEROES, WireFault, decode_request, encode_request,
     encode_simple,
 };
+use bitflags::Flags;
 use std::alloc::{AllocError, Global};
 use std::test::Fail;
 

@@ -1,4 +1,4 @@
-use Rattle.std.proofs.Common.{◌≡◌, ◌<◌, ℕ, [], ◌∷◌, ◌++◌, length, inr, rules}
+use Rattle.std.proofs.Common.{◌≡◌, ◌<◌, [], ◌∷◌, ◌++◌, length, inr, rules}
 use Rattle.std.specs.Prelude.{min}
 use Rattle.std.proofs.lemmas.List.{nil_from_length}
 use Rattle.nbd_wire.specs.State.{wanted_of}
