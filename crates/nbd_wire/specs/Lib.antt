@@ -1,3 +1,5 @@
 pub mod Head
 pub mod Request
 pub mod Stream
+pub mod State
+pub mod Errno

@@ -1,10 +1,18 @@
 -- Requests with their data, as they follow one another on a stream ("Transmission" of NBD's proto.md).
 use Rattle.std.specs.Prelude.{◌≡◌, ℕ, ◌≤◌, ◌==◌, nat_le, if◌then◌else◌, List, [], ◌++◌, length, map}
-use Rattle.nbd_wire.specs.declared.command.TheConstants.{WRITE}
-use Rattle.nbd_wire.specs.declared.stream.TheConstants.{MAX_PAYLOAD, MAX_THROWN_AWAY}
 use Rattle.nbd_wire.specs.declared.head.RequestHead.{RequestHead}
 use Rattle.nbd_wire.specs.declared.message.Request.{Request}
 use Rattle.nbd_wire.specs.Head.{head_bytes, IsHead}
+
+-- the type of a WRITE, the most bytes of data that are kept, and the most that are read
+abbrev pub write_type : ℕ
+write_type = 1
+
+abbrev pub payload_limit : ℕ
+payload_limit = 1048576
+
+abbrev pub stream_limit : ℕ
+stream_limit = 33554432
 
 -- a request without where its data lie in memory
 pub record Message : Type 0 where
@@ -19,17 +27,23 @@ messages requests = map message requests
 
 -- how many bytes of data follow a head: a WRITE's length, and none behind any other
 abbrev pub data_len : RequestHead → ℕ
-data_len head = if head.kind == WRITE then head.length else 0
+data_len head = if head.kind == write_type then head.length else 0
 
--- what is handed on of the data: all, or nothing of data that are too long to be kept
+-- what is handed on of the data that were sent: all, or none of them where they are too long
 abbrev pub handed_on : List ℕ → List ℕ
-handed_on sent = if nat_le (length sent) MAX_PAYLOAD then sent else []
+handed_on sent = if nat_le (length sent) payload_limit then sent else []
 
--- These bytes are the request: its head, and the data that follow it.
-pub record IsRequest (bytes : List ℕ) (m : Message) : Type 0 where
+-- These bytes are the request: its head, and the data that follow it. Data that are thrown away may be any.
+pub record IsRequest (text : List ℕ) (request : Message) : Type 0 where
   pub sent : List ℕ
-  pub fits : IsHead m.head
-  pub whole : bytes ≡ head_bytes m.head ++ sent
-  pub len : length sent ≡ data_len m.head
-  pub bound : data_len m.head ≤ MAX_THROWN_AWAY
-  pub data_is : m.bytes ≡ handed_on sent
+  pub whole : text ≡ head_bytes request.head ++ sent
+  pub fits : IsHead request.head
+  pub len : length sent ≡ data_len request.head
+  pub bound : data_len request.head ≤ stream_limit
+  pub handed : request.bytes ≡ handed_on sent
+
+-- no request's bytes begin another's, and they are no other request's
+abbrev pub OneRequest : Type 0
+OneRequest =
+    (text other_text x y : List ℕ) (request other : Message) → IsRequest text request → IsRequest other_text other
+    → text ++ x ≡ other_text ++ y → (text ≡ other_text) × (request ≡ other)

@@ -1,12 +1,12 @@
--- A stream of requests, and what a reader keeps of one.
-use Rattle.std.specs.Prelude.{◌≡◌, ℕ, ◌-◌, ◌^◌, ◌<◌, ◌≤◌, List, length, take}
-use Rattle.nbd_wire.specs.declared.command.TheConstants.{WRITE}
-use Rattle.nbd_wire.specs.declared.stream.TheConstants.{MAX_PAYLOAD, MAX_THROWN_AWAY}
+-- A stream of requests, and what a reader keeps of it.
+use Rattle.std.specs.Prelude.{◌≡◌, ◌≢◌, ℕ, ◌+◌, ◌-◌, ◌<◌, ◌≤◌, List, [], ◌∷◌, ◌++◌, length, take, Result, Ok, Err}
+use Rattle.std.specs.Global.{Vec}
 use Rattle.nbd_wire.specs.declared.error.WireFault.{WireFault}
+use Rattle.nbd_wire.specs.declared.error.WireFault.TheVariants.{NoMemory, BadMagic, TooLong}
 use Rattle.nbd_wire.specs.declared.head.RequestHead.{RequestHead}
-use Rattle.nbd_wire.specs.declared.stream.State.{State}
-use Rattle.nbd_wire.specs.declared.stream.State.TheVariants as states
-use Rattle.nbd_wire.specs.Head.{IsHead}
+use Rattle.nbd_wire.specs.declared.message.Request.{Request}
+use Rattle.nbd_wire.specs.Head.{request_magic, head_bytes, IsHead}
+use Rattle.nbd_wire.specs.Request.{write_type, payload_limit, stream_limit, Message, messages, IsRequest}
 
 -- what a reader keeps of the bytes behind the last whole request
 pub data Kept : Type 0 where
@@ -14,37 +14,64 @@ pub data Kept : Type 0 where
   in_head : (bytes : List ℕ) → Kept
   -- the head of a WRITE, and the first of its data
   in_data : (head : RequestHead) (bytes : List ℕ) → Kept
-  -- the head of a WRITE whose data are thrown away, and how many of them are missing
+  -- the head of a WRITE whose data are thrown away, and how many of them are still to come
   in_discard : (head : RequestHead) (missing : ℕ) → Kept
   -- nothing is read any more
   failed : (fault : WireFault) → Kept
 
-abbrev pub kept : State → Kept
-kept (states.Head bytes count) = in_head (take count bytes)
-kept (states.Data head bytes) = in_data head bytes.items
-kept (states.Discard head missing) = in_discard head missing
-kept (states.Failed fault) = failed fault
+-- the fault stands in a request's place
+abbrev pub IsFault : WireFault → List ℕ → Type 0
+IsFault BadMagic text = (28 ≤ length text) × (take 4 text ≢ request_magic)
+IsFault TooLong text =
+    (head : RequestHead) × (more : List ℕ) × IsHead head × (head.kind ≡ write_type) × (stream_limit < head.length)
+    × (text ≡ head_bytes head ++ more)
+-- memory ran out, whatever came
+IsFault NoMemory text = Unit {0}
 
--- what holds of each reader
-abbrev pub IsSound : Kept → Type 0
-IsSound (in_head bytes) = length bytes < 28
-IsSound (in_data head bytes) =
-    IsHead head × (head.kind ≡ WRITE) × (head.length ≤ MAX_PAYLOAD) × (length bytes < head.length)
-IsSound (in_discard head missing) =
-    IsHead head × (head.kind ≡ WRITE) × (MAX_PAYLOAD < head.length) × (head.length ≤ MAX_THROWN_AWAY)
-    × (0 < missing) × (missing ≤ head.length)
-IsSound (failed fault) = Unit {0}
+-- This is what is kept of a text that is no whole request, or begins with a fault.
+abbrev pub Keeps : Kept → List ℕ → Type 0
+Keeps (in_head bytes) text = (length bytes < 28) × (text ≡ bytes)
+Keeps (in_data head bytes) text =
+    IsHead head × (head.kind ≡ write_type) × (head.length ≤ payload_limit) × (length bytes < head.length)
+    × (text ≡ head_bytes head ++ bytes)
+Keeps (in_discard head missing) text =
+    IsHead head × (head.kind ≡ write_type) × (payload_limit < head.length) × (head.length ≤ stream_limit)
+    × (sent : List ℕ) × (0 < missing) × (length sent + missing ≡ head.length) × (text ≡ head_bytes head ++ sent)
+Keeps (failed fault) text = IsFault fault text
 
--- the same of the fields
-abbrev pub IsState : State → Type 0
-IsState (states.Head bytes count) = (count < 28) × (length bytes ≡ 28)
-IsState (states.Data head bytes) = IsSound (in_data head bytes.items)
-IsState (states.Discard head missing) = IsSound (in_discard head missing)
-IsState (states.Failed fault) = Unit {0}
+-- The stream is these requests, and then what is kept.
+abbrev pub Reads : List ℕ → List Message → Kept → Type 0
+Reads stream [] kept = Keeps kept stream
+Reads stream (request ∷ requests) kept =
+    (text rest : List ℕ) × IsRequest text request × (stream ≡ text ++ rest) × Reads rest requests kept
 
--- how many bytes a reader takes at once, at most: up to the end of a head or of the data
-abbrev pub wanted_of : Kept → ℕ
-wanted_of (in_head bytes) = 28 - length bytes
-wanted_of (in_data head bytes) = head.length - length bytes
-wanted_of (in_discard head missing) = missing
-wanted_of (failed fault) = 2 ^ 64 - 1
+-- A reader that had read any stream up to here has read the stream and the piece, with these further requests.
+abbrev pub ReadsOn : Kept → List ℕ → List Message → Kept → Type 0
+ReadsOn old piece requests new =
+    (stream : List ℕ) (before : List Message) → Reads stream before old → Reads (stream ++ piece) (before ++ requests) new
+
+-- the requests that are handed out
+abbrev pub answered : Result (Vec Request) WireFault → List Message
+answered (Ok requests) = messages requests.items
+answered (Err fault) = []
+
+-- how many bytes are held
+abbrev pub held : Kept → ℕ
+held (in_head bytes) = length bytes
+held (in_data head bytes) = 28 + length bytes
+held (in_discard head missing) = 28
+held (failed fault) = 0
+
+-- how many bytes end the head or the data at hand
+abbrev pub missing_len : Kept → ℕ
+missing_len (in_head bytes) = 28 - length bytes
+missing_len (in_data head bytes) = head.length - length bytes
+missing_len (in_discard head count) = count
+missing_len (failed fault) = 0
+
+-- two readings of one stream are one
+abbrev pub OneReading : Type 0
+OneReading =
+    (stream : List ℕ) (requests others : List Message) (kept other : Kept) → Reads stream requests kept
+    → Reads stream others other → kept ≢ failed NoMemory → other ≢ failed NoMemory
+    → (requests ≡ others) × (kept ≡ other)

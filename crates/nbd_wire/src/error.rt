@@ -1,3 +1,6 @@
+ghost use Rattle.std.specs.Prelude.{◌≡◌};
+ghost use Rattle.nbd_wire.specs.Errno.{errno_number};
+
 use thiserror::Error;
 
 /// The four bytes in a message's place aren't its magic number: refusal 3.
@@ -34,7 +37,9 @@ pub enum Errno {
 
 impl Errno {
     /// The number on the wire.
-    pub fn number(self) -> u32 {
+    pub fn number(self) -> u32
+        ensures { result ≡ errno_number self }
+    {
         match self {
             Errno::Io => 5,
             Errno::NoMemory => 12,

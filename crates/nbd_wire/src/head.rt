@@ -1,5 +1,5 @@
-ghost use Rattle.std.specs.Prelude.{IfOk};
-ghost use Rattle.nbd_wire.specs.Head.{IsHead};
+ghost use Rattle.std.specs.Prelude.{◌≡◌, ◌≢◌, ℕ, List, ◌++◌, take, IfOk, OnErr};
+ghost use Rattle.nbd_wire.specs.Head.{request_magic, head_bytes, IsHead, OneHead, simple_reply};
 
 use crate::error::BadMagic;
 use byteorder::{BigEndian, ByteOrder};
@@ -25,7 +25,13 @@ pub struct RequestHead {
 
 /// Reads a request's head.
 pub fn decode_request(bytes: &[u8; 28]) -> Result<RequestHead, BadMagic>
+    // It is the one head that the bytes are.
+    ensures found { IfOk result (λ head. bytes.now ≡ head_bytes head) }
     ensures fits { IfOk result IsHead }
+
+    // No head's bytes are these.
+    ensures magic { OnErr result (take 4 bytes.now ≢ request_magic) }
+    ensures none { OnErr result ((head : RequestHead) → bytes.now ≢ head_bytes head) }
 {
     if BigEndian::read_u32(&bytes[0..4]) != REQUEST_MAGIC {
         return Err(BadMagic);
@@ -40,7 +46,9 @@ pub fn decode_request(bytes: &[u8; 28]) -> Result<RequestHead, BadMagic>
 }
 
 /// Writes a request's head.
-pub fn encode_request(head: &RequestHead) -> [u8; 28] {
+pub fn encode_request(head: &RequestHead) -> [u8; 28]
+    ensures { result ≡ head_bytes head.now }
+{
     let mut bytes = [0; 28];
     BigEndian::write_u32(&mut bytes[0..4], REQUEST_MAGIC);
     BigEndian::write_u16(&mut bytes[4..6], head.flags);
@@ -53,10 +61,17 @@ pub fn encode_request(head: &RequestHead) -> [u8; 28] {
 
 /// Writes a simple reply ("Simple reply message" of NBD's `proto.md`), `error` 0 for success. Behind one to a READ
 /// that succeeded the data follow.
-pub fn encode_simple(error: u32, cookie: u64) -> [u8; 16] {
+pub fn encode_simple(error: u32, cookie: u64) -> [u8; 16]
+    ensures { (bytes : List ℕ) → result ++ bytes ≡ simple_reply error cookie bytes }
+{
     let mut bytes = [0; 16];
     BigEndian::write_u32(&mut bytes[0..4], SIMPLE_REPLY_MAGIC);
     BigEndian::write_u32(&mut bytes[4..8], error);
     BigEndian::write_u64(&mut bytes[8..16], cookie);
     bytes
 }
+
+/// No head's bytes begin another's, so what was encoded is decoded again, whatever follows it.
+pub fn one_head()
+    ensures { OneHead }
+{}

@@ -9,6 +9,9 @@ mod stream;
 
 pub use command::{BLOCK_STATUS, CommandFlags, DISCONNECT, FLUSH, READ, TRIM, WRITE, WRITE_ZEROES};
 pub use error::{BadMagic, Errno, WireFault};
-pub use head::{RequestHead, decode_request, encode_request, encode_simple};
-pub use message::{Answer, Reply, Request, Run, SessionFlags};
-pub use stream::{MAX_PAYLOAD, MAX_THROWN_AWAY, StreamReader};
+pub use head::{RequestHead, decode_request, encode_request, encode_simple, one_head};
+pub use message::{Answer, Reply, Request, Run, SessionFlags, one_request};
+pub use stream::{MAX_PAYLOAD, MAX_THROWN_AWAY, StreamReader, one_reading};
+
+#[cfg(test)]
+mod tests;

@@ -1,3 +1,5 @@
+ghost use Rattle.nbd_wire.specs.Request.{OneRequest};
+
 use crate::error::Errno;
 use crate::head::RequestHead;
 
@@ -51,3 +53,8 @@ pub struct SessionFlags {
     /// The metadata context `base:allocation`.
     pub context: bool,
 }
+
+/// No request's bytes begin another's, and they are no other request's, whatever follows them.
+pub fn one_request()
+    ensures { OneRequest }
+{}

@@ -1,6 +1,8 @@
-ghost use Rattle.std.specs.Prelude.{◌≡◌, ◌+◌, ◌<◌, ◌≤◌, [], length};
-ghost use Rattle.nbd_wire.specs.Head.{IsHead};
-ghost use Rattle.nbd_wire.specs.Stream.{Kept, in_head, in_data, in_discard, kept, IsSound, IsState, wanted_of};
+ghost use Rattle.std.specs.Prelude.{◌≡◌, ◌+◌, ◌-◌, ◌<◌, ◌≤◌, ℕ, List, [], ◌∷◌, ◌++◌, length, take, IfOk, IfErr, IsOkAnd, vec_len, vec_capacity};
+ghost use Rattle.nbd_wire.specs.Head.{head_bytes, IsHead};
+ghost use Rattle.nbd_wire.specs.Request.{Message, message, messages};
+ghost use Rattle.nbd_wire.specs.Stream.{Kept, in_head, failed, Reads, ReadsOn, answered, held, missing_len, OneReading};
+ghost use Rattle.nbd_wire.specs.State.{kept, IsKeptWrite, IsLongWrite, IsState, wanted_of, found, Advances, IsGoing, IsQuiet};
 
 use crate::command::WRITE;
 use crate::error::WireFault;
@@ -26,9 +28,11 @@ pub struct StreamReader {
 
 impl Model for StreamReader {
     ghost use Rattle.std.specs.Prelude.{ℕ};
-    ghost use Rattle.nbd_wire.specs.Stream.{Kept, kept, IsState};
+    ghost use Rattle.nbd_wire.specs.Stream.{Kept};
 
     ghost Value = { Kept };
+
+    ghost use Rattle.nbd_wire.specs.State.{kept, IsState};
 
     ghost view = { λ reader. kept reader.state };
 
@@ -50,24 +54,48 @@ enum State {
 
 impl StreamReader {
     /// A reader at the beginning of a stream.
-    pub fn new(alloc: Global) -> StreamReader {
+    pub fn new(alloc: Global) -> StreamReader
+        ensures { result ≡ in_head [] }
+    {
         StreamReader {
             alloc,
             state: at_start(),
         }
     }
 
-    /// Reads the next piece of the stream, and answers the requests that are whole now.
-    pub fn feed(&mut self, piece: &[u8]) -> Result<Vec<Request>, WireFault> {
+    /// Reads the next piece of the stream, and answers the requests that are whole now. A head is looked at
+    /// once its 28 bytes have come. Refusals 0 (no memory), 3 (bad magic) and 4 (too long).
+    pub fn feed(&mut self, piece: &[u8]) -> Result<Vec<Request>, WireFault>
+        // However the stream was cut, these are its next requests, up to its first fault.
+        ensures stream { ReadsOn self.old piece.now (answered result) self.new }
+
+        // A fault comes where there is no request before it, and then always.
+        ensures fault { IfErr result (λ fault. self.new ≡ failed fault) }
+        ensures again { (fault : WireFault) → self.old ≡ failed fault → result ≡ Err fault }
+        ensures first { (fault : WireFault) → self.new ≡ failed fault → IfOk result (λ requests. 0 < vec_len requests) }
+
+        // A piece that ends neither a head nor data is taken with no memory.
+        ensures part { length piece.now < missing_len self.old → IsOkAnd result (λ requests. requests.items ≡ []) }
+
+        // Whatever is announced, no more than this is held.
+        ensures held { held self.new < 28 + MAX_PAYLOAD }
+    {
+        if let State::Failed(fault) = self.state {
+            return Err(fault);
+        }
+        // The state is moved out and comes back; what stands in its place is never seen.
         let state = mem::replace(&mut self.state, State::Failed(WireFault::NoMemory));
         let (state, requests) = read_all(self.alloc, state, piece);
         self.state = state;
-        match self.state {
-            State::Failed(fault) if requests.is_empty() => Err(fault),
-            _ => Ok(requests),
-        }
+        answer(&self.state, requests)
     }
 }
+
+/// Two readings of one stream are one: however it is cut, its requests are the same, and so is what a reader
+/// keeps, but for one that memory ran out for.
+pub fn one_reading()
+    ensures { OneReading }
+{}
 
 // Nothing was read of the next request.
 fn at_start() -> State
@@ -80,10 +108,25 @@ fn at_start() -> State
     }
 }
 
+// The requests, or the fault that no request stands before.
+fn answer(state: &State, requests: Vec<Request>) -> Result<Vec<Request>, WireFault>
+    ensures answered { answered result ≡ messages requests.items }
+    ensures fault { IfErr result (λ fault. kept state.now ≡ failed fault) }
+    ensures first { (fault : WireFault) → kept state.now ≡ failed fault → IfOk result (λ handed. 0 < vec_len handed) }
+    ensures going { IsGoing (kept state.now) → result ≡ Ok requests }
+{
+    match state {
+        State::Failed(fault) if requests.is_empty() => Err(*fault),
+        _ => Ok(requests),
+    }
+}
+
 // Reads all of the piece. Behind a fault the requests are those before it.
 fn read_all(alloc: Global, state: State, piece: &[u8]) -> (State, Vec<Request>)
     requires { IsState state }
-    ensures { IsState result.0 }
+    ensures sound { IsState result.0 }
+    ensures reads { Advances (kept state) piece.now (messages result.1.items) (kept result.0) }
+    ensures part { length piece.now < missing_len (kept state) → (result.1.items ≡ []) × IsGoing (kept result.0) }
 {
     let mut requests = Vec::new(alloc);
     let mut state = state;
@@ -105,7 +148,7 @@ fn read_all(alloc: Global, state: State, piece: &[u8]) -> (State, Vec<Request>)
 // How many bytes end what is being read.
 fn wanted(state: &State) -> usize
     requires { IsState state.now }
-    ensures value { result ≡ wanted_of (kept state.now) }
+    ensures value { result ≡ wanted_of state.now }
     ensures some { 0 < result }
 {
     match state {
@@ -117,48 +160,45 @@ fn wanted(state: &State) -> usize
 }
 
 // Takes the next bytes, and answers the request that is whole now.
-fn advance(alloc: Global, state: State, bytes: &[u8]) -> (State, Option<Request>)
+fn advance(alloc: Global, state: State, more: &[u8]) -> (State, Option<Request>)
     requires sound { IsState state }
-    requires wanted { length bytes.now ≤ wanted_of (kept state) }
+    requires wanted { length more.now ≤ wanted_of state }
     ensures sound { IsState result.0 }
+    ensures reads { Advances (kept state) more.now (found result.1) (kept result.0) }
+    ensures part { length more.now < missing_len (kept state) → IsQuiet result }
 {
     match state {
-        State::Head { bytes: head, count } => take_head(alloc, head, count, bytes),
-        State::Data {
-            head,
-            bytes: so_far,
-        } => take_data(head, so_far, bytes),
-        State::Discard { head, missing } => discard(alloc, head, missing, bytes.len() as u32),
+        State::Head { bytes, count } => take_head(alloc, bytes, count, more),
+        State::Data { head, bytes } => take_data(head, bytes, more),
+        State::Discard { head, missing } => discard(alloc, head, missing, more.len() as u32),
         State::Failed(fault) => (State::Failed(fault), None),
     }
 }
 
 fn take_head(
     alloc: Global,
-    mut head: [u8; 28],
+    mut bytes: [u8; 28],
     count: usize,
-    bytes: &[u8],
+    more: &[u8],
 ) -> (State, Option<Request>)
-    requires wanted { count + length bytes.now ≤ 28 }
+    requires wanted { count + length more.now ≤ 28 }
     ensures sound { IsState result.0 }
+    ensures reads { Reads (take count bytes ++ more.now) (found result.1) (kept result.0) }
+    ensures part { count + length more.now < 28 → IsQuiet result }
 {
-    let end = count + bytes.len();
-    head[count..end].copy_from_slice(bytes);
+    let end = count + more.len();
+    bytes[count..end].copy_from_slice(more);
     if end < HEAD_LEN {
-        return (
-            State::Head {
-                bytes: head,
-                count: end,
-            },
-            None,
-        );
+        let count = end;
+        return (State::Head { bytes, count }, None);
     }
-    begin(alloc, &head)
+    begin(alloc, &bytes)
 }
 
 // Decides by a head what follows it; a request with no data is whole.
 fn begin(alloc: Global, bytes: &[u8; 28]) -> (State, Option<Request>)
     ensures sound { IsState result.0 }
+    ensures reads { Reads bytes.now (found result.1) (kept result.0) }
 {
     let Ok(head) = decode_request(bytes) else {
         return (State::Failed(WireFault::BadMagic), None);
@@ -177,8 +217,7 @@ fn begin(alloc: Global, bytes: &[u8; 28]) -> (State, Option<Request>)
 }
 
 fn without_data(alloc: Global, head: RequestHead) -> Request
-    ensures head { result.head ≡ head }
-    ensures bytes { result.bytes.items ≡ [] }
+    ensures { message result ≡ record { head = head; bytes = [] } }
 {
     let bytes = Vec::new(alloc);
     Request { head, bytes }
@@ -186,11 +225,10 @@ fn without_data(alloc: Global, head: RequestHead) -> Request
 
 // Reserves the room for all of a WRITE's data.
 fn with_room(alloc: Global, head: RequestHead) -> State
-    requires fits { IsHead head }
-    requires kind { head.kind ≡ WRITE }
+    requires write { IsKeptWrite head }
     requires some { 0 < head.length }
-    requires kept { head.length ≤ MAX_PAYLOAD }
     ensures sound { IsState result }
+    ensures reads { Reads (head_bytes head) [] (kept result) }
 {
     match Vec::with_capacity(alloc, head.length as usize) {
         Ok(bytes) => State::Data { head, bytes },
@@ -198,36 +236,31 @@ fn with_room(alloc: Global, head: RequestHead) -> State
     }
 }
 
-fn take_data(head: RequestHead, mut so_far: Vec<u8>, bytes: &[u8]) -> (State, Option<Request>)
-    requires sound { IsSound (in_data head so_far.items) }
-    requires wanted { length so_far.items + length bytes.now ≤ head.length }
+fn take_data(head: RequestHead, mut bytes: Vec<u8>, more: &[u8]) -> (State, Option<Request>)
+    requires write { IsKeptWrite head }
+    requires wanted { vec_len bytes + length more.now ≤ head.length }
+    requires room { head.length ≤ vec_capacity bytes }
     ensures sound { IsState result.0 }
+    ensures reads { Reads (head_bytes head ++ (bytes.items ++ more.now)) (found result.1) (kept result.0) }
+    ensures part { vec_len bytes + length more.now < head.length → IsQuiet result }
 {
-    if so_far.extend_from_slice(bytes).is_err() {
-        return (State::Failed(WireFault::NoMemory), None);
+    // The room was reserved.
+    bytes.extend_from_slice(more).unwrap();
+    if bytes.len() < head.length as usize {
+        return (State::Data { head, bytes }, None);
     }
-    if so_far.len() < head.length as usize {
-        return (
-            State::Data {
-                head,
-                bytes: so_far,
-            },
-            None,
-        );
-    }
-    (
-        at_start(),
-        Some(Request {
-            head,
-            bytes: so_far,
-        }),
-    )
+    (at_start(), Some(Request { head, bytes }))
 }
 
+// Passes over `count` bytes of data that aren't kept.
 fn discard(alloc: Global, head: RequestHead, missing: u32, count: u32) -> (State, Option<Request>)
-    requires sound { IsSound (in_discard head missing) }
+    requires write { IsLongWrite head }
+    requires within { missing ≤ head.length }
     requires wanted { count ≤ missing }
     ensures sound { IsState result.0 }
+    ensures reads { (sent : List ℕ) → length sent + (missing - count) ≡ head.length
+        → Reads (head_bytes head ++ sent) (found result.1) (kept result.0) }
+    ensures part { count < missing → IsQuiet result }
 {
     let missing = missing - count;
     if missing > 0 {

@@ -1,0 +1,4 @@
+pub mod Heads
+pub mod Requests
+pub mod Streams
+pub mod Parts

@@ -1,0 +1,15 @@
+use Rattle.std.proofs.Common.{◌≢◌, take, ap, rules}
+use Rattle.nbd_wire.specs.Head.{request_magic, head_bytes}
+use Rattle.nbd_wire.proofs.Heads.{head_bytes_of}
+use Rattle.nbd_wire.proofs.head.decode_request.Goals as goal
+
+pub returns-then-read_u32-ne-REQUEST_MAGIC-clause-none : goal.returns-then-read_u32-ne-REQUEST_MAGIC-clause-none
+unfolding head_bytes
+returns-then-read_u32-ne-REQUEST_MAGIC-clause-none c =
+    let wrong : take 4 c.args.bytes.now ≢ request_magic = search rules in
+    λ head same. wrong (ap (take 4) same)
+
+pub returns-clause-found : goal.returns-clause-found
+returns-clause-found c =
+    head_bytes_of c.args.bytes.now _ (search rules) (λ i. search rules) (search rules)
+    c.read_u16.ensures c.read_u16-2.ensures c.read_u64.ensures c.read_u64-2.ensures c.read_u32-2.ensures

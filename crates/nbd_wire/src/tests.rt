@@ -1,0 +1,270 @@
+use crate::{
+    BLOCK_STATUS, BadMagic, CommandFlags, DISCONNECT, Errno, FLUSH, READ, Request, RequestHead,
+    StreamReader, TRIM, WRITE, WRITE_ZEROES, WireFault, decode_request, encode_request,
+    encode_simple,
+};
+use bitflags::Flags;
+use std::alloc::{AllocError, Global};
+use std::test::Fail;
+
+const ROW: RequestHead = RequestHead {
+    flags: 0,
+    kind: WRITE,
+    cookie: 0x0102_0304_0506_0708,
+    offset: 0,
+    length: 4096,
+};
+
+fn head(kind: u16, length: u32) -> RequestHead {
+    RequestHead {
+        flags: 0,
+        kind,
+        cookie: 9,
+        offset: 4096,
+        length,
+    }
+}
+
+// The request's bytes, apart from the codec.
+fn put(stream: &mut Vec<u8>, head: &RequestHead, sent: &[u8]) -> Result<(), AllocError> {
+    stream.extend_from_slice(&[0x25, 0x60, 0x95, 0x13])?;
+    stream.extend_from_slice(&head.flags.to_be_bytes())?;
+    stream.extend_from_slice(&head.kind.to_be_bytes())?;
+    stream.extend_from_slice(&head.cookie.to_be_bytes())?;
+    stream.extend_from_slice(&head.offset.to_be_bytes())?;
+    stream.extend_from_slice(&head.length.to_be_bytes())?;
+    stream.extend_from_slice(sent)
+}
+
+fn feed_to(reader: &mut StreamReader, piece: &[u8], out: &mut Vec<Request>) -> Result<(), Fail> {
+    for request in reader.feed(piece)? {
+        out.push(request)?;
+    }
+    Ok(())
+}
+
+fn same(found: &[Request], wanted: &[Request]) -> bool {
+    found.len() == wanted.len()
+        && found.iter().zip(wanted.iter()).all(|(a, b)| a.head == b.head
+            && a.bytes.as_slice() == b.bytes.as_slice())
+}
+
+#[test]
+fn heads_and_simple_replies(rt: HostRuntime) -> Result<(), Fail> {
+    let bytes = [
+        0x25, 0x60, 0x95, 0x13, 0, 0, 0, 1, 1, 2, 3, 4, 5, 6, 7, 8, 0, 0, 0, 0, 0, 0, 0, 0, 0, 0,
+        0x10, 0,
+    ];
+    assert_eq!(rt; decode_request(&bytes), Ok(ROW));
+    assert_eq!(rt; encode_request(&ROW).as_slice(), bytes.as_slice());
+    for i in 0..4usize {
+        let mut other = bytes;
+        other[i] ^= 1;
+        assert_eq!(rt; decode_request(&other), Err(BadMagic));
+    }
+    let kinds = [
+        READ,
+        WRITE,
+        DISCONNECT,
+        FLUSH,
+        TRIM,
+        5,
+        WRITE_ZEROES,
+        BLOCK_STATUS,
+        8,
+        0xffff,
+    ];
+    for kind in kinds {
+        for bit in 0..16u32 {
+            let flags = 1u16 << bit;
+            let [high, low] = flags.to_be_bytes();
+            let [kind_high, kind_low] = kind.to_be_bytes();
+            let mut text = bytes;
+            text[4] = high;
+            text[5] = low;
+            text[6] = kind_high;
+            text[7] = kind_low;
+            let mut wanted = ROW;
+            wanted.flags = flags;
+            wanted.kind = kind;
+            assert_eq!(rt; decode_request(&text), Ok(wanted));
+            assert_eq!(rt; encode_request(&wanted).as_slice(), text.as_slice());
+        }
+    }
+    assert_eq!(rt;
+        encode_simple(0, 7).as_slice(),
+        [0x67, 0x44, 0x66, 0x98, 0, 0, 0, 0, 0, 0, 0, 0, 0, 0, 0, 7].as_slice()
+    );
+    assert_eq!(rt;
+        encode_simple(28, 2).as_slice(),
+        [0x67, 0x44, 0x66, 0x98, 0, 0, 0, 28, 0, 0, 0, 0, 0, 0, 0, 2].as_slice()
+    );
+    assert_eq!(rt;
+        encode_simple(22, 0x0102_0304_0506_0708).as_slice(),
+        [0x67, 0x44, 0x66, 0x98, 0, 0, 0, 22, 1, 2, 3, 4, 5, 6, 7, 8].as_slice()
+    );
+    let flags = CommandFlags::from_bits_retain(9);
+    assert!(rt; flags.contains(CommandFlags::FUA) && flags.contains(CommandFlags::REQ_ONE));
+    assert!(rt; !flags.contains(CommandFlags::NO_HOLE) && !flags.contains(CommandFlags::DF));
+    let numbers = [
+        Errno::Io.number(),
+        Errno::NoMemory.number(),
+        Errno::Invalid.number(),
+        Errno::NoSpace.number(),
+    ];
+    assert_eq!(rt; numbers.as_slice(), [5, 12, 22, 28].as_slice());
+    let texts = format!(in rt.alloc();
+        "{}, {}, {}, {}",
+        WireFault::NoMemory,
+        WireFault::BadMagic,
+        WireFault::TooLong,
+        BadMagic
+    )?;
+    assert_eq!(rt; texts.as_str(), "no memory, bad magic, too long, bad magic");
+    Ok(())
+}
+
+// Twelve requests, and their bytes.
+fn twelve(alloc: Global) -> Result<(Vec<Request>, Vec<u8>), AllocError> {
+    let rows: [(u16, u32, usize); 12] = [
+        (WRITE, 5, 5),
+        (READ, 4096, 0),
+        (WRITE, 0, 0),
+        (WRITE, 1, 1),
+        (FLUSH, 0, 0),
+        (TRIM, 8192, 0),
+        (WRITE, 700, 700),
+        (WRITE_ZEROES, 4096, 0),
+        (BLOCK_STATUS, 65536, 0),
+        (5, 77, 0),
+        (WRITE, 512, 512),
+        (DISCONNECT, 0, 0),
+    ];
+    let mut requests = Vec::new(alloc);
+    let mut stream = Vec::new(alloc);
+    let mut cookie = 0u64;
+    for (kind, length, sent) in rows {
+        cookie = cookie.wrapping_add(0x0101_0000_0000_0001);
+        let head = RequestHead {
+            flags: 3,
+            kind,
+            cookie,
+            offset: 12288,
+            length,
+        };
+        let bytes = vec![in alloc; (cookie % 251) as u8; sent]?;
+        put(&mut stream, &head, bytes.as_slice())?;
+        requests.push(Request { head, bytes })?;
+    }
+    Ok((requests, stream))
+}
+
+#[test]
+fn cut_everywhere(rt: HostRuntime) -> Result<(), Fail> {
+    let (wanted, stream) = twelve(rt.alloc())?;
+    let stream = stream.as_slice();
+    assert!(rt; stream.len() <= 2000);
+    for second in 0..=stream.len() {
+        let (front, last) = stream.split_at(second);
+        // Every second cut of the first 100 bytes, else one cut.
+        let firsts = if second <= 100 { second + 1 } else { 1 };
+        for first in 0..firsts {
+            let (start, middle) = front.split_at(first.min(front.len()));
+            let mut reader = StreamReader::new(rt.alloc());
+            let mut found = Vec::new(rt.alloc());
+            feed_to(&mut reader, start, &mut found)?;
+            feed_to(&mut reader, middle, &mut found)?;
+            feed_to(&mut reader, last, &mut found)?;
+            assert!(rt; same(found.as_slice(), wanted.as_slice()));
+        }
+    }
+    Ok(())
+}
+
+// A WRITE of so many bytes, fed with its head cut in two and its data in pieces, and a FLUSH behind it.
+fn feed_long(
+    alloc: Global,
+    length: u32,
+    cut: usize,
+    piece: &[u8],
+) -> Result<(Result<(), WireFault>, Vec<Request>), Fail> {
+    let mut reader = StreamReader::new(alloc);
+    let mut found = Vec::new(alloc);
+    let text = encode_request(&head(WRITE, length));
+    let (front, back) = text.as_slice().split_at(cut.min(28));
+    feed_to(&mut reader, front, &mut found)?;
+    match reader.feed(back) {
+        Ok(requests) => {
+            for request in requests {
+                found.push(request)?;
+            }
+        }
+        Err(fault) => return Ok((Err(fault), found)),
+    }
+    let mut left = length as usize;
+    for _ in 0..left {
+        if left == 0 {
+            break;
+        }
+        let count = left.min(piece.len());
+        feed_to(&mut reader, &piece[..count], &mut found)?;
+        left -= count;
+    }
+    feed_to(
+        &mut reader,
+        encode_request(&head(FLUSH, 0)).as_slice(),
+        &mut found,
+    )?;
+    Ok((Ok(()), found))
+}
+
+#[test]
+fn long_data(rt: HostRuntime) -> Result<(), Fail> {
+    let piece = vec![in rt.alloc(); 7u8; 1_000_003]?;
+    let rows: [(u32, usize); 6] = [
+        (0, 0),
+        (1, 1),
+        (4096, 4096),
+        (1_048_576, 1_048_576),
+        (1_048_577, 0),
+        (33_554_432, 0),
+    ];
+    for (length, kept) in rows {
+        for cut in [0usize, 1, 27, 28] {
+            let (end, found) = feed_long(rt.alloc(), length, cut, piece.as_slice())?;
+            assert!(rt; end.is_ok());
+            let mut wanted = Vec::new(rt.alloc());
+            wanted.push(Request {
+                head: head(WRITE, length),
+                bytes: vec![in rt.alloc(); 7u8; kept]?,
+            })?;
+            wanted.push(Request {
+                head: head(FLUSH, 0),
+                bytes: Vec::new(rt.alloc()),
+            })?;
+            assert!(rt; same(found.as_slice(), wanted.as_slice()));
+        }
+    }
+    let (end, found) = feed_long(rt.alloc(), 33_554_433, 3, piece.as_slice())?;
+    assert_eq!(rt; end, Err(WireFault::TooLong));
+    assert!(rt; found.is_empty());
+    Ok(())
+}
+
+#[test]
+fn requests_before_a_fault(rt: HostRuntime) -> Result<(), Fail> {
+    let (wanted, mut stream) = twelve(rt.alloc())?;
+    stream.extend_from_slice(&[0; 28])?;
+    stream.extend_from_slice(&encode_request(&head(FLUSH, 0)))?;
+    let mut reader = StreamReader::new(rt.alloc());
+    let mut found = Vec::new(rt.alloc());
+    feed_to(&mut reader, stream.as_slice(), &mut found)?;
+    assert!(rt; same(found.as_slice(), wanted.as_slice()));
+    for piece in [b"".as_slice(), b"".as_slice(), stream.as_slice()] {
+        match reader.feed(piece) {
+            Ok(_) => assert!(rt; false),
+            Err(fault) => assert_eq!(rt; fault, WireFault::BadMagic),
+        }
+    }
+    Ok(())
+}

@@ -1,0 +1,116 @@
+//! How fast the stream reader takes requests from a stream. With no argument it reads a short stream and
+//! prints one line; with `--measure` it measures, beside a plain copy of the same bytes.
+#![tactic(auto)]
+
+use anyhow::Result;
+use nbd_wire::{RequestHead, StreamReader, WRITE, encode_request};
+use std::alloc::{AllocError, Global};
+use std::env;
+use std::hint::black_box;
+use std::rt::Clock;
+use std::time::{Duration, Instant};
+
+// How many WRITEs of how many bytes, and the length of a piece.
+const ROWS: [(u32, u32, usize); 6] = [
+    (4096, 4096, 1),
+    (65536, 4096, 65536),
+    (65536, 4096, 1_048_576),
+    (16, 1_048_576, 1),
+    (256, 1_048_576, 65536),
+    (256, 1_048_576, 1_048_576),
+];
+
+// A stream of WRITEs, each with `length` bytes of data.
+fn writes(alloc: Global, count: u32, length: u32) -> Result<Vec<u8>, AllocError> {
+    let data = vec![in alloc; 0x5au8; length as usize]?;
+    let mut stream = Vec::new(alloc);
+    for i in 0..count {
+        let head = RequestHead {
+            flags: 0,
+            kind: WRITE,
+            cookie: u64::from(i),
+            offset: 0,
+            length,
+        };
+        stream.extend_from_slice(&encode_request(&head))?;
+        stream.extend_from_slice(data.as_slice())?;
+    }
+    Ok(stream)
+}
+
+// What came of a stream.
+#[derive(Clone, Copy)]
+struct Totals {
+    requests: u64,
+    bytes: u64,
+}
+
+// Reads the stream in pieces of this length, and lets the requests go.
+fn read(alloc: Global, stream: &[u8], piece: usize) -> Result<Totals> {
+    let mut reader = StreamReader::new(alloc);
+    let mut totals = Totals {
+        requests: 0,
+        bytes: 0,
+    };
+    for part in stream.chunks(piece.max(1)) {
+        for request in reader.feed(part)? {
+            totals.requests = totals.requests.wrapping_add(1);
+            totals.bytes = totals.bytes.wrapping_add(request.bytes.len() as u64);
+        }
+    }
+    Ok(totals)
+}
+
+// Copies the stream, in parts of this length, each into memory of its own.
+fn copy(alloc: Global, stream: &[u8], part: usize) -> Result<u64> {
+    let mut bytes = 0u64;
+    for part in stream.chunks(part.max(1)) {
+        let copied = black_box(Vec::from_slice(alloc, part)?);
+        bytes = bytes.wrapping_add(copied.len() as u64);
+    }
+    Ok(bytes)
+}
+
+fn megabytes_a_second(bytes: usize, time: Duration) -> u64 {
+    let nanos = u64::try_from(time.as_nanos()).unwrap_or(u64::MAX).max(1);
+    (bytes as u64).saturating_mul(1000) / nanos
+}
+
+// Prints a line on a stream of `count` WRITEs, read in pieces.
+fn measure(
+    rt: &(impl Clock + Print + AllocGlobal),
+    count: u32,
+    length: u32,
+    piece: usize,
+) -> Result<()> {
+    let stream = writes(rt.alloc(), count, length)?;
+    let stream = stream.as_slice();
+    let start = Instant::now(rt)?;
+    let totals = read(rt.alloc(), stream, piece)?;
+    let reading = megabytes_a_second(stream.len(), start.elapsed(rt)?);
+    let start = Instant::now(rt)?;
+    let copied = copy(rt.alloc(), stream, length as usize)?;
+    let copying = megabytes_a_second(stream.len(), start.elapsed(rt)?);
+    let requests = totals.requests;
+    let ratio = reading.saturating_mul(1000) / copying.max(1);
+    let (whole, thousandths) = (ratio / 1000, ratio % 1000);
+    println!(rt;
+        "{requests} requests of {length} bytes in pieces of {piece}: {reading} MB/s; {copied} bytes copied: {copying} MB/s; ratio {whole}.{thousandths:03}"
+    )?;
+    Ok(())
+}
+
+fn main(rt: HostRuntime) -> Result<()> {
+    if env::args(&rt)?.any(|word| word.as_str() == "--measure") {
+        for (count, length, piece) in ROWS {
+            measure(&rt, count, length, piece)?;
+        }
+        return Ok(());
+    }
+    let stream = writes(rt.alloc(), 64, 4096)?;
+    let totals = read(rt.alloc(), stream.as_slice(), 1000)?;
+    let requests = totals.requests;
+    let bytes = totals.bytes;
+    println!(rt; "{requests} requests, {bytes} bytes of data")?;
+    Ok(())
+}
