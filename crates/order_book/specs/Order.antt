@@ -44,9 +44,11 @@ new_order last most bytes = record {
   stopped = false;
 }
 
--- a write command of some image, whose blocks have numbers of 64 bits
-abbrev pub IsWrite : Command → Type 0
-IsWrite command = (image : ℕ) × (image < 18446744073709551616) × IsCommand image command
+-- a command that an image of so many blocks takes, which have numbers of 64 bits
+pub record IsWrite (command : Command) : Type 0 where
+  pub image : ℕ
+  pub numbers : image < 18446744073709551616
+  pub is : IsCommand image command
 
 -- whether a command has room: in the frames, and in the 67,108,864 bytes for what isn't durable
 abbrev pub has_room : OrderState → Command → Bool
