@@ -17,7 +17,7 @@ const FRAMES: u32 = 65_536;
 const AREA_BYTES: u32 = 67_108_864;
 
 /// How many batches are accepted at each number of dirty blocks.
-const BATCHES: u64 = 200;
+const BATCHES: u64 = 1_000;
 
 // An order with so many dirty blocks, none of whose commands is pending.
 fn order_with(alloc: Global, dirty: u64) -> Result<Order>

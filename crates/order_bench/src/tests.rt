@@ -1,5 +1,4 @@
 use crate::load::{accept, clear, put, store};
-use anyhow::Result;
 use image_model::Command;
 use order_book::{Order, OrderFault};
 
@@ -19,7 +18,7 @@ fn body(commands: &[Command]) -> usize {
 }
 
 #[test]
-fn forty_one_puts_are_one_group(rt: HostRuntime) -> Result<()> {
+fn forty_one_puts_are_one_group(rt: HostRuntime) -> anyhow::Result<()> {
     let mut order = Order::new(rt.alloc(), 7, 4_096, LEAST_AREA_BYTES);
     for block in 0..41 {
         let number = accept(&mut order, put(rt.alloc(), block, 1)?)?;
@@ -28,8 +27,17 @@ fn forty_one_puts_are_one_group(rt: HostRuntime) -> Result<()> {
     let Some(group) = order.seal()? else {
         panic!(rt; "no group")
     };
-    assert!(rt; order.seal()?.is_none());
-    order.put_back(group);
+    match order.seal() {
+        Ok(None) => order.put_back(group),
+        Ok(Some(second)) => {
+            let _parts = (group.into_parts(), second.into_parts());
+            panic!(rt; "a second group")
+        }
+        Err(fault) => {
+            let _parts = group.into_parts();
+            return Err(fault.into());
+        }
+    }
     assert_eq!(rt; order.sealed(), 7);
     let Some(group) = order.seal()? else {
         panic!(rt; "no group")
@@ -45,7 +53,7 @@ fn forty_one_puts_are_one_group(rt: HostRuntime) -> Result<()> {
 }
 
 #[test]
-fn a_group_is_cut_to_the_byte(rt: HostRuntime) -> Result<()> {
+fn a_group_is_cut_to_the_byte(rt: HostRuntime) -> anyhow::Result<()> {
     let mut order = Order::new(rt.alloc(), 0, 4_096, LEAST_AREA_BYTES);
     accept(&mut order, put(rt.alloc(), 0, 256)?)?;
     accept(&mut order, put(rt.alloc(), 256, 251)?)?;
@@ -62,7 +70,7 @@ fn a_group_is_cut_to_the_byte(rt: HostRuntime) -> Result<()> {
 }
 
 #[test]
-fn full_frames_refuse_a_put(rt: HostRuntime) -> Result<()> {
+fn full_frames_refuse_a_put(rt: HostRuntime) -> anyhow::Result<()> {
     let mut order = Order::new(rt.alloc(), 0, 512, LEAST_AREA_BYTES);
     accept(&mut order, put(rt.alloc(), 0, 256)?)?;
     accept(&mut order, put(rt.alloc(), 256, 256)?)?;
@@ -78,7 +86,7 @@ fn full_frames_refuse_a_put(rt: HostRuntime) -> Result<()> {
 }
 
 #[test]
-fn a_backlog_is_full_to_the_byte(rt: HostRuntime) -> Result<()> {
+fn a_backlog_is_full_to_the_byte(rt: HostRuntime) -> anyhow::Result<()> {
     let mut order = Order::new(rt.alloc(), 0, 4_096, 1 << 30);
     for _ in 0..63 {
         accept(&mut order, put(rt.alloc(), 0, 256)?)?;

@@ -28,6 +28,7 @@ pub struct Order {
     durable: u64,
     sealed: u64,
     mark: u64,
+    in_hand: usize,
     pending: PendingCommands,
     backlog: Backlog,
     dirty: DirtyBlocks,
@@ -51,6 +52,7 @@ impl Model for Order {
         durable = order.durable;
         sealed = order.sealed;
         mark = order.mark;
+        in_hand = order.in_hand;
         pending = order.pending.commands;
         bodies = order.backlog.bodies;
         dirty = order.dirty;
@@ -64,6 +66,7 @@ impl Model for Order {
         durable = order.durable;
         sealed = order.sealed;
         mark = order.mark;
+        in_hand = order.in_hand;
         pending = order.pending.commands;
         bodies = order.backlog.bodies;
         dirty = order.dirty;
@@ -100,6 +103,7 @@ impl Order {
             durable: opening,
             sealed: opening,
             mark: opening,
+            in_hand: 0,
             pending: PendingCommands::new(alloc),
             backlog: Backlog::new(alloc),
             dirty: DirtyBlocks::new(alloc),
@@ -172,8 +176,7 @@ impl Order {
         if let Some(fault) = self.refusal(&command) {
             return Err((fault, command));
         }
-        let in_hand = self.sealed.saturating_sub(self.durable) as usize;
-        let Ok(()) = make_room(&mut self.pending, &mut self.backlog, in_hand + 1) else {
+        let Ok(()) = make_room(&mut self.pending, &mut self.backlog, self.in_hand + 1) else {
             return Err((OrderFault::NoMemory, command));
         };
         let Ok(()) = self.dirty.apply(&command) else {
@@ -230,6 +233,7 @@ impl Order {
         };
         let first = self.sealed + 1;
         self.sealed += count as u64;
+        self.in_hand = count;
         Ok(Some(Group::of(first, commands)))
     }
 
@@ -244,11 +248,12 @@ impl Order {
     pub fn put_back(&mut self, group: Group)
         requires { IsInHand self.old group }
         ensures pending { self.new ≡ with_group self.old group }
-        ensures restores { (before : OrderState) → Seals before self.old group → self.new ≡ before }
+        ensures restores { (before : OrderState) → Seals before self.old group → self.new ≡ record before { in_hand = 0 } }
     {
         let (first, commands) = group.into_parts();
         self.pending.put_back(commands);
         self.sealed = first - 1;
+        self.in_hand = 0;
     }
 
     /// Raises the durable number to `count`, where it lies between the durable number and the last accepted one.
