@@ -17,6 +17,8 @@ pub record OrderState : Type 0 where
   pub durable : ℕ
   pub sealed : ℕ
   pub mark : ℕ
+  -- how many commands the last group has, 0 once it was put back
+  pub in_hand : ℕ
   -- the commands above the last sealed number, one number each
   pub pending : List Command
   -- the bytes that each command above the durable number takes in a group
@@ -36,6 +38,7 @@ new_order last most bytes = record {
   durable = last;
   sealed = last;
   mark = last;
+  in_hand = 0;
   pending = [];
   bodies = [];
   dirty = empty;
@@ -44,9 +47,11 @@ new_order last most bytes = record {
   stopped = false;
 }
 
--- a write command of some image, whose blocks have numbers of 64 bits
-abbrev pub IsWrite : Command → Type 0
-IsWrite command = (image : ℕ) × (image < 18446744073709551616) × IsCommand image command
+-- a command that an image of so many blocks takes, which have numbers of 64 bits
+pub record IsWrite (command : Command) : Type 0 where
+  pub image : ℕ
+  pub numbers : image < 18446744073709551616
+  pub is : IsCommand image command
 
 -- whether a command has room: in the frames, and in the 67,108,864 bytes for what isn't durable
 abbrev pub has_room : OrderState → Command → Bool
@@ -82,17 +87,17 @@ pub record Seals (old new : OrderState) (group : Numbered) : Type 0 where
   pub longest : (count : ℕ) → length group.commands < count → count ≤ length old.pending → body_limit old.area < bodies_of (take count old.pending)
   pub small : All HasSmallBody group.commands
   -- nothing else changed
-  pub rest : new ≡ record old { sealed = old.sealed + length group.commands; pending = new.pending }
+  pub rest : new ≡ record old { sealed = old.sealed + length group.commands; in_hand = length group.commands; pending = new.pending }
 
--- the group's numbers are the last that were sealed, and none of them is durable
+-- the group is the last that was sealed: it has the last numbers
 pub record IsInHand (order : OrderState) (group : Numbered) : Type 0 where
-  pub behind_durable : order.durable < group.first
-  pub up_to_sealed : group.first + length group.commands ≡ order.sealed + 1
+  pub last : group.first + length group.commands ≡ order.sealed + 1
+  pub whole : length group.commands ≡ order.in_hand
   pub small : All HasSmallBody group.commands
 
 -- the order once the group is pending again
 abbrev pub with_group : OrderState → Numbered → OrderState
-with_group order group = record order { sealed = group.first - 1; pending = group.commands ++ order.pending }
+with_group order group = record order { sealed = group.first - 1; in_hand = 0; pending = group.commands ++ order.pending }
 
 -- the order once all numbers up to the count are durable; a count that lies outside says nothing
 abbrev pub with_durable : OrderState → ℕ → OrderState
@@ -105,7 +110,7 @@ with_durable order count =
 pub record IsNumbered (order : OrderState) : Type 0 where
   pub pending : order.sealed + length order.pending ≡ order.mark
   pub backlog : order.durable + length order.bodies ≡ order.mark
-  pub opened : (order.opening ≤ order.durable) × (order.opening ≤ order.sealed)
+  pub opened : (order.opening ≤ order.durable) × (order.opening + order.in_hand ≤ order.sealed)
   pub mark : order.mark < 18446744073709551616
 
 -- what holds of each order; `spare` is the room behind the pending commands
@@ -115,4 +120,4 @@ pub record IsOrder (order : OrderState) (spare : ℕ) : Type 0 where
   pub small : All HasSmallBody order.pending
   pub area : (2097152 ≤ order.area) × (order.area < 4294967296)
   -- a group in hand has its places
-  pub kept : order.sealed - order.durable ≤ spare
+  pub kept : order.in_hand ≤ spare

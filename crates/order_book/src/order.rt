@@ -1,4 +1,4 @@
-ghost use Rattle.std.specs.Prelude.{◌≡◌, ◌≢◌, ◌+◌, ◌-◌, ◌<◌, ◌≤◌, ◌↔◌, [], true, false, All, ◌⊎◌, Ok, None, IsErrAnd, IfErr, IfOk, IfSome, IfNone, OnErr, OnOk};
+ghost use Rattle.std.specs.Prelude.{◌≡◌, ◌+◌, ◌-◌, ◌<◌, ◌≤◌, ◌↔◌, [], true, false, All, ◌⊎◌, Ok, None, IsErrAnd, IfErr, IfOk, IfSome, IfNone, OnErr, OnOk};
 ghost use Rattle.std.specs.FinSet as set;
 ghost use Rattle.order_book.specs.Order.{OrderState, new_order, IsNumbered, IsWrite, has_room, refusal_of, with_command, Seals, IsInHand, with_group, with_durable, body_limit};
 ghost use Rattle.order_book.specs.Pending.{HasSmallBody};
@@ -30,6 +30,7 @@ pub struct Order {
     durable: u64,
     sealed: u64,
     mark: u64,
+    in_hand: usize,
     pending: PendingCommands,
     backlog: Backlog,
     dirty: DirtyBlocks,
@@ -49,29 +50,31 @@ impl Model for Order {
     ghost coded = { Prim.hlevel (codes, set.code {R = nat_cmp} coded_ℕ) };
 
     ghost view = { λ order. record {
-      opening = order.opening;
-      durable = order.durable;
-      sealed = order.sealed;
-      mark = order.mark;
-      pending = order.pending.commands;
-      bodies = order.backlog.bodies;
-      dirty = order.dirty;
-      frames = order.frames;
-      area = order.area;
-      stopped = order.stopped;
+        opening = order.opening;
+        durable = order.durable;
+        sealed = order.sealed;
+        mark = order.mark;
+        in_hand = order.in_hand;
+        pending = order.pending.commands;
+        bodies = order.backlog.bodies;
+        dirty = order.dirty;
+        frames = order.frames;
+        area = order.area;
+        stopped = order.stopped;
     } };
 
     ghost invariant = { λ order. IsOrder (record {
-      opening = order.opening;
-      durable = order.durable;
-      sealed = order.sealed;
-      mark = order.mark;
-      pending = order.pending.commands;
-      bodies = order.backlog.bodies;
-      dirty = order.dirty;
-      frames = order.frames;
-      area = order.area;
-      stopped = order.stopped;
+        opening = order.opening;
+        durable = order.durable;
+        sealed = order.sealed;
+        mark = order.mark;
+        in_hand = order.in_hand;
+        pending = order.pending.commands;
+        bodies = order.backlog.bodies;
+        dirty = order.dirty;
+        frames = order.frames;
+        area = order.area;
+        stopped = order.stopped;
     }) order.pending.spare };
 }
 
@@ -102,6 +105,7 @@ impl Order {
             durable: opening,
             sealed: opening,
             mark: opening,
+            in_hand: 0,
             pending: PendingCommands::new(alloc),
             backlog: Backlog::new(alloc),
             dirty: DirtyBlocks::new(alloc),
@@ -174,8 +178,7 @@ impl Order {
         if let Some(fault) = self.refusal(&command) {
             return Err((fault, command));
         }
-        let in_hand = self.sealed.saturating_sub(self.durable) as usize;
-        let Ok(()) = make_room(&mut self.pending, &mut self.backlog, in_hand + 1) else {
+        let Ok(()) = make_room(&mut self.pending, &mut self.backlog, self.in_hand + 1) else {
             return Err((OrderFault::NoMemory, command));
         };
         let Ok(()) = self.dirty.apply(&command) else {
@@ -219,12 +222,12 @@ impl Order {
     pub fn seal(&mut self) -> Result<Option<Group>, OrderFault>
         ensures group { IfOk result (λ sealed. IfSome sealed (Seals self.old self.new)) }
         ensures in_hand { IfOk result (λ sealed. IfSome sealed (IsInHand self.new)) }
-        ensures none { (result ≡ Ok None) ↔ ((self.old.pending ≡ []) ⊎ (self.old.durable ≢ self.old.sealed)) }
+        ensures none { (result ≡ Ok None) ↔ ((self.old.pending ≡ []) ⊎ (self.old.durable < self.old.sealed)) }
         ensures unchanged { IfOk result (λ sealed. IfNone sealed (self.new ≡ self.old)) }
         ensures fault { IfErr result (λ fault. fault ≡ OrderFault.NoMemory) }
         ensures err { OnErr result (self.new ≡ self.old) }
     {
-        if self.pending.is_empty() || self.durable != self.sealed {
+        if self.pending.is_empty() || self.durable < self.sealed {
             return Ok(None);
         }
         let count = self.pending.longest(self.body_limit());
@@ -233,6 +236,7 @@ impl Order {
         };
         let first = self.sealed + 1;
         self.sealed += count as u64;
+        self.in_hand = count;
         Ok(Some(Group::of(first, commands)))
     }
 
@@ -247,11 +251,12 @@ impl Order {
     pub fn put_back(&mut self, group: Group)
         requires { IsInHand self.old group }
         ensures pending { self.new ≡ with_group self.old group }
-        ensures restores { (before : OrderState) → Seals before self.old group → self.new ≡ before }
+        ensures restores { (before : OrderState) → Seals before self.old group → self.new ≡ record before { in_hand = 0 } }
     {
         let (first, commands) = group.into_parts();
         self.pending.put_back(commands);
         self.sealed = first - 1;
+        self.in_hand = 0;
     }
 
     /// Raises the durable number to the keeper's count, where that lies between the durable number and the last accepted one.
@@ -261,8 +266,8 @@ impl Order {
         self.publish_count(keeper.count());
     }
 
-    // Raises the durable number to the count of a keeper.
-    fn publish_count(&mut self, count: u64)
+    /// Raises the durable number to `count`, where it lies between the durable number and the last accepted one.
+    pub fn publish_count(&mut self, count: u64)
         ensures { self.new ≡ with_durable self.old count }
     {
         if self.durable <= count && count <= self.mark {
