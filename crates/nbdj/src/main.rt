@@ -1,0 +1,45 @@
+//! The program `nbdj`: the command line, files and streams round the plans of `nbdj_run`.
+#![tactic(auto)]
+
+ghost use Rattle.nbdj_run.specs.Plan.{Suits};
+
+mod files;
+
+use crate::files::{make, open};
+use disk_model::FileDisk;
+use nbdj_line::line;
+use nbdj_run::{Plan, perform};
+use std::process::ExitCode;
+use std::{env, io};
+
+fn main(rt: HostRuntime) -> anyhow::Result<ExitCode> {
+    let alloc = rt.alloc();
+    let arguments: Vec<String> = env::args(&rt)?.collect(alloc)?;
+    let words: Vec<&str> = arguments.iter().map(|word| word.as_str()).collect(alloc)?;
+    match line(alloc, &words) {
+        Ok(plan) => Ok(ExitCode::from(run(&rt, &plan))),
+        Err(fault) => {
+            fault.print(&rt)?;
+            Ok(ExitCode::from(if fault.use_stderr() { 2 } else { 0 }))
+        }
+    }
+}
+
+// Carries out the plan on its file, and gives the exit status.
+fn run(rt: &HostRuntime, plan: &Plan<'_>) -> u8 {
+    let opened = match *plan {
+        Plan::Format { path, geometry } => make(rt, path, geometry.device_bytes()),
+        Plan::Pipe { path, .. } | Plan::Recover { path } => open(rt, path),
+    };
+    let Ok((file, size)) = opened else {
+        // Where not even that can be written, the status alone tells.
+        let _ = eprintln!(rt; "nbdj: cannot open {}", plan.path());
+        return 1;
+    };
+    let disk = FileDisk::new(file, size);
+    let mut input = rt.reader();
+    let mut output = io::writer(rt);
+    let mut errors = rt.stderr();
+    let (status, _disk) = perform(rt.alloc(), plan, disk, &mut input, &mut output, &mut errors);
+    status
+}
