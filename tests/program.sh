@@ -1,0 +1,230 @@
+#!/bin/sh
+# Checks of the built program NBDJ on real files. Prints a line for each check that fails, and last 'N passed, M failed'.
+set -u
+here=$(cd "$(dirname "$0")/.." && pwd)
+. "$here/tools/bytes.sh"
+folder=$(mktemp -d)
+trap 'rm -rf "$folder"' EXIT
+cd "$folder" || exit 1
+passed=0
+failed=0
+
+# is NAME WANTED GOT
+is() {
+    if [ "$2" = "$3" ]; then
+        passed=$((passed + 1))
+    else
+        failed=$((failed + 1))
+        printf 'FAILED %s\n  wanted: %s\n  got:    %s\n' "$1" "$2" "$3"
+    fi
+}
+
+# run WORD..: runs the program on the file `input`, and sets status, output (in hex) and errors
+run() {
+    "$NBDJ" "$@" <input >output 2>errors
+    status=$?
+    output=$(hex <output)
+    errors=$(cat errors)
+}
+
+# ends NAME STATUS OUTPUT ERRORS WORD..: how a run ends, its output in hex
+ends() {
+    name=$1
+    wanted="$2|$3|$4"
+    shift 4
+    run "$@"
+    is "$name" "$wanted" "$status|$output|$errors"
+}
+
+# refused NAME WORD..: the command line is refused with clap's usage and status 2, and makes no file
+refused() {
+    name=$1
+    shift
+    run "$@"
+    is "$name" '2||yes|no' "$status|$output|$(grep -qi 'usage\|--help' errors && echo yes)|$([ -e new.img ] && echo yes || echo no)"
+}
+
+# text TEXT: a line as hex
+text() { printf '%s\n' "$1" | hex; }
+
+# fresh BLOCKS AREA: a new d.img
+fresh() { "$NBDJ" format d.img --blocks "$1" --area "$2" >/dev/null; }
+
+# patch FILE OFFSET HEX: bytes in the middle of a file
+patch() { bytes "$3" | dd of="$1" bs=1 seek="$2" conv=notrunc 2>/dev/null; }
+
+# part FILE OFFSET COUNT: bytes of a file as hex
+part() { dd if="$1" bs=1 skip="$2" count="$3" 2>/dev/null | hex; }
+
+# unchanged NAME MESSAGE: recover refuses d.img with this message and leaves it as it is
+unchanged() {
+    cp d.img before.img
+    ends "$1" 1 '' "$2" recover d.img
+    is "$1: the file" same "$(cmp -s d.img before.img && echo same)"
+    ends "$1: pipe" 1 '' "$2" pipe d.img
+    is "$1: the file after pipe" same "$(cmp -s d.img before.img && echo same)"
+}
+
+: >input
+
+# The command line.
+refused 'no command'
+refused 'no path' format --blocks 16 --area 2097152
+refused 'unknown command' copy new.img
+refused 'no blocks' format new.img --area 2097152
+refused 'blocks 0' format new.img --blocks 0 --area 2097152
+refused 'too many blocks' format new.img --blocks 16777217 --area 2097152
+refused 'blocks past 64 bits' format new.img --blocks 18446744073709551616 --area 2097152
+refused 'a signed number' format new.img --blocks -1 --area 2097152
+refused 'area too small' format new.img --blocks 16 --area 2088960
+refused 'area too large' format new.img --blocks 16 --area 1073750016
+refused 'area no multiple' format new.img --blocks 16 --area 2097153
+refused 'frames too few' pipe new.img --frames 511
+refused 'frames too many' pipe new.img --frames 65537
+refused 'unknown cache mode' pipe new.img --cache unsafe
+refused 'a word too many' recover new.img more
+run --version
+is 'version' "0|$(text 'nbdj 0.1.0')|" "$status|$output|$errors"
+run pipe --help
+is 'help' '0|yes|' "$status|$(grep -q FLUSH output && echo yes)|$errors"
+
+# Files.
+ends 'a missing file' 1 '' 'nbdj: cannot open none.img' recover none.img
+ends 'a folder' 1 '' 'nbdj: cannot open .' pipe .
+ends 'a missing folder' 1 '' 'nbdj: cannot open none/d.img' format none/d.img --blocks 16 --area 2097152
+ends 'format a folder' 1 '' 'nbdj: cannot open .' format . --blocks 16 --area 2097152
+: >d.img
+unchanged 'an empty file' 'nbdj: no header (7)'
+filled 4096 '\000' >d.img
+unchanged '4,096 zero bytes' 'nbdj: no header (7)'
+
+# The device.
+ends 'format' 0 "$(text 'formatted 4276224')" '' format d.img --blocks 16 --area 2097152
+is 'header slot 0' 014e42444a524e4c31000000000000000100000000000000100020000000000000000000000000000000 "$(part d.img 0 42)"
+is 'length of the file' 4276224 "$(wc -c <d.img | tr -d ' ')"
+ends 'a fresh device' 0 "$(text 'commands 0')" '' recover d.img
+printf x >>d.img
+unchanged 'one byte longer' 'nbdj: bad header (8)'
+fresh 16 2097152
+dd if=d.img of=d.img bs=4096 count=1 seek=1 conv=notrunc 2>/dev/null
+unchanged 'two headers of one generation' 'nbdj: bad header (8)'
+fresh 16 2097152
+patch d.img 8 32
+unchanged 'another magic' 'nbdj: bad header (8)'
+fresh 16 2097152
+patch d.img 0 00
+unchanged 'a closed gate' 'nbdj: no header (7)'
+fresh 16 2097152
+patch d.img 8192 '01 0000000d 0000000000000001 00000001 02 0000000000000000 00000004 00'
+ends 'a stored group' 0 "$(text 'commands 1')" '' recover d.img
+patch d.img 8205 00000000
+unchanged 'a group of no commands' 'nbdj: damaged group (12)'
+
+# Streams that end early: nothing is written and nothing accepted.
+fresh 16 2097152
+{ request 0000 1 1 0 4096; filled 4096 A; } >whole
+for count in 0 1 27 28 128 4123; do
+    head -c "$count" whole >input
+    ends "a stream of $count bytes" 1 '' 'nbdj: peer closed (19)' pipe d.img
+done
+: >input
+ends 'after the short streams' 0 "$(text 'commands 0')" '' recover d.img
+
+# Judgement: each request with the error of its reply.
+{
+    request 0000 1 1 61440 4096; filled 4096 A
+    request 0000 1 2 61440 8192; filled 8192 A
+    bytes '25609513 0000 0001 0000000000000003 fffffffffffff000 00001000'; filled 4096 A
+    request 0000 1 4 1 4096; filled 4096 A
+    request 0000 1 5 0 100; filled 100 A
+    request 0000 1 6 0 0
+    request 0002 1 7 0 4096; filled 4096 A
+    request 0000 3 8 4096 0
+    request 0000 3 9 0 4096
+    request 0001 3 10 0 0
+    request 0000 0 11 0 4096
+    request 0000 5 12 0 0
+    request 0000 99 13 0 0
+    request 0000 1 14 0 1052672; filled 1052672 A
+    request ffff 2 15 9 9
+    request 0000 1 16 0 4096; filled 4096 A
+} >input
+replies="$(reply 1 0)$(reply 2 28)$(reply 3 28)$(reply 4 22)$(reply 5 22)$(reply 6 22)$(reply 7 22)$(reply 8 22)$(reply 9 22)"
+replies="$replies$(reply 10 0)$(reply 11 22)$(reply 12 22)$(reply 13 22)$(reply 14 22)"
+ends 'judgement' 0 "$replies" '' pipe d.img
+: >input
+ends 'after the judgement' 0 "$(text 'commands 1')" '' recover d.img
+
+# Streams that close.
+{ request 0000 1 1 0 4096; filled 4096 A; bytes 25609514; filled 24 '\000'; } >input
+ends 'a wrong magic' 1 "$(reply 1 0)" 'nbdj: protocol end (20)' pipe d.img
+request 0000 1 1 0 33554433 >input
+ends 'a WRITE that is too long' 1 '' 'nbdj: protocol end (20)' pipe d.img
+: >input
+ends 'after the closed streams' 0 "$(text 'commands 2')" '' recover d.img
+
+# One group of 41 commands, the next gate behind it.
+fresh 64 2097152
+{
+    number=1
+    while [ $number -le 40 ]; do
+        request 0000 1 $number $((4096 * number)) 4096
+        filled 4096 B
+        number=$((number + 1))
+    done
+    request 0001 1 41 0 4096
+    filled 4096 C
+    request 0000 2 42 0 0
+} >input
+run pipe d.img
+is '41 commands' "0|656|" "$status|$((${#output} / 2))|$errors"
+is 'the head of their group' 010002921500000000000000010000002901000000000000000100000001 "$(part d.img 8192 30)"
+is 'the gate behind it' 00 "$(part d.img $((8192 + 168486)) 1)"
+: >input
+ends 'commands of the group' 0 "$(text 'commands 41')" '' recover d.img
+
+# A full journal, and no frames left: what was stored is found.
+fresh 256 2097152
+{
+    request 0001 1 1 0 1048576; filled 1048576 D
+    request 0001 1 2 0 1048576; filled 1048576 E
+} >input
+ends 'a full journal' 1 "$(reply 1 0)" 'nbdj: area full (10)' pipe d.img
+: >input
+ends 'after the full journal' 0 "$(text 'commands 1')" '' recover d.img
+fresh 1024 4194304
+{
+    request 0000 1 1 0 1048576; filled 1048576 F
+    request 0000 1 2 1048576 1048576; filled 1048576 F
+    request 0000 1 3 0 4096; filled 4096 F
+    request 0000 1 4 2097152 4096; filled 4096 F
+} >input
+ends 'no frames left' 1 "$(reply 1 0)$(reply 2 0)$(reply 3 0)" 'nbdj: no room (17)' pipe d.img --frames 512
+: >input
+ends 'after no frames left' 0 "$(text 'commands 3')" '' recover d.img
+
+# A reply comes before the next request is waited for.
+fresh 16 2097152
+mkfifo requests replies
+timeout 20 "$NBDJ" pipe d.img --cache writethrough <requests >replies &
+exec 3>requests 4<replies
+{ request 0000 1 7 0 4096; filled 4096 G; } >&3
+is 'a reply in time' "$(reply 7 0)" "$(head -c 16 <&4 | hex)"
+is 'stored before its reply' 01 "$(part d.img 8192 1)"
+request 0000 2 8 0 0 >&3
+exec 3>&-
+wait $!
+is 'the end of the conversation' 0 $?
+exec 4<&-
+
+# A stream that can't be written.
+if [ -w /dev/full ]; then
+    fresh 16 2097152
+    "$NBDJ" pipe d.img <whole >/dev/full 2>errors
+    is 'a full output' '1|nbdj: stream fault (21)' "$?|$(cat errors)"
+    : >input
+    ends 'after the full output' 0 "$(text 'commands 1')" '' recover d.img
+fi
+
+echo "$passed passed, $failed failed"
+[ "$failed" -eq 0 ]
