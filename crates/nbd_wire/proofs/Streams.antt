@@ -178,6 +178,10 @@ front_is_no_request stream text rest request kept (write head sent fits is_write
       | inr less ↦ omega (arith, less, data_is, whole.len, ap length both.1, length-append whole.sent rest)
     ]
 
+pub no_request_lem : (text rest : List ℕ) (request : Message) (kept : Kept) → IsRequest text request → Keeps kept (text ++ rest) → kept ≡ failed NoMemory
+no_request_lem text rest request (failed NoMemory) whole keeps = refl
+no_request_lem text rest request kept whole keeps = absurd (front_is_no_request (text ++ rest) text rest request kept (front_of (text ++ rest) kept keeps (λ same. cc)) whole refl)
+
 pub one_reading_lem : (stream : List ℕ) (requests others : List Message) (kept other : Kept) → Reads stream requests kept
     → Reads stream others other → kept ≢ failed NoMemory → other ≢ failed NoMemory → (requests ≡ others) × (kept ≡ other)
 one_reading_lem stream [] [] kept other r s p q = (refl, one_front stream kept other (front_of stream kept r p) (front_of stream other s q))

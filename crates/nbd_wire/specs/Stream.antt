@@ -69,6 +69,12 @@ missing_len (in_data head bytes) = head.length - length bytes
 missing_len (in_discard head count) = count
 missing_len (failed fault) = 0
 
+-- what is kept begins with no whole request
+abbrev pub NoRequest : Type 0
+NoRequest =
+    (text rest : List ℕ) (request : Message) (kept : Kept) → IsRequest text request → Keeps kept (text ++ rest)
+    → kept ≡ failed NoMemory
+
 -- two readings of one stream are one
 abbrev pub OneReading : Type 0
 OneReading =

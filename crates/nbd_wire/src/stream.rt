@@ -1,7 +1,7 @@
-ghost use Rattle.std.specs.Prelude.{◌≡◌, ◌+◌, ◌-◌, ◌<◌, ◌≤◌, ℕ, List, [], ◌∷◌, ◌++◌, length, take, IfOk, IfErr, IsOkAnd, vec_len, vec_capacity};
+ghost use Rattle.std.specs.Prelude.{◌≡◌, ◌+◌, ◌-◌, ◌<◌, ◌≤◌, ℕ, List, [], ◌∷◌, ◌++◌, length, take, All, IfOk, IfErr, IsOkAnd, vec_len, vec_capacity};
 ghost use Rattle.nbd_wire.specs.Head.{head_bytes, IsHead};
-ghost use Rattle.nbd_wire.specs.Request.{Message, message, messages};
-ghost use Rattle.nbd_wire.specs.Stream.{Kept, in_head, failed, Reads, ReadsOn, answered, held, missing_len, OneReading};
+ghost use Rattle.nbd_wire.specs.Request.{Message, message, messages, HasItsData};
+ghost use Rattle.nbd_wire.specs.Stream.{Kept, in_head, failed, Reads, ReadsOn, answered, held, missing_len, NoRequest, OneReading};
 ghost use Rattle.nbd_wire.specs.State.{kept, IsKeptWrite, IsLongWrite, IsState, wanted_of, found, Advances, IsGoing, IsQuiet};
 
 use crate::command::WRITE;
@@ -69,6 +69,8 @@ impl StreamReader {
         // However the stream was cut, these are its next requests, up to its first fault.
         ensures stream { ReadsOn self.old piece.now (answered result) self.new }
 
+        ensures each { IfOk result (λ requests. All HasItsData requests.items) }
+
         // A fault comes where there is no request before it, and then always.
         ensures fault { IfErr result (λ fault. self.new ≡ failed fault) }
         ensures again { (fault : WireFault) → self.old ≡ failed fault → result ≡ Err fault }
@@ -92,9 +94,10 @@ impl StreamReader {
 }
 
 /// Two readings of one stream are one: however it is cut, its requests are the same, and so is what a reader
-/// keeps, but for one that memory ran out for.
+/// keeps, but for one that memory ran out for. What is kept begins with no whole request.
 pub fn one_reading()
-    ensures { OneReading }
+    ensures one { OneReading }
+    ensures rest { NoRequest }
 {}
 
 // Nothing was read of the next request.
@@ -113,6 +116,7 @@ fn answer(state: &State, requests: Vec<Request>) -> Result<Vec<Request>, WireFau
     ensures answered { answered result ≡ messages requests.items }
     ensures fault { IfErr result (λ fault. kept state.now ≡ failed fault) }
     ensures first { (fault : WireFault) → kept state.now ≡ failed fault → IfOk result (λ handed. 0 < vec_len handed) }
+    ensures handed { IfOk result (λ handed. handed.items ≡ requests.items) }
     ensures going { IsGoing (kept state.now) → result ≡ Ok requests }
 {
     match state {
