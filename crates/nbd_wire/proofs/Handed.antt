@@ -34,11 +34,11 @@ requests_have_data stream (request ∷ requests) kept reads = (request_has_data 
 -- a text that is kept so
 some_text : (state : State) → IsState state → ((fault : WireFault) → state ≡ Failed fault → ⊥) → (text : List ℕ) × Keeps (kept state) text
 some_text (Head bytes count) sound going = (take count bytes, (omega (arith, length-take count bytes, sound.0), refl))
-some_text (Data head bytes) sound going = (head_bytes head ++ bytes.items, (sound.0.0, sound.0.1, sound.0.2, sound.1, refl))
+some_text (Data head bytes) sound going = (head_bytes head ++ bytes.items, (sound.0, sound.1, refl))
 some_text (Discard head missing) sound going =
     let sent : List ℕ = replicate (head.length - missing) 0 in
     let len : length sent + missing ≡ head.length = omega (arith, length-replicate {A = ℕ} (head.length - missing) 0, sound.1, sound.2) in
-    (head_bytes head ++ sent, (sound.0.0, sound.0.1, sound.0.2, sound.0.3, sent, sound.1, len, refl))
+    (head_bytes head ++ sent, (sound.0, sent, sound.1, len, refl))
 some_text (Failed fault) sound going = absurd (going fault refl)
 
 pub Advances-data : (state : State) (piece : List ℕ) (requests : List Request) (new : Kept) → IsState state → ((fault : WireFault) → state ≡ Failed fault → ⊥)
