@@ -127,13 +127,13 @@ data Front : List ℕ → Kept → Type 0 where
 front_of : (text : List ℕ) (kept : Kept) → Keeps kept text → kept ≢ failed NoMemory → Front text kept
 front_of text (in_head bytes) k going = short (rw k.1 k.0) (ap in_head (sym k.1))
 front_of text (in_data head bytes) k going =
-    write head bytes k.0 k.1 k.4 (inr k.3) (sym (cond-true (leb head.length payload_limit) (in_data head bytes) _ (le-leb _ _ k.2)))
+    write head bytes k.0.0 k.0.1 k.2 (inr k.1) (sym (cond-true (leb head.length payload_limit) (in_data head bytes) _ (le-leb _ _ k.0.2)))
 front_of text (in_discard head missing) k going =
-    let long = lt-leb head.length payload_limit k.2 in
-    let within = le-leb head.length stream_limit k.3 in
-    let less : length k.4 < head.length = omega (arith, k.5, k.6) in
-    let rest : head.length - length k.4 ≡ missing = omega (arith, k.6) in
-    write head k.4 k.0 k.1 k.7 (inr less) (rw (long, within, rest) refl)
+    let long = lt-leb head.length payload_limit k.0.2 in
+    let within = le-leb head.length stream_limit k.0.3 in
+    let less : length k.1 < head.length = omega (arith, k.2, k.3) in
+    let rest : head.length - length k.1 ≡ missing = omega (arith, k.3) in
+    write head k.1 k.0.0 k.0.1 k.4 (inr less) (rw (long, within, rest) refl)
 front_of text (failed BadMagic) k going = foreign k.0 k.1 refl
 front_of text (failed TooLong) k going =
     let long : leb k.0.length payload_limit ≡ false = lt-leb k.0.length payload_limit (omega (arith, k.4)) in
@@ -177,6 +177,10 @@ front_is_no_request stream text rest request kept (write head sent fits is_write
       | inl long ↦ omega (arith, long, data_is, whole.bound)
       | inr less ↦ omega (arith, less, data_is, whole.len, ap length both.1, length-append whole.sent rest)
     ]
+
+pub no_request_lem : (text rest : List ℕ) (request : Message) (kept : Kept) → IsRequest text request → Keeps kept (text ++ rest) → kept ≡ failed NoMemory
+no_request_lem text rest request (failed NoMemory) whole keeps = refl
+no_request_lem text rest request kept whole keeps = absurd (front_is_no_request (text ++ rest) text rest request kept (front_of (text ++ rest) kept keeps (λ same. cc)) whole refl)
 
 pub one_reading_lem : (stream : List ℕ) (requests others : List Message) (kept other : Kept) → Reads stream requests kept
     → Reads stream others other → kept ≢ failed NoMemory → other ≢ failed NoMemory → (requests ≡ others) × (kept ≡ other)

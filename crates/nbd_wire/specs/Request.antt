@@ -33,6 +33,14 @@ data_len head = if head.kind == write_type then head.length else 0
 abbrev pub handed_on : List ℕ → List ℕ
 handed_on sent = if nat_le (length sent) payload_limit then sent else []
 
+-- how many bytes that is
+abbrev pub handed_len : RequestHead → ℕ
+handed_len head = if nat_le (data_len head) payload_limit then data_len head else 0
+
+-- the data of a request are as many bytes as the stream gives it
+abbrev pub HasItsData : Request → Type 0
+HasItsData request = length request.bytes.items ≡ handed_len request.head
+
 -- These bytes are the request: its head, and the data that follow it. Data that are thrown away may be any.
 pub record IsRequest (text : List ℕ) (request : Message) : Type 0 where
   pub sent : List ℕ

@@ -1,12 +1,10 @@
 -- The fields of a reader, and what they mean.
 use Rattle.std.specs.Prelude.{◌≡◌, ℕ, ◌-◌, ◌^◌, ◌<◌, ◌≤◌, Option, Some, None, List, [], ◌∷◌, ◌++◌, length, take, vec_capacity}
-use Rattle.nbd_wire.specs.declared.head.RequestHead.{RequestHead}
 use Rattle.nbd_wire.specs.declared.message.Request.{Request}
 use Rattle.nbd_wire.specs.declared.stream.State.{State}
 use Rattle.nbd_wire.specs.declared.stream.State.TheVariants.{Head, Data, Discard, Failed}
-use Rattle.nbd_wire.specs.Head.{IsHead}
-use Rattle.nbd_wire.specs.Request.{write_type, payload_limit, stream_limit, Message, message}
-use Rattle.nbd_wire.specs.Stream.{Kept, in_head, in_data, in_discard, failed, Keeps, Reads}
+use Rattle.nbd_wire.specs.Request.{Message, message}
+use Rattle.nbd_wire.specs.Stream.{Kept, in_head, in_data, in_discard, failed, IsKeptWrite, IsDiscardedWrite, Keeps, Reads}
 
 abbrev pub kept : State → Kept
 kept (Head bytes count) = in_head (take count bytes)
@@ -14,18 +12,11 @@ kept (Data head bytes) = in_data head bytes.items
 kept (Discard head missing) = in_discard head missing
 kept (Failed fault) = failed fault
 
-abbrev pub IsKeptWrite : RequestHead → Type 0
-IsKeptWrite head = IsHead head × (head.kind ≡ write_type) × (head.length ≤ payload_limit)
-
-abbrev pub IsLongWrite : RequestHead → Type 0
-IsLongWrite head =
-    IsHead head × (head.kind ≡ write_type) × (payload_limit < head.length) × (head.length ≤ stream_limit)
-
 -- Something is always missing, and the data that are kept have their room.
 abbrev pub IsState : State → Type 0
 IsState (Head bytes count) = (count < 28) × (length bytes ≡ 28)
 IsState (Data head bytes) = IsKeptWrite head × (length bytes.items < head.length) × (head.length ≤ vec_capacity bytes)
-IsState (Discard head missing) = IsLongWrite head × (0 < missing) × (missing ≤ head.length)
+IsState (Discard head missing) = IsDiscardedWrite head × (0 < missing) × (missing ≤ head.length)
 IsState (Failed fault) = Unit {0}
 
 -- how many bytes are taken at once, at most: up to the end of a head or of the data

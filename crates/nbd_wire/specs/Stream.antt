@@ -28,15 +28,23 @@ IsFault TooLong text =
 -- memory ran out, whatever came
 IsFault NoMemory text = Unit {0}
 
+-- a WRITE whose data are kept
+abbrev pub IsKeptWrite : RequestHead → Type 0
+IsKeptWrite head = IsHead head × (head.kind ≡ write_type) × (head.length ≤ payload_limit)
+
+-- a WRITE whose data are thrown away
+abbrev pub IsDiscardedWrite : RequestHead → Type 0
+IsDiscardedWrite head =
+    IsHead head × (head.kind ≡ write_type) × (payload_limit < head.length) × (head.length ≤ stream_limit)
+
 -- This is what is kept of a text that is no whole request, or begins with a fault.
 abbrev pub Keeps : Kept → List ℕ → Type 0
 Keeps (in_head bytes) text = (length bytes < 28) × (text ≡ bytes)
 Keeps (in_data head bytes) text =
-    IsHead head × (head.kind ≡ write_type) × (head.length ≤ payload_limit) × (length bytes < head.length)
-    × (text ≡ head_bytes head ++ bytes)
+    IsKeptWrite head × (length bytes < head.length) × (text ≡ head_bytes head ++ bytes)
 Keeps (in_discard head missing) text =
-    IsHead head × (head.kind ≡ write_type) × (payload_limit < head.length) × (head.length ≤ stream_limit)
-    × (sent : List ℕ) × (0 < missing) × (length sent + missing ≡ head.length) × (text ≡ head_bytes head ++ sent)
+    IsDiscardedWrite head × (sent : List ℕ) × (0 < missing) × (length sent + missing ≡ head.length)
+    × (text ≡ head_bytes head ++ sent)
 Keeps (failed fault) text = IsFault fault text
 
 -- The stream is these requests, and then what is kept.
@@ -68,6 +76,12 @@ missing_len (in_head bytes) = 28 - length bytes
 missing_len (in_data head bytes) = head.length - length bytes
 missing_len (in_discard head count) = count
 missing_len (failed fault) = 0
+
+-- what is kept begins with no whole request
+abbrev pub NoRequest : Type 0
+NoRequest =
+    (text rest : List ℕ) (request : Message) (kept : Kept) → IsRequest text request → Keeps kept (text ++ rest)
+    → kept ≡ failed NoMemory
 
 -- two readings of one stream are one
 abbrev pub OneReading : Type 0

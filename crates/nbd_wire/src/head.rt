@@ -23,7 +23,7 @@ pub struct RequestHead {
     pub length: u32,
 }
 
-/// Reads a request's head.
+/// Reads a request's head. Refusal 3 (bad magic); it takes no memory.
 pub fn decode_request(bytes: &[u8; 28]) -> Result<RequestHead, BadMagic>
     // It is the one head that the bytes are.
     ensures found { IfOk result (λ head. bytes.now ≡ head_bytes head) }

@@ -1,8 +1,8 @@
-ghost use Rattle.std.specs.Prelude.{◌≡◌, ◌+◌, ◌-◌, ◌<◌, ◌≤◌, ℕ, List, [], ◌∷◌, ◌++◌, length, take, IfOk, IfErr, IsOkAnd, vec_len, vec_capacity};
-ghost use Rattle.nbd_wire.specs.Head.{head_bytes, IsHead};
-ghost use Rattle.nbd_wire.specs.Request.{Message, message, messages};
-ghost use Rattle.nbd_wire.specs.Stream.{Kept, in_head, failed, Reads, ReadsOn, answered, held, missing_len, OneReading};
-ghost use Rattle.nbd_wire.specs.State.{kept, IsKeptWrite, IsLongWrite, IsState, wanted_of, found, Advances, IsGoing, IsQuiet};
+ghost use Rattle.std.specs.Prelude.{◌≡◌, ◌+◌, ◌-◌, ◌<◌, ◌≤◌, ℕ, List, [], ◌∷◌, ◌++◌, length, take, All, IfOk, IfErr, IsOkAnd, vec_len, vec_capacity};
+ghost use Rattle.nbd_wire.specs.Head.{head_bytes};
+ghost use Rattle.nbd_wire.specs.Request.{Message, message, messages, HasItsData};
+ghost use Rattle.nbd_wire.specs.Stream.{Kept, in_head, failed, IsKeptWrite, IsDiscardedWrite, Reads, ReadsOn, answered, held, missing_len, NoRequest, OneReading};
+ghost use Rattle.nbd_wire.specs.State.{kept, IsState, wanted_of, found, Advances, IsGoing, IsQuiet};
 
 use crate::command::WRITE;
 use crate::error::WireFault;
@@ -12,14 +12,15 @@ use std::alloc::Global;
 use std::marker::Model;
 use std::mem;
 
-/// The most bytes of data that a WRITE is handed on with.
+/// The most bytes of data that a WRITE is handed on with: 1 MiB.
 pub const MAX_PAYLOAD: u32 = 1_048_576;
-/// The most bytes of data that a WRITE is followed by.
+/// The most bytes of data that are read behind a WRITE's head: 32 MiB.
 pub const MAX_THROWN_AWAY: u32 = 33_554_432;
 
 const HEAD_LEN: usize = 28;
 
-/// Takes requests from a stream of bytes, in whatever pieces it comes.
+/// Takes requests from a stream of bytes, in whatever pieces it comes. It holds no more than the request at
+/// hand, at most 28 bytes of a head and [`MAX_PAYLOAD`] of data.
 #[derive(Drop)]
 pub struct StreamReader {
     alloc: Global,
@@ -27,7 +28,6 @@ pub struct StreamReader {
 }
 
 impl Model for StreamReader {
-    ghost use Rattle.std.specs.Prelude.{ℕ};
     ghost use Rattle.nbd_wire.specs.Stream.{Kept};
 
     ghost Value = { Kept };
@@ -63,11 +63,17 @@ impl StreamReader {
         }
     }
 
-    /// Reads the next piece of the stream, and answers the requests that are whole now. A head is looked at
-    /// once its 28 bytes have come. Refusals 0 (no memory), 3 (bad magic) and 4 (too long).
+    /// Reads the next piece of the stream, and answers the requests that are whole now ("Transmission" of
+    /// NBD's `proto.md`). A head is looked at once its 28 bytes have come; the data of a WRITE longer than
+    /// [`MAX_PAYLOAD`] are thrown away as they come.
+    ///
+    /// Refusals 0 (no memory), 3 (bad magic) and 4 (too long: a WRITE longer than [`MAX_THROWN_AWAY`]). Each
+    /// stands behind the requests that came before it, and then for good: what memory ran out for is lost.
     pub fn feed(&mut self, piece: &[u8]) -> Result<Vec<Request>, WireFault>
         // However the stream was cut, these are its next requests, up to its first fault.
         ensures stream { ReadsOn self.old piece.now (answered result) self.new }
+
+        ensures each { IfOk result (λ requests. All HasItsData requests.items) }
 
         // A fault comes where there is no request before it, and then always.
         ensures fault { IfErr result (λ fault. self.new ≡ failed fault) }
@@ -92,9 +98,10 @@ impl StreamReader {
 }
 
 /// Two readings of one stream are one: however it is cut, its requests are the same, and so is what a reader
-/// keeps, but for one that memory ran out for.
+/// keeps, but for one that memory ran out for. What is kept begins with no whole request.
 pub fn one_reading()
-    ensures { OneReading }
+    ensures one { OneReading }
+    ensures rest { NoRequest }
 {}
 
 // Nothing was read of the next request.
@@ -113,6 +120,7 @@ fn answer(state: &State, requests: Vec<Request>) -> Result<Vec<Request>, WireFau
     ensures answered { answered result ≡ messages requests.items }
     ensures fault { IfErr result (λ fault. kept state.now ≡ failed fault) }
     ensures first { (fault : WireFault) → kept state.now ≡ failed fault → IfOk result (λ handed. 0 < vec_len handed) }
+    ensures handed { IfOk result (λ handed. handed.items ≡ requests.items) }
     ensures going { IsGoing (kept state.now) → result ≡ Ok requests }
 {
     match state {
@@ -254,7 +262,7 @@ fn take_data(head: RequestHead, mut bytes: Vec<u8>, more: &[u8]) -> (State, Opti
 
 // Passes over `count` bytes of data that aren't kept.
 fn discard(alloc: Global, head: RequestHead, missing: u32, count: u32) -> (State, Option<Request>)
-    requires write { IsLongWrite head }
+    requires write { IsDiscardedWrite head }
     requires within { missing ≤ head.length }
     requires wanted { count ≤ missing }
     ensures sound { IsState result.0 }

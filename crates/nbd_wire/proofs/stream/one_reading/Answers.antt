@@ -1,5 +1,8 @@
-use Rattle.nbd_wire.proofs.Streams.{one_reading_lem}
+use Rattle.nbd_wire.proofs.Streams.{one_reading_lem, no_request_lem}
 use Rattle.nbd_wire.proofs.stream.one_reading.Goals as goal
 
-pub returns : goal.returns
-returns c = one_reading_lem
+pub returns-clause-one : goal.returns-clause-one
+returns-clause-one c = one_reading_lem
+
+pub returns-clause-rest : goal.returns-clause-rest
+returns-clause-rest c = no_request_lem

@@ -1,9 +1,11 @@
-use Rattle.std.proofs.Common.{◌≡◌, ◌<◌, List, [], ◌++◌, length, sym, subst, ap, ◌∙◌}
+use Rattle.std.proofs.Common.{◌≡◌, ◌<◌, List, [], ◌++◌, All, length, rules, sym, subst, ap, ◌∙◌}
 use Rattle.std.specs.Prelude.{Result, IsOkAnd}
 use Rattle.std.specs.Global.{Vec}
 use Rattle.nbd_wire.specs.declared.error.WireFault.{WireFault}
 use Rattle.nbd_wire.specs.declared.message.Request.{Request}
-use Rattle.nbd_wire.specs.Request.{Message, messages}
+use Rattle.std.proofs.lemmas.Result.{IfOk-weaker}
+use Rattle.nbd_wire.specs.Request.{Message, messages, HasItsData}
+use Rattle.nbd_wire.proofs.Handed.{Advances-data}
 use Rattle.nbd_wire.specs.Stream.{Kept, failed, Reads, ReadsOn, missing_len}
 use Rattle.nbd_wire.specs.State.{kept, Advances}
 use Rattle.nbd_wire.proofs.Streams.{Reads-then, Advances-failed, state_failed, held_bound}
@@ -21,10 +23,13 @@ returns c =
     let old : kept c.replace-state.result ≡ c.args.self.now = ap kept c.replace-state.ensures.value ∙ c.self.view_is in
     let advances : Advances c.args.self.now c.args.piece.now (messages c.read_all-state.result.1.items) (kept c.read_all-state.result.0) =
     subst (λ (k : Kept). Advances k c.args.piece.now (messages c.read_all-state.result.1.items) (kept c.read_all-state.result.0)) old c.read_all-state.ensures.reads in
+    let each : All HasItsData c.read_all-state.result.1.items =
+    Advances-data c.replace-state.result c.args.piece.now c.read_all-state.result.1.items _ (search rules) (λ fault was. c.in_default.not-Failed fault (sym c.replace-state.ensures.value ∙ was)) c.read_all-state.ensures.reads in
     record {
       stream = λ stream before reads.
           subst (λ (ms : List Message). Reads (stream ++ c.args.piece.now) (before ++ ms) (kept c.read_all-state.result.0)) (sym c.answer.ensures.answered)
           (Reads-then stream c.args.piece.now before _ _ _ reads advances);
+      each = IfOk-weaker c.answer.result (λ requests. requests.items ≡ c.read_all-state.result.1.items) (λ requests. All HasItsData requests.items) (λ requests same. rw same each) c.answer.ensures.handed;
       fault = c.answer.ensures.fault;
       again = λ fault was. absurd (c.in_default.not-Failed fault (state_failed c.self.inside.state fault (c.self.view_is ∙ was)));
       first = c.answer.ensures.first;
