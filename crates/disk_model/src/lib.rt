@@ -8,6 +8,8 @@ mod file;
 mod history;
 mod sim;
 mod synced;
+#[cfg(test)]
+mod tests;
 
 pub use disk::{DeviceFault, Disk};
 pub use fault_plan::CallKind;
