@@ -1,9 +1,9 @@
 -- What a device reads and what a crash leaves, place by place, as crates above use it:
 -- `use Rattle.disk_model.proofs.Contents.{leaves_seen, ..}`.
-use Rattle.std.proofs.Common.{◌≡◌, inl, inr, ⊎_elim, ℕ, ◌+◌, ◌<◌, List, slice_index, Result, Ok, Err, OnErr, arith}
+use Rattle.std.proofs.Common.{length, ◌≡◌, inl, inr, ⊎_elim, ℕ, ◌+◌, ◌<◌, List, slice_index, Result, Ok, Err, OnErr, subst, add-zero, arith}
 use Rattle.std.proofs.lemmas.List.{ext_get_or}
 use Rattle.std.proofs.lemmas.Bool.{cases_lt}
-use Rattle.disk_model.specs.Disk.{State, IsAllSynced, IsSyncedIn, IsSteady, MayLeave, IsKept, IsSynced, IsSound}
+use Rattle.disk_model.specs.Disk.{State, IsAllSynced, IsSyncedIn, IsSteady, MayLeave, IsKept, IsSynced, IsStored, IsSound}
 use Rattle.disk_model.specs.Faults.{faults_after, HasRisen}
 
 -- where nothing is unsynced, a crash leaves what a read gives
@@ -40,3 +40,8 @@ synced_is_left extent before after sound synced = record {
 pub failed_has_risen : {T E : Type 0} (faults : ℕ) (result : Result T E) → OnErr result (HasRisen faults (faults_after result faults))
 failed_has_risen faults (Ok value) = tt
 failed_has_risen faults (Err error) = ⊎_elim (λ below. inl (omega arith)) (λ most. inr (omega arith)) (cases_lt faults 18446744073709551615)
+
+-- the first byte of what was written, with no sum in its place
+pub stored_first : (before after : State) (offset : ℕ) (bytes : List ℕ) → IsStored before offset bytes after → 0 < length bytes → (before.loose offset → ⊥) → slice_index after.seen offset ≡ slice_index bytes 0
+stored_first before after offset bytes stored some sure =
+    subst (λ (place : ℕ). (before.loose place → ⊥) → slice_index after.seen place ≡ slice_index bytes 0) (add-zero offset) (stored.written 0 some) sure

@@ -21,7 +21,7 @@ pub record State : Type 1 where
 abbrev pub InRange : ℕ → ℕ → ℕ → Type 0
 InRange offset count place = (offset ≤ place) × (place < offset + count)
 
--- no place is unsynced, as after a good sync and after a crash
+-- no place is unsynced: so it is after a good sync, and on a device that is found after a crash
 abbrev pub IsAllSynced : State → Type 0
 IsAllSynced state = (place : ℕ) → state.unsynced place → ⊥
 

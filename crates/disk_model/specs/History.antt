@@ -23,12 +23,12 @@ abbrev pub IsInside : List Entry → ℕ → Type 0
 IsInside entries size = (k : ℕ) → entry_end (slice_index_or entries k Synced) ≤ size
 
 -- the bytes are put at `offset`, and what stood there is noted
-pub record IsPut (entries : List Entry) (content : List ℕ) (offset : ℕ) (bytes : List ℕ) (after : List Entry) (patch : List ℕ) : Type 0 where
+pub record IsPut (entries : List Entry) (content : List ℕ) (offset : ℕ) (bytes : List ℕ) (entries_after : List Entry) (content_after : List ℕ) : Type 0 where
   pub write : Write
   pub offset_is : write.offset ≡ offset
   pub before_is : write.before.items ≡ take (length bytes) (drop offset content)
-  pub entries_are : after ≡ entries ++ Written write ∷ []
-  pub content_is : patch ≡ patched content offset bytes
+  pub entries_are : entries_after ≡ entries ++ Written write ∷ []
+  pub content_is : content_after ≡ patched content offset bytes
 
 -- the content before this, given the content after it
 abbrev pub content_before : Entry → List ℕ → List ℕ
@@ -68,8 +68,8 @@ pub record IsFilled (places : ℕ → Type 0) (byte : ℕ) (content left : List 
   pub filled : (place : ℕ) → places place → slice_index left place ≡ byte
   pub others : (place : ℕ) → (places place → ⊥) → slice_index left place ≡ slice_index content place
 
--- what a crash leaves by this choice
-abbrev pub IsLeftBy : CrashChoice → List Entry → List ℕ → List ℕ → Type 0
-IsLeftBy (Fill byte) history content left = IsFilled (unsynced_by history) byte content left
-IsLeftBy Old history content left = left ≡ synced_content history content
-IsLeftBy New history content left = left ≡ content
+-- what a crash leaves by this choice of what was seen, where these places are unsynced and this content is synced
+abbrev pub IsLeftBy : CrashChoice → (ℕ → Type 0) → List ℕ → List ℕ → List ℕ → Type 0
+IsLeftBy (Fill byte) unsynced synced seen left = IsFilled unsynced byte seen left
+IsLeftBy Old unsynced synced seen left = left ≡ synced
+IsLeftBy New unsynced synced seen left = left ≡ seen

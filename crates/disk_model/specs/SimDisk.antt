@@ -1,5 +1,5 @@
 -- What contracts see of a simulated device.
-use Rattle.std.specs.Prelude.{◌≡◌, ℕ, ◌↔◌, ◌⊎◌, List, length, reverse}
+use Rattle.std.specs.Prelude.{◌≡◌, ℕ, ◌↔◌, ◌⊎◌, ◌≤◌, List, length, reverse, vec_capacity, vec_len}
 use Rattle.disk_model.specs.declared.history.Entry.{Entry}
 use Rattle.disk_model.specs.declared.fault_plan.FaultPlan.{FaultPlan}
 use Rattle.disk_model.specs.declared.sim.SimDisk.{SimDisk}
@@ -49,3 +49,7 @@ pub record IsStable (before after : SimDisk) : Type 0 where
   pub seen : seen_bytes after ≡ seen_bytes before
   pub unsynced : (place : ℕ) → unsynced_at after place → ⊥
   pub synced : synced_bytes after ≡ seen_bytes before
+
+-- the record holds as much as it has memory for
+abbrev pub IsRecordFull : SimDisk → Type 0
+IsRecordFull disk = vec_capacity disk.history ≤ vec_len disk.history

@@ -9,7 +9,7 @@ use thiserror::Error;
 #[error("device fault")]
 pub struct DeviceFault;
 
-/// A device of a fixed number of bytes.
+/// A device of a fixed number of bytes. That a range lies inside it is the caller's condition.
 pub trait Disk {
     /// The number of bytes.
     ghost extent: { Self → ℕ };
@@ -17,17 +17,17 @@ pub trait Disk {
     /// How many calls have failed.
     ghost faults: { Self → ℕ };
 
-    /// That it keeps to the disk model. Clauses on content say nothing of a device that doesn't.
+    /// That it keeps to the disk model. Where it doesn't hold, clauses on content say nothing.
     ghost honest: { Self → Type 0 };
 
-    /// What it is now.
+    /// What reads give and what a crash may leave, at this moment.
     ghost state: { Self → State };
 
     /// The number of bytes.
     fn size(&self) -> u64
         ensures { result ≡ extent self.now };
 
-    /// Reads the bytes from `offset` on; after a fault `into` holds any bytes.
+    /// Reads the bytes from `offset` on. After a fault `into` holds any bytes, and the device is as after a good read.
     fn read(&mut self, offset: u64, into: &mut [u8]) -> Result<(), DeviceFault>
         requires { offset + length into.old ≤ extent self.old }
         ensures extent { extent self.new ≡ extent self.old }
@@ -39,7 +39,7 @@ pub trait Disk {
         ensures kept { honest self.old → IsKept (state self.old) (state self.new) }
         ensures any_moment { honest self.old → LeavesOnly (state self.old) (state self.new) (MayLeave (state self.old)) };
 
-    /// Writes the bytes at `offset`; they are stable once a later sync was good.
+    /// Writes the bytes at `offset`. Until a later sync is good, a crash may leave any bytes there, also after a fault.
     fn write_at(&mut self, offset: u64, from: &[u8]) -> Result<(), DeviceFault>
         requires { offset + length from.now ≤ extent self.old }
         ensures extent { extent self.new ≡ extent self.old }
@@ -52,7 +52,7 @@ pub trait Disk {
         ensures any_moment { honest self.old → LeavesOnly (state self.old) (state self.new)
             (MayLeaveTorn (state self.old) offset (length from.now)) };
 
-    /// Makes stable what was written before.
+    /// Makes stable what was written before. After a fault nothing of it is.
     fn sync(&mut self) -> Result<(), DeviceFault>
         ensures extent { extent self.new ≡ extent self.old }
         ensures faults { faults self.new ≡ faults_after result (faults self.old) }

@@ -5,7 +5,10 @@ use crate::faults::outcome;
 use std::fs::OpenFile;
 use std::os::unix::fs::FileExt;
 
-/// A device over a file of at least its size, by positioned reads and writes.
+/// A device over the first bytes of a file. Short reads and writes are finished, so that a call is one call of the
+/// system where the system does it whole, and a sync brings the data to the drive (`fdatasync`).
+///
+/// Nothing is claimed of the content: its `honest` can't be met. A read past the end of a shorter file is a fault.
 #[derive(Drop)]
 pub struct FileDisk<F: FileExt + OpenFile> {
     file: F,
@@ -18,7 +21,7 @@ pub struct FileDisk<F: FileExt + OpenFile> {
 impl<F: FileExt + OpenFile> FileDisk<F> {
     ghost use Rattle.disk_model.specs.FileDisk.{file_of};
 
-    /// The first `size` bytes of the file.
+    /// A device of `size` bytes.
     pub fn new(file: F, size: u64) -> FileDisk<F>
         ensures extent { ⟦<FileDisk<F> as Disk>⟧.extent result ≡ size }
         ensures faults { ⟦<FileDisk<F> as Disk>⟧.faults result ≡ 0 }

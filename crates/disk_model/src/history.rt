@@ -1,4 +1,4 @@
-ghost use Rattle.std.specs.Prelude.{◌≡◌, ◌+◌, ◌≤◌, ◌<◌, ◌-◌, ◌⊎◌, ℕ, [], ◌∷◌, ◌++◌, length, take, drop, reverse, slice_index, replicate, OnOk, OnErr, IfSome, IfNone, false};
+ghost use Rattle.std.specs.Prelude.{◌≡◌, ◌+◌, ◌≤◌, ◌<◌, ◌-◌, ◌⊎◌, ℕ, [], ◌∷◌, ◌++◌, length, take, drop, reverse, slice_index, replicate, OnOk, OnErr, IfSome, IfNone, IsTrue, false, vec_capacity, vec_len};
 ghost use Rattle.disk_model.specs.declared.history.Entry.TheVariants.{Written, Synced};
 ghost use Rattle.disk_model.specs.History.{patched, IsInside, IsPut, unsynced_by, synced_content, IsLeftBy};
 
@@ -51,6 +51,7 @@ pub fn note_sync(history: &mut Vec<Entry>, due: bool) -> Result<(), DeviceFault>
     ensures not_due { OnOk result (due ≡ false) }
     ensures noted { OnOk result (history.new.items ≡ history.old.items ++ Synced ∷ []) }
     ensures same { OnErr result (history.new.items ≡ history.old.items) }
+    ensures no_room { OnErr result (IsTrue due ⊎ (vec_capacity history.old ≤ vec_len history.old)) }
 {
     if due {
         return Err(DeviceFault);
@@ -122,7 +123,8 @@ pub fn fill_unsynced(bytes: &mut Vec<u8>, history: &mut Vec<Entry>, byte: u8)
 /// Makes of the bytes what a crash leaves. Of the history nothing is said after it.
 pub fn crash_bytes(bytes: &mut Vec<u8>, history: &mut Vec<Entry>, choice: CrashChoice)
     requires { IsInside history.old.items (length bytes.old.items) }
-    ensures left { IsLeftBy choice (reverse history.old.items) bytes.old.items bytes.new.items }
+    ensures left { IsLeftBy choice (unsynced_by (reverse history.old.items)) (synced_content (reverse history.old.items) bytes.old.items)
+        bytes.old.items bytes.new.items }
     ensures others { (place : ℕ) → (unsynced_by (reverse history.old.items) place → ⊥)
         → slice_index bytes.new.items place ≡ slice_index bytes.old.items place }
     ensures size { length bytes.new.items ≡ length bytes.old.items }

@@ -11,7 +11,11 @@ use crate::faults::outcome;
 use crate::history::{CrashChoice, Entry, crash_bytes, note_sync, put};
 use std::alloc::{AllocError, Global};
 
-/// A device in memory that keeps to the disk model, for tests: its calls can be made to fail, and it can crash.
+/// A device in memory that keeps to the disk model. Its calls can be made to fail, and it can crash.
+///
+/// It keeps a record of its writes and syncs since the last crash, with the bytes that each write replaced. A write or
+/// a sync for which the record can't grow is a fault, and changes nothing. No other call takes memory. A write that is
+/// made to fail writes its bytes nevertheless: reads give them, and they are unsynced.
 #[derive(Drop)]
 pub struct SimDisk {
     alloc: Global,
@@ -36,7 +40,7 @@ fn settled(stored: Result<(), AllocError>, due: bool) -> Result<(), DeviceFault>
 }
 
 impl SimDisk {
-    ghost use Rattle.disk_model.specs.SimDisk.{seen_bytes, history_of, plan_of, with_plan, state_now};
+    ghost use Rattle.disk_model.specs.SimDisk.{seen_bytes, synced_bytes, unsynced_at, history_of, plan_of, with_plan, state_now};
 
     /// A device of `size` zero bytes, with nothing armed.
     pub fn new(alloc: Global, size: u64) -> Result<SimDisk, AllocError>
@@ -56,16 +60,17 @@ impl SimDisk {
         })
     }
 
-    /// Lets the `k`-th call of a kind from now on fail, the first being 1. It takes the place of an earlier one of
-    /// that kind that wasn't met; with 0 there is none.
+    /// Lets the `k`-th call of a kind from now on fail; the next one is the first. It takes the place of an earlier
+    /// one of that kind that wasn't met. With `k` 0 none fails.
     pub fn fail(&mut self, kind: CallKind, k: u64)
         ensures { self.new ≡ with_plan self.old (armed kind k (plan_of self.old)) }
     {
         self.plan.fail(kind, k);
     }
 
-    /// Stops the device at the `k`-th call of any kind from now on, the first being 1: that call and all later ones
-    /// fail, until a crash. It takes the place of an earlier stop that wasn't met; with 0 there is none.
+    /// Stops the device at the `k`-th call of any kind from now on: that call and all later ones fail, until a crash.
+    /// It takes the place of an earlier stop that wasn't met. With `k` 0 there is none. A call that is stopped counts
+    /// for [`SimDisk::fail`] too.
     pub fn stop_at(&mut self, k: u64)
         ensures { self.new ≡ with_plan self.old (record (plan_of self.old) { stop = k }) }
     {
@@ -79,12 +84,12 @@ impl SimDisk {
         self.plan.stopped()
     }
 
-    /// Crashes the device. Each unsynced byte is then as chosen, and all bytes are synced. What is armed and wasn't
-    /// met stays armed.
+    /// Crashes the device: each unsynced byte becomes what was chosen, and all bytes are synced. The record begins anew.
+    /// What is armed and wasn't met stays armed.
     pub fn crash(&mut self, choice: CrashChoice)
         ensures extent { ⟦<SimDisk as Disk>⟧.extent self.new ≡ ⟦<SimDisk as Disk>⟧.extent self.old }
         ensures faults { ⟦<SimDisk as Disk>⟧.faults self.new ≡ ⟦<SimDisk as Disk>⟧.faults self.old }
-        ensures left { IsLeftBy choice (history_of self.old) (seen_bytes self.old) (seen_bytes self.new) }
+        ensures left { IsLeftBy choice (unsynced_at self.old) (synced_bytes self.old) (seen_bytes self.old) (seen_bytes self.new) }
         ensures allowed { MayLeave (state_now self.old) (seen_bytes self.new) }
         ensures synced { IsAllSynced (state_now self.new) }
         ensures history { history_of self.new ≡ [] }
@@ -97,7 +102,7 @@ impl SimDisk {
 }
 
 impl Disk for SimDisk {
-    ghost use Rattle.disk_model.specs.SimDisk.{seen_bytes, plan_of, state_now, IsUnchanged, IsApplied, IsStable};
+    ghost use Rattle.disk_model.specs.SimDisk.{seen_bytes, plan_of, state_now, IsUnchanged, IsApplied, IsStable, IsRecordFull};
 
     ghost extent = { λ disk. length disk.bytes.items };
 
@@ -169,10 +174,11 @@ impl Disk for SimDisk {
         ensures failed { Unit {0} → OnErr result (IsSyncFailed (state_now self.old) (state_now self.new)) }
         ensures any_moment { Unit {0} → LeavesOnly (state_now self.old) (state_now self.new) (MayLeave (state_now self.old)) }
 
-        // It fails where a fault is due, and else only where the record can't grow.
+        // It fails where a fault is due, and else only where the record would have to grow and can't.
         ensures fails { IsTrue (is_due CallKind.Sync (plan_of self.old)) → IsErr result }
         ensures stable { OnOk result (IsStable self.old self.new) }
         ensures err { OnErr result (IsUnchanged self.old self.new) }
+        ensures no_room { OnErr result (IsTrue (is_due CallKind.Sync (plan_of self.old)) ⊎ IsRecordFull self.old) }
         ensures plan { plan_of self.new ≡ after_call CallKind.Sync (plan_of self.old) }
     {
         let due = self.plan.count_call(CallKind::Sync);

@@ -1,0 +1,205 @@
+//! Scripts of calls against contents computed by hand, and devices over real files.
+use crate::{CallKind, CrashChoice, DeviceFault, Disk, FileDisk, SimDisk};
+use std::fs;
+use std::fs::OpenOptions;
+use std::process::Abort;
+use std::test::Fail;
+
+/// A step of a script over a device of eight bytes.
+#[derive(Clone, Copy)]
+enum Step {
+    Write(u8, &'static [u8]),
+    FailedWrite(u8, &'static [u8]),
+    Sync,
+    FailedSync,
+    FailedRead,
+    Fail(CallKind, u64),
+    StopAt(u64),
+    Crash(CrashChoice),
+    Stopped(bool),
+    Failures(u64),
+    Reads([u8; 8]),
+}
+
+fn write(rt: &impl Abort, disk: &mut SimDisk, offset: u8, bytes: &[u8]) -> Result<(), DeviceFault> {
+    assert_eq!(rt; disk.size(), 8);
+    assert!(rt; offset <= 8 && bytes.len() <= 8 && usize::from(offset) + bytes.len() <= 8);
+    disk.write_at(u64::from(offset), bytes)
+}
+
+fn read(rt: &impl Abort, disk: &mut SimDisk) -> Result<[u8; 8], DeviceFault> {
+    assert_eq!(rt; disk.size(), 8);
+    let mut all = [0; 8];
+    disk.read(0, &mut all)?;
+    Ok(all)
+}
+
+fn take(rt: &impl Abort, disk: &mut SimDisk, step: Step) {
+    match step {
+        Step::Write(offset, bytes) => assert_eq!(rt; write(rt, disk, offset, bytes), Ok(())),
+        Step::FailedWrite(offset, bytes) => {
+            assert_eq!(rt; write(rt, disk, offset, bytes), Err(DeviceFault))
+        }
+        Step::Sync => assert_eq!(rt; disk.sync(), Ok(())),
+        Step::FailedSync => assert_eq!(rt; disk.sync(), Err(DeviceFault)),
+        Step::FailedRead => assert_eq!(rt; read(rt, disk), Err(DeviceFault)),
+        Step::Fail(kind, k) => disk.fail(kind, k),
+        Step::StopAt(k) => disk.stop_at(k),
+        Step::Crash(choice) => disk.crash(choice),
+        Step::Stopped(stopped) => assert_eq!(rt; disk.stopped(), stopped),
+        Step::Failures(failures) => assert_eq!(rt; disk.failures(), failures),
+        Step::Reads(bytes) => assert_eq!(rt; read(rt, disk), Ok(bytes)),
+    }
+}
+
+const OVERLAPPING: [Step; 8] = [
+    Step::Write(1, &[1, 1, 1, 1]),
+    Step::Write(3, &[2, 2, 2]),
+    Step::Reads([0, 1, 1, 2, 2, 2, 0, 0]),
+    Step::Crash(CrashChoice::Fill(9)),
+    Step::Reads([0, 9, 9, 9, 9, 9, 0, 0]),
+    Step::Write(0, &[3, 3]),
+    Step::Crash(CrashChoice::New),
+    Step::Reads([3, 3, 9, 9, 9, 9, 0, 0]),
+];
+
+const OVERLAPPING_TAKEN_BACK: [Step; 5] = [
+    Step::Write(1, &[1, 1, 1, 1]),
+    Step::Write(3, &[2, 2, 2]),
+    Step::Write(2, &[3, 3]),
+    Step::Crash(CrashChoice::Old),
+    Step::Reads([0; 8]),
+];
+
+const OVER_SYNCED: [Step; 8] = [
+    Step::Write(0, &[1, 1, 1, 1]),
+    Step::Sync,
+    Step::Write(2, &[2, 2, 2, 2]),
+    Step::Crash(CrashChoice::Old),
+    Step::Reads([1, 1, 1, 1, 0, 0, 0, 0]),
+    Step::Write(3, &[4]),
+    Step::Crash(CrashChoice::Fill(9)),
+    Step::Reads([1, 1, 1, 9, 0, 0, 0, 0]),
+];
+
+const FAILED_WRITE_THEN_SYNC: [Step; 7] = [
+    Step::Fail(CallKind::Write, 1),
+    Step::FailedWrite(0, &[5, 5]),
+    Step::Reads([5, 5, 0, 0, 0, 0, 0, 0]),
+    Step::Sync,
+    Step::Crash(CrashChoice::Old),
+    Step::Reads([5, 5, 0, 0, 0, 0, 0, 0]),
+    Step::Failures(1),
+];
+
+const FAILED_SYNC: [Step; 9] = [
+    Step::Write(0, &[7, 7]),
+    Step::Fail(CallKind::Sync, 1),
+    Step::FailedSync,
+    Step::Crash(CrashChoice::Fill(3)),
+    Step::Reads([3, 3, 0, 0, 0, 0, 0, 0]),
+    Step::Write(0, &[8]),
+    Step::Sync,
+    Step::Crash(CrashChoice::Fill(4)),
+    Step::Reads([8, 3, 0, 0, 0, 0, 0, 0]),
+];
+
+const TWO_CRASHES: [Step; 5] = [
+    Step::Write(6, &[1, 1]),
+    Step::Crash(CrashChoice::Fill(8)),
+    Step::Crash(CrashChoice::Old),
+    Step::Crash(CrashChoice::Fill(9)),
+    Step::Reads([0, 0, 0, 0, 0, 0, 8, 8]),
+];
+
+const STOPPED_MIDWAY: [Step; 11] = [
+    Step::StopAt(2),
+    Step::Write(0, &[1]),
+    Step::Stopped(false),
+    Step::FailedWrite(1, &[2]),
+    Step::Stopped(true),
+    Step::FailedSync,
+    Step::FailedRead,
+    Step::Crash(CrashChoice::New),
+    Step::Stopped(false),
+    Step::Reads([1, 2, 0, 0, 0, 0, 0, 0]),
+    Step::Failures(3),
+];
+
+const STOP_AND_FAULT: [Step; 7] = [
+    Step::Fail(CallKind::Write, 1),
+    Step::StopAt(1),
+    Step::FailedWrite(0, &[1]),
+    Step::Crash(CrashChoice::Old),
+    Step::Write(1, &[2]),
+    Step::Reads([0, 2, 0, 0, 0, 0, 0, 0]),
+    Step::Failures(1),
+];
+
+const ARMED_ANEW: [Step; 9] = [
+    Step::Fail(CallKind::Write, 1),
+    Step::Fail(CallKind::Write, 2),
+    Step::Fail(CallKind::Read, 2),
+    Step::Write(0, &[1]),
+    Step::Crash(CrashChoice::New),
+    Step::FailedWrite(1, &[2]),
+    Step::Reads([1, 2, 0, 0, 0, 0, 0, 0]),
+    Step::FailedRead,
+    Step::Failures(2),
+];
+
+#[test]
+fn scripts(rt: HostRuntime) -> Result<(), Fail> {
+    let scripts: [&[Step]; 9] = [
+        &OVERLAPPING,
+        &OVERLAPPING_TAKEN_BACK,
+        &OVER_SYNCED,
+        &FAILED_WRITE_THEN_SYNC,
+        &FAILED_SYNC,
+        &TWO_CRASHES,
+        &STOPPED_MIDWAY,
+        &STOP_AND_FAULT,
+        &ARMED_ANEW,
+    ];
+    for script in scripts {
+        let mut disk = SimDisk::new(rt.alloc(), 8)?;
+        for step in script {
+            take(&rt, &mut disk, *step);
+        }
+    }
+    Ok(())
+}
+
+#[test]
+fn files(rt: HostRuntime) -> Result<(), Fail> {
+    let path = "file_disk.img";
+    fs::write(&rt, path, b"abc")?;
+
+    // A file that is shorter than the device.
+    let file = OpenOptions::new().read(true).write(true).open(&rt, path)?;
+    let mut disk = FileDisk::new(file, 8);
+    let mut front = [0; 3];
+    assert_eq!(rt; disk.read(0, &mut front), Ok(()));
+    assert_eq!(rt; front, *b"abc");
+    assert_eq!(rt; disk.read(1, &mut front), Err(DeviceFault));
+    assert_eq!(rt; disk.write_at(5, b"xyz"), Ok(()));
+    assert_eq!(rt; disk.sync(), Ok(()));
+    let mut all = [0; 8];
+    assert_eq!(rt; disk.read(0, &mut all), Ok(()));
+    assert_eq!(rt; all, *b"abc\0\0xyz");
+    assert_eq!(rt; disk.failures(), 1);
+
+    // A file that can't be written.
+    let mut disk = FileDisk::new(fs::open(&rt, path)?, 8);
+    assert_eq!(rt; disk.read(0, &mut all), Ok(()));
+    assert_eq!(rt; disk.write_at(0, b"x"), Err(DeviceFault));
+    assert_eq!(rt; disk.failures(), 1);
+    fs::remove_file(&rt, path)?;
+
+    // A file that has no room.
+    let full = OpenOptions::new().write(true).open(&rt, "/dev/full")?;
+    let mut disk = FileDisk::new(full, 4096);
+    assert_eq!(rt; disk.write_at(0, b"x"), Err(DeviceFault));
+    assert_eq!(rt; disk.failures(), 1);
+    Ok(())
+}
