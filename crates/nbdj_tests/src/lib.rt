@@ -1,0 +1,7 @@
+//! Tests of the program's plans from bytes to bytes, over simulated devices.
+#![tactic(auto)]
+
+#[cfg(test)]
+mod runs;
+#[cfg(test)]
+mod tests;
