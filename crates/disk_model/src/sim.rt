@@ -120,11 +120,10 @@ impl Disk for SimDisk {
         requires { offset + length into.old ≤ length (seen_bytes self.old) }
         ensures extent { length (seen_bytes self.new) ≡ length (seen_bytes self.old) }
         ensures faults { ⟦<SimDisk as Disk>⟧.faults self.new ≡ faults_after result (⟦<SimDisk as Disk>⟧.faults self.old) }
-        ensures honest { Unit {0} ↔ Unit {0} }
-        ensures bytes { Unit {0} → OnOk result
+        ensures bytes { OnOk result
             ((k : ℕ) → k < length into.new → slice_index into.new k ≡ slice_index (seen_bytes self.new) (offset + k)) }
-        ensures kept { Unit {0} → IsKept (state_now self.old) (state_now self.new) }
-        ensures any_moment { Unit {0} → LeavesOnly (state_now self.old) (state_now self.new) (MayLeave (state_now self.old)) }
+        ensures kept { IsKept (state_now self.old) (state_now self.new) }
+        ensures any_moment { LeavesOnly (state_now self.old) (state_now self.new) (MayLeave (state_now self.old)) }
 
         // It fails exactly where a fault is due, and nothing has changed but the plan and the count.
         ensures fails { is_ok result ≡ not (is_due CallKind.Read (plan_of self.old)) }
@@ -141,10 +140,9 @@ impl Disk for SimDisk {
         requires { offset + length from.now ≤ length (seen_bytes self.old) }
         ensures extent { length (seen_bytes self.new) ≡ length (seen_bytes self.old) }
         ensures faults { ⟦<SimDisk as Disk>⟧.faults self.new ≡ faults_after result (⟦<SimDisk as Disk>⟧.faults self.old) }
-        ensures honest { Unit {0} ↔ Unit {0} }
-        ensures written { Unit {0} → OnOk result (IsWritten (state_now self.old) offset from.now (state_now self.new)) }
-        ensures failed { Unit {0} → OnErr result (IsWriteFailed (state_now self.old) offset (length from.now) (state_now self.new)) }
-        ensures any_moment { Unit {0} → LeavesOnly (state_now self.old) (state_now self.new)
+        ensures written { OnOk result (IsWritten (state_now self.old) offset from.now (state_now self.new)) }
+        ensures failed { OnErr result (IsWriteFailed (state_now self.old) offset (length from.now) (state_now self.new)) }
+        ensures any_moment { LeavesOnly (state_now self.old) (state_now self.new)
             (MayLeaveTorn (state_now self.old) offset (length from.now)) }
 
         // It fails where a fault is due, and else only where the record can't grow. A write that fails by plan is
@@ -169,10 +167,9 @@ impl Disk for SimDisk {
     fn sync(&mut self) -> Result<(), DeviceFault>
         ensures extent { length (seen_bytes self.new) ≡ length (seen_bytes self.old) }
         ensures faults { ⟦<SimDisk as Disk>⟧.faults self.new ≡ faults_after result (⟦<SimDisk as Disk>⟧.faults self.old) }
-        ensures honest { Unit {0} ↔ Unit {0} }
-        ensures synced { Unit {0} → OnOk result (IsSynced (state_now self.old) (state_now self.new)) }
-        ensures failed { Unit {0} → OnErr result (IsSyncFailed (state_now self.old) (state_now self.new)) }
-        ensures any_moment { Unit {0} → LeavesOnly (state_now self.old) (state_now self.new) (MayLeave (state_now self.old)) }
+        ensures synced { OnOk result (IsSynced (state_now self.old) (state_now self.new)) }
+        ensures failed { OnErr result (IsSyncFailed (state_now self.old) (state_now self.new)) }
+        ensures any_moment { LeavesOnly (state_now self.old) (state_now self.new) (MayLeave (state_now self.old)) }
 
         // It fails where a fault is due, and else only where the record would have to grow and can't.
         ensures fails { IsTrue (is_due CallKind.Sync (plan_of self.old)) → IsErr result }

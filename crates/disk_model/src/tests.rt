@@ -1,5 +1,5 @@
 //! Scripts of calls against contents computed by hand, and devices over real files.
-use crate::{CallKind, CrashChoice, DeviceFault, Disk, FileDisk, SimDisk};
+use crate::{CallKind, CrashChoice, DeviceFault, Disk, FileDisk, SimDisk, write_synced};
 use std::fs;
 use std::fs::OpenOptions;
 use std::process::Abort;
@@ -167,6 +167,11 @@ fn scripts(rt: HostRuntime) -> Result<(), Fail> {
             take(&rt, &mut disk, *step);
         }
     }
+
+    let mut disk = SimDisk::new(rt.alloc(), 8)?;
+    assert_eq!(rt; write_synced(&mut disk, 6, &[1, 2]), Ok(()));
+    disk.crash(CrashChoice::Fill(9));
+    assert_eq!(rt; read(&rt, &mut disk), Ok([0, 0, 0, 0, 0, 0, 1, 2]));
     Ok(())
 }
 
@@ -184,10 +189,12 @@ fn files(rt: HostRuntime) -> Result<(), Fail> {
     assert_eq!(rt; disk.read(1, &mut front), Err(DeviceFault));
     assert_eq!(rt; disk.write_at(5, b"xyz"), Ok(()));
     assert_eq!(rt; disk.sync(), Ok(()));
+    assert_eq!(rt; write_synced(&mut disk, 4, b"w"), Ok(()));
     let mut all = [0; 8];
     assert_eq!(rt; disk.read(0, &mut all), Ok(()));
-    assert_eq!(rt; all, *b"abc\0\0xyz");
+    assert_eq!(rt; all, *b"abc\0wxyz");
     assert_eq!(rt; disk.failures(), 1);
+    let _file = disk.into_file();
 
     // A file that can't be written.
     let mut disk = FileDisk::new(fs::open(&rt, path)?, 8);
