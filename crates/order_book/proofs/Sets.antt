@@ -75,9 +75,9 @@ pub len-union-more : (s : FinSet nat_cmp) (first count : ℕ) → len (union s (
 len-union-more s first count =
     let wider : FinSet nat_cmp = union s (blocks_from first count) in
     let there : contains wider (first + count) ≡ contains s (first + count) =
-        contains-union nat_cmp_total s (blocks_from first count) (first + count)
-        ∙ ap (λ b. contains s (first + count) || b) (contains-blocks_from first count (first + count) ∙ past_range first (first + count))
-        ∙ or-false (contains s (first + count)) in
+    contains-union nat_cmp_total s (blocks_from first count) (first + count)
+    ∙ ap (λ b. contains s (first + count) || b) (contains-blocks_from first count (first + count) ∙ past_range first (first + count))
+    ∙ or-false (contains s (first + count)) in
     ap len (union-more s first count) ∙ len-insert nat_cmp_total wider (first + count) ∙ ap (λ b. one_more b (len wider)) there
 
 add-one_more : (there : Bool) (m n : ℕ) → m + one_more there n ≡ one_more there (m + n)
@@ -118,16 +118,16 @@ pub from_list-union : (old new : List ℕ) (first end : ℕ) → first ≤ end �
     from_list new ≡ union (from_list old) (blocks_from first (end - first))
 from_list-union old new first end ordered is =
     same_set nat_cmp_total nat_cmp-IsAntisymmetric _ _ (λ q.
-      contains-keys new q ∙ is q
-      ∙ sym (contains-union nat_cmp_total _ _ q ∙ (λ i. contains-keys old q i || range_contains first end q ordered i)))
+    contains-keys new q ∙ is q
+    ∙ sym (contains-union nat_cmp_total _ _ q ∙ (λ i. contains-keys old q i || range_contains first end q ordered i)))
 
 -- the keys of a set without those of a range
 pub from_list-difference : (old new : List ℕ) (first end : ℕ) → first ≤ end → ((q : ℕ) → list_any (nat_eq q) new ≡ (list_any (nat_eq q) old && not (in_range first end q))) →
     from_list new ≡ difference (from_list old) (blocks_from first (end - first))
 from_list-difference old new first end ordered is =
     same_set nat_cmp_total nat_cmp-IsAntisymmetric _ _ (λ q.
-      contains-keys new q ∙ is q
-      ∙ sym (contains-difference nat_cmp_total _ _ q ∙ (λ i. contains-keys old q i && not (range_contains first end q ordered i))))
+    contains-keys new q ∙ is q
+    ∙ sym (contains-difference nat_cmp_total _ _ q ∙ (λ i. contains-keys old q i && not (range_contains first end q ordered i))))
 
 -- a count of none
 pub gained_none : (keys : List ℕ) (first : ℕ) → IsDistinct nat_eq keys → length keys + 0 ≡ len (union (from_list keys) (blocks_from first (first - first)))

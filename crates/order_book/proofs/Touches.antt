@@ -1,5 +1,5 @@
 -- the dirty blocks after some commands, by the last that touches them
-use Rattle.std.proofs.Common.{◌≡◌, ℕ, ◌+◌, ◌/◌, Bool, true, false, cond, not, ◌||◌, ◌&&◌, List, [], ◌∷◌, vec_len, sym, ap, ◌∙◌, refl, arith}
+use Rattle.std.proofs.Common.{◌≡◌, ℕ, ◌+◌, ◌/◌, Bool, true, false, cond, not, ◌||◌, ◌&&◌, List, [], ◌∷◌, vec_len, ap, ◌∙◌, refl}
 use Rattle.std.specs.Prelude.{fold}
 use Rattle.std.specs.List.{list_any}
 use Rattle.std.specs.Ordering.{nat_cmp}
@@ -7,7 +7,7 @@ use Rattle.std.specs.Cmp.{nat_cmp_total}
 use Rattle.std.specs.FinSet.{FinSet, empty, contains, contains-empty, contains-union, contains-difference}
 use Rattle.image_model.specs.declared.command.Command.{Command}
 use Rattle.image_model.specs.declared.command.Command.TheVariants.{Put, Clear}
-use Rattle.order_book.specs.Blocks.{blocks_from, dirty_after, touches, is_put, last_touch_is_put}
+use Rattle.order_book.specs.Blocks.{dirty_after, touches, is_put, last_touch_is_put}
 use Rattle.order_book.proofs.Sets.{in_range, contains-blocks_from}
 
 or_touched : (was touched : Bool) → (was || touched) ≡ cond touched true was

@@ -1,4 +1,4 @@
-ghost use Rattle.std.specs.Prelude.{◌≡◌, ◌+◌, ◌-◌, ◌<◌, ◌≤◌, ◌^◌, ◌++◌, [], ◌∷◌, sum, length, drop, OnOk, OnErr};
+ghost use Rattle.std.specs.Prelude.{◌≡◌, ◌+◌, ◌<◌, ◌≤◌, ◌^◌, ◌++◌, [], ◌∷◌, sum, drop, OnOk};
 
 use std::alloc::{AllocError, Global};
 use std::collections::VecDeque;
@@ -19,8 +19,8 @@ impl Model for Backlog {
     ghost Value = { Tally };
 
     ghost view = { λ backlog. record {
-        bodies = backlog.bodies.items;
-        spare = deque_capacity backlog.bodies - deque_len backlog.bodies
+      bodies = backlog.bodies.items;
+      spare = deque_capacity backlog.bodies - deque_len backlog.bodies;
     } };
 
     ghost invariant = { λ backlog. backlog.total ≡ sum backlog.bodies.items };

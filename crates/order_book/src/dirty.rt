@@ -126,7 +126,8 @@ impl DirtyBlocks {
         ensures { result ≡ has_frames self.now frames command.now }
     {
         match command {
-            Command::Put { first, bytes } => self.len_with(*first, *first + blocks_in(bytes)) <= frames as u64,
+            Command::Put { first, bytes } => self.len_with(*first, *first + blocks_in(bytes))
+                <= frames as u64,
             Command::Clear { .. } => true,
         }
     }
@@ -151,5 +152,4 @@ impl DirtyBlocks {
 pub fn dirty_blocks_law()
     ensures { (commands : List Command) (block : ℕ) →
         set.contains (fold dirty_after set.empty commands) block ≡ last_touch_is_put block commands }
-{
-}
+{}

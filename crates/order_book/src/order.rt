@@ -1,7 +1,5 @@
-ghost use Rattle.std.specs.Prelude.{◌≡◌, ◌+◌, ◌-◌, ◌<◌, ◌≤◌, ◌↔◌, [], true, false, All, ◌⊎◌, Ok, None, IsErrAnd, IfErr, IfOk, IfSome, IfNone, OnErr, OnOk};
-ghost use Rattle.std.specs.FinSet as set;
+ghost use Rattle.std.specs.Prelude.{◌≡◌, ◌+◌, ◌<◌, ◌≤◌, ◌↔◌, [], true, false, ◌⊎◌, IsErrAnd, IfErr, IfOk, IfSome, IfNone, OnErr, OnOk};
 ghost use Rattle.order_book.specs.Order.{OrderState, new_order, IsNumbered, IsWrite, has_room, refusal_of, with_command, Seals, IsInHand, with_group, with_durable, body_limit};
-ghost use Rattle.order_book.specs.Pending.{HasSmallBody};
 
 use crate::backlog::Backlog;
 use crate::dirty::DirtyBlocks;
