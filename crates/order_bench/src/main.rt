@@ -14,6 +14,7 @@ use std::env;
 use std::time::{Duration, Instant};
 
 const FRAMES: u32 = 65_536;
+
 const AREA_BYTES: u32 = 67_108_864;
 
 /// How many batches are accepted at each number of dirty blocks.

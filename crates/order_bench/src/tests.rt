@@ -45,7 +45,10 @@ fn forty_one_puts_are_one_group(rt: HostRuntime) -> anyhow::Result<()> {
     let (first, commands) = group.into_parts();
     assert_eq!(rt; (first, commands.len(), body(&commands)), (8, 41, 168_469));
     order.publish_count(48);
-    assert_eq!(rt; (order.opening(), order.durable(), order.mark()), (7, 48, 48));
+    assert_eq!(rt;
+        (order.opening(), order.durable(), order.mark()),
+        (7, 48, 48)
+    );
     order.stop();
     assert!(rt; order.stopped());
     assert_eq!(rt; accept(&mut order, clear(0, 1)), Err(OrderFault::Stopped));
@@ -64,7 +67,10 @@ fn a_group_is_cut_to_the_byte(rt: HostRuntime) -> anyhow::Result<()> {
         panic!(rt; "no group")
     };
     let (first, commands) = group.into_parts();
-    assert_eq!(rt; (first, commands.len(), body(&commands)), (1, 1_574, 2_097_134));
+    assert_eq!(rt;
+        (first, commands.len(), body(&commands)),
+        (1, 1_574, 2_097_134)
+    );
     assert_eq!(rt; (order.sealed(), order.mark()), (1_574, 1_575));
     Ok(())
 }

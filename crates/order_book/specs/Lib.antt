@@ -2,3 +2,4 @@ pub mod Backlog
 pub mod Blocks
 pub mod Order
 pub mod Pending
+pub mod State

@@ -1,9 +1,10 @@
-ghost use Rattle.std.specs.Prelude.{◌≡◌, ◌+◌, ◌-◌, ◌/◌, ◌<◌, ◌≤◌, ◌||◌, ◌&&◌, ℕ, not, nat_eq, nat_le, nat_lt, OnOk, OnErr, vec_len};
+ghost use Rattle.std.specs.Prelude.{◌≡◌, ◌+◌, ◌-◌, ◌/◌, ◌<◌, ◌≤◌, ◌||◌, ◌&&◌, ℕ, not, nat_eq, nat_le, nat_lt, OnOk, OnErr, List, fold, length};
 ghost use Rattle.std.specs.HashSet as bag;
 ghost use Rattle.std.specs.FinSet as set;
 ghost use Rattle.std.specs.Ordering.{nat_cmp};
 ghost use Rattle.std.specs.Coded.{coded_ℕ};
-ghost use Rattle.order_book.specs.Blocks.{blocks_from, dirty_after, has_frames};
+ghost use Rattle.image_model.specs.declared.command.Command.{Command};
+ghost use Rattle.order_book.specs.Blocks.{blocks_from, dirty_after, has_frames, last_touch_is_put};
 ghost use Rattle.order_book.specs.Order.{IsWrite};
 
 use image_model::{BLOCK_BYTES, Command};
@@ -26,8 +27,8 @@ impl Model for DirtyBlocks {
 }
 
 // The blocks that the bytes fill.
-fn blocks_in(bytes: &Vec<u8>) -> u64
-    ensures { result ≡ vec_len bytes.now / 4096 }
+fn blocks_in(bytes: &[u8]) -> u64
+    ensures { result ≡ length bytes.now / 4096 }
 {
     bytes.len() as u64 / BLOCK_BYTES
 }
@@ -146,3 +147,9 @@ impl DirtyBlocks {
         }
     }
 }
+
+/// Which blocks are dirty: after any commands those where the last command that touches them is a `Put`.
+pub fn dirty_blocks_law()
+    ensures { (commands : List Command) (block : ℕ) →
+        set.contains (fold dirty_after set.empty commands) block ≡ last_touch_is_put block commands }
+{}

@@ -7,5 +7,6 @@ mod fault;
 mod order;
 mod pending;
 
+pub use dirty::dirty_blocks_law;
 pub use fault::OrderFault;
 pub use order::Order;

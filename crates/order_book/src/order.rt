@@ -1,7 +1,5 @@
-ghost use Rattle.std.specs.Prelude.{◌≡◌, ◌+◌, ◌-◌, ◌<◌, ◌≤◌, ◌↔◌, [], true, false, All, ◌⊎◌, Ok, None, IsErrAnd, IfErr, IfOk, IfSome, IfNone, OnErr, OnOk};
-ghost use Rattle.std.specs.FinSet as set;
+ghost use Rattle.std.specs.Prelude.{◌≡◌, ◌+◌, ◌<◌, ◌≤◌, ◌↔◌, [], true, false, ◌⊎◌, IsErrAnd, IfErr, IfOk, IfSome, IfNone, OnErr, OnOk};
 ghost use Rattle.order_book.specs.Order.{OrderState, new_order, IsNumbered, IsWrite, has_room, refusal_of, with_command, Seals, IsInHand, with_group, with_durable, body_limit};
-ghost use Rattle.order_book.specs.Pending.{HasSmallBody};
 
 use crate::backlog::Backlog;
 use crate::dirty::DirtyBlocks;
@@ -49,33 +47,11 @@ impl Model for Order {
 
     ghost coded = { Prim.hlevel (codes, set.code {R = nat_cmp} coded_ℕ) };
 
-    ghost view = { λ order. record {
-        opening = order.opening;
-        durable = order.durable;
-        sealed = order.sealed;
-        mark = order.mark;
-        in_hand = order.in_hand;
-        pending = order.pending.commands;
-        bodies = order.backlog.bodies;
-        dirty = order.dirty;
-        frames = order.frames;
-        area = order.area;
-        stopped = order.stopped;
-    } };
+    ghost use Rattle.order_book.specs.State.{state_of};
 
-    ghost invariant = { λ order. IsOrder (record {
-        opening = order.opening;
-        durable = order.durable;
-        sealed = order.sealed;
-        mark = order.mark;
-        in_hand = order.in_hand;
-        pending = order.pending.commands;
-        bodies = order.backlog.bodies;
-        dirty = order.dirty;
-        frames = order.frames;
-        area = order.area;
-        stopped = order.stopped;
-    }) order.pending.spare };
+    ghost view = { state_of };
+
+    ghost invariant = { λ order. IsOrder (state_of order) order.pending.spare };
 }
 
 // Makes room for `count` commands more to be pending, and for one more that isn't durable.
@@ -168,7 +144,7 @@ impl Order {
         ensures handed_back { IfErr result (λ refused. refused.1 ≡ command) }
         ensures unchanged { OnErr result (self.new ≡ self.old) }
 
-        // A refusal that comes later says that none before it was due.
+        // Each refusal comes exactly where it is due and none before it is.
         ensures stopped { IsErrAnd result (λ refused. refused.0 ≡ OrderFault.Stopped) ↔ (self.old.stopped ≡ true) }
         ensures numbers_full { IsErrAnd result (λ refused. refused.0 ≡ OrderFault.NumbersFull)
             ↔ ((self.old.stopped ≡ false) × (self.old.mark ≡ 18446744073709551615)) }
@@ -247,7 +223,7 @@ impl Order {
         (self.area as u64 - BYTES_ROUND_BODY).min(MOST_BODY_BYTES)
     }
 
-    /// Makes the group in hand pending again, before all that is; the list is as it was before that `seal`.
+    /// Makes the group in hand, the last that was sealed, pending again: the list is as it was before that `seal`, with what was accepted since.
     pub fn put_back(&mut self, group: Group)
         requires { IsInHand self.old group }
         ensures pending { self.new ≡ with_group self.old group }

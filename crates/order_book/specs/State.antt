@@ -1,0 +1,18 @@
+-- what callers see of an order's fields
+use Rattle.order_book.specs.declared.order.Order.TheInside.{Inside}
+use Rattle.order_book.specs.Order.{OrderState}
+
+abbrev pub state_of : Inside → OrderState
+state_of order = record {
+  opening = order.opening;
+  durable = order.durable;
+  sealed = order.sealed;
+  mark = order.mark;
+  in_hand = order.in_hand;
+  pending = order.pending.commands;
+  bodies = order.backlog.bodies;
+  dirty = order.dirty;
+  frames = order.frames;
+  area = order.area;
+  stopped = order.stopped;
+}
