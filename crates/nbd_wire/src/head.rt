@@ -1,5 +1,5 @@
 ghost use Rattle.std.specs.Prelude.{◌≡◌, ◌≢◌, ℕ, List, ◌++◌, take, IfOk, OnErr};
-ghost use Rattle.nbd_wire.specs.Head.{request_magic, head_bytes, IsHead, OneHead, simple_reply};
+ghost use Rattle.nbd_wire.specs.Head.{request_magic, head_bytes, IsHead, simple_reply};
 
 use crate::error::BadMagic;
 use byteorder::{BigEndian, ByteOrder};
@@ -70,8 +70,3 @@ pub fn encode_simple(error: u32, cookie: u64) -> [u8; 16]
     BigEndian::write_u64(&mut bytes[8..16], cookie);
     bytes
 }
-
-/// No head's bytes begin another's, so what was encoded is decoded again, whatever follows it.
-pub fn one_head()
-    ensures { OneHead }
-{}
