@@ -72,7 +72,6 @@ impl StreamReader {
     pub fn feed(&mut self, piece: &[u8]) -> Result<Vec<Request>, WireFault>
         // However the stream was cut, these are its next requests, up to its first fault.
         ensures stream { ReadsOn self.old piece.now (answered result) self.new }
-
         ensures each { IfOk result (λ requests. All HasItsData requests.items) }
 
         // A fault comes where there is no request before it, and then always.
