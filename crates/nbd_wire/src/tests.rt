@@ -170,7 +170,7 @@ fn cut_everywhere(rt: HostRuntime) -> Result<(), Fail> {
     assert!(rt; stream.len() <= 2000);
     for second in 0..=stream.len() {
         let (front, last) = stream.split_at(second);
-        // Every second cut of the first 100 bytes, else one cut.
+        // Each cut by itself, and each pair of cuts within the first 100 bytes.
         let firsts = if second <= 100 { second + 1 } else { 1 };
         for first in 0..firsts {
             let (start, middle) = front.split_at(first.min(front.len()));
