@@ -11,7 +11,7 @@ use Rattle.nbd_wire.specs.declared.stream.State.{State}
 use Rattle.nbd_wire.specs.declared.stream.State.TheVariants.{Head, Data, Discard, Failed}
 use Rattle.nbd_wire.specs.Head.{request_magic, head_bytes, IsHead}
 use Rattle.nbd_wire.specs.Request.{write_type, payload_limit, stream_limit, Message, message, messages, data_len, IsRequest}
-use Rattle.nbd_wire.specs.Stream.{Kept, in_head, in_data, in_discard, failed, held, IsFault, Keeps, Reads}
+use Rattle.nbd_wire.specs.Stream.{Kept, in_head, in_data, in_discard, failed, held, IsFault, Keeps, Reads, Fed, IsRun, all_bytes, all_requests}
 use Rattle.nbd_wire.specs.State.{kept, IsState, found, Advances}
 use Rattle.nbd_wire.proofs.Heads.{length-head_bytes, take-head_bytes, one_head_lem}
 use Rattle.nbd_wire.proofs.Requests.{same_front, one_request_lem, data_len_write}
@@ -192,3 +192,25 @@ one_reading_lem stream (m ∷ ms) (n ∷ ns) kept other r s p q =
     let rests = same_front r.0 s.0 r.1 s.1 (ap length first.0) (sym r.3 ∙ s.3) in
     let others = one_reading_lem r.1 ms ns kept other r.4 (subst (λ (t : List ℕ). Reads t ns other) (sym rests.1) s.4) p q in
     ((λ i. first.1 i ∷ others.0 i), others.1)
+
+-- ---- runs
+
+Run-reads : (stream : List ℕ) (before : List Message) (old new : Kept) (feeds : List Fed) → Reads stream before old → IsRun old feeds new
+    → Reads (stream ++ all_bytes feeds) (before ++ all_requests feeds) new
+Run-reads stream before old new [] reads run =
+    subst (λ (t : List ℕ). Reads t (before ++ []) new) (sym (append-nil stream))
+    (subst (λ (ms : List Message). Reads stream ms new) (sym (append-nil before)) (subst (λ (k : Kept). Reads stream before k) run reads))
+Run-reads stream before old new (fed ∷ feeds) reads run =
+    subst (λ (t : List ℕ). Reads t (before ++ all_requests (fed ∷ feeds)) new) (append_assoc stream fed.piece (all_bytes feeds))
+    (subst (λ (ms : List Message). Reads ((stream ++ fed.piece) ++ all_bytes feeds) ms new) (append_assoc before fed.requests (all_requests feeds))
+    (Run-reads (stream ++ fed.piece) (before ++ fed.requests) run.0 new feeds (run.1 stream before reads) run.2))
+
+pub whole_stream_lem : (feeds : List Fed) (kept : Kept) → IsRun (in_head []) feeds kept → Reads (all_bytes feeds) (all_requests feeds) kept
+whole_stream_lem feeds kept run = Run-reads [] [] (in_head []) kept feeds (omega arith, refl) run
+
+pub any_pieces_lem : (feeds others : List Fed) (kept other : Kept) → IsRun (in_head []) feeds kept → IsRun (in_head []) others other
+    → all_bytes feeds ≡ all_bytes others → kept ≢ failed NoMemory → other ≢ failed NoMemory
+    → (all_requests feeds ≡ all_requests others) × (kept ≡ other)
+any_pieces_lem feeds others kept other run other_run same p q =
+    one_reading_lem (all_bytes others) (all_requests feeds) (all_requests others) kept other
+    (subst (λ (t : List ℕ). Reads t (all_requests feeds) kept) same (whole_stream_lem feeds kept run)) (whole_stream_lem others other other_run) p q

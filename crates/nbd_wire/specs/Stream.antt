@@ -1,6 +1,7 @@
 -- A stream of requests, and what a reader keeps of it.
 use Rattle.std.specs.Prelude.{◌≡◌, ◌≢◌, ℕ, ◌+◌, ◌-◌, ◌<◌, ◌≤◌, List, [], ◌∷◌, ◌++◌, length, take, Result, Ok, Err}
 use Rattle.std.specs.Global.{Vec}
+use Rattle.std.specs.List.{flat_map}
 use Rattle.nbd_wire.specs.declared.error.WireFault.{WireFault}
 use Rattle.nbd_wire.specs.declared.error.WireFault.TheVariants.{NoMemory, BadMagic, TooLong}
 use Rattle.nbd_wire.specs.declared.head.RequestHead.{RequestHead}
@@ -89,3 +90,31 @@ OneReading =
     (stream : List ℕ) (requests others : List Message) (kept other : Kept) → Reads stream requests kept
     → Reads stream others other → kept ≢ failed NoMemory → other ≢ failed NoMemory
     → (requests ≡ others) × (kept ≡ other)
+
+-- a piece of a stream, and the requests that were handed out for it
+pub record Fed : Type 0 where
+  pub piece : List ℕ
+  pub requests : List Message
+
+abbrev pub all_bytes : List Fed → List ℕ
+all_bytes feeds = flat_map (λ fed. fed.piece) feeds
+
+abbrev pub all_requests : List Fed → List Message
+all_requests feeds = flat_map (λ fed. fed.requests) feeds
+
+-- a reader went from old to new by these calls
+abbrev pub IsRun : Kept → List Fed → Kept → Type 0
+IsRun old [] new = old ≡ new
+IsRun old (fed ∷ feeds) new = (between : Kept) × ReadsOn old fed.piece fed.requests between × IsRun between feeds new
+
+-- what all calls together handed out are the requests of the whole stream
+abbrev pub WholeStream : Type 0
+WholeStream =
+    (feeds : List Fed) (kept : Kept) → IsRun (in_head []) feeds kept → Reads (all_bytes feeds) (all_requests feeds) kept
+
+-- it doesn't matter how a stream is cut into pieces
+abbrev pub AnyPieces : Type 0
+AnyPieces =
+    (feeds others : List Fed) (kept other : Kept) → IsRun (in_head []) feeds kept → IsRun (in_head []) others other
+    → all_bytes feeds ≡ all_bytes others → kept ≢ failed NoMemory → other ≢ failed NoMemory
+    → (all_requests feeds ≡ all_requests others) × (kept ≡ other)

@@ -1,5 +1,5 @@
 ghost use Rattle.std.specs.Prelude.{◌≡◌, ◌≢◌, ℕ, List, ◌++◌, take, IfOk, OnErr};
-ghost use Rattle.nbd_wire.specs.Head.{request_magic, head_bytes, IsHead, OneHead, simple_reply};
+ghost use Rattle.nbd_wire.specs.Head.{request_magic, head_bytes, IsHead, simple_reply};
 
 use crate::error::BadMagic;
 use byteorder::{BigEndian, ByteOrder};
@@ -17,9 +17,9 @@ pub struct RequestHead {
     pub kind: u16,
     /// What the client calls the request; its reply carries it again.
     pub cookie: u64,
-    /// In bytes.
+    /// Where the range begins, in bytes.
     pub offset: u64,
-    /// In bytes.
+    /// How long the range is, in bytes; as many bytes of data follow a WRITE's head.
     pub length: u32,
 }
 
@@ -59,8 +59,8 @@ pub fn encode_request(head: &RequestHead) -> [u8; 28]
     bytes
 }
 
-/// Writes a simple reply ("Simple reply message" of NBD's `proto.md`), `error` 0 for success. Behind one to a READ
-/// that succeeded the data follow.
+/// Writes a simple reply ("Simple reply message" of NBD's `proto.md`), with `error` 0 for success. Behind the
+/// one to a READ that succeeded the data follow.
 pub fn encode_simple(error: u32, cookie: u64) -> [u8; 16]
     ensures { (bytes : List ℕ) → result ++ bytes ≡ simple_reply error cookie bytes }
 {
@@ -70,8 +70,3 @@ pub fn encode_simple(error: u32, cookie: u64) -> [u8; 16]
     BigEndian::write_u64(&mut bytes[8..16], cookie);
     bytes
 }
-
-/// No head's bytes begin another's, so what was encoded is decoded again, whatever follows it.
-pub fn one_head()
-    ensures { OneHead }
-{}

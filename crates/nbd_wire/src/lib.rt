@@ -4,14 +4,16 @@
 mod command;
 mod error;
 mod head;
+mod laws;
 mod message;
 mod stream;
 
 pub use command::{BLOCK_STATUS, CommandFlags, DISCONNECT, FLUSH, READ, TRIM, WRITE, WRITE_ZEROES};
 pub use error::{BadMagic, Errno, WireFault};
-pub use head::{RequestHead, decode_request, encode_request, encode_simple, one_head};
-pub use message::{Answer, Reply, Request, Run, SessionFlags, one_request};
-pub use stream::{MAX_PAYLOAD, MAX_THROWN_AWAY, StreamReader, one_reading};
+pub use head::{RequestHead, decode_request, encode_request, encode_simple};
+pub use laws::{any_pieces, one_head, one_reading, one_request};
+pub use message::{Answer, Reply, Request, Run, SessionFlags};
+pub use stream::{MAX_PAYLOAD, MAX_THROWN_AWAY, StreamReader};
 
 #[cfg(test)]
 mod tests;

@@ -1,5 +1,3 @@
-ghost use Rattle.nbd_wire.specs.Request.{OneRequest};
-
 use crate::error::Errno;
 use crate::head::RequestHead;
 
@@ -53,8 +51,3 @@ pub struct SessionFlags {
     /// The metadata context `base:allocation`.
     pub context: bool,
 }
-
-/// No request's bytes begin another's, and they are no other request's, whatever follows them.
-pub fn one_request()
-    ensures { OneRequest }
-{}

@@ -1,7 +1,7 @@
 ghost use Rattle.std.specs.Prelude.{◌≡◌, ◌+◌, ◌-◌, ◌<◌, ◌≤◌, ℕ, List, [], ◌∷◌, ◌++◌, length, take, All, IfOk, IfErr, IsOkAnd, vec_len, vec_capacity};
 ghost use Rattle.nbd_wire.specs.Head.{head_bytes};
 ghost use Rattle.nbd_wire.specs.Request.{Message, message, messages, HasItsData};
-ghost use Rattle.nbd_wire.specs.Stream.{Kept, in_head, failed, IsKeptWrite, IsDiscardedWrite, Reads, ReadsOn, answered, held, missing_len, NoRequest, OneReading};
+ghost use Rattle.nbd_wire.specs.Stream.{Kept, in_head, failed, IsKeptWrite, IsDiscardedWrite, Reads, ReadsOn, answered, held, missing_len};
 ghost use Rattle.nbd_wire.specs.State.{kept, IsState, wanted_of, found, Advances, IsGoing, IsQuiet};
 
 use crate::command::WRITE;
@@ -72,7 +72,6 @@ impl StreamReader {
     pub fn feed(&mut self, piece: &[u8]) -> Result<Vec<Request>, WireFault>
         // However the stream was cut, these are its next requests, up to its first fault.
         ensures stream { ReadsOn self.old piece.now (answered result) self.new }
-
         ensures each { IfOk result (λ requests. All HasItsData requests.items) }
 
         // A fault comes where there is no request before it, and then always.
@@ -96,13 +95,6 @@ impl StreamReader {
         answer(&self.state, requests)
     }
 }
-
-/// Two readings of one stream are one: however it is cut, its requests are the same, and so is what a reader
-/// keeps, but for one that memory ran out for. What is kept begins with no whole request.
-pub fn one_reading()
-    ensures one { OneReading }
-    ensures rest { NoRequest }
-{}
 
 // Nothing was read of the next request.
 fn at_start() -> State

@@ -36,8 +36,12 @@ fn put(stream: &mut Vec<u8>, head: &RequestHead, sent: &[u8]) -> Result<(), Allo
     stream.extend_from_slice(sent)
 }
 
+// A fault stands behind the requests before it, and an empty piece shows it.
 fn feed_to(reader: &mut StreamReader, piece: &[u8], out: &mut Vec<Request>) -> Result<(), Fail> {
     for request in reader.feed(piece)? {
+        out.push(request)?;
+    }
+    for request in reader.feed(b"")? {
         out.push(request)?;
     }
     Ok(())
@@ -166,7 +170,7 @@ fn cut_everywhere(rt: HostRuntime) -> Result<(), Fail> {
     assert!(rt; stream.len() <= 2000);
     for second in 0..=stream.len() {
         let (front, last) = stream.split_at(second);
-        // Every second cut of the first 100 bytes, else one cut.
+        // Each cut by itself, and each pair of cuts within the first 100 bytes.
         let firsts = if second <= 100 { second + 1 } else { 1 };
         for first in 0..firsts {
             let (start, middle) = front.split_at(first.min(front.len()));
@@ -232,7 +236,7 @@ fn long_data(rt: HostRuntime) -> Result<(), Fail> {
     for (length, kept) in rows {
         for cut in [0usize, 1, 27, 28] {
             let (end, found) = feed_long(rt.alloc(), length, cut, piece.as_slice())?;
-            assert!(rt; end.is_ok());
+            end?;
             let mut wanted = Vec::new(rt.alloc());
             wanted.push(Request {
                 head: head(WRITE, length),
@@ -258,13 +262,16 @@ fn requests_before_a_fault(rt: HostRuntime) -> Result<(), Fail> {
     stream.extend_from_slice(&encode_request(&head(FLUSH, 0)))?;
     let mut reader = StreamReader::new(rt.alloc());
     let mut found = Vec::new(rt.alloc());
-    feed_to(&mut reader, stream.as_slice(), &mut found)?;
-    assert!(rt; same(found.as_slice(), wanted.as_slice()));
+    for request in reader.feed(stream.as_slice())? {
+        found.push(request)?;
+    }
     for piece in [b"".as_slice(), b"".as_slice(), stream.as_slice()] {
         match reader.feed(piece) {
             Ok(_) => assert!(rt; false),
+            Err(WireFault::NoMemory) => return Err(Fail::from(WireFault::NoMemory)),
             Err(fault) => assert_eq!(rt; fault, WireFault::BadMagic),
         }
     }
+    assert!(rt; same(found.as_slice(), wanted.as_slice()));
     Ok(())
 }

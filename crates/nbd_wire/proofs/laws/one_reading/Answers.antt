@@ -1,5 +1,5 @@
 use Rattle.nbd_wire.proofs.Streams.{one_reading_lem, no_request_lem}
-use Rattle.nbd_wire.proofs.stream.one_reading.Goals as goal
+use Rattle.nbd_wire.proofs.laws.one_reading.Goals as goal
 
 pub returns-clause-one : goal.returns-clause-one
 returns-clause-one c = one_reading_lem

@@ -1,5 +1,5 @@
 use Rattle.nbd_wire.proofs.Heads.{one_head_lem}
-use Rattle.nbd_wire.proofs.head.one_head.Goals as goal
+use Rattle.nbd_wire.proofs.laws.one_head.Goals as goal
 
 pub returns : goal.returns
 returns c = one_head_lem

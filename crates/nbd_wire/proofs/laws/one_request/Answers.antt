@@ -1,5 +1,5 @@
 use Rattle.nbd_wire.proofs.Requests.{one_request_lem}
-use Rattle.nbd_wire.proofs.message.one_request.Goals as goal
+use Rattle.nbd_wire.proofs.laws.one_request.Goals as goal
 
 pub returns : goal.returns
 returns c = one_request_lem

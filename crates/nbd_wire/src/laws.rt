@@ -1,0 +1,28 @@
+//! What holds of requests and of streams, whoever reads them.
+ghost use Rattle.nbd_wire.specs.Head.{OneHead};
+ghost use Rattle.nbd_wire.specs.Request.{OneRequest};
+ghost use Rattle.nbd_wire.specs.Stream.{AnyPieces, NoRequest, OneReading, WholeStream};
+
+/// No head's bytes begin another's, so what was encoded is decoded again, whatever follows it.
+pub fn one_head()
+    ensures { OneHead }
+{}
+
+/// No request's bytes begin another's, and they are no other request's.
+pub fn one_request()
+    ensures { OneRequest }
+{}
+
+/// Two readings of one stream are one: however it is cut, its requests are the same, and so is what a reader
+/// keeps, but for one that memory ran out for. What is kept begins with no whole request.
+pub fn one_reading()
+    ensures one { OneReading }
+    ensures rest { NoRequest }
+{}
+
+/// In whatever pieces a stream was fed, the requests that a new reader handed out are those of the whole
+/// stream, and another reader of the same stream handed out the same, unless memory ran out.
+pub fn any_pieces()
+    ensures whole { WholeStream }
+    ensures same { AnyPieces }
+{}
