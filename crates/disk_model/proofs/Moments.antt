@@ -1,9 +1,17 @@
 -- How the clauses on every moment of several device calls go together into that of the function that makes them.
 --
--- A crate above cites these as `use Rattle.disk_model.proofs.Moments.{goes_on, ..}`. Where a function makes the calls
--- a, b, c, its clause `LeavesOnly (D.state d.old) (D.state d.new) P` is one line a call: `begins` or `weakens` at the
--- first, `goes_on` at each write, `stays_on` at each read or sync. `ends` leads from the clause to what a crash now
--- may leave, and `begins` proves the clause of a function that makes no call on some path.
+-- A crate above cites these by `use Rattle.disk_model.proofs.Moments.{weakens, goes_on, ..}`. Its clause is
+-- `D.honest disk.old → .. → LeavesOnly (D.state disk.old) (D.state disk.new) P`, and the answer for an exit is one line
+-- for each call before it: `begins` where there is none, `weakens` at the first call, `goes_on` at each further write,
+-- `stays_on` at each further read or sync. For `write_synced(disk, a, x)?; write_synced(disk, b, y)?` it reads
+--
+--     returns-clause-any_moment g c = λ honest.
+--         let honest' = c.write_synced.ensures.honest.1 honest in
+--         let first = weakens (c.write_synced.ensures.any_moment honest) (λ content torn. ..) in
+--         goes_on first (c.write_synced-2.ensures.any_moment honest') (λ content torn. ..)
+--
+-- where `torn : MayLeaveTorn ..` has to show P of the content. The law of a device is `g.met.D.Disk.sound disk honest`.
+-- `ends` leads from the clause to what a crash at the end may leave.
 use Rattle.std.proofs.Common.{inl, inr, ⊎_elim, ℕ, List, arith}
 use Rattle.disk_model.specs.Disk.{State, MayLeave, LeavesOnly, IsSound}
 

@@ -11,8 +11,8 @@
 //!   what stood there, what was written, or anything else, byte by byte. Bytes outside the ranges written stay.
 //! - **What a failed sync means.** Nothing written since the last good sync is stable, and reads of it may give any
 //!   bytes until a sync is good. That later sync makes stable what reads then give, which need not be what was
-//!   written. So a sync that is tried again doesn't take the place of the one that failed. A failed write does the
-//!   same, to its own range too. A failed read changes nothing.
+//!   written, not even by a good write between the two. So a sync that is tried again doesn't take the place of the
+//!   one that failed. A failed write does the same, to its own range too. A failed read changes nothing.
 //! - **Why a gate is a byte of its own.** A gate says whether what stands behind it counts: 0x01 is open, and any other
 //!   byte is closed. If gate and body were written at once, a crash could leave the gate open and the body torn. So the
 //!   body is written and synced behind a gate that is closed on the synced device, and then the gate's byte alone is

@@ -85,7 +85,8 @@ impl SimDisk {
     }
 
     /// Crashes the device: each unsynced byte becomes what was chosen, and all bytes are synced. The record begins anew.
-    /// What is armed and wasn't met stays armed.
+    /// What is armed and wasn't met stays armed. It goes through what was written since the last good sync, and no
+    /// further.
     pub fn crash(&mut self, choice: CrashChoice)
         ensures extent { ⟦<SimDisk as Disk>⟧.extent self.new ≡ ⟦<SimDisk as Disk>⟧.extent self.old }
         ensures faults { ⟦<SimDisk as Disk>⟧.faults self.new ≡ ⟦<SimDisk as Disk>⟧.faults self.old }

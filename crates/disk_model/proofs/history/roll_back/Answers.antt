@@ -1,7 +1,12 @@
-use Rattle.std.proofs.Common.{◌≡◌, List, ℕ, reverse, refl, sym, ◌∙◌, ap}
+use Rattle.std.proofs.Common.{◌≡◌, List, ℕ, reverse, refl, arith, length, sym, ◌∙◌, ap}
 use Rattle.disk_model.specs.History.{patched, synced_content}
-use Rattle.disk_model.proofs.Unwinding.{unwinds_more, synced_rest}
+use Rattle.disk_model.proofs.Unwinding.{fits_last, unwinds_more, synced_rest}
 use Rattle.disk_model.proofs.history.roll_back.Goals as goal
+
+pub overwrite-requires : goal.overwrite-requires
+overwrite-requires c =
+    let fits = fits_last _ c.pop_write.new.history.items c.in-Some.write c.in-Some.ensures.newest _ c.loop-write.invariant.unwinds.inside in
+    omega (arith, ap length c.deref.ensures.value, fits)
 
 pub loop-write-preserved : goal.loop-write-preserved
 loop-write-preserved c =
