@@ -3,9 +3,8 @@
 
 ghost use Rattle.std.specs.Prelude.{◌<◌, ◌^◌};
 
+mod limits;
 mod load;
-#[cfg(test)]
-mod tests;
 
 use anyhow::Result;
 use order_book::Order;
@@ -63,6 +62,18 @@ fn measure(rt: &HostRuntime, alloc: Global) -> Result<()> {
     Ok(())
 }
 
+// What stands at the limits: groups, dirty blocks, and what isn't durable.
+fn print_limits(rt: &impl Print, alloc: Global) -> Result<()> {
+    for group in [limits::long_group(alloc)?, limits::cut_group(alloc)?] {
+        println!(rt; "a group of {} from {}: {} bytes", group.commands, group.first, group.body)?;
+    }
+    let (fault, block, again, cleared) = limits::full_frames(alloc)?;
+    println!(rt; "block {block}: {fault}, then {again} and {cleared}")?;
+    let (full, fault, next) = limits::full_backlog(alloc)?;
+    println!(rt; "after {full}: {fault}, then {next}")?;
+    Ok(())
+}
+
 fn main(rt: HostRuntime) -> Result<()> {
     let alloc = rt.alloc();
     if env::args(&rt)?.any(|word| word.as_str() == "--measure") {
@@ -71,5 +82,5 @@ fn main(rt: HostRuntime) -> Result<()> {
     let order = order_with(alloc, 1_000)?;
     let (accepted, durable) = (order.mark(), order.durable());
     println!(rt; "{accepted} accepted, {durable} durable")?;
-    Ok(())
+    print_limits(&rt, alloc)
 }

@@ -1,0 +1,106 @@
+use crate::load::{accept, clear, put, store};
+use anyhow::{Result, bail};
+use image_model::Command;
+use order_book::{Order, OrderFault};
+use std::alloc::Global;
+
+const LEAST_AREA_BYTES: u32 = 2_097_152;
+
+/// What stands in a group.
+#[derive(Drop)]
+pub struct Shape {
+    pub first: u64,
+    pub commands: usize,
+    pub body: usize,
+}
+
+// The bytes of the commands in a group.
+fn body(commands: &[Command]) -> usize {
+    let mut sum = 0usize;
+    for command in commands {
+        let data = match command {
+            Command::Put { bytes, .. } => bytes.len(),
+            Command::Clear { .. } => 0,
+        };
+        sum = sum.saturating_add(data).saturating_add(13);
+    }
+    sum
+}
+
+// Seals the next group.
+fn next_group(order: &mut Order) -> Result<Shape> {
+    let Some(group) = order.seal()? else {
+        bail!("nothing to seal")
+    };
+    let (first, commands) = group.into_parts();
+    Ok(Shape {
+        first,
+        commands: commands.len(),
+        body: body(&commands),
+    })
+}
+
+/// 40 puts and one more, put back once and sealed again.
+pub fn long_group(alloc: Global) -> Result<Shape> {
+    let mut order = Order::new(alloc, 7, 4_096, LEAST_AREA_BYTES);
+    for block in 0..41 {
+        let _number = accept(&mut order, put(alloc, block, 1)?)?;
+    }
+    if let Some(group) = order.seal()? {
+        order.put_back(group);
+    }
+    next_group(&mut order)
+}
+
+/// Commands with bodies of one command more than the least area takes in a group.
+pub fn cut_group(alloc: Global) -> Result<Shape> {
+    let mut order = Order::new(alloc, 0, 4_096, LEAST_AREA_BYTES);
+    let _first = accept(&mut order, put(alloc, 0, 256)?)?;
+    let _second = accept(&mut order, put(alloc, 256, 251)?)?;
+    for _ in 0..1_573 {
+        let _number = accept(&mut order, clear(9, 1))?;
+    }
+    next_group(&mut order)
+}
+
+// A put of a block that isn't dirty, where each of the frames holds one that is.
+fn refused_put(alloc: Global, order: &mut Order) -> Result<(OrderFault, Command)> {
+    let _first = accept(order, put(alloc, 0, 256)?)?;
+    let _second = accept(order, put(alloc, 256, 256)?)?;
+    match order.accept(put(alloc, 512, 1)?) {
+        Ok(_) => bail!("accepted"),
+        Err(refused) => Ok(refused),
+    }
+}
+
+/// Why 512 full frames refuse a put, its block, and the numbers of a put of a dirty block and of a clear after it.
+pub fn full_frames(alloc: Global) -> Result<(OrderFault, u64, u64, u64)> {
+    let mut order = Order::new(alloc, 0, 512, LEAST_AREA_BYTES);
+    let (fault, command) = refused_put(alloc, &mut order)?;
+    let block = match command {
+        Command::Put { first, .. } => first,
+        Command::Clear { .. } => bail!("another command"),
+    };
+    let again = accept(&mut order, put(alloc, 511, 1)?)?;
+    let cleared = accept(&mut order, clear(0, 1 << 24))?;
+    Ok((fault, block, again, cleared))
+}
+
+/// The last number that 67,108,864 bytes take, why the next command is refused, and its number once a group is durable.
+pub fn full_backlog(alloc: Global) -> Result<(u64, OrderFault, u64)> {
+    let mut order = Order::new(alloc, 0, 4_096, 1 << 30);
+    for _ in 0..63 {
+        let _number = accept(&mut order, put(alloc, 0, 256)?)?;
+    }
+    let _number = accept(&mut order, put(alloc, 0, 243)?)?;
+    for _ in 0..4_032 {
+        let _number = accept(&mut order, clear(9, 1))?;
+    }
+    let full = order.mark();
+    let Err(fault) = accept(&mut order, clear(9, 1)) else {
+        bail!("accepted")
+    };
+    store(&mut order)?;
+    let next = accept(&mut order, clear(9, 1))?;
+    Ok((full, fault, next))
+}
