@@ -1,4 +1,5 @@
 ghost use Rattle.std.specs.Prelude.{◌≡◌, ◌≤◌, ◌<◌, ◌+◌, ◌*◌, vec_len, IfOk};
+ghost use Rattle.nbd_wire.specs.Request.{HasItsData};
 ghost use Rattle.request_core.specs.Verdict.{IsServedWrite};
 
 use crate::plan::{CacheMode, PipeOptions};
@@ -87,7 +88,9 @@ impl<D: Disk> Session<D> {
 
     // Serves the requests that are whole with this piece of the input.
     fn take(&mut self, reader: &mut StreamReader, piece: &[u8]) -> Result<Flow, Refusal> {
-        for request in reader.feed(piece)? {
+        let mut requests = reader.feed(piece)?;
+        requests.reverse();
+        while let Some(request) = requests.pop() {
             if self.serve(request)? == Flow::Ended {
                 return Ok(Flow::Ended);
             }
@@ -97,7 +100,9 @@ impl<D: Disk> Session<D> {
         Ok(Flow::Open)
     }
 
-    fn serve(&mut self, request: Request) -> Result<Flow, Refusal> {
+    fn serve(&mut self, request: Request) -> Result<Flow, Refusal>
+        requires { HasItsData request }
+    {
         let cookie = request.head.cookie;
         let answer = match judge(&request.head, &self.geometry, &PLAIN) {
             Ok(Action::End) => return Ok(Flow::Ended),
@@ -117,13 +122,10 @@ impl<D: Disk> Session<D> {
 
     // Carries out a WRITE that no rule refuses.
     fn write(&mut self, request: Request) -> Result<Result<(), Errno>, Refusal>
-        requires { IsServedWrite request.head self.old.geometry }
+        requires served { IsServedWrite request.head self.old.geometry }
+        requires whole { HasItsData request }
     {
         let Request { head, bytes } = request;
-        // The stream reader hands on a WRITE of this length with all of its data.
-        if bytes.len() != head.length as usize {
-            return Ok(Err(Errno::Invalid));
-        }
         let flags = CommandFlags::from_bits_retain(head.flags);
         let command = Command::Put {
             first: head.offset / BLOCK_BYTES,
