@@ -10,7 +10,8 @@ pub record State : Type 1 where
   pub seen : List ℕ
   -- the places written since the last good sync: after a crash any byte may stand there
   pub unsynced : ℕ → Type 0
-  -- the places that were unsynced when a write or a sync failed: until a good sync a read may give any byte there
+  -- the places that were unsynced when a write or a sync failed, a failed write's own among them: until a good sync a read may
+  -- give any byte there
   pub loose : ℕ → Type 0
   -- a number that doesn't fall
   pub moment : ℕ
@@ -21,9 +22,14 @@ pub record State : Type 1 where
 abbrev pub InRange : ℕ → ℕ → ℕ → Type 0
 InRange offset count place = (offset ≤ place) × (place < offset + count)
 
--- no place is unsynced: so it is after a good sync, and on a device that is found after a crash
+-- no place is unsynced: so it is after a good sync
 abbrev pub IsAllSynced : State → Type 0
 IsAllSynced state = (place : ℕ) → state.unsynced place → ⊥
+
+-- A device that is found after a crash that left this content: a read gives it, and all of it is synced.
+pub record IsFound (content : List ℕ) (state : State) : Type 0 where
+  pub seen : state.seen ≡ content
+  pub synced : IsAllSynced state
 
 -- no place of the range is unsynced
 abbrev pub IsSyncedIn : State → ℕ → ℕ → Type 0

@@ -52,7 +52,7 @@ pub trait Disk {
         ensures any_moment { honest self.old → LeavesOnly (state self.old) (state self.new)
             (MayLeaveTorn (state self.old) offset (length from.now)) };
 
-    /// Makes stable what was written before. After a fault nothing of it is.
+    /// Makes stable what was written before. After a fault none of it is promised to be.
     fn sync(&mut self) -> Result<(), DeviceFault>
         ensures extent { extent self.new ≡ extent self.old }
         ensures faults { faults self.new ≡ faults_after result (faults self.old) }

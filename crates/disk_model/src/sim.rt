@@ -1,6 +1,6 @@
 ghost use Rattle.std.specs.Prelude.{◌≡◌, ◌≤◌, ◌<◌, ◌+◌, ◌^◌, ◌↔◌, ◌⊎◌, ℕ, [], length, reverse, ◌&&◌, slice_index, replicate, false, not, is_ok, IfOk, IsOk, IsErr, OnOk, OnErr, IsTrue};
 ghost use Rattle.disk_model.specs.Faults.{faults_after};
-ghost use Rattle.disk_model.specs.Disk.{IsAllSynced, MayLeave, MayLeaveTorn, IsKept, IsWritten, IsWriteFailed, IsSynced, IsSyncFailed, LeavesOnly};
+ghost use Rattle.disk_model.specs.Disk.{IsFound, MayLeave, MayLeaveTorn, IsKept, IsWritten, IsWriteFailed, IsSynced, IsSyncFailed, LeavesOnly};
 ghost use Rattle.disk_model.specs.FaultPlan.{armed, is_due, after_call, no_faults};
 ghost use Rattle.disk_model.specs.History.{IsInside, IsLeftBy, state_of};
 ghost use Rattle.disk_model.specs.HistoryLaws.{sound_state};
@@ -92,7 +92,7 @@ impl SimDisk {
         ensures faults { ⟦<SimDisk as Disk>⟧.faults self.new ≡ ⟦<SimDisk as Disk>⟧.faults self.old }
         ensures left { IsLeftBy choice (unsynced_at self.old) (synced_bytes self.old) (seen_bytes self.old) (seen_bytes self.new) }
         ensures allowed { MayLeave (state_now self.old) (seen_bytes self.new) }
-        ensures synced { IsAllSynced (state_now self.new) }
+        ensures found { IsFound (seen_bytes self.new) (state_now self.new) }
         ensures history { history_of self.new ≡ [] }
         ensures plan { plan_of self.new ≡ record (plan_of self.old) { stopped = false } }
     {
