@@ -65,7 +65,10 @@ fn measure(rt: &HostRuntime, alloc: Global) -> Result<()> {
 // What stands at the limits: groups, dirty blocks, and what isn't durable.
 fn print_limits(rt: &impl Print, alloc: Global) -> Result<()> {
     for group in [limits::long_group(alloc)?, limits::cut_group(alloc)?] {
-        println!(rt; "a group of {} from {}: {} bytes", group.commands, group.first, group.body)?;
+        println!(rt;
+            "a group of {} from {}: {} bytes",
+            group.commands, group.first, group.body
+        )?;
     }
     let (fault, block, again, cleared) = limits::full_frames(alloc)?;
     println!(rt; "block {block}: {fault}, then {again} and {cleared}")?;

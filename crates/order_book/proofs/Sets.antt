@@ -71,8 +71,8 @@ union-more s first count =
     same_set nat_cmp_total nat_cmp-IsAntisymmetric _ _ (λ q. grind (members, rules))
 
 -- what the block adds to the number of them
-pub len-union-more : (s : FinSet nat_cmp) (first count : ℕ) → len (union s (blocks_from first (suc count))) ≡ one_more (contains s (first + count)) (len (union s (blocks_from first count)))
-len-union-more s first count =
+pub len-union-suc : (s : FinSet nat_cmp) (first count : ℕ) → len (union s (blocks_from first (suc count))) ≡ one_more (contains s (first + count)) (len (union s (blocks_from first count)))
+len-union-suc s first count =
     let wider : FinSet nat_cmp = union s (blocks_from first count) in
     let there : contains wider (first + count) ≡ contains s (first + count) =
     contains-union nat_cmp_total s (blocks_from first count) (first + count)
@@ -80,23 +80,17 @@ len-union-more s first count =
     ∙ or-false (contains s (first + count)) in
     ap len (union-more s first count) ∙ len-insert nat_cmp_total wider (first + count) ∙ ap (λ b. one_more b (len wider)) there
 
-add-one_more : (there : Bool) (m n : ℕ) → m + one_more there n ≡ one_more there (m + n)
-add-one_more true m n = refl
-add-one_more false m n = omega arith
-
--- a step of a count of the blocks that a set gains by a range
-pub gained_more : (keys : List ℕ) (first block gained : ℕ) → first ≤ block →
-    length keys + gained ≡ len (union (from_list keys) (blocks_from first (block - first))) →
-    length keys + one_more (list_any (nat_eq block) keys) gained ≡ len (union (from_list keys) (blocks_from first (block + 1 - first)))
-gained_more keys first block gained ordered so_far =
+-- a step of a count of the blocks of a set and of a range
+pub len-union_more : (keys : List ℕ) (first block count : ℕ) → first ≤ block → count ≡ len (union (from_list keys) (blocks_from first (block - first))) →
+    one_more (list_any (nat_eq block) keys) count ≡ len (union (from_list keys) (blocks_from first (block + 1 - first)))
+len-union_more keys first block count ordered so_far =
     let s : FinSet nat_cmp = from_list keys in
-    let wider : ℕ → ℕ = λ count. len (union s (blocks_from first count)) in
+    let wider : ℕ → ℕ = λ n. len (union s (blocks_from first n)) in
     let next : block + 1 - first ≡ suc (block - first) = omega arith in
     let here : first + (block - first) ≡ block = omega arith in
     let there : contains s (first + (block - first)) ≡ list_any (nat_eq block) keys = ap (contains s) here ∙ contains-keys keys block in
-    add-one_more (list_any (nat_eq block) keys) (length keys) gained
-    ∙ ap (one_more (list_any (nat_eq block) keys)) so_far
-    ∙ sym (ap wider next ∙ len-union-more s first (block - first) ∙ ap (λ b. one_more b (wider (block - first))) there)
+    ap (one_more (list_any (nat_eq block) keys)) so_far
+    ∙ sym (ap wider next ∙ len-union-suc s first (block - first) ∙ ap (λ b. one_more b (wider (block - first))) there)
 
 -- a set and no range
 pub union-none : (s : FinSet nat_cmp) (first : ℕ) → union s (blocks_from first 0) ≡ s
@@ -129,12 +123,11 @@ from_list-difference old new first end ordered is =
     contains-keys new q ∙ is q
     ∙ sym (contains-difference nat_cmp_total _ _ q ∙ (λ i. contains-keys old q i && not (range_contains first end q ordered i))))
 
--- a count of none
-pub gained_none : (keys : List ℕ) (first : ℕ) → IsDistinct nat_eq keys → length keys + 0 ≡ len (union (from_list keys) (blocks_from first (first - first)))
-gained_none keys first distinct =
-    let whole : length keys + 0 ≡ length keys = omega arith in
+-- the count of a set and no range
+pub len-union_none : (keys : List ℕ) (first : ℕ) → IsDistinct nat_eq keys → length keys ≡ len (union (from_list keys) (blocks_from first (first - first)))
+len-union_none keys first distinct =
     let none : first - first ≡ 0 = omega arith in
-    whole ∙ sym (ap (λ n. len (union (from_list keys) (blocks_from first n))) none ∙ ap len (union-none (from_list keys) first) ∙ len-keys keys distinct)
+    sym (ap (λ n. len (union (from_list keys) (blocks_from first n))) none ∙ ap len (union-none (from_list keys) first) ∙ len-keys keys distinct)
 
 -- an equal block lies in the same ranges
 pub same_range : (first end q x : ℕ) → nat_eq q x ≡ true → not (in_range first end q) ≡ not (in_range first end x)

@@ -33,14 +33,13 @@ fn blocks_in(bytes: &[u8]) -> u64
     bytes.len() as u64 / BLOCK_BYTES
 }
 
-// How many blocks of the range the set lacks.
-fn missing(blocks: &HashSet<u64>, first: u64, end: u64) -> u64
-    requires { first ≤ end }
-    ensures few { result ≤ end - first }
-    ensures sum { bag.hash_set_len blocks.now + result ≡ set.len (set.union (set.from_list blocks.now.keys) (blocks_from first (end - first))) }
+// How many blocks the set has with those of the range.
+fn union_len(blocks: &HashSet<u64>, first: u64, end: u64) -> u64
+    requires range { first ≤ end }
+    requires few { end - first ≤ 256 }
+    ensures { result ≡ set.len (set.union (set.from_list blocks.now.keys) (blocks_from first (end - first))) }
 {
-    let _ = blocks.len();
-    let mut count = 0u64;
+    let mut count = blocks.len() as u64;
     for block in first..end {
         if !blocks.contains(&block) {
             count += 1;
@@ -94,7 +93,7 @@ impl DirtyBlocks {
         requires few { end - first ≤ 256 }
         ensures { result ≡ set.len (set.union self.now (blocks_from first (end - first))) }
     {
-        self.blocks.len() as u64 + missing(&self.blocks, first, end)
+        union_len(&self.blocks, first, end)
     }
 
     /// Makes the blocks of the range dirty.

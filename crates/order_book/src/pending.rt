@@ -30,8 +30,10 @@ impl Model for PendingCommands {
 // How many commands from the front have bodies of at most `limit` bytes together.
 fn longest(commands: &VecDeque<Command>, limit: u64) -> usize
     requires small { All HasSmallBody commands.now.items }
+    requires enough { 1048589 ≤ limit }
     requires limit { limit ≤ 8388608 }
-    ensures { IsLongest limit commands.now.items result }
+    ensures longest { IsLongest limit commands.now.items result }
+    ensures first { 0 < length commands.now.items → 0 < result }
 {
     let mut sum = 0u64;
     for count in 0..commands.len() {
@@ -105,8 +107,10 @@ impl PendingCommands {
     /// How many commands from the front have bodies of at most `limit` bytes together.
     pub(crate) fn longest(&self, limit: u64) -> usize
         requires small { All HasSmallBody self.now.commands }
+        requires enough { 1048589 ≤ limit }
         requires limit { limit ≤ 8388608 }
-        ensures { IsLongest limit self.now.commands result }
+        ensures longest { IsLongest limit self.now.commands result }
+        ensures first { 0 < length self.now.commands → 0 < result }
     {
         longest(&self.commands, limit)
     }
