@@ -65,17 +65,17 @@ pub fn send(
     flags: u16,
     cookie: u64,
     offset: u64,
-    data: &[u8],
+    payload: &[u8],
 ) -> Result<(), AllocError>
-    requires { length data.now ≤ 1048576 }
+    requires { length payload.now ≤ 1048576 }
 {
     let head = RequestHead {
         flags,
         kind,
         cookie,
         offset,
-        length: data.len() as u32,
+        length: payload.len() as u32,
     };
     stream.extend_from_slice(&encode_request(&head))?;
-    stream.extend_from_slice(data)
+    stream.extend_from_slice(payload)
 }
