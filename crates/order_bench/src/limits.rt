@@ -104,3 +104,16 @@ pub fn full_backlog(alloc: Global) -> Result<(u64, OrderFault, u64)> {
     let next = accept(&mut order, clear(9, 1))?;
     Ok((full, fault, next))
 }
+
+/// The last number of an order that was stopped before its first command, and why it refuses that command.
+pub fn stopped_order(alloc: Global) -> Result<(u64, OrderFault)> {
+    let mut order = Order::new(alloc, 7, 4_096, LEAST_AREA_BYTES);
+    order.stop();
+    if !order.stopped() {
+        bail!("not stopped");
+    }
+    let Err(fault) = accept(&mut order, clear(0, 1)) else {
+        bail!("accepted")
+    };
+    Ok((order.opening(), fault))
+}

@@ -74,6 +74,8 @@ fn print_limits(rt: &impl Print, alloc: Global) -> Result<()> {
     println!(rt; "block {block}: {fault}, then {again} and {cleared}")?;
     let (full, fault, next) = limits::full_backlog(alloc)?;
     println!(rt; "after {full}: {fault}, then {next}")?;
+    let (last, fault) = limits::stopped_order(alloc)?;
+    println!(rt; "after {last}: {fault}")?;
     Ok(())
 }
 
