@@ -81,7 +81,6 @@ body_limit area = min 8388608 (area - 18)
 pub record Seals (old new : OrderState) (group : Numbered) : Type 0 where
   pub some : 1 ≤ length group.commands
   pub first : group.first ≡ old.sealed + 1
-  pub some : 0 < length group.commands
   pub beginning : old.pending ≡ group.commands ++ new.pending
   pub fits : bodies_of group.commands ≤ body_limit old.area
   -- one that is longer doesn't fit
