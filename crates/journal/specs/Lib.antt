@@ -1,2 +1,4 @@
 pub mod Area
 pub mod Group
+pub mod GroupList
+pub mod Spelling
