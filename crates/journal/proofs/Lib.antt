@@ -1,3 +1,5 @@
+pub mod Added
 pub mod Bodies
 pub mod Contents
 pub mod Spelled
+pub mod Torn

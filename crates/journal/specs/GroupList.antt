@@ -1,7 +1,7 @@
 -- The list of groups that the bytes of an area hold, by docs/FORMATS.md, "Group". A place is a byte of the device.
-use Rattle.std.specs.Prelude.{ℕ, ◌≡◌, ◌+◌, ◌*◌, ◌%◌, ◌≤◌, ◌<◌, ◌⊎◌, List, [], ◌∷◌, ◌++◌, length, slice_index, sum_by}
+use Rattle.std.specs.Prelude.{ℕ, ◌≡◌, ◌+◌, ◌%◌, ◌≤◌, ◌<◌, ◌⊎◌, List, [], ◌∷◌, ◌++◌, length, slice_index, sum_by}
 use Rattle.disk_model.specs.Disk.{State, IsSyncedIn, MayLeaveTorn}
-use Rattle.image_model.specs.Change.{Change, AreChanges}
+use Rattle.image_model.specs.Change.{AreChanges}
 use Rattle.journal.specs.Area.{AreaState}
 use Rattle.journal.specs.Spelling.{StoredGroup, body_of_group, group_bytes}
 

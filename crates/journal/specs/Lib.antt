@@ -1,3 +1,4 @@
+pub mod Append
 pub mod Area
 pub mod Group
 pub mod GroupList

@@ -1,5 +1,5 @@
 -- How commands and groups are spelled in bytes, by docs/FORMATS.md, "Group".
-use Rattle.std.specs.Prelude.{ℕ, ◌+◌, ◌/◌, List, ◌∷◌, ◌++◌, length, map}
+use Rattle.std.specs.Prelude.{ℕ, ◌/◌, List, ◌∷◌, ◌++◌, length, map}
 use Rattle.std.specs.List.{flat_map}
 use Rattle.byteorder.specs.Endian.{big_bytes}
 use Rattle.image_model.specs.declared.command.Kind.{Kind}
@@ -22,16 +22,23 @@ clear_byte Data = 2
 clear_byte Hole = 2
 clear_byte Zero = 3
 
--- a command: its kind, its first block, its blocks, and a put's bytes
+-- the head of a command: its kind, its first block, its blocks
+unfoldable pub change_head : ℕ → ℕ → ℕ → List ℕ
+change_head kind first blocks = kind ∷ (big_bytes 8 first ++ big_bytes 4 blocks)
+
+-- a command: its head, and a put's bytes
 unfoldable pub change_bytes : Change → List ℕ
-change_bytes (Written first bytes) = 1 ∷ (big_bytes 8 first ++ (big_bytes 4 (length bytes / 4096) ++ bytes))
-change_bytes (Cleared first blocks kind) = clear_byte kind ∷ (big_bytes 8 first ++ big_bytes 4 blocks)
+change_bytes (Written first bytes) = change_head 1 first (length bytes / 4096) ++ bytes
+change_bytes (Cleared first blocks kind) = change_head (clear_byte kind) first blocks
 
 -- the commands of a group, one after another
 abbrev pub body_of_group : StoredGroup → List ℕ
 body_of_group group = flat_map change_bytes group.changes
 
--- what stands behind a group's gate: the length of its body, its first number, its count of commands, its body
+-- the head of a group behind its gate: the length of its body, the number of its first command, the count of commands
+unfoldable pub group_head : ℕ → ℕ → ℕ → List ℕ
+group_head body first count = big_bytes 4 body ++ (big_bytes 8 first ++ big_bytes 4 count)
+
+-- what stands behind a group's gate: its head, and its body
 unfoldable pub group_bytes : StoredGroup → List ℕ
-group_bytes group =
-    big_bytes 4 (length (body_of_group group)) ++ (big_bytes 8 group.first ++ (big_bytes 4 (length group.changes) ++ body_of_group group))
+group_bytes group = group_head (length (body_of_group group)) group.first (length group.changes) ++ body_of_group group
