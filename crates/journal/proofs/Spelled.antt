@@ -12,11 +12,11 @@ use Rattle.journal.specs.Group.{Numbered}
 use Rattle.journal.specs.Spelling.{StoredGroup, stored_of, clear_byte, change_head, change_bytes, body_of_group, group_head, group_bytes}
 use Rattle.journal.specs.GroupList.{size_of, sizes_of, number_behind, next_behind}
 
-length-change_head : (kind first blocks : ℕ) → length (change_head kind first blocks) ≡ 13
+pub length-change_head : (kind first blocks : ℕ) → length (change_head kind first blocks) ≡ 13
 unfolding change_head
 length-change_head kind first blocks = refl
 
-length-group_head : (body first count : ℕ) → length (group_head body first count) ≡ 16
+pub length-group_head : (body first count : ℕ) → length (group_head body first count) ≡ 16
 unfolding group_head
 length-group_head body first count = refl
 

@@ -1,6 +1,6 @@
 -- What a crash may leave while a group is written behind its gate, and the gate then opened.
-use Rattle.std.proofs.Common.{◌≡◌, inl, inr, ℕ, ◌+◌, List, [], ◌∷◌, length, slice_index, sym, ◌∙◌, arith}
-use Rattle.disk_model.specs.Disk.{State, InRange, IsSyncedIn, IsSound, IsStored, MayLeaveTorn}
+use Rattle.std.proofs.Common.{◌≡◌, inl, inr, ℕ, ◌+◌, List, [], ◌∷◌, length, slice_index, subst, add-zero, sym, ◌∙◌, arith}
+use Rattle.disk_model.specs.Disk.{State, InRange, IsSyncedIn, IsSound, IsStored, IsWritten, MayLeaveTorn}
 use Rattle.disk_model.proofs.Contents.{stored_first}
 use Rattle.journal.specs.GroupList.{StandsAt, LeavesGateOrBytes, IsOpenBefore}
 
@@ -52,3 +52,8 @@ module _ (extent : ℕ) (before : State) (gate : ℕ) (bytes : List ℕ) (sound 
       where
         stays : (place : ℕ) → (InRange gate 1 place → ⊥) → slice_index after.seen place ≡ slice_index mid.seen place
         stays place outside = opening.others place outside (λ loose. stored.synced place (mid_sound.loose place loose))
+
+-- a byte that was written is read at its place
+pub first_written : (before after : State) (place byte : ℕ) → IsWritten before place (byte ∷ []) after → (before.loose place → ⊥) → slice_index after.seen place ≡ byte
+first_written before after place byte done sure =
+    subst (λ (at : ℕ). (before.loose at → ⊥) → slice_index after.seen at ≡ byte) (add-zero place) (done.written 0 (omega arith)) sure

@@ -1,10 +1,10 @@
 ghost use Rattle.std.specs.Prelude.{◌≡◌, ◌≢◌, ◌⊎◌, ℕ, ◌+◌, ◌≤◌, ◌<◌, ◌^◌, ◌==◌, ◌↔◌, List, [], ◌∷◌, ◌++◌, length, OnOk, IfErr, OnErr, IsErrOf, IsErrAnd};
-ghost use Rattle.disk_model.specs.Disk.{IsSyncedIn, LeavesOnly, MayLeaveTorn};
+ghost use Rattle.disk_model.specs.Disk.{IsSyncedIn, IsWritten, IsWriteFailed, LeavesOnly, MayLeaveTorn};
 ghost use Rattle.disk_model.specs.Faults.{faults_after};
 ghost use Rattle.image_model.specs.Change.{AreChanges};
 ghost use Rattle.journal.specs.Append.{end_after, grown, IsNext, faults_by};
 ghost use Rattle.journal.specs.Group.{IsGroup};
-ghost use Rattle.journal.specs.GroupList.{IsHeld, IsOpenBefore, LeavesEither, LeavesGateOrBytes};
+ghost use Rattle.journal.specs.GroupList.{IsHeld, IsList, IsOpenBefore, LeavesEither, LeavesGateOrBytes};
 ghost use Rattle.journal.specs.Spelling.{StoredGroup, stored_of};
 
 use crate::fault::JournalFault;
@@ -82,12 +82,25 @@ impl Area {
 
 impl Area {
     /// Closes the area's first gate, without a sync: its list is empty, and its next number stays.
+    ///
+    /// Before the next `append` the device has to be synced.
     pub fn close_first<D: Disk>(&mut self, disk: &mut D) -> Result<(), DeviceFault>
         requires { self.old.from + self.old.bytes ≤ D.extent disk.old }
         ensures closed { OnOk result (self.new ≡ record self.old { gate = 0 }) }
         ensures err { OnErr result (self.new ≡ self.old) }
         ensures extent { D.extent disk.new ≡ D.extent disk.old }
         ensures faults { D.faults disk.new ≡ faults_after result (D.faults disk.old) }
+        ensures honest { D.honest disk.new ↔ D.honest disk.old }
+
+        // On an honest device the area then reads as one with no group, and only its first byte was written.
+        ensures empty { D.honest disk.old → ((D.state disk.old).loose self.old.from → ⊥)
+            → OnOk result ((first : ℕ) → IsList self.new first [] (D.state disk.new).seen) }
+        ensures written { D.honest disk.old
+            → OnOk result (IsWritten (D.state disk.old) self.old.from (0 ∷ []) (D.state disk.new)) }
+        ensures failed { D.honest disk.old
+            → OnErr result (IsWriteFailed (D.state disk.old) self.old.from 1 (D.state disk.new)) }
+        ensures any_moment { D.honest disk.old
+            → LeavesOnly (D.state disk.old) (D.state disk.new) (MayLeaveTorn (D.state disk.old) self.old.from 1) }
     {
         disk.write_at(self.from, &[CLOSED])?;
         self.gate = 0;
