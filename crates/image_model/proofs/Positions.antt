@@ -23,11 +23,11 @@ module _ {X : Type 0} (list : List X) (at : ℕ) (items : List X) (d : X) (fits 
   patched_at place = ⊎_elim
       (λ low. before place low ∙ outside (grind (arith, nat_tests)))
       (λ above. ⊎_elim
-          (λ inside.
-            let same : at + (place - at) ≡ place = omega arith in
-            sym (ap (λ (p : ℕ). get_or (patched list at items) p d) same) ∙ within (place - at) (omega arith) ∙ covered (grind (arith, nat_tests)))
-          (λ high. behind place high ∙ outside (grind (arith, nat_tests)))
-          (cases_lt place (at + length items)))
+      (λ inside.
+      let same : at + (place - at) ≡ place = omega arith in
+      sym (ap (λ (p : ℕ). get_or (patched list at items) p d) same) ∙ within (place - at) (omega arith) ∙ covered (grind (arith, nat_tests)))
+      (λ high. behind place high ∙ outside (grind (arith, nat_tests)))
+      (cases_lt place (at + length items)))
       (cases_lt place at)
     where
       outside : covers at (length items) place ≡ false → get_or list place d ≡ (if covers at (length items) place then get_or items (place - at) d else get_or list place d)
@@ -58,11 +58,11 @@ pub put_applied : (bytes bytes' : List ℕ) (kinds kinds' : List Kind) (first f 
     → image_of (record { bytes = bytes'; kinds = kinds' }) ≡ apply (Written first written) (image_of (record { bytes = bytes; kinds = kinds }))
 put_applied bytes bytes' kinds kinds' first f written w count f_is w_is count_is bytes_fit kinds_fit bytes_are kinds_are = same_image _ _
     (λ place. ap (λ (l : List ℕ). slice_index l place) bytes_are ∙ patched_at bytes (4096 * f) w 0 bytes_fit place
-        ∙ ap (λ (n : ℕ). if covers (4096 * n) (length w) place then slice_index w (place - 4096 * n) else slice_index bytes place) f_is
-        ∙ ap (λ (l : List ℕ). if covers (4096 * first) (length l) place then slice_index l (place - 4096 * first) else slice_index bytes place) w_is)
+    ∙ ap (λ (n : ℕ). if covers (4096 * n) (length w) place then slice_index w (place - 4096 * n) else slice_index bytes place) f_is
+    ∙ ap (λ (l : List ℕ). if covers (4096 * first) (length l) place then slice_index l (place - 4096 * first) else slice_index bytes place) w_is)
     (λ block. ap (λ (l : List Kind). get_or l block Hole) kinds_are ∙ filled_at kinds f count Data Hole kinds_fit block
-        ∙ ap (λ (n : ℕ). if covers n count block then Data else get_or kinds block Hole) f_is
-        ∙ ap (λ (n : ℕ). if covers first n block then Data else get_or kinds block Hole) count_is)
+    ∙ ap (λ (n : ℕ). if covers n count block then Data else get_or kinds block Hole) f_is
+    ∙ ap (λ (n : ℕ). if covers first n block then Data else get_or kinds block Hole) count_is)
 
 -- and what a clear makes of them
 pub clear_applied : (bytes bytes' : List ℕ) (kinds kinds' : List Kind) (first f blocks : ℕ) (kind : Kind) → f ≡ first
@@ -70,6 +70,6 @@ pub clear_applied : (bytes bytes' : List ℕ) (kinds kinds' : List Kind) (first 
     → image_of (record { bytes = bytes'; kinds = kinds' }) ≡ apply (Cleared first blocks kind) (image_of (record { bytes = bytes; kinds = kinds }))
 clear_applied bytes bytes' kinds kinds' first f blocks kind f_is bytes_fit kinds_fit bytes_are kinds_are = same_image _ _
     (λ place. ap (λ (l : List ℕ). slice_index l place) bytes_are ∙ filled_at bytes (4096 * f) (4096 * blocks) 0 0 bytes_fit place
-        ∙ ap (λ (n : ℕ). if covers (4096 * n) (4096 * blocks) place then 0 else slice_index bytes place) f_is)
+    ∙ ap (λ (n : ℕ). if covers (4096 * n) (4096 * blocks) place then 0 else slice_index bytes place) f_is)
     (λ block. ap (λ (l : List Kind). get_or l block Hole) kinds_are ∙ filled_at kinds f blocks kind Hole kinds_fit block
-        ∙ ap (λ (n : ℕ). if covers n blocks block then kind else get_or kinds block Hole) f_is)
+    ∙ ap (λ (n : ℕ). if covers n blocks block then kind else get_or kinds block Hole) f_is)

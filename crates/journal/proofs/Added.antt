@@ -82,10 +82,10 @@ module _ (area : AreaState) (first : ℕ) (groups : List StoredGroup) (before : 
         let long = length-written group in
         let behind : area.from + area.gate + 1 + length (group_bytes group) ≡ area.from + sizes_of groups + size_of group = omega (arith, held.gate, count) in
         let last : slice_index content (area.from + area.gate + 1 + length (group_bytes group)) ≡ 0 =
-            whole (length (group_bytes group)) (omega (arith, long, count)) ∙ get_or_at (group_bytes group) 0 [] 0 (length (group_bytes group)) refl in
+        whole (length (group_bytes group)) (omega (arith, long, count)) ∙ get_or_at (group_bytes group) 0 [] 0 (length (group_bytes group)) refl in
         let shut : slice_index content (area.from + sizes_of groups + size_of group) ≡ 0 = subst (λ (at : ℕ). slice_index content at ≡ 0) behind last in
         let bytes : StandsAt content (area.from + area.gate + 1) (group_bytes group) =
-            λ k below. whole k (omega (arith, below, long, count)) ∙ get_or_append_left (group_bytes group) (0 ∷ []) 0 k below in
+        λ k below. whole k (omega (arith, below, long, count)) ∙ get_or_append_left (group_bytes group) (0 ∷ []) 0 k below in
         record {
           stand = list_grows area.blocks before.seen content area.from first groups group same
               (subst (IsOpen content) gate_at is_open)
@@ -105,9 +105,9 @@ module _ (area : AreaState) (first : ℕ) (groups : List StoredGroup) (before : 
           list = ⊎_elim
               (λ gate. inl (kept_list content same (same_end content gate)))
               (λ whole. ⊎_elim
-                  (λ is_open. inr (added_list content same is_open whole))
-                  (λ closed. inl (kept_list content same (λ is_open. closed (subst (IsOpen content) (sym gate_at) is_open))))
-                  (cases_eq (slice_index content (area.from + area.gate)) 1))
+              (λ is_open. inr (added_list content same is_open whole))
+              (λ closed. inl (kept_list content same (λ is_open. closed (subst (IsOpen content) (sym gate_at) is_open))))
+              (cases_eq (slice_index content (area.from + area.gate)) 1))
               left.guarded;
         }
 
@@ -115,8 +115,7 @@ module _ (area : AreaState) (first : ℕ) (groups : List StoredGroup) (before : 
     pub held_after : (number gate : ℕ) (after : State) → number ≡ number_behind group → gate ≡ area.gate + size_of group → IsOpenBefore before (area.from + area.gate) (written group) after
         → IsHeld (record area { next = number; gate = gate }) first (groups ++ group ∷ []) after × MayLeaveTorn before area.from area.bytes after.seen
     held_after number gate after number_is gate_is opened =
-        let list = added_list after.seen (in_front after.seen opened.others) opened.gate_open opened.whole in
-        (
+        let list = added_list after.seen (in_front after.seen opened.others) opened.gate_open opened.whole in (
           record {
             list = record { stand = list.stand; inside = list.inside };
             gate = omega (arith, gate_is, held.gate, sizes-push groups group);

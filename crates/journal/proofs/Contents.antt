@@ -37,8 +37,7 @@ list_stays image old new place next [] kept closed stand =
     λ is_open. closed (subst (IsOpen new) same is_open)
 list_stays image old new place next (group ∷ groups) kept closed stand =
     let size : place + sizes_of (group ∷ groups) ≡ place + size_of group + sizes_of groups = omega (arith, sum_by-cons size_of group groups) in
-    let within : place + size_of group ≤ place + sizes_of (group ∷ groups) = omega (arith, size) in
-    (
+    let within : place + size_of group ≤ place + sizes_of (group ∷ groups) = omega (arith, size) in (
       gate_stays old new place group _ kept within stand.0,
       bytes_stay old new place group _ kept within stand.1,
       stand.2,
@@ -53,8 +52,7 @@ pub list_grows : (image : ℕ) (old new : List ℕ) (place next : ℕ) (groups :
     → IsOpen new (place + sizes_of groups) → StandsAt new (place + sizes_of groups + 1) (group_bytes group) → (IsOpen new (place + sizes_of groups + size_of group) → ⊥)
     → IsNextGroup image (next_behind next groups) group → Stand image old place next groups → Stand image new place next (groups ++ group ∷ [])
 list_grows image old new place next [] group kept is_open whole closed follows stand =
-    let same : place + 0 ≡ place = omega arith in
-    (
+    let same : place + 0 ≡ place = omega arith in (
       subst (IsOpen new) same is_open,
       subst (λ (at : ℕ). StandsAt new (at + 1) (group_bytes group)) same whole,
       follows,
@@ -62,8 +60,7 @@ list_grows image old new place next [] group kept is_open whole closed follows s
     )
 list_grows image old new place next (g ∷ groups) group kept is_open whole closed follows stand =
     let size : place + sizes_of (g ∷ groups) ≡ place + size_of g + sizes_of groups = omega (arith, sum_by-cons size_of g groups) in
-    let within : place + size_of g ≤ place + sizes_of (g ∷ groups) = omega (arith, size) in
-    (
+    let within : place + size_of g ≤ place + sizes_of (g ∷ groups) = omega (arith, size) in (
       gate_stays old new place g _ kept within stand.0,
       bytes_stay old new place g _ kept within stand.1,
       stand.2,

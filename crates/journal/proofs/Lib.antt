@@ -1,5 +1,6 @@
 pub mod Added
 pub mod Bodies
+pub mod Chained
 pub mod Contents
 pub mod OneList
 pub mod Spelled

@@ -1,5 +1,5 @@
 -- The list of groups that the bytes of an area hold, by docs/FORMATS.md, "Group". A place is a byte of the device.
-use Rattle.std.specs.Prelude.{ℕ, ◌≡◌, ◌+◌, ◌%◌, ◌≤◌, ◌<◌, ◌⊎◌, List, [], ◌∷◌, ◌++◌, length, slice_index, sum_by}
+use Rattle.std.specs.Prelude.{ℕ, ◌≡◌, ◌+◌, ◌%◌, ◌≤◌, ◌<◌, ◌⊎◌, List, [], ◌∷◌, ◌++◌, length, slice_index, sum_by, ⊤}
 use Rattle.disk_model.specs.Disk.{State, IsSyncedIn, MayLeaveTorn}
 use Rattle.image_model.specs.Change.{AreChanges}
 use Rattle.journal.specs.Area.{AreaState}
@@ -46,10 +46,27 @@ Stand image content place next (group ∷ groups) =
     IsOpen content place × StandsAt content (place + 1) (group_bytes group) × IsNextGroup image next group
     × Stand image content (place + size_of group) (number_behind group) groups
 
+-- from the place on stand these groups, each behind an open gate, whatever follows them
+abbrev pub Lead : ℕ → List ℕ → ℕ → ℕ → List StoredGroup → Type 0
+Lead image content place next [] = ⊤
+Lead image content place next (group ∷ groups) =
+    IsOpen content place × StandsAt content (place + 1) (group_bytes group) × IsNextGroup image next group
+    × Lead image content (place + size_of group) (number_behind group) groups
+
 -- the area holds this list, whose first group has to begin with `first`
 pub record IsList (area : AreaState) (first : ℕ) (groups : List StoredGroup) (content : List ℕ) : Type 0 where
   pub stand : Stand area.blocks content area.from first groups
   pub inside : sizes_of groups < area.bytes
+
+-- the area is damaged: some groups stand in it, and then an open gate with no group behind it that may be the next and
+-- leaves room for a gate
+pub record IsDamaged (area : AreaState) (first : ℕ) (content : List ℕ) : Type 0 where
+  pub groups : List StoredGroup
+  pub lead : Lead area.blocks content area.from first groups
+  pub inside : sizes_of groups < area.bytes
+  pub is_open : IsOpen content (area.from + sizes_of groups)
+  pub none : (group : StoredGroup) → IsNextGroup area.blocks (next_behind first groups) group
+      → StandsAt content (area.from + sizes_of groups + 1) (group_bytes group) → sizes_of groups + size_of group < area.bytes → ⊥
 
 -- the area is where its list ends, and nothing in it is unsynced
 pub record IsHeld (area : AreaState) (first : ℕ) (groups : List StoredGroup) (state : State) : Type 0 where

@@ -2,4 +2,5 @@ pub mod Append
 pub mod Area
 pub mod Group
 pub mod GroupList
+pub mod Reading
 pub mod Spelling

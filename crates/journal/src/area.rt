@@ -5,6 +5,7 @@ ghost use Rattle.image_model.specs.Change.{AreChanges};
 ghost use Rattle.journal.specs.Append.{end_after, grown, IsNext, faults_by};
 ghost use Rattle.journal.specs.Group.{IsGroup};
 ghost use Rattle.journal.specs.GroupList.{IsHeld, IsList, IsOpenBefore, LeavesEither, LeavesGateOrBytes};
+ghost use Rattle.journal.specs.Reading.{IsOnlyRead};
 ghost use Rattle.journal.specs.Spelling.{StoredGroup, stored_of};
 
 use crate::fault::JournalFault;
@@ -137,7 +138,7 @@ impl Area {
         ensures stored { D.honest disk.old → (first : ℕ) (groups : List StoredGroup) → IsHeld self.old first groups (D.state disk.old)
             → AreChanges self.old.blocks (stored_of group).changes
             → OnOk result (IsHeld self.new first (groups ++ stored_of group ∷ []) (D.state disk.new)
-                × MayLeaveTorn (D.state disk.old) self.old.from self.old.bytes (D.state disk.new).seen) }
+            × MayLeaveTorn (D.state disk.old) self.old.from self.old.bytes (D.state disk.new).seen) }
         ensures any_moment { D.honest disk.old → (first : ℕ) (groups : List StoredGroup) → IsHeld self.old first groups (D.state disk.old)
             → AreChanges self.old.blocks (stored_of group).changes
             → LeavesOnly (D.state disk.old) (D.state disk.new) (LeavesEither self.old first groups (stored_of group) (D.state disk.old)) }
@@ -170,7 +171,7 @@ impl Area {
         ensures stored { D.honest disk.old → (first : ℕ) (groups : List StoredGroup) → IsHeld self.old first groups (D.state disk.old)
             → AreChanges self.old.blocks (stored_of group.now).changes
             → OnOk result (IsHeld (grown self.old group.now) first (groups ++ stored_of group.now ∷ []) (D.state disk.new)
-                × MayLeaveTorn (D.state disk.old) self.old.from self.old.bytes (D.state disk.new).seen) }
+            × MayLeaveTorn (D.state disk.old) self.old.from self.old.bytes (D.state disk.new).seen) }
         ensures any_moment { D.honest disk.old → (first : ℕ) (groups : List StoredGroup) → IsHeld self.old first groups (D.state disk.old)
             → AreChanges self.old.blocks (stored_of group.now).changes
             → LeavesOnly (D.state disk.old) (D.state disk.new) (LeavesEither self.old first groups (stored_of group.now) (D.state disk.old)) }
@@ -192,6 +193,12 @@ impl Area {
         ensures err { OnErr result (self.new ≡ self.old) }
         ensures same { (self.new.from ≡ self.old.from) × (self.new.bytes ≡ self.old.bytes) × (self.new.blocks ≡ self.old.blocks) }
         ensures extent { D.extent disk.new ≡ D.extent disk.old }
+        ensures honest { D.honest disk.new ↔ D.honest disk.old }
+        ensures faults_ok { OnOk result (D.faults disk.new ≡ D.faults disk.old) }
+        ensures faults_err { IfErr result (λ fault. D.faults disk.new ≡ faults_by fault (D.faults disk.old)) }
+
+        // On an honest device nothing is written, and a crash leaves what it might have left before.
+        ensures only_read { D.honest disk.old → IsOnlyRead (D.state disk.old) (D.state disk.new) }
     {
         let place = Place {
             from: self.from,

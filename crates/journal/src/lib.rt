@@ -11,4 +11,4 @@ mod window;
 pub use area::Area;
 pub use fault::JournalFault;
 pub use group::Group;
-pub use laws::holds_one_list;
+pub use laws::{damaged_holds_none, holds_one_list};

@@ -26,4 +26,4 @@ returns-clause-any_moment g c honest stable =
     let sound = g.met.D.Disk.sound c.args.disk.now honest in
     let mid_sound = subst (λ e. IsSound e (g.D.Disk.state c.write_synced.new.disk)) first.extent (g.met.D.Disk.sound c.write_synced.new.disk mid_honest) in
     goes_on (weakens (first.any_moment honest) (torn_body _ _ _ _ sound stable)) (c.write_synced-2.ensures.any_moment mid_honest)
-        (torn_gate _ _ _ _ sound stable _ (first.stored honest) mid_sound)
+    (torn_gate _ _ _ _ sound stable _ (first.stored honest) mid_sound)

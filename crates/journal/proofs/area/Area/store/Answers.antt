@@ -20,8 +20,16 @@ returns-in_err-spell-clause-any_moment g c honest first groups held changes =
 pub write_group-requires : goal.write_group-requires
 write_group-requires g c =
     let bytes = c.deref.ensures.value ∙ c.in_ok-spell.ensures.spelled in
-    omega (arith, ap length bytes, length-written (stored_of c.args.group.now), size-stored c.args.group.now, c.in_ok-check.ensures.fits, c.requires,
-      ap (λ (area : AreaState). area.from) c.self.view_is, ap (λ (area : AreaState). area.gate) c.self.view_is)
+    omega (
+      arith,
+      ap length bytes,
+      length-written (stored_of c.args.group.now),
+      size-stored c.args.group.now,
+      c.in_ok-check.ensures.fits,
+      c.requires,
+      ap (λ (area : AreaState). area.from) c.self.view_is,
+      ap (λ (area : AreaState). area.gate) c.self.view_is,
+    )
 
 pub returns-in_err-write_group-clause-any_moment : goal.returns-in_err-write_group-clause-any_moment
 returns-in_err-write_group-clause-any_moment g c honest first groups held changes =
@@ -32,7 +40,7 @@ returns-in_err-write_group-clause-any_moment g c honest first groups held change
     let next = follows area group c.check.ensures.sound c.in_ok-check.ensures.next changes in
     let fits : area.gate + 1 + size_of (stored_of group) ≤ area.bytes = omega (arith, size-stored group, c.in_ok-check.ensures.fits) in
     weakens (c.write_group.ensures.any_moment honest (range_synced area first groups _ held (stored_of group) next fits _ _ place bytes))
-        (either_at area first groups _ held (stored_of group) next fits _ _ place bytes)
+    (either_at area first groups _ held (stored_of group) next fits _ _ place bytes)
 
 pub returns-clause-stored : goal.returns-clause-stored
 returns-clause-stored g c honest first groups held changes =
@@ -44,7 +52,7 @@ returns-clause-stored g c honest first groups held changes =
     let fits : area.gate + 1 + size_of (stored_of group) ≤ area.bytes = omega (arith, size-stored group, c.in_ok-check.ensures.fits) in
     let number : number_after group ≡ number_behind (stored_of group) = omega (arith, length-map group.commands change_of) in
     held_after_at area first groups _ held (stored_of group) next fits _ _ place bytes _ _ _ number (omega (arith, size-stored group))
-        (c.in_ok-write_group.ensures.stored honest (range_synced area first groups _ held (stored_of group) next fits _ _ place bytes))
+    (c.in_ok-write_group.ensures.stored honest (range_synced area first groups _ held (stored_of group) next fits _ _ place bytes))
 
 pub returns-clause-any_moment : goal.returns-clause-any_moment
 returns-clause-any_moment g c honest first groups held changes =
@@ -55,4 +63,4 @@ returns-clause-any_moment g c honest first groups held changes =
     let next = follows area group c.check.ensures.sound c.in_ok-check.ensures.next changes in
     let fits : area.gate + 1 + size_of (stored_of group) ≤ area.bytes = omega (arith, size-stored group, c.in_ok-check.ensures.fits) in
     weakens (c.write_group.ensures.any_moment honest (range_synced area first groups _ held (stored_of group) next fits _ _ place bytes))
-        (either_at area first groups _ held (stored_of group) next fits _ _ place bytes)
+    (either_at area first groups _ held (stored_of group) next fits _ _ place bytes)

@@ -14,6 +14,6 @@ returns c =
     let commands = c.args.self.now.commands in
     let all : take c.loop-command.command-index commands ≡ commands = take_all c.loop-command.command-index commands (omega (arith, ap length c.deref-command-items.ensures.value, ap (λ (group : Numbered). length group.commands) c.self.view_is)) in
     let spelled = c.loop-command.invariant
-        ∙ ap (λ (done : List Command). group_head (bodies_of commands) c.args.self.now.first (length commands) ++ flat_map (λ command. change_bytes (change_of command)) done) all
-        ∙ sym (group_spelled c.args.self.now) in
+    ∙ ap (λ (done : List Command). group_head (bodies_of commands) c.args.self.now.first (length commands) ++ flat_map (λ command. change_bytes (change_of command)) done) all
+    ∙ sym (group_spelled c.args.self.now) in
     record { spelled = c.in_ok-push.ensures.items ∙ ap (λ (bytes : List ℕ). bytes ++ 0 ∷ []) spelled }
