@@ -1,2 +1,5 @@
+pub mod Change
 pub mod Command
 pub mod Geometry
+pub mod Image
+pub mod Patched

@@ -3,6 +3,8 @@
 
 mod command;
 mod geometry;
+mod plain_image;
 
 pub use command::{Command, Kind};
 pub use geometry::{BLOCK_BYTES, Geometry, LEAST_AREA_BYTES, MOST_AREA_BYTES, MOST_BLOCKS};
+pub use plain_image::{OutOfRange, PlainImage};

@@ -1,2 +1,6 @@
+pub mod Append
 pub mod Area
 pub mod Group
+pub mod GroupList
+pub mod Reading
+pub mod Spelling

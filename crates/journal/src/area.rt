@@ -1,12 +1,17 @@
-ghost use Rattle.std.specs.Prelude.{◌≡◌, ◌+◌, ◌≤◌, ◌<◌, ◌^◌, ◌==◌, ◌↔◌, length, OnOk, IfErr, OnErr, IsErrOf};
+ghost use Rattle.std.specs.Prelude.{◌≡◌, ◌≢◌, ◌⊎◌, ℕ, ◌+◌, ◌≤◌, ◌<◌, ◌^◌, ◌==◌, ◌↔◌, List, [], ◌∷◌, ◌++◌, length, OnOk, IfErr, OnErr, IsErrOf, IsErrAnd};
+ghost use Rattle.disk_model.specs.Disk.{IsSyncedIn, IsWritten, IsWriteFailed, LeavesOnly, MayLeaveTorn};
 ghost use Rattle.disk_model.specs.Faults.{faults_after};
-ghost use Rattle.image_model.specs.Command.{bodies_of};
-ghost use Rattle.journal.specs.Group.{number_after};
+ghost use Rattle.image_model.specs.Change.{AreChanges};
+ghost use Rattle.journal.specs.Append.{end_after, grown, IsNext, faults_by};
+ghost use Rattle.journal.specs.Group.{IsGroup};
+ghost use Rattle.journal.specs.GroupList.{IsHeld, IsList, IsOpenBefore, LeavesEither, LeavesGateOrBytes};
+ghost use Rattle.journal.specs.Reading.{IsOnlyRead};
+ghost use Rattle.journal.specs.Spelling.{StoredGroup, stored_of};
 
 use crate::fault::JournalFault;
 use crate::group::Group;
 use crate::scan::Place;
-use disk_model::{DeviceFault, Disk};
+use disk_model::{DeviceFault, Disk, write_synced};
 use std::alloc::Global;
 use std::marker::Model;
 
@@ -78,12 +83,25 @@ impl Area {
 
 impl Area {
     /// Closes the area's first gate, without a sync: its list is empty, and its next number stays.
+    ///
+    /// Before the next `append` the device has to be synced.
     pub fn close_first<D: Disk>(&mut self, disk: &mut D) -> Result<(), DeviceFault>
         requires { self.old.from + self.old.bytes ≤ D.extent disk.old }
         ensures closed { OnOk result (self.new ≡ record self.old { gate = 0 }) }
         ensures err { OnErr result (self.new ≡ self.old) }
         ensures extent { D.extent disk.new ≡ D.extent disk.old }
         ensures faults { D.faults disk.new ≡ faults_after result (D.faults disk.old) }
+        ensures honest { D.honest disk.new ↔ D.honest disk.old }
+
+        // On an honest device the area then reads as one with no group, and only its first byte was written.
+        ensures empty { D.honest disk.old → ((D.state disk.old).loose self.old.from → ⊥)
+            → OnOk result ((first : ℕ) → IsList self.new first [] (D.state disk.new).seen) }
+        ensures written { D.honest disk.old
+            → OnOk result (IsWritten (D.state disk.old) self.old.from (0 ∷ []) (D.state disk.new)) }
+        ensures failed { D.honest disk.old
+            → OnErr result (IsWriteFailed (D.state disk.old) self.old.from 1 (D.state disk.new)) }
+        ensures any_moment { D.honest disk.old
+            → LeavesOnly (D.state disk.old) (D.state disk.new) (MayLeaveTorn (D.state disk.old) self.old.from 1) }
     {
         disk.write_at(self.from, &[CLOSED])?;
         self.gate = 0;
@@ -100,24 +118,67 @@ impl Area {
         group: Group,
     ) -> Result<(), (JournalFault, Group)>
         requires { self.old.from + self.old.bytes ≤ D.extent disk.old }
-        ensures ok { OnOk result (self.new ≡ record self.old { next = number_after group; gate = self.old.gate + 17 + bodies_of group.commands }) }
+        ensures ok { OnOk result (self.new ≡ grown self.old group) }
         ensures err { OnErr result (self.new ≡ self.old) }
         ensures group_back { IfErr result (λ refused. refused.1 ≡ group) }
         ensures extent { D.extent disk.new ≡ D.extent disk.old }
+        ensures honest { D.honest disk.new ↔ D.honest disk.old }
+
+        // When it is refused, and which refusals count as a fault of the device and may have changed it.
+        ensures full { IsErrAnd result (λ refused. refused.0 ≡ JournalFault.AreaFull) ↔ (self.old.bytes < end_after self.old group) }
+        ensures out_of_order { IsErrAnd result (λ refused. refused.0 ≡ JournalFault.OutOfOrder)
+            ↔ ((end_after self.old group ≤ self.old.bytes) × (IsNext self.old group → ⊥)) }
+        ensures undamaged { IfErr result (λ refused. refused.0 ≢ JournalFault.DamagedGroup) }
+        ensures faults_ok { OnOk result (D.faults disk.new ≡ D.faults disk.old) }
+        ensures faults_err { IfErr result (λ refused. D.faults disk.new ≡ faults_by refused.0 (D.faults disk.old)) }
+        ensures unchanged { IfErr result (λ refused. (refused.0 ≡ JournalFault.DeviceFault) ⊎ (disk.new ≡ disk.old)) }
+
+        // On an honest device, where the area holds these groups, is at their end, and nothing in it is unsynced: at
+        // `Ok` the list has the group added, and a crash at any moment leaves it without the group or with it.
+        ensures stored { D.honest disk.old → (first : ℕ) (groups : List StoredGroup) → IsHeld self.old first groups (D.state disk.old)
+            → AreChanges self.old.blocks (stored_of group).changes
+            → OnOk result (IsHeld self.new first (groups ++ stored_of group ∷ []) (D.state disk.new)
+            × MayLeaveTorn (D.state disk.old) self.old.from self.old.bytes (D.state disk.new).seen) }
+        ensures any_moment { D.honest disk.old → (first : ℕ) (groups : List StoredGroup) → IsHeld self.old first groups (D.state disk.old)
+            → AreChanges self.old.blocks (stored_of group).changes
+            → LeavesOnly (D.state disk.old) (D.state disk.new) (LeavesEither self.old first groups (stored_of group) (D.state disk.old)) }
     {
-        if let Err(fault) = self.check(&group) {
-            return Err((fault, group));
+        match self.store(disk, &group) {
+            Ok(()) => {
+                self.gate += GROUP_HEAD_BYTES + group.body_bytes();
+                self.next = group.number_after();
+                let _parts = group.into_parts();
+                Ok(())
+            }
+            Err(fault) => Err((fault, group)),
         }
-        if group.spell(&mut self.buffer).is_err() {
-            return Err((JournalFault::NoMemory, group));
-        }
-        let gate = self.from + self.gate as u64;
-        if write_group(disk, gate, &self.buffer).is_err() {
-            return Err((JournalFault::DeviceFault, group));
-        }
-        self.gate += GROUP_HEAD_BYTES + group.body_bytes();
-        self.next = group.number_after();
-        let _parts = group.into_parts();
+    }
+
+    // Writes the group behind the list and opens its gate; what the area remembers of its list stays as it was.
+    fn store<D: Disk>(&mut self, disk: &mut D, group: &Group) -> Result<(), JournalFault>
+        requires { self.old.from + self.old.bytes ≤ D.extent disk.old }
+        ensures same { self.new ≡ self.old }
+        ensures fits { OnOk result (end_after self.old group.now ≤ self.old.bytes) }
+        ensures extent { D.extent disk.new ≡ D.extent disk.old }
+        ensures honest { D.honest disk.new ↔ D.honest disk.old }
+        ensures full { IsErrOf result JournalFault.AreaFull ↔ (self.old.bytes < end_after self.old group.now) }
+        ensures out_of_order { IsErrOf result JournalFault.OutOfOrder
+            ↔ ((end_after self.old group.now ≤ self.old.bytes) × (IsNext self.old group.now → ⊥)) }
+        ensures undamaged { IfErr result (λ fault. fault ≢ JournalFault.DamagedGroup) }
+        ensures faults_ok { OnOk result (D.faults disk.new ≡ D.faults disk.old) }
+        ensures faults_err { IfErr result (λ fault. D.faults disk.new ≡ faults_by fault (D.faults disk.old)) }
+        ensures unchanged { IfErr result (λ fault. (fault ≡ JournalFault.DeviceFault) ⊎ (disk.new ≡ disk.old)) }
+        ensures stored { D.honest disk.old → (first : ℕ) (groups : List StoredGroup) → IsHeld self.old first groups (D.state disk.old)
+            → AreChanges self.old.blocks (stored_of group.now).changes
+            → OnOk result (IsHeld (grown self.old group.now) first (groups ++ stored_of group.now ∷ []) (D.state disk.new)
+            × MayLeaveTorn (D.state disk.old) self.old.from self.old.bytes (D.state disk.new).seen) }
+        ensures any_moment { D.honest disk.old → (first : ℕ) (groups : List StoredGroup) → IsHeld self.old first groups (D.state disk.old)
+            → AreChanges self.old.blocks (stored_of group.now).changes
+            → LeavesOnly (D.state disk.old) (D.state disk.new) (LeavesEither self.old first groups (stored_of group.now) (D.state disk.old)) }
+    {
+        self.check(group)?;
+        group.spell(&mut self.buffer)?;
+        write_group(disk, self.from + self.gate as u64, &self.buffer)?;
         Ok(())
     }
 }
@@ -132,6 +193,12 @@ impl Area {
         ensures err { OnErr result (self.new ≡ self.old) }
         ensures same { (self.new.from ≡ self.old.from) × (self.new.bytes ≡ self.old.bytes) × (self.new.blocks ≡ self.old.blocks) }
         ensures extent { D.extent disk.new ≡ D.extent disk.old }
+        ensures honest { D.honest disk.new ↔ D.honest disk.old }
+        ensures faults_ok { OnOk result (D.faults disk.new ≡ D.faults disk.old) }
+        ensures faults_err { IfErr result (λ fault. D.faults disk.new ≡ faults_by fault (D.faults disk.old)) }
+
+        // On an honest device nothing is written, and a crash leaves what it might have left before.
+        ensures only_read { D.honest disk.old → IsOnlyRead (D.state disk.old) (D.state disk.new) }
     {
         let place = Place {
             from: self.from,
@@ -144,11 +211,15 @@ impl Area {
         Ok(())
     }
 
-    // Whether the group is the next one and fits.
+    // Whether the group fits and is the next one.
     fn check(&self, group: &Group) -> Result<(), JournalFault>
-        ensures fits { OnOk result (self.now.gate + 18 + bodies_of group.now.commands ≤ self.now.bytes) }
-        ensures full { IsErrOf result JournalFault.AreaFull ↔ (self.now.bytes < self.now.gate + 18 + bodies_of group.now.commands) }
-        ensures next { OnOk result (self.now.next ≡ group.now.first) }
+        ensures fits { OnOk result (end_after self.now group.now ≤ self.now.bytes) }
+        ensures next { OnOk result (IsNext self.now group.now) }
+        ensures full { IsErrOf result JournalFault.AreaFull ↔ (self.now.bytes < end_after self.now group.now) }
+        ensures out_of_order { IsErrOf result JournalFault.OutOfOrder
+            ↔ ((end_after self.now group.now ≤ self.now.bytes) × (IsNext self.now group.now → ⊥)) }
+        ensures sound { IsGroup group.now.first group.now.commands }
+        ensures only { IfErr result (λ fault. (fault ≡ JournalFault.AreaFull) ⊎ (fault ≡ JournalFault.OutOfOrder)) }
     {
         if self.bytes - self.gate < GROUP_HEAD_BYTES + 1 + group.body_bytes() {
             return Err(JournalFault::AreaFull);
@@ -164,9 +235,14 @@ impl Area {
 fn write_group<D: Disk>(disk: &mut D, gate: u64, body: &[u8]) -> Result<(), DeviceFault>
     requires { gate + 1 + length body.now ≤ D.extent disk.old }
     ensures extent { D.extent disk.new ≡ D.extent disk.old }
+    ensures faults { D.faults disk.new ≡ faults_after result (D.faults disk.old) }
+    ensures honest { D.honest disk.new ↔ D.honest disk.old }
+
+    ensures stored { D.honest disk.old → IsSyncedIn (D.state disk.old) gate (1 + length body.now)
+        → OnOk result (IsOpenBefore (D.state disk.old) gate body.now (D.state disk.new)) }
+    ensures any_moment { D.honest disk.old → IsSyncedIn (D.state disk.old) gate (1 + length body.now)
+        → LeavesOnly (D.state disk.old) (D.state disk.new) (LeavesGateOrBytes (D.state disk.old) gate body.now) }
 {
-    disk.write_at(gate + 1, body)?;
-    disk.sync()?;
-    disk.write_at(gate, &[OPEN])?;
-    disk.sync()
+    write_synced(disk, gate + 1, body)?;
+    write_synced(disk, gate, &[OPEN])
 }

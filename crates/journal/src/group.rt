@@ -1,6 +1,8 @@
-ghost use Rattle.std.specs.Prelude.{◌≡◌, ◌+◌, ◌≤◌, ◌<◌, ◌^◌, length, vec_len, OnOk};
+ghost use Rattle.std.specs.Prelude.{◌≡◌, ◌+◌, ◌≤◌, ◌<◌, ◌^◌, [], ◌∷◌, ◌++◌, length, OnOk};
+ghost use Rattle.image_model.specs.Change.{change_of};
 ghost use Rattle.image_model.specs.Command.{bodies_of, body_of};
 ghost use Rattle.journal.specs.Group.{IsGroup, number_after};
+ghost use Rattle.journal.specs.Spelling.{stored_of, clear_byte, change_head, change_bytes, group_head, group_bytes};
 
 use crate::area::CLOSED;
 use image_model::{BLOCK_BYTES, Command, Kind};
@@ -87,6 +89,7 @@ impl Group {
     pub(crate) fn body_bytes(&self) -> u32
         ensures exact { result ≡ bodies_of self.now.commands }
         ensures bounded { result ≤ 8388608 }
+        ensures sound { IsGroup self.now.first self.now.commands }
     {
         self.body
     }
@@ -109,13 +112,11 @@ impl Group {
     // What is written behind the group's gate: its head, its commands, and the next gate closed.
     #[tactic(auto, using(std::proofs::lemmas::List::Sums::sum_by_more, std::proofs::lemmas::List::Sums::sum_by_more_le))]
     pub(crate) fn spell(&self, buffer: &mut Vec<u8>) -> Result<(), AllocError>
-        ensures length { OnOk result (vec_len buffer.new ≡ 17 + bodies_of self.now.commands) }
+        ensures spelled { OnOk result (buffer.new.items ≡ group_bytes (stored_of self.now) ++ 0 ∷ []) }
     {
         buffer.clear();
         buffer.reserve(self.body as usize + 17)?;
-        buffer.extend_from_slice(&self.body.to_be_bytes())?;
-        buffer.extend_from_slice(&self.first.to_be_bytes())?;
-        buffer.extend_from_slice(&self.count().to_be_bytes())?;
+        spell_group_head(self.body, self.first, self.count(), buffer)?;
         for command in &self.commands {
             spell_command(command, buffer)?;
         }
@@ -124,30 +125,55 @@ impl Group {
     }
 }
 
-// A command of a group: its kind, its first block, its blocks, and a put's bytes.
+// The head of a group behind its gate: the length of its body, its first number, its count of commands.
+#[tactic(auto, unfolding(crate::specs::Spelling::group_head))]
+fn spell_group_head(
+    body: u32,
+    first: u64,
+    count: u32,
+    buffer: &mut Vec<u8>,
+) -> Result<(), AllocError>
+    ensures { OnOk result (buffer.new.items ≡ buffer.old.items ++ group_head body first count) }
+{
+    buffer.extend_from_slice(&body.to_be_bytes())?;
+    buffer.extend_from_slice(&first.to_be_bytes())?;
+    buffer.extend_from_slice(&count.to_be_bytes())
+}
+
+// A command of a group: its head, and a put's bytes.
+#[tactic(auto, unfolding(crate::specs::Spelling::change_bytes))]
 fn spell_command(command: &Command, buffer: &mut Vec<u8>) -> Result<(), AllocError>
     requires { body_of command.now ≤ 8388608 }
-    ensures length { OnOk result (vec_len buffer.new ≡ vec_len buffer.old + body_of command.now) }
+    ensures { OnOk result (buffer.new.items ≡ buffer.old.items ++ change_bytes (change_of command.now)) }
 {
-    let (kind, first, blocks) = match command {
-        Command::Put { first, bytes } => (PUT, *first, (bytes.len() / BLOCK_BYTES as usize) as u32),
+    match command {
+        Command::Put { first, bytes } => {
+            let blocks = (bytes.len() / BLOCK_BYTES as usize) as u32;
+            spell_head(PUT, *first, blocks, buffer)?;
+            buffer.extend_from_slice(bytes)
+        }
         Command::Clear {
             first,
             blocks,
             kind,
-        } => (cleared_kind(*kind), *first, *blocks),
-    };
+        } => spell_head(cleared_kind(*kind), *first, *blocks, buffer),
+    }
+}
+
+// The head of a command: its kind, its first block, its blocks.
+#[tactic(auto, unfolding(crate::specs::Spelling::change_head))]
+fn spell_head(kind: u8, first: u64, blocks: u32, buffer: &mut Vec<u8>) -> Result<(), AllocError>
+    ensures { OnOk result (buffer.new.items ≡ buffer.old.items ++ change_head kind first blocks) }
+{
     buffer.push(kind)?;
     buffer.extend_from_slice(&first.to_be_bytes())?;
-    buffer.extend_from_slice(&blocks.to_be_bytes())?;
-    if let Command::Put { first: _, bytes } = command {
-        buffer.extend_from_slice(bytes)?;
-    }
-    Ok(())
+    buffer.extend_from_slice(&blocks.to_be_bytes())
 }
 
 // The byte that stands for a Clear to this kind.
-fn cleared_kind(kind: Kind) -> u8 {
+fn cleared_kind(kind: Kind) -> u8
+    ensures { result ≡ clear_byte kind }
+{
     match kind {
         Kind::Zero => ALLOCATED_ZERO,
         Kind::Data | Kind::Hole => HOLE,

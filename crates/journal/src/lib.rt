@@ -4,9 +4,11 @@
 mod area;
 mod fault;
 mod group;
+mod laws;
 mod scan;
 mod window;
 
 pub use area::Area;
 pub use fault::JournalFault;
 pub use group::Group;
+pub use laws::{damaged_holds_none, holds_one_list};

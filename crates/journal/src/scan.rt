@@ -1,4 +1,6 @@
-ghost use Rattle.std.specs.Prelude.{◌≡◌, ◌+◌, ◌≤◌, ◌<◌, ◌^◌, length, IfOk, IfSome};
+ghost use Rattle.std.specs.Prelude.{◌≡◌, ◌+◌, ◌≤◌, ◌<◌, ◌↔◌, ◌^◌, length, IfOk, IfErr, IfSome, OnOk};
+ghost use Rattle.journal.specs.Append.{faults_by};
+ghost use Rattle.journal.specs.Reading.{IsOnlyRead};
 
 use crate::area::{GROUP_HEAD_BYTES, OPEN};
 use crate::fault::JournalFault;
@@ -59,6 +61,10 @@ impl Place {
         requires on_disk { self.now.from + self.now.bytes ≤ D.extent disk.old }
         requires some { 0 < self.now.bytes }
         ensures extent { D.extent disk.new ≡ D.extent disk.old }
+        ensures faults_ok { OnOk result (D.faults disk.new ≡ D.faults disk.old) }
+        ensures faults_err { IfErr result (λ fault. D.faults disk.new ≡ faults_by fault (D.faults disk.old)) }
+        ensures honest { D.honest disk.new ↔ D.honest disk.old }
+        ensures only_read { D.honest disk.old → IsOnlyRead (D.state disk.old) (D.state disk.new) }
         ensures inside { IfOk result (λ behind. behind.gate < self.now.bytes) }
     {
         let mut window = Window::new(alloc)?;
@@ -80,6 +86,10 @@ impl Place {
         requires on_disk { self.now.from + self.now.bytes ≤ D.extent disk.old }
         requires inside { gate < self.now.bytes }
         ensures extent { D.extent disk.new ≡ D.extent disk.old }
+        ensures faults_ok { OnOk result (D.faults disk.new ≡ D.faults disk.old) }
+        ensures faults_err { IfErr result (λ fault. D.faults disk.new ≡ faults_by fault (D.faults disk.old)) }
+        ensures honest { D.honest disk.new ↔ D.honest disk.old }
+        ensures only_read { D.honest disk.old → IsOnlyRead (D.state disk.old) (D.state disk.new) }
         ensures later { IfOk result (λ found. IfSome found (λ behind. (gate < behind.gate) × (behind.gate < self.now.bytes))) }
     {
         if window.fetch(disk, self.from, self.bytes, gate, 1)?[0] != OPEN {
@@ -114,6 +124,10 @@ impl Place {
         requires order { from ≤ end }
         requires inside { end ≤ self.now.bytes }
         ensures extent { D.extent disk.new ≡ D.extent disk.old }
+        ensures faults_ok { OnOk result (D.faults disk.new ≡ D.faults disk.old) }
+        ensures faults_err { IfErr result (λ fault. D.faults disk.new ≡ faults_by fault (D.faults disk.old)) }
+        ensures honest { D.honest disk.new ↔ D.honest disk.old }
+        ensures only_read { D.honest disk.old → IsOnlyRead (D.state disk.old) (D.state disk.new) }
     {
         let mut place = from;
         for _ in 0..count {
@@ -138,6 +152,10 @@ impl Place {
         requires order { place ≤ end }
         requires inside { end ≤ self.now.bytes }
         ensures extent { D.extent disk.new ≡ D.extent disk.old }
+        ensures faults_ok { OnOk result (D.faults disk.new ≡ D.faults disk.old) }
+        ensures faults_err { IfErr result (λ fault. D.faults disk.new ≡ faults_by fault (D.faults disk.old)) }
+        ensures honest { D.honest disk.new ↔ D.honest disk.old }
+        ensures only_read { D.honest disk.old → IsOnlyRead (D.state disk.old) (D.state disk.new) }
         ensures inside { IfOk result (λ next. (place ≤ next) × (next ≤ end)) }
     {
         if end - place < COMMAND_HEAD_BYTES {

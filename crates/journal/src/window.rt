@@ -1,4 +1,6 @@
 ghost use Rattle.std.specs.Prelude.{◌≡◌, ◌+◌, ◌≤◌, ◌<◌, ◌^◌, ◌-◌, min, length, OnOk, IfOk, IsTrue, ◌↔◌, vec_len};
+ghost use Rattle.disk_model.specs.Faults.{faults_after};
+ghost use Rattle.journal.specs.Reading.{IsOnlyRead};
 
 use disk_model::{DeviceFault, Disk};
 use std::alloc::{AllocError, Global};
@@ -39,10 +41,11 @@ impl Window {
         requires on_disk { area + area_bytes ≤ D.extent disk.old }
         ensures count { IfOk result (λ bytes. length bytes.now ≡ count) }
         ensures extent { D.extent disk.new ≡ D.extent disk.old }
+        ensures faults { D.faults disk.new ≡ faults_after result (D.faults disk.old) }
+        ensures honest { D.honest disk.new ↔ D.honest disk.old }
+        ensures only_read { D.honest disk.old → IsOnlyRead (D.state disk.old) (D.state disk.new) }
     {
-        if !self.holds(place, count) {
-            self.fill(disk, area, area_bytes, place)?;
-        }
+        self.load(disk, area, area_bytes, place, count)?;
         let at = (place - self.from) as usize;
         Ok(&self.bytes[at..at + count as usize])
     }
@@ -54,6 +57,30 @@ impl Window {
         ensures { IsTrue result ↔ ((self.now.from ≤ place) × (place + count ≤ self.now.from + self.now.held)) }
     {
         self.from <= place && count <= self.held && place - self.from <= self.held - count
+    }
+
+    // Has these bytes in memory.
+    fn load<D: Disk>(
+        &mut self,
+        disk: &mut D,
+        area: u64,
+        area_bytes: u32,
+        place: u32,
+        count: u32,
+    ) -> Result<(), DeviceFault>
+        requires small { count ≤ 32 }
+        requires inside { place + count ≤ area_bytes }
+        requires on_disk { area + area_bytes ≤ D.extent disk.old }
+        ensures held { OnOk result ((self.new.from ≤ place) × (place + count ≤ self.new.from + self.new.held)) }
+        ensures extent { D.extent disk.new ≡ D.extent disk.old }
+        ensures faults { D.faults disk.new ≡ faults_after result (D.faults disk.old) }
+        ensures honest { D.honest disk.new ↔ D.honest disk.old }
+        ensures only_read { D.honest disk.old → IsOnlyRead (D.state disk.old) (D.state disk.new) }
+    {
+        if self.holds(place, count) {
+            return Ok(());
+        }
+        self.fill(disk, area, area_bytes, place)
     }
 
     // Reads the part of the area from this place on.
@@ -68,6 +95,9 @@ impl Window {
         requires on_disk { area + area_bytes ≤ D.extent disk.old }
         ensures held { OnOk result ((self.new.from ≡ place) × (self.new.held ≡ min 65536 (area_bytes - place))) }
         ensures extent { D.extent disk.new ≡ D.extent disk.old }
+        ensures faults { D.faults disk.new ≡ faults_after result (D.faults disk.old) }
+        ensures honest { D.honest disk.new ↔ D.honest disk.old }
+        ensures only_read { D.honest disk.old → IsOnlyRead (D.state disk.old) (D.state disk.new) }
     {
         self.from = place;
         self.held = 0;
@@ -89,6 +119,9 @@ fn read_front<D: Disk>(
     requires on_disk { offset + count ≤ D.extent disk.old }
     ensures length { vec_len buffer.new ≡ vec_len buffer.old }
     ensures extent { D.extent disk.new ≡ D.extent disk.old }
+    ensures faults { D.faults disk.new ≡ faults_after result (D.faults disk.old) }
+    ensures honest { D.honest disk.new ↔ D.honest disk.old }
+    ensures only_read { D.honest disk.old → IsOnlyRead (D.state disk.old) (D.state disk.new) }
 {
     disk.read(offset, &mut buffer[..count as usize])
 }

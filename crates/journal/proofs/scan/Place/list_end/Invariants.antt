@@ -1,9 +1,13 @@
-use Rattle.std.proofs.Common.{◌≡◌, ◌-◌, ◌<◌}
+use Rattle.std.proofs.Common.{◌≡◌, ◌-◌, ◌<◌, ◌↔◌}
+use Rattle.journal.specs.Reading.{IsOnlyRead}
 use Rattle.journal.proofs.scan.Place.list_end.Given as goal
 
 abbrev pub invariant-loop-window : goal.invariant-loop-window
 invariant-loop-window g l = record {
   extent : g.D.Disk.extent l.disk ≡ g.D.Disk.extent l.fn.disk;
+  faults : g.D.Disk.faults l.disk ≡ g.D.Disk.faults l.fn.disk;
+  honest : g.D.Disk.honest l.disk ↔ g.D.Disk.honest l.fn.disk;
+  only_read : g.D.Disk.honest l.fn.disk → IsOnlyRead (g.D.Disk.state l.fn.disk) (g.D.Disk.state l.disk);
   within : l.end.gate < l.self.bytes;
 }
 

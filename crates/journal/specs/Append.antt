@@ -1,0 +1,28 @@
+-- what adding a group does to an area, and when it is refused
+use Rattle.std.specs.Prelude.{ℕ, ◌≡◌, ◌+◌, ◌≤◌}
+use Rattle.disk_model.specs.Faults.{counted}
+use Rattle.image_model.specs.Command.{bodies_of}
+use Rattle.journal.specs.declared.fault.JournalFault.{JournalFault}
+use Rattle.journal.specs.declared.fault.JournalFault.TheVariants.{NoMemory, DeviceFault, AreaFull, OutOfOrder, DamagedGroup}
+use Rattle.journal.specs.Area.{AreaState}
+use Rattle.journal.specs.Group.{Numbered, number_after}
+
+-- where in the area the gate behind the group would end
+abbrev pub end_after : AreaState → Numbered → ℕ
+end_after area group = area.gate + 18 + bodies_of group.commands
+
+-- the group begins with the area's next number, and there is one
+abbrev pub IsNext : AreaState → Numbered → Type 0
+IsNext area group = (1 ≤ area.next) × (group.first ≡ area.next)
+
+-- the area with the group added
+abbrev pub grown : AreaState → Numbered → AreaState
+grown area group = record area { next = number_after group; gate = area.gate + 17 + bodies_of group.commands }
+
+-- the number of faults of the device after a refusal: only a device fault is counted
+abbrev pub faults_by : JournalFault → ℕ → ℕ
+faults_by NoMemory faults = faults
+faults_by DeviceFault faults = counted faults
+faults_by AreaFull faults = faults
+faults_by OutOfOrder faults = faults
+faults_by DamagedGroup faults = faults
