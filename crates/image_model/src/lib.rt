@@ -4,6 +4,8 @@
 mod command;
 mod geometry;
 mod plain_image;
+#[cfg(test)]
+mod tests;
 
 pub use command::{Command, Kind};
 pub use geometry::{BLOCK_BYTES, Geometry, LEAST_AREA_BYTES, MOST_AREA_BYTES, MOST_BLOCKS};

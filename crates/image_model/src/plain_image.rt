@@ -44,6 +44,20 @@ impl PlainImage {
         })
     }
 
+    /// The bytes, block after block.
+    pub fn bytes(&self) -> &[u8]
+        ensures { result.now ≡ self.now.bytes }
+    {
+        &self.bytes
+    }
+
+    /// The state of each block.
+    pub fn kinds(&self) -> &[Kind]
+        ensures { result.now ≡ self.now.kinds }
+    {
+        &self.kinds
+    }
+
     /// Carries out a command. It is refused where its range passes the image, and then nothing has changed.
     pub fn apply(&mut self, command: &Command) -> Result<(), OutOfRange>
         ensures ok { OnOk result (image_of self.new ≡ apply (change_of command.now) (image_of self.old)) }
