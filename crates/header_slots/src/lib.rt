@@ -5,6 +5,8 @@ mod fault;
 mod header;
 mod laws;
 mod slots;
+#[cfg(test)]
+mod tests;
 
 pub use fault::HeaderFault;
 pub use header::{Areas, Header, Side};
