@@ -1,4 +1,5 @@
-ghost use Rattle.std.specs.Prelude.{◌≡◌, ◌+◌, ◌<◌, ◌≤◌, length};
+ghost use Rattle.std.specs.Prelude.{◌≡◌, ◌+◌, ◌<◌, ◌≤◌, length, MatchOption};
+ghost use Rattle.header_slots.specs.Header.{number_at, SpellsAt, IsBadAt};
 ghost use Rattle.header_slots.specs.Place.{index_of};
 
 use byteorder::{BigEndian, ByteOrder};
@@ -32,7 +33,9 @@ impl Side {
         }
     }
 
-    fn of(index: u8) -> Option<Side> {
+    fn of(index: u8) -> Option<Side>
+        ensures { MatchOption result (1 < index) (λ side. index ≡ index_of side) }
+    {
         match index {
             0 => Some(Side::Zero),
             1 => Some(Side::One),
@@ -65,31 +68,43 @@ pub struct Header {
 // The bytes of a header behind its gate.
 pub const HEADER_BYTES: usize = 39;
 
-const MAGIC: [u8; 8] = *b"NBDJRNL1";
+// `NBDJRNL1` as a number.
+const MAGIC: u64 = 0x4e42_444a_524e_4c31;
 
 impl Header {
     // The bytes behind the gate.
-    pub fn encode(&self) -> [u8; HEADER_BYTES] {
+    pub fn encode(&self) -> [u8; HEADER_BYTES]
+        ensures { SpellsAt result 0 self.now }
+    {
+        let Header {
+            generation,
+            geometry,
+            areas,
+            first_area,
+            map_slot,
+            base,
+        } = *self;
         let mut bytes = [0u8; HEADER_BYTES];
-        bytes[0..8].copy_from_slice(&MAGIC);
-        BigEndian::write_u64(&mut bytes[8..], self.generation);
-        BigEndian::write_u64(&mut bytes[16..], self.geometry.blocks);
-        BigEndian::write_u32(&mut bytes[24..], self.geometry.area);
-        bytes[28] = match self.areas {
+        BigEndian::write_u64(&mut bytes, MAGIC);
+        BigEndian::write_u64(&mut bytes[8..], generation);
+        BigEndian::write_u64(&mut bytes[16..], geometry.blocks);
+        BigEndian::write_u32(&mut bytes[24..], geometry.area);
+        bytes[28] = match areas {
             Areas::One => 0,
             Areas::Two => 1,
         };
-        bytes[29] = self.first_area.index();
-        bytes[30] = self.map_slot.index();
-        BigEndian::write_u64(&mut bytes[31..], self.base);
+        bytes[29] = first_area.index();
+        bytes[30] = map_slot.index();
+        BigEndian::write_u64(&mut bytes[31..], base);
         bytes
     }
 
     // The header that these bytes spell; none where a field is outside its limits.
     pub fn decode(bytes: &[u8]) -> Option<Header>
         requires { length bytes.now ≡ 39 }
+        ensures { MatchOption result (IsBadAt bytes.now 0) (SpellsAt bytes.now 0) }
     {
-        if !bytes.starts_with(&MAGIC) {
+        if u64_at(bytes, 0) != MAGIC {
             return None;
         }
         let areas = match bytes[28] {
@@ -98,15 +113,28 @@ impl Header {
             _ => return None,
         };
         Some(Header {
-            generation: BigEndian::read_u64(&bytes[8..]),
-            geometry: Geometry::new(
-                BigEndian::read_u64(&bytes[16..]),
-                BigEndian::read_u32(&bytes[24..]),
-            )?,
+            generation: u64_at(bytes, 8),
+            geometry: Geometry::new(u64_at(bytes, 16), u32_at(bytes, 24))?,
             areas,
             first_area: Side::of(bytes[29])?,
             map_slot: Side::of(bytes[30])?,
-            base: BigEndian::read_u64(&bytes[31..]),
+            base: u64_at(bytes, 31),
         })
     }
+}
+
+// The number in the eight bytes from a place on.
+pub fn u64_at(bytes: &[u8], place: usize) -> u64
+    requires { place + 8 ≤ length bytes.now }
+    ensures { result ≡ number_at place 8 bytes.now }
+{
+    BigEndian::read_u64(&bytes[place..])
+}
+
+// The number in the four bytes from a place on.
+fn u32_at(bytes: &[u8], place: usize) -> u32
+    requires { place + 4 ≤ length bytes.now }
+    ensures { result ≡ number_at place 4 bytes.now }
+{
+    BigEndian::read_u32(&bytes[place..])
 }

@@ -3,8 +3,12 @@
 
 mod fault;
 mod header;
+mod laws;
 mod slots;
+#[cfg(test)]
+mod tests;
 
 pub use fault::HeaderFault;
 pub use header::{Areas, Header, Side};
+pub use laws::header_laws;
 pub use slots::{SLOT_BYTES, close_gate, open_gate, read_current, write_body};

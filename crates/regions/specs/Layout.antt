@@ -1,0 +1,18 @@
+-- where the parts of a device stand, by docs/FORMATS.md, "Device"
+use Rattle.std.specs.Prelude.{ℕ, ◌+◌, ◌*◌}
+use Rattle.image_model.specs.Geometry.{map_bytes_of}
+use Rattle.image_model.specs.declared.geometry.Geometry.{Geometry}
+use Rattle.header_slots.specs.Place.{index_of}
+use Rattle.header_slots.specs.declared.header.Side.{Side}
+
+-- the first byte of an area
+abbrev pub area_at : Geometry → Side → ℕ
+area_at geometry area = 8192 + geometry.area * index_of area
+
+-- the first byte of a map slot
+abbrev pub map_at : Geometry → Side → ℕ
+map_at geometry slot = 8192 + 2 * geometry.area + map_bytes_of geometry.blocks * index_of slot
+
+-- the first byte of a block's data
+abbrev pub block_at : Geometry → ℕ → ℕ
+block_at geometry block = 8192 + 2 * geometry.area + 2 * map_bytes_of geometry.blocks + 4096 * block

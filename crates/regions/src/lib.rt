@@ -1,0 +1,10 @@
+//! Where a device's map slots and data stand, and the calls that read them.
+#![tactic(auto)]
+
+mod fault;
+mod laws;
+mod regions;
+
+pub use fault::RegionFault;
+pub use laws::layout_laws;
+pub use regions::Regions;

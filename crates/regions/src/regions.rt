@@ -1,0 +1,89 @@
+ghost use Rattle.std.specs.Prelude.{◌≡◌, ◌+◌, ◌<◌, ◌↔◌, ℕ, length, slice_index, OnOk};
+ghost use Rattle.disk_model.specs.Disk.{MayLeave, IsKept, LeavesOnly};
+ghost use Rattle.disk_model.specs.Faults.{faults_after};
+ghost use Rattle.image_model.specs.Geometry.{device_bytes_of};
+ghost use Rattle.regions.specs.Layout.{map_at, block_at};
+ghost use Rattle.regions.specs.Map.{IsMapReading, faults_after_reading};
+
+use crate::fault::RegionFault;
+use alloc_map::AllocMap;
+use disk_model::{DeviceFault, Disk};
+use header_slots::Side;
+use image_model::{BLOCK_BYTES, Geometry};
+use std::alloc::Global;
+
+/// Where the map slots and the data of a device stand.
+#[derive(Clone, Copy, Debug, PartialEq, Eq)]
+pub struct Regions {
+    pub geometry: Geometry,
+}
+
+impl Regions {
+    /// The regions of a device with these sizes.
+    pub fn of(geometry: &Geometry) -> Regions
+        ensures { result.geometry ≡ geometry.now }
+    {
+        Regions {
+            geometry: *geometry,
+        }
+    }
+
+    // The first byte of a map slot.
+    fn map_from(&self, slot: Side) -> u64
+        ensures { result ≡ map_at self.now.geometry slot }
+    {
+        8192 + 2 * self.geometry.area as u64 + self.geometry.map_bytes() * slot.index() as u64
+    }
+
+    // The first byte of a block's data.
+    fn block_from(&self, block: u64) -> u64
+        requires { block < self.now.geometry.blocks }
+        ensures { result ≡ block_at self.now.geometry block }
+    {
+        8192 + 2 * self.geometry.area as u64 + 2 * self.geometry.map_bytes() + BLOCK_BYTES * block
+    }
+
+    /// Reads the map of a map slot. It takes memory for two maps, and refuses with 0, 1 or 6.
+    pub fn read_slot<D: Disk>(
+        &self,
+        alloc: Global,
+        disk: &mut D,
+        slot: Side,
+    ) -> Result<AllocMap, RegionFault>
+        requires { D.extent disk.old ≡ device_bytes_of self.now.geometry.blocks self.now.geometry.area }
+        ensures extent { D.extent disk.new ≡ D.extent disk.old }
+        ensures faults { D.faults disk.new ≡ faults_after_reading result (D.faults disk.old) }
+        ensures honest { D.honest disk.new ↔ D.honest disk.old }
+
+        ensures reading { D.honest disk.old →
+            IsMapReading (D.state disk.new).seen (map_at self.now.geometry slot) self.now.geometry.blocks result }
+        ensures kept { D.honest disk.old → IsKept (D.state disk.old) (D.state disk.new) }
+        ensures any_moment { D.honest disk.old → LeavesOnly (D.state disk.old) (D.state disk.new) (MayLeave (D.state disk.old)) }
+    {
+        let mut bytes = vec![in alloc; 0; self.geometry.map_bytes() as usize]?;
+        disk.read(self.map_from(slot), &mut bytes)?;
+        Ok(AllocMap::from_bytes(alloc, self.geometry.blocks, &bytes)?)
+    }
+
+    /// Reads the data of a block, as they are stored, whatever its state. After a fault `into` holds any bytes.
+    pub fn read_block<D: Disk>(
+        &self,
+        disk: &mut D,
+        block: u64,
+        into: &mut [u8],
+    ) -> Result<(), DeviceFault>
+        requires device { D.extent disk.old ≡ device_bytes_of self.now.geometry.blocks self.now.geometry.area }
+        requires inside { block < self.now.geometry.blocks }
+        requires room { length into.old ≡ 4096 }
+        ensures extent { D.extent disk.new ≡ D.extent disk.old }
+        ensures faults { D.faults disk.new ≡ faults_after result (D.faults disk.old) }
+        ensures honest { D.honest disk.new ↔ D.honest disk.old }
+
+        ensures bytes { D.honest disk.old → OnOk result ((k : ℕ) → k < 4096 →
+            slice_index into.new k ≡ slice_index (D.state disk.new).seen (block_at self.now.geometry block + k)) }
+        ensures kept { D.honest disk.old → IsKept (D.state disk.old) (D.state disk.new) }
+        ensures any_moment { D.honest disk.old → LeavesOnly (D.state disk.old) (D.state disk.new) (MayLeave (D.state disk.old)) }
+    {
+        disk.read(self.block_from(block), into)
+    }
+}
