@@ -7,13 +7,13 @@ use std::test::Fail;
 
 // Slot 0 of a device of 16 blocks once it was made, and in its third generation.
 const FRESH: [u8; 40] = [
-    1, 0x4e, 0x42, 0x44, 0x4a, 0x52, 0x4e, 0x4c, 0x31, 0, 0, 0, 0, 0, 0, 0, 1, 0, 0, 0, 0, 0, 0, 0, 16, 0, 0x20, 0, 0, 0,
-    0, 0, 0, 0, 0, 0, 0, 0, 0, 0,
+    1, 0x4e, 0x42, 0x44, 0x4a, 0x52, 0x4e, 0x4c, 0x31, 0, 0, 0, 0, 0, 0, 0, 1, 0, 0, 0, 0, 0, 0, 0,
+    16, 0, 0x20, 0, 0, 0, 0, 0, 0, 0, 0, 0, 0, 0, 0, 0,
 ];
 
 const THIRD: [u8; 40] = [
-    1, 0x4e, 0x42, 0x44, 0x4a, 0x52, 0x4e, 0x4c, 0x31, 0, 0, 0, 0, 0, 0, 0, 3, 0, 0, 0, 0, 0, 0, 0, 16, 0, 0x20, 0, 0, 0,
-    1, 1, 0, 0, 0, 0, 0, 0, 0, 1,
+    1, 0x4e, 0x42, 0x44, 0x4a, 0x52, 0x4e, 0x4c, 0x31, 0, 0, 0, 0, 0, 0, 0, 3, 0, 0, 0, 0, 0, 0, 0,
+    16, 0, 0x20, 0, 0, 0, 1, 1, 0, 0, 0, 0, 0, 0, 0, 1,
 ];
 
 fn stored(rt: &impl Abort, disk: &mut SimDisk, header: &Header) -> Result<[u8; 40], DeviceFault> {
