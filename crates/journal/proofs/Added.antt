@@ -9,7 +9,7 @@ use Rattle.journal.specs.Append.{IsNext}
 use Rattle.journal.specs.Area.{AreaState}
 use Rattle.journal.specs.Group.{Numbered, IsGroup}
 use Rattle.journal.specs.Spelling.{StoredGroup, stored_of, group_bytes}
-use Rattle.journal.specs.GroupList.{StandsAt, IsOpen, size_of, sizes_of, number_behind, IsNextGroup, IsList, IsHeld, LeavesEither, LeavesGateOrBytes, IsOpenBefore}
+use Rattle.journal.specs.GroupList.{StandsAt, IsOpen, size_of, sizes_of, number_behind, IsNextGroup, IsList, IsHeld, IsListStored, LeavesEither, LeavesGateOrBytes, IsOpenBefore}
 use Rattle.journal.proofs.Spelled.{length-body, length-group, sizes-push, next-push}
 use Rattle.journal.proofs.Contents.{IsSameFrom, list_ends, list_stays, list_grows}
 
@@ -113,17 +113,20 @@ module _ (area : AreaState) (first : ℕ) (groups : List StoredGroup) (before : 
 
     -- and when the gate is open the area holds the longer list
     pub held_after : (number gate : ℕ) (after : State) → number ≡ number_behind group → gate ≡ area.gate + size_of group → IsOpenBefore before (area.from + area.gate) (written group) after
-        → IsHeld (record area { next = number; gate = gate }) first (groups ++ group ∷ []) after × MayLeaveTorn before area.from area.bytes after.seen
+        → IsListStored (record area { next = number; gate = gate }) first (groups ++ group ∷ []) before after
     held_after number gate after number_is gate_is opened =
-        let list = added_list after.seen (in_front after.seen opened.others) opened.gate_open opened.whole in (
-          record {
+        let list = added_list after.seen (in_front after.seen opened.others) opened.gate_open opened.whole in
+        let wide = widened after.seen opened.others in
+        record {
+          held = record {
             list = record { stand = list.stand; inside = list.inside };
             gate = omega (arith, gate_is, held.gate, sizes-push groups group);
             next = number_is ∙ sym (next-push first groups group);
             synced = λ place within. opened.synced place;
-          },
-          widened after.seen opened.others,
-        )
+          };
+          others = record { size = wide.size; bytes = wide.bytes; same = wide.same };
+          synced = opened.synced;
+        }
 
     -- the same for the place and the bytes of a write, as the program has them
     module _ (place : ℕ) (bytes : List ℕ) (place_is : place ≡ area.from + area.gate) (bytes_are : bytes ≡ written group) where
@@ -136,7 +139,7 @@ module _ (area : AreaState) (first : ℕ) (groups : List StoredGroup) (before : 
           (subst (λ (p : ℕ). LeavesGateOrBytes before p bytes content) place_is left))
 
       pub held_after_at : (number gate : ℕ) (after : State) → number ≡ number_behind group → gate ≡ area.gate + size_of group → IsOpenBefore before place bytes after
-          → IsHeld (record area { next = number; gate = gate }) first (groups ++ group ∷ []) after × MayLeaveTorn before area.from area.bytes after.seen
+          → IsListStored (record area { next = number; gate = gate }) first (groups ++ group ∷ []) before after
       held_after_at number gate after number_is gate_is opened = held_after number gate after number_is gate_is
           (subst (λ (b : List ℕ). IsOpenBefore before (area.from + area.gate) b after) bytes_are
           (subst (λ (p : ℕ). IsOpenBefore before p bytes after) place_is opened))

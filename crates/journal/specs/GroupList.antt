@@ -1,6 +1,6 @@
 -- The list of groups that the bytes of an area hold, by docs/FORMATS.md, "Group". A place is a byte of the device.
 use Rattle.std.specs.Prelude.{ℕ, ◌≡◌, ◌+◌, ◌%◌, ◌≤◌, ◌<◌, ◌⊎◌, List, [], ◌∷◌, ◌++◌, length, slice_index, sum_by, ⊤}
-use Rattle.disk_model.specs.Disk.{State, IsSyncedIn, MayLeaveTorn}
+use Rattle.disk_model.specs.Disk.{State, IsAllSynced, IsSyncedIn, MayLeaveTorn}
 use Rattle.image_model.specs.Change.{AreChanges}
 use Rattle.journal.specs.Area.{AreaState}
 use Rattle.journal.specs.Spelling.{StoredGroup, body_of_group, group_bytes}
@@ -75,6 +75,13 @@ pub record IsHeld (area : AreaState) (first : ℕ) (groups : List StoredGroup) (
   pub next : area.next ≡ next_behind first groups
   pub synced : IsSyncedIn state area.from area.bytes
 
+-- after the area's list was stored: the area holds it, what was stable outside the area stays, and nothing on the
+-- device is unsynced
+pub record IsListStored (area : AreaState) (first : ℕ) (groups : List StoredGroup) (before after : State) : Type 0 where
+  pub held : IsHeld area first groups after
+  pub others : MayLeaveTorn before area.from area.bytes after.seen
+  pub synced : IsAllSynced after
+
 -- what a crash may leave while a group is added: the list without the group or with the whole of it, and what was
 -- stable outside the area
 pub record LeavesEither (area : AreaState) (first : ℕ) (groups : List StoredGroup) (group : StoredGroup) (state : State) (content : List ℕ) : Type 0 where
@@ -92,4 +99,4 @@ pub record IsOpenBefore (before : State) (gate : ℕ) (bytes : List ℕ) (after 
   pub gate_open : IsOpen after.seen gate
   pub whole : StandsAt after.seen (gate + 1) bytes
   pub others : MayLeaveTorn before gate (1 + length bytes) after.seen
-  pub synced : (place : ℕ) → after.unsynced place → ⊥
+  pub synced : IsAllSynced after

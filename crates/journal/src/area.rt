@@ -4,7 +4,7 @@ ghost use Rattle.disk_model.specs.Faults.{faults_after};
 ghost use Rattle.image_model.specs.Change.{AreChanges};
 ghost use Rattle.journal.specs.Append.{end_after, grown, IsNext, faults_by};
 ghost use Rattle.journal.specs.Group.{IsGroup};
-ghost use Rattle.journal.specs.GroupList.{IsHeld, IsList, IsOpenBefore, LeavesEither, LeavesGateOrBytes};
+ghost use Rattle.journal.specs.GroupList.{IsHeld, IsList, IsListStored, IsOpenBefore, LeavesEither, LeavesGateOrBytes};
 ghost use Rattle.journal.specs.Reading.{IsOnlyRead};
 ghost use Rattle.journal.specs.Spelling.{StoredGroup, stored_of};
 
@@ -137,8 +137,7 @@ impl Area {
         // `Ok` the list has the group added, and a crash at any moment leaves it without the group or with it.
         ensures stored { D.honest disk.old → (first : ℕ) (groups : List StoredGroup) → IsHeld self.old first groups (D.state disk.old)
             → AreChanges self.old.blocks (stored_of group).changes
-            → OnOk result (IsHeld self.new first (groups ++ stored_of group ∷ []) (D.state disk.new)
-            × MayLeaveTorn (D.state disk.old) self.old.from self.old.bytes (D.state disk.new).seen) }
+            → OnOk result (IsListStored self.new first (groups ++ stored_of group ∷ []) (D.state disk.old) (D.state disk.new)) }
         ensures any_moment { D.honest disk.old → (first : ℕ) (groups : List StoredGroup) → IsHeld self.old first groups (D.state disk.old)
             → AreChanges self.old.blocks (stored_of group).changes
             → LeavesOnly (D.state disk.old) (D.state disk.new) (LeavesEither self.old first groups (stored_of group) (D.state disk.old)) }
@@ -170,8 +169,7 @@ impl Area {
         ensures unchanged { IfErr result (λ fault. (fault ≡ JournalFault.DeviceFault) ⊎ (disk.new ≡ disk.old)) }
         ensures stored { D.honest disk.old → (first : ℕ) (groups : List StoredGroup) → IsHeld self.old first groups (D.state disk.old)
             → AreChanges self.old.blocks (stored_of group.now).changes
-            → OnOk result (IsHeld (grown self.old group.now) first (groups ++ stored_of group.now ∷ []) (D.state disk.new)
-            × MayLeaveTorn (D.state disk.old) self.old.from self.old.bytes (D.state disk.new).seen) }
+            → OnOk result (IsListStored (grown self.old group.now) first (groups ++ stored_of group.now ∷ []) (D.state disk.old) (D.state disk.new)) }
         ensures any_moment { D.honest disk.old → (first : ℕ) (groups : List StoredGroup) → IsHeld self.old first groups (D.state disk.old)
             → AreChanges self.old.blocks (stored_of group.now).changes
             → LeavesOnly (D.state disk.old) (D.state disk.new) (LeavesEither self.old first groups (stored_of group.now) (D.state disk.old)) }
