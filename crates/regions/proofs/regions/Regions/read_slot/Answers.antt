@@ -6,6 +6,7 @@ use Rattle.alloc_map.specs.declared.fault.MapFault.TheVariants as maps
 use Rattle.alloc_map.specs.declared.map.AllocMap.{AllocMap}
 use Rattle.image_model.specs.Geometry.{map_bytes_of}
 use Rattle.regions.specs.declared.fault.RegionFault.{RegionFault}
+use Rattle.regions.specs.Layout.{map_at}
 use Rattle.regions.specs.Map.{fault_of, AreSlot, HoldsBadMap, IsMapReading}
 use Rattle.regions.proofs.regions.Regions.read_slot.Goals as goal
 
@@ -34,7 +35,8 @@ returns-in_err-from_bytes-clause-reading g c = λ honest.
     let count : c.in_ok-bytes.bytes.len ≡ length c.read.new.into = search rules in
     let same = c.deref.ensures.value ∙ all_read c.read.new.into _ c.in_ok-bytes.bytes.len count in
     let size : length c.read.new.into ≡ map_bytes_of c.args.self.now.geometry.blocks = search rules in
-    let slot = are_slot (g.D.Disk.state c.read.new.self).seen c.deref.result.now c.read.new.into _ _ c.args.self.now.geometry.blocks same size c.map_from.ensures (c.in_ok-read.ensures.bytes honest) in
+    let at : c.map_from.result ≡ map_at c.args.self.now.geometry c.args.slot = search rules in
+    let slot = are_slot (g.D.Disk.state c.read.new.self).seen c.deref.result.now c.read.new.into _ _ c.args.self.now.geometry.blocks same size at (c.in_ok-read.ensures.bytes honest) in
     refused _ _ _ c.in_err-from_bytes.field-0.0 _ c.from_residual-in_err-from_bytes.ensures.1
     (λ bad. record { bytes = c.deref.result.now; slot = slot; bad = c.from_bytes.ensures.bad_map.0 (c.in_err-from_bytes.was ∙ ap Err bad) })
 
@@ -43,5 +45,6 @@ returns-clause-reading g c = λ honest.
     let count : c.in_ok-bytes.bytes.len ≡ length c.read.new.into = search rules in
     let same = c.deref.ensures.value ∙ all_read c.read.new.into _ c.in_ok-bytes.bytes.len count in
     let size : length c.read.new.into ≡ map_bytes_of c.args.self.now.geometry.blocks = search rules in
-    let slot = are_slot (g.D.Disk.state c.read.new.self).seen c.deref.result.now c.read.new.into _ _ c.args.self.now.geometry.blocks same size c.map_from.ensures (c.in_ok-read.ensures.bytes honest) in
+    let at : c.map_from.result ≡ map_at c.args.self.now.geometry c.args.slot = search rules in
+    let slot = are_slot (g.D.Disk.state c.read.new.self).seen c.deref.result.now c.read.new.into _ _ c.args.self.now.geometry.blocks same size at (c.in_ok-read.ensures.bytes honest) in
     record { bytes = c.deref.result.now; slot = slot; count = c.in_ok-from_bytes.ensures.blocks; map = c.in_ok-from_bytes.ensures.states }
