@@ -1,4 +1,4 @@
-use Rattle.std.proofs.Common.{◌≡◌, ◌*◌, ◌/◌, vec_len, arith}
+use Rattle.std.proofs.Common.{◌≡◌, ◌/◌, vec_len, arith}
 use Rattle.std.proofs.lemmas.Grind.{common_steps}
 use Rattle.nbdj_run.proofs.connection.Session.write.Goals as goal
 
