@@ -1,0 +1,2 @@
+mod Dialogs
+mod Sessions

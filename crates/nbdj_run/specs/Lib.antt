@@ -1,1 +1,4 @@
 pub mod Plan
+pub mod Pipe
+pub mod Session
+pub mod Wire

@@ -8,3 +8,9 @@ abbrev pub Suits : Plan → ℕ → Type 0
 Suits (Format path geometry) extent = extent ≡ device_bytes_of geometry.blocks geometry.area
 Suits (Pipe path options) extent = Unit {0}
 Suits (Recover path) extent = Unit {0}
+
+-- the plan serves a connection
+abbrev pub IsPipe : Plan → Type 0
+IsPipe (Format path geometry) = ⊥
+IsPipe (Pipe path options) = Unit {0}
+IsPipe (Recover path) = ⊥

@@ -6,7 +6,9 @@ mod plan;
 mod refusal;
 mod run;
 mod storing;
+mod streams;
 
+pub use connection::pipe;
 pub use plan::{CacheMode, PipeOptions, Plan};
 pub use refusal::Refusal;
 pub use run::perform;

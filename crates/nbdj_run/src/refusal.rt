@@ -1,3 +1,7 @@
+ghost use Rattle.std.specs.Prelude.{◌≡◌};
+ghost use Rattle.nbdj_run.specs.Session.{IsNoEnd};
+ghost use Rattle.nbdj_run.specs.Wire.{refusal_of};
+
 use checkpoint::KeeperFault;
 use disk_model::DeviceFault;
 use nbd_wire::WireFault;
@@ -61,18 +65,24 @@ impl Refusal {
 }
 
 impl From<AllocError> for Refusal {
+    ghost from_gives = { λ _ refusal. IsNoEnd refusal };
+
     fn from(_error: AllocError) -> Refusal {
         Refusal::NoMemory
     }
 }
 
 impl From<DeviceFault> for Refusal {
+    ghost from_gives = { λ _ refusal. IsNoEnd refusal };
+
     fn from(_fault: DeviceFault) -> Refusal {
         Refusal::DeviceFault
     }
 }
 
 impl From<KeeperFault> for Refusal {
+    ghost from_gives = { λ _ refusal. IsNoEnd refusal };
+
     fn from(fault: KeeperFault) -> Refusal {
         match fault {
             KeeperFault::NoMemory => Refusal::NoMemory,
@@ -88,6 +98,8 @@ impl From<KeeperFault> for Refusal {
 }
 
 impl From<OrderFault> for Refusal {
+    ghost from_gives = { λ _ refusal. IsNoEnd refusal };
+
     fn from(fault: OrderFault) -> Refusal {
         match fault {
             OrderFault::NoMemory => Refusal::NoMemory,
@@ -99,6 +111,8 @@ impl From<OrderFault> for Refusal {
 }
 
 impl From<WireFault> for Refusal {
+    ghost from_gives = { λ fault refusal. refusal ≡ refusal_of fault };
+
     fn from(fault: WireFault) -> Refusal {
         match fault {
             WireFault::NoMemory => Refusal::NoMemory,

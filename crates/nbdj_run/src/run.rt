@@ -1,6 +1,8 @@
-ghost use Rattle.std.specs.Prelude.{◌≡◌};
+ghost use Rattle.std.specs.Prelude.{◌≡◌, Result};
 ghost use Rattle.image_model.specs.Geometry.{device_bytes_of};
-ghost use Rattle.nbdj_run.specs.Plan.{Suits};
+ghost use Rattle.nbdj_run.specs.Pipe.{IsPiped, status_of};
+ghost use Rattle.nbdj_run.specs.Plan.{IsPipe, Suits};
+ghost use Rattle.nbdj_run.specs.declared.refusal.Refusal.{Refusal};
 
 use crate::connection::pipe;
 use crate::plan::Plan;
@@ -25,6 +27,9 @@ pub fn perform<D: Disk + Drop, R: Read, W: Write, E: Write>(
     errors: &mut E,
 ) -> (u8, D)
     requires { Suits plan.now (D.extent disk) }
+    // A pipe wrote what it owes for what it read, and answers 0 where it ended with a DISC.
+    ensures { IsPipe plan.now → (outcome : Result (Unit {0}) Refusal) × (result.0 ≡ status_of outcome)
+        × IsPiped (R.remaining input.old) (R.remaining input.new) (W.contents output.old) (W.contents output.new) outcome }
 {
     let (outcome, disk) = match *plan {
         Plan::Format { path: _, geometry } => format(alloc, disk, geometry, output),
@@ -40,7 +45,9 @@ fn print<W: Write, T: Display + Drop>(output: &mut W, line: T) -> Result<(), Ref
 }
 
 // The exit status; a refusal is printed.
-fn status<E: Write>(outcome: Result<(), Refusal>, errors: &mut E) -> u8 {
+fn status<E: Write>(outcome: Result<(), Refusal>, errors: &mut E) -> u8
+    ensures { result ≡ status_of outcome }
+{
     match outcome {
         Ok(()) => 0,
         Err(refusal) => {

@@ -1,4 +1,5 @@
-ghost use Rattle.std.specs.Prelude.{◌≡◌, ◌+◌, ◌≤◌, ◌<◌, OnOk, IfOk};
+ghost use Rattle.std.specs.Prelude.{◌≡◌, ◌+◌, ◌≤◌, ◌<◌, OnOk, IfOk, IfErr};
+ghost use Rattle.nbdj_run.specs.Session.{IsNoEnd};
 ghost use Rattle.order_book.specs.Order.{IsInHand, IsWrite};
 
 use crate::refusal::Refusal;
@@ -38,6 +39,7 @@ impl<D: Disk> Store<D> {
     /// The error is what the client is answered, the refusal what ends the session.
     pub fn accept(&mut self, command: Command) -> Result<Result<(), Errno>, Refusal>
         requires { IsWrite command }
+        ensures { IfErr result IsNoEnd }
     {
         match self.order.accept(command) {
             Err((OrderFault::NoRoom, command)) => {
@@ -51,7 +53,9 @@ impl<D: Disk> Store<D> {
     }
 
     /// Stores all that is pending; EIO where a call of the device has failed.
-    pub fn store_all(&mut self) -> Result<Result<(), Errno>, Refusal> {
+    pub fn store_all(&mut self) -> Result<Result<(), Errno>, Refusal>
+        ensures { IfErr result IsNoEnd }
+    {
         while let Some(group) = self.order.seal()? {
             match self.store(group) {
                 Ok(()) => {}
@@ -65,7 +69,8 @@ impl<D: Disk> Store<D> {
     // Stores one group. A group that isn't stored is pending again, and after a device fault no command is accepted.
     fn store(&mut self, group: Group) -> Result<(), Refusal>
         requires { IsInHand self.old.order group }
-        ensures { OnOk result (self.new.order.pending ≡ self.old.order.pending) }
+        ensures pending { OnOk result (self.new.order.pending ≡ self.old.order.pending) }
+        ensures refusal { IfErr result IsNoEnd }
     {
         match self.keeper.append(group) {
             Ok(()) => {
@@ -84,7 +89,9 @@ impl<D: Disk> Store<D> {
 }
 
 // What a client is answered; a command that found no room a second time ends the session.
-fn accepted(answer: Result<u64, (OrderFault, Command)>) -> Result<Result<(), Errno>, Refusal> {
+fn accepted(answer: Result<u64, (OrderFault, Command)>) -> Result<Result<(), Errno>, Refusal>
+    ensures { IfErr result IsNoEnd }
+{
     match answer {
         Ok(_) => Ok(Ok(())),
         Err((OrderFault::NoMemory, _)) => Ok(Err(Errno::NoMemory)),
