@@ -1,6 +1,6 @@
 ghost use Rattle.std.specs.Prelude.{◌≡◌, ◌≤◌, ◌<◌, ◌+◌, ◌*◌, vec_len, IfOk};
 ghost use Rattle.nbd_wire.specs.Request.{HasItsData};
-ghost use Rattle.request_core.specs.Verdict.{IsServedWrite};
+ghost use Rattle.world.specs.Verdict.{IsServedWrite};
 
 use crate::plan::{CacheMode, PipeOptions};
 use crate::refusal::Refusal;
