@@ -2,7 +2,7 @@ ghost use Rattle.std.specs.Prelude.{◌≡◌, ◌≤◌, ◌<◌, ◌+◌, ◌*
 ghost use Rattle.nbd_wire.specs.Request.{HasItsData, message};
 ghost use Rattle.nbdj_run.specs.Pipe.{IsPiped, error_of, reply_to};
 ghost use Rattle.nbdj_run.specs.Session.{IsNoEnd, IsEndOr, IsServed, Serves, Takes, WritesPart};
-ghost use Rattle.request_core.specs.Verdict.{IsServedWrite};
+ghost use Rattle.world.specs.Verdict.{IsServedWrite};
 
 use crate::plan::{CacheMode, PipeOptions};
 use crate::refusal::Refusal;

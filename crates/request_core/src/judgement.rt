@@ -1,5 +1,5 @@
 ghost use Rattle.std.specs.Prelude.{◌≡◌, ◌≢◌, ◌==◌, ◌||◌, ◌&&◌, not, nat_lt, ◌+◌, ◌*◌};
-ghost use Rattle.request_core.specs.Verdict.{verdict, is_known, allowed_flags, range_verdict, IsServedWrite};
+ghost use Rattle.world.specs.Verdict.{verdict, is_known, allowed_flags, range_verdict, IsServedWrite};
 
 use bitflags::Flags;
 use image_model::{BLOCK_BYTES, Geometry};
@@ -7,15 +7,7 @@ use nbd_wire::{
     BLOCK_STATUS, CommandFlags, DISCONNECT, Errno, FLUSH, MAX_PAYLOAD, READ, RequestHead,
     SessionFlags, TRIM, WRITE, WRITE_ZEROES,
 };
-
-/// What is done with a request that no rule refuses.
-#[derive(Clone, Copy, Debug, PartialEq, Eq)]
-pub enum Action {
-    /// The session ends, without a reply.
-    End,
-    /// The request is served.
-    Serve,
-}
+use world::Action;
 
 /// Judges a request by the rules of `docs/FORMATS.md`, "Judgement": the first that applies decides.
 pub fn judge(head: &RequestHead, geometry: &Geometry, flags: &SessionFlags) -> Result<Action, Errno>

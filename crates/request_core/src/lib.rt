@@ -1,6 +1,13 @@
-//! What becomes of the requests of an export's connections.
+//! What becomes of the requests of an export's connections: their judgement, and whole runs of steps over an order and a keeper.
 #![tactic(auto)]
 
+mod bench;
 mod judgement;
+mod rehearsal;
+mod serving;
+mod storing;
 
-pub use judgement::{Action, judge};
+pub use bench::Bench;
+pub use judgement::judge;
+pub use rehearsal::rehearse;
+pub use world::{Action, Connection, Event, Mode, Outcome, SentRequest, Step, StepFault};

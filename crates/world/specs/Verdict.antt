@@ -5,8 +5,8 @@ use Rattle.nbd_wire.specs.declared.error.Errno.TheVariants.{Invalid, NoSpace}
 use Rattle.nbd_wire.specs.declared.head.RequestHead.{RequestHead}
 use Rattle.nbd_wire.specs.declared.message.SessionFlags.{SessionFlags}
 use Rattle.image_model.specs.declared.geometry.Geometry.{Geometry}
-use Rattle.request_core.specs.declared.judgement.Action.{Action}
-use Rattle.request_core.specs.declared.judgement.Action.TheVariants.{End, Serve}
+use Rattle.world.specs.declared.action.Action.{Action}
+use Rattle.world.specs.declared.action.Action.TheVariants.{End, Serve}
 
 -- what the first rule that applies decides, or else the last word
 abbrev pub first_of_rules : {X : Type 0} → List (Bool × X) → X → X

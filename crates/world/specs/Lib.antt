@@ -1,0 +1,8 @@
+pub mod Covered
+pub mod Log
+pub mod Room
+pub mod Run
+pub mod Serve
+pub mod Step
+pub mod Verdict
+pub mod World

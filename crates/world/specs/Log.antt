@@ -1,0 +1,65 @@
+-- What the log of a run must be. A request is known by the place in the log where it was sent; what was sent and what was
+-- answered, read in the log's order, is the transcript.
+use Rattle.std.specs.Prelude.{◌≡◌, ◌≢◌, ℕ, ◌<◌, ◌/◌, ◌==◌, Bool, true, Some, List, length, slice_get, bit_and}
+use Rattle.image_model.specs.Change.{Change, Written}
+use Rattle.nbd_wire.specs.Request.{Message}
+use Rattle.nbd_wire.specs.declared.error.Errno.{Errno}
+use Rattle.nbd_wire.specs.declared.error.Errno.TheVariants.{Io}
+use Rattle.world.specs.declared.event.Event.{Event}
+use Rattle.world.specs.declared.event.Event.TheVariants.{Sent, Answered}
+use Rattle.world.specs.declared.event.Outcome.{Outcome}
+use Rattle.world.specs.declared.event.Outcome.TheVariants.{Done, Refused}
+use Rattle.world.specs.declared.step.Mode.{Mode}
+use Rattle.world.specs.declared.step.Mode.TheVariants.{Writeback, Writethrough}
+
+-- the event at this place of the log
+abbrev pub StandsAt : List Event → ℕ → Event → Type 0
+StandsAt log place event = slice_get log place ≡ Some event
+
+-- the request that the connection sent at `place` is answered at `answer`: the first answer to the connection from there on
+pub record IsAnswered (log : List Event) (connection place : ℕ) (request : Message) (answer : ℕ) (outcome : Outcome) : Type 0 where
+  pub sent : StandsAt log place (Sent connection request)
+  pub later : place < answer
+  pub answered : StandsAt log answer (Answered connection outcome)
+  pub first : (between : ℕ) (other : Outcome) → place < between → between < answer → StandsAt log between (Answered connection other) → ⊥
+
+-- a request that asks for a write command, and that command ("Request types" of NBD's proto.md)
+abbrev pub is_write : Message → Bool
+is_write request = request.head.kind == 1
+
+abbrev pub command_of : Message → Change
+command_of request = Written (request.head.offset / 4096) request.bytes
+
+abbrev pub is_flush : Message → Bool
+is_flush request = request.head.kind == 3
+
+-- whether the answer to a write command waits until it is durable: with FUA, and always in writethrough
+abbrev pub waits_for_store : Mode → Message → Bool
+waits_for_store Writethrough request = true
+waits_for_store Writeback request = bit_and request.head.flags 1 == 1
+
+-- the request whose command has a place in the order
+pub record IsPaired (log : List Event) (command : Change) (place : ℕ) : Type 0 where
+  pub connection : ℕ
+  pub request : Message
+  pub sent : StandsAt log place (Sent connection request)
+  pub write : is_write request ≡ true
+  pub own : command_of request ≡ command
+
+-- The log agrees with the order of commands, under a pairing of each command with the place of its request.
+pub record IsLegal (log : List Event) (order : List Change) (paired : ℕ → ℕ) : Type 0 where
+  -- each command is that of the request it is paired with, and no two are paired with one
+  pub own : (k : ℕ) (command : Change) → slice_get order k ≡ Some command → IsPaired log command (paired k)
+  pub apart : (k m : ℕ) → k < m → m < length order → paired k ≢ paired m
+  -- a write command that is answered Ok is paired, and a request that is answered with an error other than EIO isn't
+  pub done : (connection place answer : ℕ) (request : Message) → IsAnswered log connection place request answer Done
+      → is_write request ≡ true → (k : ℕ) × (k < length order) × (paired k ≡ place)
+  pub refused : (connection place answer k : ℕ) (request : Message) (errno : Errno) → IsAnswered log connection place request answer (Refused errno)
+      → errno ≢ Io → k < length order → paired k ≢ place
+  -- a command that is answered before another one is sent stands before it
+  pub in_order : (connection answer k m : ℕ) (request : Message) (outcome : Outcome) → k < length order → m < length order
+      → IsAnswered log connection (paired k) request answer outcome → answer < paired m → k < m
+  -- a connection sends no request before its last one is answered
+  pub one_open : (connection place next : ℕ) (request other : Message) → place < next
+      → StandsAt log place (Sent connection request) → StandsAt log next (Sent connection other)
+      → (answer : ℕ) × (outcome : Outcome) × (place < answer) × (answer < next) × StandsAt log answer (Answered connection outcome)

@@ -1,0 +1,97 @@
+-- How serving a connection changes the world. Each step changes the world and adds its event to the log.
+use Rattle.std.specs.Prelude.{ℕ, ◌+◌, Bool, true, false, ◌==◌, nat_le, if◌then◌else◌, Result, Ok, Err, [], ◌∷◌, ◌++◌, length}
+use Rattle.nbd_wire.specs.Request.{Message}
+use Rattle.nbd_wire.specs.declared.error.Errno.{Errno}
+use Rattle.nbd_wire.specs.declared.error.Errno.TheVariants.{Io, NoMemory, NoSpace}
+use Rattle.world.specs.declared.action.Action.{Action}
+use Rattle.world.specs.declared.action.Action.TheVariants.{End, Serve}
+use Rattle.world.specs.declared.connection.Connection.{Connection}
+use Rattle.world.specs.declared.connection.Connection.TheVariants.{Idle, Requested, Waiting, Ready, Closed}
+use Rattle.world.specs.declared.event.Event.{Event}
+use Rattle.world.specs.declared.event.Event.TheVariants.{Answered, Numbered, Took, Held}
+use Rattle.world.specs.declared.event.Outcome.{Outcome}
+use Rattle.world.specs.declared.event.Outcome.TheVariants.{Done, Refused}
+use Rattle.world.specs.Log.{command_of, is_flush, waits_for_store}
+use Rattle.world.specs.Verdict.{verdict}
+use Rattle.world.specs.World.{World, put, last_number, has_room}
+
+-- What a step may meet: nothing, a growth of memory that is refused, or a call of the device that fails. Nothing else
+-- in a step is free.
+pub data Luck : Type 0 where
+  Fine : Luck
+  Starved : Luck
+  Faulted : Luck
+
+abbrev pub logged : World → Event → World
+logged world event = record world { log = world.log ++ event ∷ [] }
+
+abbrev pub held : World → World
+held world = logged world Held
+
+-- the connection comes to this state, and nothing else changes
+abbrev pub moved : World → ℕ → Connection → World
+moved world connection state = record world { connections = put world.connections connection state }
+
+abbrev pub ready : World → ℕ → Outcome → World
+ready world connection outcome = logged (moved world connection (Ready outcome)) Took
+
+-- the command of a request goes to the end of the order, paired with the request
+abbrev pub ordered : World → ℕ → Message → World
+ordered world connection request = record world {
+  order = world.order ++ command_of request ∷ [];
+  paired = put world.paired (length world.order) (world.places connection);
+}
+
+-- what a write command waits for, once it has this number
+abbrev pub state_after : Bool → ℕ → Connection
+state_after true number = Waiting number
+state_after false number = Ready Done
+
+-- a write command that nothing holds or refuses
+abbrev pub accepted : Luck → World → ℕ → Message → World
+accepted Starved world connection request = ready world connection (Refused NoMemory)
+accepted _ world connection request =
+    let number = last_number world + 1 in
+    logged (moved (ordered world connection request) connection (state_after (waits_for_store world.setting.mode request) number))
+    (Numbered connection number)
+
+-- a write command: refused where no number is left, held where there is no room
+abbrev pub write_served : Luck → World → ℕ → Message → World
+write_served luck world connection request =
+    if last_number world == 18446744073709551615 then ready world connection (Refused NoSpace)
+    else (if has_room world (command_of request) then accepted luck world connection request else held world)
+
+-- a request that passes judgement: EIO after a device fault, a FLUSH waits for the last number
+abbrev pub passed : Luck → World → ℕ → Message → World
+passed luck world connection request =
+    if world.stopped then ready world connection (Refused Io)
+    else (if is_flush request then logged (moved world connection (Waiting (last_number world))) Took
+    else write_served luck world connection request)
+
+-- a request that is judged: DISC closes the connection
+abbrev pub judged : Result Action Errno → Luck → World → ℕ → Message → World
+judged (Ok End) luck world connection request = logged (moved world connection Closed) Took
+judged (Ok Serve) luck world connection request = passed luck world connection request
+judged (Err errno) luck world connection request = ready world connection (Refused errno)
+
+-- serving a connection in this state
+abbrev pub serve : Luck → World → ℕ → Connection → World
+serve luck world connection (Requested request) =
+    judged (verdict request.head world.setting.geometry world.setting.flags) luck world connection request
+serve luck world connection Idle = held world
+serve luck world connection (Waiting number) = held world
+serve luck world connection (Ready outcome) = held world
+serve luck world connection Closed = held world
+
+abbrev pub answered : World → ℕ → Outcome → World
+answered world connection outcome = logged (moved world connection Idle) (Answered connection outcome)
+
+-- answering a connection in this state: who waits is answered once its number is durable, or EIO after a device fault
+abbrev pub answer : World → ℕ → Connection → World
+answer world connection (Ready outcome) = answered world connection outcome
+answer world connection (Waiting number) =
+    if nat_le number (world.setting.opening + world.durable) then answered world connection Done
+    else (if world.stopped then answered world connection (Refused Io) else held world)
+answer world connection Idle = held world
+answer world connection (Requested request) = held world
+answer world connection Closed = held world

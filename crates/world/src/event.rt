@@ -1,0 +1,43 @@
+use crate::connection::SentRequest;
+use nbd_wire::Errno;
+use thiserror::Error;
+
+/// What a step did.
+#[derive(Debug, Drop)]
+pub enum Event {
+    /// The connection sent the request.
+    Sent(usize, SentRequest),
+    /// The connection was answered.
+    Answered(usize, Outcome),
+    /// The connection's command got this number.
+    Numbered(usize, u64),
+    /// Another step took place.
+    Took,
+    /// The step's condition didn't hold.
+    Held,
+    /// The step failed.
+    Failed(StepFault),
+}
+
+/// What a request is answered.
+#[derive(Clone, Copy, Debug, PartialEq, Eq)]
+pub enum Outcome {
+    /// It is done.
+    Done,
+    /// It is refused.
+    Refused(Errno),
+}
+
+/// Why a step failed; `docs/FORMATS.md`, "Refusals", has the numbers.
+#[derive(Clone, Copy, Debug, PartialEq, Eq, Error)]
+pub enum StepFault {
+    /// 0: a growth of memory was refused.
+    #[error("no memory")]
+    NoMemory,
+    /// 1: a call of the device failed.
+    #[error("device fault")]
+    DeviceFault,
+    /// 16: a call of the device has failed before.
+    #[error("failed")]
+    FailedBefore,
+}

@@ -1,0 +1,16 @@
+//! The world of an export: its connections, the order of write commands and what of it is stored, as a run of steps
+//! changes them; what a log of such a run must be, and what a FLUSH covers.
+//!
+//! The definitions stand in `specs/`, and `docs/DEFINITIONS.md` says each in a sentence. Here are the types that they
+//! share with the programs that carry such runs out.
+#![tactic(auto)]
+
+mod action;
+mod connection;
+mod event;
+mod step;
+
+pub use action::Action;
+pub use connection::{Connection, SentRequest};
+pub use event::{Event, Outcome, StepFault};
+pub use step::{Mode, Step};

@@ -1,0 +1,27 @@
+use nbd_wire::Request;
+
+/// One step of a schedule. A connection is named by its place, from 0 on.
+#[derive(Debug, Drop)]
+pub enum Step {
+    /// The connection sends a request.
+    Send(usize, Request),
+    /// The connection's request is judged, and a command gets its number.
+    Serve(usize),
+    /// The connection is answered.
+    Answer(usize),
+    /// The longest beginning of what is pending becomes a group.
+    Seal,
+    /// The group in hand is stored.
+    Append,
+    /// What is stored counts as durable.
+    Publish,
+}
+
+/// When a write command without FUA is answered.
+#[derive(Clone, Copy, Debug, PartialEq, Eq)]
+pub enum Mode {
+    /// Once it has its place in the order.
+    Writeback,
+    /// Once it and all before it are stored, as one with FUA.
+    Writethrough,
+}

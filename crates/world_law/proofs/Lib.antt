@@ -1,0 +1,7 @@
+pub mod Events
+pub mod Logged
+pub mod Ordered
+pub mod Reached
+pub mod Sound
+pub mod Steps
+pub mod Talk

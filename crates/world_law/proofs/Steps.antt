@@ -1,0 +1,287 @@
+-- each step leaves a world sound
+use Rattle.std.proofs.Common.{◌≡◌, ◌⊎◌, inl, inr, ℕ, suc, ◌+◌, ◌-◌, ◌<◌, ◌≤◌, ◌==◌, ◌&&◌, ◌||◌, ◌*◌, Bool, true, false, if◌then◌else◌, nat_le, nat_lt, not, Result, Ok, Err, List, [], ◌∷◌, ◌++◌, length, length-append, length-drop, drop, refl, arith, bit_and}
+use Rattle.std.proofs.lemmas.Bool.{and_parts, both_ways, cases_Bool, ltb-true, leb-true, not-false}
+use Rattle.image_model.specs.Change.{Change}
+use Rattle.nbd_wire.specs.Request.{Message, message}
+use Rattle.nbd_wire.specs.declared.error.Errno.{Errno}
+use Rattle.nbd_wire.specs.declared.error.Errno.TheVariants.{Io, NoMemory, NoSpace, Invalid}
+use Rattle.nbd_wire.specs.declared.head.RequestHead.{RequestHead}
+use Rattle.nbd_wire.specs.declared.message.SessionFlags.{SessionFlags}
+use Rattle.image_model.specs.declared.geometry.Geometry.{Geometry}
+use Rattle.world.specs.declared.action.Action.{Action}
+use Rattle.world.specs.declared.action.Action.TheVariants.{End, Serve}
+use Rattle.world.specs.declared.connection.Connection.{Connection}
+use Rattle.world.specs.declared.connection.Connection.TheVariants.{Idle, Requested, Waiting, Ready, Closed}
+use Rattle.world.specs.declared.event.Event.{Event}
+use Rattle.world.specs.declared.event.Event.TheVariants.{Numbered, Took, Held, Failed}
+use Rattle.world.specs.declared.event.StepFault.{StepFault}
+use Rattle.world.specs.declared.event.StepFault.TheVariants as fault
+use Rattle.world.specs.declared.event.Outcome.{Outcome}
+use Rattle.world.specs.declared.event.Outcome.TheVariants.{Done, Refused}
+use Rattle.world.specs.declared.step.Step.{Step}
+use Rattle.world.specs.declared.step.Step.TheVariants as steps
+use Rattle.disk_model.specs.Faults.{counted}
+use Rattle.order_book.specs.Order.{body_limit}
+use Rattle.world.specs.Log.{command_of, is_write, is_flush, waits_for_store, IsAnswered}
+use Rattle.world.specs.Room.{body_bytes, bodies_bytes, longest}
+use Rattle.world.specs.Serve.{Luck, Fine, Starved, Faulted, logged, held, moved, ready, ordered, state_after, accepted, write_served, passed, judged, serve, answer}
+use Rattle.world.specs.Step.{send, sealed_more, seal, put_back, stored_more, append, publish, after_step}
+use Rattle.world.specs.Verdict.{verdict, first_of_rules, is_known, allowed_flags, is_unaligned, past_end}
+use Rattle.world.specs.World.{World, Setting, fresh, last_number, has_room, fits, in_hand}
+use Rattle.world_law.proofs.Logged.{IsQuiet, put_same, sound_quiet, sound_moved}
+use Rattle.world_law.proofs.Ordered.{sound_ordered}
+use Rattle.world_law.proofs.Sound.{AwaitsOthers, IsRight, IsSound, facts_of}
+use Rattle.world_law.proofs.Talk.{sound_sent, sound_answered, allowed_ready_done, allowed_refused, allowed_fault, allowed_waiting, flush_no_write}
+
+-- what holds of both sides of a choice holds of the choice
+pub of_either : {X : Type 0} (P : X → Type 0) (test : Bool) (x y : X) → (test ≡ true → P x) → (test ≡ false → P y) → P (if test then x else y)
+of_either P true x y here there = here refl
+of_either P false x y here there = there refl
+
+quiet_took : IsQuiet Took
+quiet_took = record { unsent = λ connection request is. cc; unanswered = λ connection outcome is. cc }
+
+quiet_held : IsQuiet Held
+quiet_held = record { unsent = λ connection request is. cc; unanswered = λ connection outcome is. cc }
+
+quiet_failed : (fault : StepFault) → IsQuiet (Failed fault)
+quiet_failed fault = record { unsent = λ connection request is. cc; unanswered = λ connection outcome is. cc }
+
+quiet_numbered : (c number : ℕ) → IsQuiet (Numbered c number)
+quiet_numbered c number = record { unsent = λ connection request is. cc; unanswered = λ connection outcome is. cc }
+
+sound_held : (world : World) → IsSound world → IsSound (held world)
+sound_held world sound = sound_quiet world Held quiet_held sound
+
+-- a test that isn't met leaves the rest
+past : {X : Type 0} (test : Bool) (x y z : X) → (if test then x else y) ≡ z → (x ≡ z → ⊥) → (test ≡ false) × (y ≡ z)
+past true x y z is unlike = absurd (unlike is)
+past false x y z is unlike = (refl, is)
+
+err_unlike : (errno : Errno) → (let result : Result Action Errno = Err errno in result ≡ Ok Serve) → ⊥
+err_unlike errno is = cc
+
+end_unlike : (let result : Result Action Errno = Ok End in result ≡ Ok Serve) → ⊥
+end_unlike is = cc
+
+-- where the rules of judgement let a request that is no FLUSH through, the last of them doesn't apply
+passes : (disc unknown flagged empty flush context unaligned long beyond other : Bool) (errno : Errno) → (empty ≡ true → flush ≡ true)
+    → first_of_rules ((disc, Ok End) ∷ (unknown, Err Invalid) ∷ (flagged, Err Invalid) ∷ (empty, Ok Serve) ∷ (flush, Err Invalid) ∷ (context, Err Invalid) ∷ [])
+    (first_of_rules ((unaligned, Err Invalid) ∷ (long, Err Invalid) ∷ (beyond, Err errno) ∷ (other, Err Invalid) ∷ []) (Ok Serve)) ≡ Ok Serve
+    → flush ≡ false → other ≡ false
+passes disc unknown flagged true flush context unaligned long beyond other errno flushes is no_flush = absurd (both_ways flush no_flush (flushes refl))
+passes disc unknown flagged false flush context unaligned long beyond other errno flushes is no_flush =
+    let a = past disc (Ok End) _ (Ok Serve) is end_unlike in
+    let b = past unknown (Err Invalid) _ (Ok Serve) a.1 (err_unlike Invalid) in
+    let c = past flagged (Err Invalid) _ (Ok Serve) b.1 (err_unlike Invalid) in
+    let d = past flush (Err Invalid) _ (Ok Serve) c.1 (err_unlike Invalid) in
+    let e = past context (Err Invalid) _ (Ok Serve) d.1 (err_unlike Invalid) in
+    let f = past unaligned (Err Invalid) _ (Ok Serve) e.1 (err_unlike Invalid) in
+    let g = past long (Err Invalid) _ (Ok Serve) f.1 (err_unlike Invalid) in
+    let h = past beyond (Err errno) _ (Ok Serve) g.1 (err_unlike errno) in
+    (past other (Err Invalid) _ (Ok Serve) h.1 (err_unlike Invalid)).0
+
+-- a request that passes judgement and isn't a FLUSH is a WRITE
+pub passes_write : (head : RequestHead) (geometry : Geometry) (flags : SessionFlags) → verdict head geometry flags ≡ Ok Serve
+    → (head.kind == 3) ≡ false → (head.kind == 1) ≡ true
+passes_write head geometry flags is no_flush = not-false (head.kind == 1)
+    (passes (head.kind == 2) (not (is_known head.kind)) (not (bit_and head.flags (allowed_flags head.kind flags.structured) == head.flags))
+    ((head.kind == 3) && (head.offset == 0) && (head.length == 0)) (head.kind == 3) ((head.kind == 7) && not (flags.structured && flags.context))
+    (is_unaligned head) (((head.kind == 0) || (head.kind == 1)) && nat_lt 1048576 head.length) (nat_lt (4096 * geometry.blocks) (head.offset + head.length))
+    (not (head.kind == 1)) (past_end head.kind)
+    (λ all. (and_parts (head.kind == 3) (head.offset == 0) (and_parts ((head.kind == 3) && (head.offset == 0)) (head.length == 0) all).0).0)
+    is no_flush)
+
+module _ (world : World) (c : ℕ) (sound : IsSound world) where
+  module _ (request : Message) (right : IsRight (facts_of world) c (world.places c) (Requested request)) where
+    sound_ready : (errno : Errno) → IsSound (ready world c (Refused errno))
+    sound_ready errno = sound_quiet (moved world c (Ready (Refused errno))) Took quiet_took (sound_moved world c (Ready (Refused errno)) sound (request, right.0, right.1))
+
+    new_below : length world.order < length (world.order ++ command_of request ∷ [])
+    new_below = omega (arith, length-append world.order (command_of request ∷ []))
+
+    right_after : (waits : Bool) → waits_for_store world.setting.mode request ≡ waits → is_write request ≡ true
+        → IsRight (facts_of (ordered world c request)) c (world.places c) (state_after waits (last_number world + 1))
+    right_after true waits write = (
+      request,
+      right.0,
+      inl (record {
+        write = write;
+        k = length world.order;
+        below = new_below;
+        own = put_same world.paired (length world.order) (world.places c);
+        reached = omega arith;
+      }),
+    )
+    right_after false waits write = (request, right.0, write, waits, (length world.order, new_below, put_same world.paired (length world.order) (world.places c)))
+
+    sound_numbered : is_write request ≡ true → IsSound (logged (moved (ordered world c request) c (state_after (waits_for_store world.setting.mode request) (last_number world + 1))) (Numbered c (last_number world + 1)))
+    sound_numbered write = sound_quiet _ (Numbered c (last_number world + 1)) (quiet_numbered c (last_number world + 1))
+        (sound_ordered world c request sound right.0 right.1 write (state_after (waits_for_store world.setting.mode request) (last_number world + 1))
+        (right_after (waits_for_store world.setting.mode request) refl write))
+
+    sound_accepted : (luck : Luck) → is_write request ≡ true → IsSound (accepted luck world c request)
+    sound_accepted Starved write = sound_ready NoMemory
+    sound_accepted Fine write = sound_numbered write
+    sound_accepted Faulted write = sound_numbered write
+
+    sound_write : (luck : Luck) → is_write request ≡ true → IsSound (write_served luck world c request)
+    sound_write luck write = of_either IsSound (last_number world == 18446744073709551615) _ _
+        (λ full. sound_ready NoSpace)
+        (λ left. of_either IsSound (has_room world (command_of request)) _ _ (λ room. sound_accepted luck write) (λ none. sound_held world sound))
+
+    others_before : is_flush request ≡ true → AwaitsOthers (facts_of world) (world.places c) (last_number world) request
+    others_before flush = record {
+      no_write = no_write (cases_Bool (is_write request));
+      reached = λ from k answer other below answered before. omega (arith, below);
+    }
+      where
+        no_write : (is_write request ≡ true) ⊎ (is_write request ≡ false) → is_write request ≡ false
+        no_write (inl write) = absurd (flush_no_write request flush write)
+        no_write (inr is) = is
+
+    sound_passed : (luck : Luck) → (is_flush request ≡ false → is_write request ≡ true) → IsSound (passed luck world c request)
+    sound_passed luck writes = of_either IsSound world.stopped _ _
+        (λ stopped. sound_ready Io)
+        (λ works. of_either IsSound (is_flush request) _ _
+        (λ flush. sound_quiet (moved world c (Waiting (last_number world))) Took quiet_took
+        (sound_moved world c (Waiting (last_number world)) sound (request, right.0, inr (others_before flush))))
+        (λ other. sound_write luck (writes other)))
+
+    sound_judged : (result : Result Action Errno) → (result ≡ Ok Serve → is_flush request ≡ false → is_write request ≡ true) → (luck : Luck) → IsSound (judged result luck world c request)
+    sound_judged (Ok End) writes luck = sound_quiet (moved world c Closed) Took quiet_took (sound_moved world c Closed sound tt)
+    sound_judged (Ok Serve) writes luck = sound_passed luck (writes refl)
+    sound_judged (Err errno) writes luck = sound_ready errno
+
+  sound_serve : (luck : Luck) (state : Connection) → IsRight (facts_of world) c (world.places c) state → IsSound (serve luck world c state)
+  sound_serve luck (Requested request) right =
+      sound_judged request right (verdict request.head world.setting.geometry world.setting.flags) (passes_write request.head world.setting.geometry world.setting.flags) luck
+  sound_serve luck Idle right = sound_held world sound
+  sound_serve luck (Waiting number) right = sound_held world sound
+  sound_serve luck (Ready outcome) right = sound_held world sound
+  sound_serve luck Closed right = sound_held world sound
+
+  sound_answer : (state : Connection) → IsRight (facts_of world) c (world.places c) state → IsSound (answer world c state)
+  sound_answer (Ready Done) right = sound_answered world c right.0 Done sound right.1 (allowed_ready_done world c right)
+  sound_answer (Ready (Refused errno)) right = sound_answered world c right.0 (Refused errno) sound right.1 (allowed_refused world c right.0 errno right.2)
+  sound_answer (Waiting number) right = of_either IsSound (nat_le number (world.setting.opening + world.durable)) _ _
+      (λ reached. sound_answered world c right.0 Done sound right.1
+      (allowed_waiting world c number right.0 sound (leb-true number (world.setting.opening + world.durable) reached) right.2))
+      (λ above. of_either IsSound world.stopped _ _
+      (λ stopped. sound_answered world c right.0 (Refused Io) sound right.1 (allowed_fault world c right.0))
+      (λ works. sound_held world sound))
+  sound_answer Idle right = sound_held world sound
+  sound_answer (Requested request) right = sound_held world sound
+  sound_answer Closed right = sound_held world sound
+
+  sound_send : (luck : Luck) (request : Message) (state : Connection) → IsRight (facts_of world) c (world.places c) state → IsSound (send luck world c request state)
+  sound_send Starved request Idle right = sound_quiet world (Failed fault.NoMemory) (quiet_failed fault.NoMemory) sound
+  sound_send Fine request Idle right = sound_sent world c request sound right
+  sound_send Faulted request Idle right = sound_sent world c request sound right
+  sound_send luck request (Requested other) right = sound_held world sound
+  sound_send luck request (Waiting number) right = sound_held world sound
+  sound_send luck request (Ready outcome) right = sound_held world sound
+  sound_send luck request Closed right = sound_held world sound
+
+-- the numbers come to others that are in order, and no fewer commands are durable
+sound_counts : (world : World) (sealed stored durable at faults : ℕ) (stopped : Bool) → IsSound world → world.durable ≤ durable → durable ≤ stored → stored ≤ sealed
+    → sealed ≤ length world.order → IsSound (record world { sealed = sealed; stored = stored; durable = durable; at = at; faults = faults; stopped = stopped })
+sound_counts world sealed stored durable at faults stopped sound more first second third = record {
+  legal = sound.legal;
+  durable = λ k below covered. let before = sound.durable k below covered in omega (arith, before, more);
+  within = record { durable = first; stored = second; sealed = third };
+  right = sound.right;
+}
+
+-- no more commands fit a group than there are
+pub longest-le : (limit : ℕ) (commands : List Change) → longest limit commands ≤ length commands
+longest-le limit [] = omega arith
+longest-le limit (command ∷ commands) =
+    of_either (λ (n : ℕ). n ≤ suc (length commands)) (nat_le (body_bytes command) limit) _ _
+    (λ fit. let rest = longest-le (limit - body_bytes command) commands in omega (arith, rest))
+    (λ none. omega arith)
+
+module _ (world : World) (sound : IsSound world) where
+  sound_took : (sealed stored durable at faults : ℕ) (stopped : Bool) (event : Event) → IsQuiet event → world.durable ≤ durable → durable ≤ stored → stored ≤ sealed
+      → sealed ≤ length world.order → IsSound (logged (record world { sealed = sealed; stored = stored; durable = durable; at = at; faults = faults; stopped = stopped }) event)
+  sound_took sealed stored durable at faults stopped event quiet more first second third =
+      sound_quiet (record world { sealed = sealed; stored = stored; durable = durable; at = at; faults = faults; stopped = stopped }) event quiet
+      (sound_counts world sealed stored durable at faults stopped sound more first second third)
+
+  sound_grouped : IsSound (sealed_more Fine world)
+  sound_grouped =
+      let count = longest (body_limit world.setting.geometry.area) (drop world.sealed world.order) in
+      let most = longest-le (body_limit world.setting.geometry.area) (drop world.sealed world.order) in
+      let rest = length-drop world.sealed world.order in
+      let durable = sound.within.durable in let stored = sound.within.stored in let sealed = sound.within.sealed in
+      sound_took (world.sealed + count) world.stored world.durable world.at world.faults world.stopped Took quiet_took
+      (omega arith) durable (omega (arith, stored)) (omega (arith, most, rest, sealed))
+
+  sound_sealed_more : (luck : Luck) → IsSound (sealed_more luck world)
+  sound_sealed_more Starved = sound_quiet world (Failed fault.NoMemory) (quiet_failed fault.NoMemory) sound
+  sound_sealed_more Fine = sound_grouped
+  sound_sealed_more Faulted = sound_grouped
+
+  sound_seal : (luck : Luck) → IsSound (seal luck world)
+  sound_seal luck = of_either IsSound (nat_lt world.sealed (length world.order) && (world.sealed == world.durable)) _ _
+      (λ pending. sound_sealed_more luck) (λ none. sound_held world sound)
+
+  sound_put_back : (event : Event) → IsQuiet event → IsSound (logged (put_back world) event)
+  sound_put_back event quiet =
+      let durable = sound.within.durable in let stored = sound.within.stored in let sealed = sound.within.sealed in
+      sound_took world.stored world.stored world.durable world.at world.faults world.stopped event quiet (omega arith) durable (omega arith) (omega (arith, stored, sealed))
+
+  sound_stored_more : (luck : Luck) → IsSound (stored_more luck world)
+  sound_stored_more Fine =
+      let durable = sound.within.durable in let stored = sound.within.stored in let sealed = sound.within.sealed in
+      sound_took world.sealed world.sealed world.durable (world.at + 17 + bodies_bytes (in_hand world)) world.faults world.stopped Took quiet_took
+      (omega arith) (omega (arith, durable, stored)) (omega arith) sealed
+  sound_stored_more Starved = sound_quiet world (Failed fault.NoMemory) (quiet_failed fault.NoMemory) sound
+  sound_stored_more Faulted =
+      let durable = sound.within.durable in let stored = sound.within.stored in let sealed = sound.within.sealed in
+      sound_took world.stored world.stored world.durable world.at (counted world.faults) true (Failed fault.DeviceFault) (quiet_failed fault.DeviceFault)
+      (omega arith) durable (omega arith) (omega (arith, stored, sealed))
+
+  sound_append : (luck : Luck) → IsSound (append luck world)
+  sound_append luck = of_either IsSound (nat_lt world.stored world.sealed) _ _
+      (λ hand. of_either IsSound world.stopped _ _
+      (λ stopped. sound_put_back (Failed fault.FailedBefore) (quiet_failed fault.FailedBefore))
+      (λ works. of_either IsSound (fits world) _ _ (λ fit. sound_stored_more luck) (λ full. sound_put_back Held quiet_held)))
+      (λ none. sound_held world sound)
+
+  sound_publish : IsSound (publish world)
+  sound_publish = of_either IsSound (nat_lt world.durable world.stored) _ _
+      (λ more. let stored = sound.within.stored in let sealed = sound.within.sealed in
+      sound_took world.sealed world.stored world.stored world.at world.faults world.stopped Took quiet_took
+      (let above = ltb-true world.durable world.stored more in omega (arith, above)) (omega arith) stored sealed)
+      (λ none. sound_held world sound)
+
+  -- each step leaves the world sound
+  pub sound_step : (step : Step) (luck : Luck) → IsSound (after_step world step luck)
+  sound_step (steps.Send c request) luck = sound_send world c sound luck (message request) (world.connections c) (sound.right c)
+  sound_step (steps.Serve c) luck = sound_serve world c sound luck (world.connections c) (sound.right c)
+  sound_step (steps.Answer c) luck = sound_answer world c sound (world.connections c) (sound.right c)
+  sound_step steps.Seal luck = sound_seal luck
+  sound_step steps.Append luck = sound_append luck
+  sound_step steps.Publish luck = sound_publish
+
+-- a fresh world is sound
+pub sound_fresh : (setting : Setting) (end failures : ℕ) → IsSound (fresh setting end failures)
+sound_fresh setting end failures = record {
+  legal = record {
+    own = λ k command at. cc;
+    apart = λ k m before below. absurd (omega (arith, below));
+    done = λ c place answer request is write. none c place answer request Done is;
+    refused = λ c place answer k request errno is unlike below. absurd (omega (arith, below));
+    in_order = λ c answer k m request outcome k_below m_below is before. absurd (omega (arith, k_below));
+    one_open = λ c place next request other before at later. cc;
+  };
+  durable = λ k below covered. absurd (omega (arith, below));
+  within = record { durable = omega arith; stored = omega arith; sealed = omega arith };
+  right = λ c. of_either (λ (s : Connection). IsRight (facts_of (fresh setting end failures)) c 0 s) (nat_lt c setting.connections) Idle Closed
+      (λ inside place request at. cc) (λ outside. tt);
+}
+  where
+    none : (c place answer : ℕ) (request : Message) (outcome : Outcome) → IsAnswered [] c place request answer outcome
+        → (k : ℕ) × (k < 0) × (0 ≡ place)
+    none c place answer request outcome is = let at = is.sent in cc
