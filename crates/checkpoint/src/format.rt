@@ -3,11 +3,11 @@ ghost use Rattle.image_model.specs.Geometry.{device_bytes_of};
 
 use crate::fault::KeeperFault;
 use crate::keeper::Keeper;
-use crate::layout::{area_at, map_slot_at};
 use disk_model::Disk;
 use header_slots::{Areas, Header, Side, close_gate, open_gate, write_body};
 use image_model::Geometry;
 use journal::Area;
+use regions::Regions;
 use std::alloc::Global;
 
 impl<D: Disk> Keeper<D> {
@@ -16,7 +16,7 @@ impl<D: Disk> Keeper<D> {
     /// Both header gates are closed and synced first; the header's gate is opened last, when all else is stable.
     pub fn format(alloc: Global, disk: &mut D, geometry: Geometry) -> Result<(), KeeperFault>
         requires { D.extent disk.old ≡ device_bytes_of geometry.blocks geometry.area }
-        ensures extent { D.extent disk.new ≡ D.extent disk.old }
+        ensures { D.extent disk.new ≡ D.extent disk.old }
     {
         close_gate(disk, Side::Zero)?;
         close_gate(disk, Side::One)?;
@@ -43,12 +43,17 @@ fn write_parts<D: Disk>(alloc: Global, disk: &mut D, header: &Header) -> Result<
     ensures extent { D.extent disk.new ≡ D.extent disk.old }
 {
     let geometry = header.geometry;
-    let from = area_at(&geometry, Side::Zero);
-    let mut area = Area::new(alloc, from, geometry.area, geometry.blocks, 1);
+    let regions = Regions::of(&geometry);
+    let mut area = Area::new(
+        alloc,
+        regions.area_from(Side::Zero),
+        geometry.area,
+        geometry.blocks,
+        1,
+    );
     area.close_first(disk)?;
-    let map = map_slot_at(&geometry, Side::Zero);
     let holes = vec![in alloc; 0; geometry.map_bytes() as usize]?;
-    disk.write_at(map, &holes)?;
+    disk.write_at(regions.map_from(Side::Zero), &holes)?;
     write_body(disk, Side::Zero, header)?;
     Ok(())
 }

@@ -1,0 +1,3 @@
+pub mod Frame
+pub mod Added
+pub mod Sole
