@@ -16,6 +16,8 @@ pub enum Refusal {
     NoMemory,
     #[error("device fault")]
     DeviceFault,
+    #[error("bad map")]
+    BadMap,
     #[error("no header")]
     NoHeader,
     #[error("bad header")]
@@ -48,6 +50,7 @@ impl Refusal {
         match self {
             Refusal::NoMemory => 0,
             Refusal::DeviceFault => 1,
+            Refusal::BadMap => 6,
             Refusal::NoHeader => 7,
             Refusal::BadHeader => 8,
             Refusal::NumbersFull => 9,
@@ -87,6 +90,7 @@ impl From<KeeperFault> for Refusal {
         match fault {
             KeeperFault::NoMemory => Refusal::NoMemory,
             KeeperFault::DeviceFault => Refusal::DeviceFault,
+            KeeperFault::BadMap => Refusal::BadMap,
             KeeperFault::NoHeader => Refusal::NoHeader,
             KeeperFault::BadHeader => Refusal::BadHeader,
             KeeperFault::AreaFull => Refusal::AreaFull,
