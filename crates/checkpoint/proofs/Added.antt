@@ -1,5 +1,5 @@
 -- What a keeper keeps while a group is added, and then.
-use Rattle.std.proofs.Common.{◌≡◌, inl, inr, ℕ, ◌+◌, ◌%◌, ◌<◌, ◌≤◌, ◌⊎◌, ⊎_elim, List, [], ◌∷◌, ◌++◌, length, slice_index, false, refl, sym, ◌∙◌, ap, subst, arith, append_assoc, length-append}
+use Rattle.std.proofs.Common.{◌≡◌, inl, inr, ℕ, ◌+◌, ◌%◌, ◌<◌, ◌≤◌, ◌⊎◌, ⊎_elim, List, [], ◌∷◌, ◌++◌, length, slice_index, refl, sym, ◌∙◌, ap, subst, arith, append_assoc, length-append}
 use Rattle.std.proofs.lemmas.Bool.{cases_eq, cases_lt}
 use Rattle.std.proofs.lemmas.List.{append-nil}
 use Rattle.disk_model.specs.Disk.{State, InRange, MayLeave, MayLeaveTorn}
@@ -8,13 +8,13 @@ use Rattle.image_model.specs.Image.{Image, apply_all}
 use Rattle.checkpoint.specs.declared.fault.KeeperFault.TheVariants.{OutOfOrder}
 use Rattle.journal.specs.declared.fault.JournalFault.{JournalFault}
 use Rattle.journal.specs.declared.fault.JournalFault.TheVariants as journals
-use Rattle.journal.specs.GroupList.{IsList, IsListStored, LeavesEither, sizes_of, size_of}
+use Rattle.journal.specs.GroupList.{IsList, IsListStored, LeavesEither, size_of}
 use Rattle.journal.specs.Spelling.{StoredGroup}
 use Rattle.journal.proofs.Spelled.{sizes-push}
 use Rattle.checkpoint.specs.Faults.{of_journal}
 use Rattle.checkpoint.specs.Keeper.{KeeperState}
 use Rattle.checkpoint.specs.Keeps.{Keeps}
-use Rattle.checkpoint.specs.Stands.{StandsFor, changes_of, number_behind, stored_image}
+use Rattle.checkpoint.specs.Stands.{StandsFor, changes_of, next_number, stored_image}
 use Rattle.checkpoint.proofs.Frame.{last_of, first_number, moved_list, stands_with, apply_all-append, changes-append}
 
 pub kept_content : {D : Type 0} (keeper : KeeperState D) (state : State) (image : Image) (number : ℕ) (content : List ℕ)
@@ -70,9 +70,9 @@ module _ {D : Type 0} (keeper : KeeperState D) (state : State) (image : Image) (
   pub keeps_more : (after : State) (now : KeeperState D) (count : ℕ) → count ≡ number + length group.changes
       → IsListStored now.area (first_number keeps.stands) (keeps.stands.groups ++ group ∷ []) state after
       → now.area.from ≡ keeper.area.from → now.area.bytes ≡ keeper.area.bytes → now.area.blocks ≡ keeper.area.blocks
-      → now.geometry ≡ keeper.geometry → now.base ≡ keeper.base → now.count ≡ count → now.used ≡ keeper.used + size_of group → now.failed ≡ keeper.failed
+      → now.geometry ≡ keeper.geometry → now.base ≡ keeper.base → now.map ≡ keeper.map → now.count ≡ count → now.used ≡ keeper.used + size_of group → now.failed ≡ keeper.failed
       → Keeps now after (apply_all group.changes image) count
-  keeps_more after now count count_is stored from bytes blocks geometry base counted used failed =
+  keeps_more after now count count_is stored from bytes blocks geometry base map counted used failed =
       let list = moved_list now.area keeper.area _ _ after.seen from bytes blocks stored.held.list in
       record {
         works = failed ∙ keeps.works;
@@ -86,15 +86,16 @@ module _ {D : Type 0} (keeper : KeeperState D) (state : State) (image : Image) (
         from_base = base ∙ keeps.from_base;
         counted = counted;
         taken = omega (arith, used, keeps.taken, sizes-push keeps.stands.groups group);
+        mapped = map ∙ keeps.mapped;
         placed = record { from = from ∙ keeps.placed.from; bytes = bytes ∙ keeps.placed.bytes; blocks = blocks ∙ keeps.placed.blocks };
         held = stored.held;
       }
 
 -- the number behind the count is the next, where there is one
-pub count_below : (next first count : ℕ) → next ≡ number_behind count → first < 18446744073709551616 → first ≡ count + 1 → (1 ≤ next) × (first ≡ next)
+pub count_below : (next first count : ℕ) → next ≡ next_number count → first < 18446744073709551616 → first ≡ count + 1 → (1 ≤ next) × (first ≡ next)
 count_below next first count is small same = (omega (arith, is), omega (arith, is))
 
-pub count_above : (next first count : ℕ) → next ≡ number_behind count → count < 18446744073709551616 → (1 ≤ next) × (first ≡ next) → first ≡ count + 1
+pub count_above : (next first count : ℕ) → next ≡ next_number count → count < 18446744073709551616 → (1 ≤ next) × (first ≡ next) → first ≡ count + 1
 count_above next first count is fits follows = omega (arith, is, follows.0, follows.1)
 
 -- a number that isn't refused as out of order is the next one
@@ -105,7 +106,7 @@ is_next next first follows = ⊎_elim
     (cases_lt next 1)
 
 -- the count that the keeper then reads off the next number
-pub count_on : (next first added count number behind : ℕ) → next ≡ number_behind count → count < 18446744073709551616 → (1 ≤ next) × (first ≡ next) → 1 ≤ added → first + added ≤ 18446744073709551616
+pub count_on : (next first added count number behind : ℕ) → next ≡ next_number count → count < 18446744073709551616 → (1 ≤ next) × (first ≡ next) → 1 ≤ added → first + added ≤ 18446744073709551616
     → behind ≡ (first + added) % 18446744073709551616 → count ≡ number → (behind + 18446744073709551615) % 18446744073709551616 ≡ number + added
 count_on next first added count number behind is fits follows some numbers behind_is counted = omega (arith, follows.0, follows.1)
 

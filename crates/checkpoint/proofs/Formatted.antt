@@ -1,22 +1,18 @@
 -- What stands on a device while it is formatted.
-use Rattle.std.proofs.Common.{◌≡◌, ◌≢◌, inl, inr, ℕ, ◌+◌, ◌*◌, ◌/◌, ◌≤◌, ◌<◌, ◌⊎◌, ⊎_elim, if◌then◌else◌, List, [], ◌∷◌, length, slice_index, replicate, refl, sym, ◌∙◌, ap, subst, arith}
+use Rattle.std.proofs.Common.{◌≡◌, inl, inr, ℕ, ◌+◌, ◌/◌, ◌≤◌, ◌⊎◌, ⊎_elim, if◌then◌else◌, List, [], ◌∷◌, length, slice_index, replicate, refl, sym, ◌∙◌, ap, arith}
 use Rattle.std.proofs.lemmas.Bool.{cases_eq, cases_lt}
 use Rattle.std.proofs.lemmas.List.{get_or-replicate, get_or_past, length-replicate}
 use Rattle.alloc_map.specs.Codes.{state_at}
 use Rattle.alloc_map.proofs.States.{byte_of_zeroes, map_of_zeroes, own_states, states_of-zeroes}
 use Rattle.disk_model.specs.Disk.{State, InRange, IsSound, IsSteady, IsSynced, IsWritten, LeavesOnly, MayLeave, MayLeaveTorn}
 use Rattle.disk_model.proofs.Moments.{goes_on, weakens}
-use Rattle.header_slots.specs.Header.{IsBodyOf, SpellsAt}
-use Rattle.header_slots.specs.Slots.{HoldsNone, IsBodyWritten, IsOpen, slot_at}
+use Rattle.header_slots.specs.Slots.{HoldsNone, IsBodyWritten, IsOpen}
 use Rattle.header_slots.specs.declared.header.Side.{Side}
 use Rattle.header_slots.specs.declared.header.Side.TheVariants.{Zero, One}
 use Rattle.header_slots.proofs.Frame.{moved_spelling}
 use Rattle.image_model.specs.Geometry.{device_bytes_of, map_bytes_of}
-use Rattle.image_model.specs.Image.{Image}
-use Rattle.image_model.specs.declared.command.Kind.{Kind}
 use Rattle.image_model.specs.declared.command.Kind.TheVariants.{Hole}
 use Rattle.image_model.specs.declared.geometry.Geometry.{Geometry}
-use Rattle.journal.specs.GroupList.{StandsAt}
 use Rattle.regions.specs.Layout.{area_at, map_at, block_at}
 use Rattle.checkpoint.specs.Format.{AreClosed, IsFresh, LeavesButGates, first_header}
 use Rattle.checkpoint.specs.Stands.{StandsFor, holes, is_data, stored_image}

@@ -1,11 +1,9 @@
 -- What a device stands for where only its last area in use has changed.
-use Rattle.std.proofs.Common.{◌≡◌, inl, inr, ℕ, ◌+◌, ◌*◌, ◌/◌, ◌≤◌, ◌<◌, ◌⊎◌, ⊎_elim, if◌then◌else◌, List, [], ◌∷◌, ◌++◌, length, slice_index, Result, Ok, refl, sym, ◌∙◌, ap, subst, arith}
-use Rattle.std.specs.List.{flat_map}
+use Rattle.std.proofs.Common.{◌≡◌, ℕ, ◌+◌, ◌*◌, ◌/◌, ◌≤◌, ◌<◌, if◌then◌else◌, List, [], ◌∷◌, ◌++◌, length, slice_index, Ok, refl, sym, ◌∙◌, ap, subst, arith}
 use Rattle.std.proofs.lemmas.Grind.{flat_map-append}
 use Rattle.alloc_map.specs.Codes.{state_at}
 use Rattle.disk_model.specs.Disk.{InRange}
 use Rattle.header_slots.specs.Slots.{HoldsHeader, IsReading, other_of}
-use Rattle.header_slots.specs.declared.fault.HeaderFault.{HeaderFault}
 use Rattle.header_slots.specs.declared.header.Areas.{Areas}
 use Rattle.header_slots.specs.declared.header.Header.{Header}
 use Rattle.header_slots.specs.declared.header.Side.{Side}
@@ -16,12 +14,12 @@ use Rattle.image_model.specs.Image.{Image, apply, apply_all}
 use Rattle.image_model.specs.declared.command.Kind.{Kind}
 use Rattle.image_model.specs.declared.geometry.Geometry.{Geometry}
 use Rattle.journal.specs.Area.{AreaState}
-use Rattle.journal.specs.GroupList.{IsOpen, IsList, sizes_of, Stand, next_behind}
+use Rattle.journal.specs.GroupList.{IsList, sizes_of, Stand, next_behind}
 use Rattle.journal.specs.Spelling.{StoredGroup}
 use Rattle.journal.proofs.Contents.{list_ends, list_stays}
 use Rattle.regions.specs.Layout.{area_at, map_at, block_at}
 use Rattle.regions.specs.Map.{HoldsMap}
-use Rattle.checkpoint.specs.Stands.{StandsFor, HoldsEarlier, area_of, changes_of, is_data, last_area, number_behind, stored_image}
+use Rattle.checkpoint.specs.Stands.{StandsFor, HoldsEarlier, area_of, changes_of, is_data, last_area, next_number, stored_image}
 
 pub area_low : (geometry : Geometry) (side : Side) → 8192 ≤ area_at geometry side
 area_low geometry Zero = omega arith
@@ -94,7 +92,7 @@ abbrev pub last_of : {content : List ℕ} {image : Image} {number : ℕ} → Sta
 last_of stands = area_of stands.header.geometry (last_area stands.header.areas stands.header.first_area)
 
 abbrev pub first_number : {content : List ℕ} {image : Image} {number : ℕ} → StandsFor content image number → ℕ
-first_number stands = next_behind (number_behind stands.header.base) stands.earlier
+first_number stands = next_behind (next_number stands.header.base) stands.earlier
 
 -- where the last area has another list, and all else stays
 abbrev pub stands_with : (old content : List ℕ) (image other : Image) (number count : ℕ) (stands : StandsFor old image number) (groups : List StoredGroup)

@@ -2,3 +2,6 @@ pub mod Frame
 pub mod Added
 pub mod Sole
 pub mod Formatted
+pub mod Readings
+pub mod Areas
+pub mod Opened

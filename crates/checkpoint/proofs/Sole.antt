@@ -1,5 +1,5 @@
 -- A content stands for one image with one number, and for none where an opening refuses it.
-use Rattle.std.proofs.Common.{◌≡◌, inl, inr, ℕ, ◌+◌, ◌<◌, ◌≤◌, ◌^◌, ◌⊎◌, ⊎_elim, List, [], ◌∷◌, ◌++◌, length, slice_index, refl, sym, ◌∙◌, ap, subst, arith}
+use Rattle.std.proofs.Common.{◌≡◌, ℕ, ◌+◌, ◌<◌, ◌^◌, ◌⊎◌, ⊎_elim, List, ◌++◌, length, sym, ◌∙◌, subst, arith}
 use Rattle.std.proofs.lemmas.List.{ext_get_or}
 use Rattle.alloc_map.specs.Map.{IsBadMap, IsMapOf}
 use Rattle.alloc_map.proofs.Spelling.{one_map, never_bad}
@@ -13,14 +13,13 @@ use Rattle.image_model.specs.Geometry.{map_bytes_of}
 use Rattle.image_model.specs.Image.{Image, apply_all}
 use Rattle.image_model.specs.declared.command.Kind.{Kind}
 use Rattle.image_model.specs.declared.geometry.Geometry.{Geometry}
-use Rattle.journal.specs.Area.{AreaState}
 use Rattle.journal.specs.GroupList.{IsList, IsDamaged, next_behind}
 use Rattle.journal.specs.Spelling.{StoredGroup}
 use Rattle.journal.proofs.OneList.{one_list, damaged_none}
 use Rattle.regions.specs.Layout.{area_at, map_at}
 use Rattle.regions.specs.Map.{AreSlot, HoldsMap, HoldsBadMap}
 use Rattle.checkpoint.specs.Opening.{HasBadMap, HasDamagedGroup, IsFirstDamaged, IsLastDamaged, IsPassing, IsRefused}
-use Rattle.checkpoint.specs.Stands.{StandsFor, HoldsEarlier, area_of, changes_of, last_area, number_behind, stored_image}
+use Rattle.checkpoint.specs.Stands.{StandsFor, HoldsEarlier, area_of, changes_of, last_area, next_number, stored_image}
 use Rattle.checkpoint.specs.declared.fault.KeeperFault.{KeeperFault}
 use Rattle.checkpoint.specs.declared.fault.KeeperFault.TheVariants.{NoMemory, DeviceFault, BadMap, NoHeader, BadHeader, AreaFull, OutOfOrder, DamagedGroup, Failed}
 
@@ -45,10 +44,10 @@ one_earlier Areas.Two content geometry side next groups others list other =
     one_list geometry.blocks (few_blocks geometry) content (area_at geometry side) next groups others list.stand other.stand
 
 first_sound : (areas : Areas) (content : List ℕ) (header : Header) (groups : List StoredGroup)
-    → HoldsEarlier areas content (area_of header.geometry header.first_area) (number_behind header.base) groups → IsFirstDamaged areas content header → ⊥
+    → HoldsEarlier areas content (area_of header.geometry header.first_area) (next_number header.base) groups → IsFirstDamaged areas content header → ⊥
 first_sound Areas.One content header groups none damaged = damaged
 first_sound Areas.Two content header groups list damaged =
-    damaged_none (area_of header.geometry header.first_area) (number_behind header.base) content groups (few_blocks header.geometry) damaged list
+    damaged_none (area_of header.geometry header.first_area) (next_number header.base) content groups (few_blocks header.geometry) damaged list
 
 -- two headers in force are one
 same_header : (content : List ℕ) (size : ℕ) (header other : Header) (slot side : Side) → HoldsHeader content size header slot → HoldsHeader content size other side → header ≡ other
@@ -66,12 +65,12 @@ module _ (content : List ℕ) (image other : Image) (number next : ℕ) (stands 
 
   earlier_is : stands.earlier ≡ also.earlier
   earlier_is = one_earlier stands.header.areas content stands.header.geometry stands.header.first_area _ stands.earlier also.earlier stands.first_list
-      (subst (λ (h : Header). HoldsEarlier h.areas content (area_of h.geometry h.first_area) (number_behind h.base) also.earlier) (sym header_is) also.first_list)
+      (subst (λ (h : Header). HoldsEarlier h.areas content (area_of h.geometry h.first_area) (next_number h.base) also.earlier) (sym header_is) also.first_list)
 
   groups_are : stands.groups ≡ also.groups
   groups_are =
-      let here = subst (λ (h : Header). IsList (area_of h.geometry (last_area h.areas h.first_area)) (next_behind (number_behind h.base) also.earlier) also.groups content) (sym header_is) also.last_list in
-      let list = subst (λ (earlier : List StoredGroup). IsList (area_of stands.header.geometry (last_area stands.header.areas stands.header.first_area)) (next_behind (number_behind stands.header.base) earlier) also.groups content) (sym earlier_is) here in
+      let here = subst (λ (h : Header). IsList (area_of h.geometry (last_area h.areas h.first_area)) (next_behind (next_number h.base) also.earlier) also.groups content) (sym header_is) also.last_list in
+      let list = subst (λ (earlier : List StoredGroup). IsList (area_of stands.header.geometry (last_area stands.header.areas stands.header.first_area)) (next_behind (next_number stands.header.base) earlier) also.groups content) (sym earlier_is) here in
       one_list stands.header.geometry.blocks (few_blocks stands.header.geometry) content _ _ stands.groups also.groups stands.last_list.stand list.stand
 
   pub one_image : image ≡ other
@@ -102,8 +101,8 @@ module _ (content : List ℕ) (image : Image) (number : ℕ) (stands : StandsFor
       (λ first. first_sound stands.header.areas content stands.header stands.earlier stands.first_list first)
       (λ last.
       let earlier = one_earlier stands.header.areas content stands.header.geometry stands.header.first_area _ last.earlier stands.earlier last.first_list stands.first_list in
-      damaged_none (area_of stands.header.geometry (last_area stands.header.areas stands.header.first_area)) (next_behind (number_behind stands.header.base) stands.earlier) content stands.groups (few_blocks stands.header.geometry)
-      (subst (λ (groups : List StoredGroup). IsDamaged (area_of stands.header.geometry (last_area stands.header.areas stands.header.first_area)) (next_behind (number_behind stands.header.base) groups) content) earlier last.damaged)
+      damaged_none (area_of stands.header.geometry (last_area stands.header.areas stands.header.first_area)) (next_behind (next_number stands.header.base) stands.earlier) content stands.groups (few_blocks stands.header.geometry)
+      (subst (λ (groups : List StoredGroup). IsDamaged (area_of stands.header.geometry (last_area stands.header.areas stands.header.first_area)) (next_behind (next_number stands.header.base) groups) content) earlier last.damaged)
       stands.last_list)
       (subst (λ (h : Header). IsFirstDamaged h.areas content h ⊎ IsLastDamaged content h) header bad.damaged)
 

@@ -8,7 +8,7 @@ use Rattle.journal.specs.Area.{AreaState}
 use Rattle.journal.specs.GroupList.{IsHeld, next_behind, sizes_of}
 use Rattle.regions.specs.Layout.{area_at}
 use Rattle.checkpoint.specs.Keeper.{KeeperState}
-use Rattle.checkpoint.specs.Stands.{StandsFor, last_area, number_behind}
+use Rattle.checkpoint.specs.Stands.{StandsFor, last_area, next_number}
 
 -- the area is this one of a device with these sizes
 pub record IsPlaced (area : AreaState) (geometry : Geometry) (side : Side) : Type 0 where
@@ -26,5 +26,6 @@ pub record Keeps {D : Type 0} (keeper : KeeperState D) (state : State) (image : 
   pub from_base : keeper.base ≡ stands.header.base
   pub counted : keeper.count ≡ number
   pub taken : keeper.used ≡ sizes_of stands.groups
+  pub mapped : keeper.map ≡ stands.states
   pub placed : IsPlaced keeper.area stands.header.geometry (last_area stands.header.areas stands.header.first_area)
-  pub held : IsHeld keeper.area (next_behind (number_behind stands.header.base) stands.earlier) stands.groups state
+  pub held : IsHeld keeper.area (next_behind (next_number stands.header.base) stands.earlier) stands.groups state

@@ -1,16 +1,18 @@
 -- what an opening refuses
-use Rattle.std.specs.Prelude.{ℕ, ◌≡◌, ◌⊎◌, List, length, Result, Ok, Err}
+use Rattle.std.specs.Prelude.{ℕ, ◌⊎◌, List, length, Result, Ok, Err}
 use Rattle.header_slots.specs.Slots.{HoldsHeader, HoldsNone, HoldsBad}
 use Rattle.header_slots.specs.declared.header.Areas.{Areas}
 use Rattle.header_slots.specs.declared.header.Header.{Header}
 use Rattle.header_slots.specs.declared.header.Side.{Side}
 use Rattle.image_model.specs.declared.command.Kind.{Kind}
-use Rattle.journal.specs.GroupList.{IsDamaged, next_behind}
+use Rattle.disk_model.specs.Disk.{State, IsAllSynced}
+use Rattle.journal.specs.Area.{AreaState}
+use Rattle.journal.specs.GroupList.{IsDamaged, IsHeld, next_behind}
 use Rattle.journal.specs.Spelling.{StoredGroup}
 use Rattle.regions.specs.Layout.{map_at}
 use Rattle.regions.specs.Map.{HoldsMap, HoldsBadMap}
 use Rattle.checkpoint.specs.Keeper.{KeeperState, faults_by}
-use Rattle.checkpoint.specs.Stands.{HoldsEarlier, area_of, last_area, number_behind}
+use Rattle.checkpoint.specs.Stands.{HoldsEarlier, area_of, last_area, next_number}
 use Rattle.checkpoint.specs.declared.fault.KeeperFault.{KeeperFault}
 use Rattle.checkpoint.specs.declared.fault.KeeperFault.TheVariants.{NoMemory, DeviceFault, BadMap, NoHeader, BadHeader, AreaFull, OutOfOrder, DamagedGroup, Failed}
 
@@ -24,13 +26,17 @@ pub record HasBadMap (content : List ℕ) : Type 0 where
 -- The first of two areas in use is damaged.
 abbrev pub IsFirstDamaged : Areas → List ℕ → Header → Type 0
 IsFirstDamaged Areas.One content header = ⊥
-IsFirstDamaged Areas.Two content header = IsDamaged (area_of header.geometry header.first_area) (number_behind header.base) content
+IsFirstDamaged Areas.Two content header = IsDamaged (area_of header.geometry header.first_area) (next_number header.base) content
 
 -- The last area in use is damaged, behind the groups of those in front of it.
 pub record IsLastDamaged (content : List ℕ) (header : Header) : Type 0 where
   pub earlier : List StoredGroup
-  pub first_list : HoldsEarlier header.areas content (area_of header.geometry header.first_area) (number_behind header.base) earlier
-  pub damaged : IsDamaged (area_of header.geometry (last_area header.areas header.first_area)) (next_behind (number_behind header.base) earlier) content
+  pub first_list : HoldsEarlier header.areas content (area_of header.geometry header.first_area) (next_number header.base) earlier
+  pub damaged : IsDamaged (area_of header.geometry (last_area header.areas header.first_area)) (next_behind (next_number header.base) earlier) content
+
+-- An area in use is damaged.
+abbrev pub IsAreaDamaged : List ℕ → Header → Type 0
+IsAreaDamaged content header = IsFirstDamaged header.areas content header ⊎ IsLastDamaged content header
 
 -- Header and map are good, and an area in use is damaged.
 pub record HasDamagedGroup (content : List ℕ) : Type 0 where
@@ -39,7 +45,7 @@ pub record HasDamagedGroup (content : List ℕ) : Type 0 where
   pub states : List Kind
   pub in_force : HoldsHeader content (length content) header slot
   pub map : HoldsMap content (map_at header.geometry header.map_slot) header.geometry.blocks states
-  pub damaged : IsFirstDamaged header.areas content header ⊎ IsLastDamaged content header
+  pub damaged : IsAreaDamaged content header
 
 -- what a refusal of an opening says of the content; want of memory and a device fault say nothing of it
 abbrev pub IsRefused : KeeperFault → List ℕ → Type 0
@@ -52,6 +58,33 @@ IsRefused AreaFull content = ⊥
 IsRefused OutOfOrder content = ⊥
 IsRefused DamagedGroup content = HasDamagedGroup content
 IsRefused Failed content = ⊥
+
+-- what a refusal says that comes of reading groups
+abbrev pub IsGroupsRefused : KeeperFault → Type 0 → Type 0
+IsGroupsRefused NoMemory damaged = Unit {0}
+IsGroupsRefused DeviceFault damaged = Unit {0}
+IsGroupsRefused BadMap damaged = ⊥
+IsGroupsRefused NoHeader damaged = ⊥
+IsGroupsRefused BadHeader damaged = ⊥
+IsGroupsRefused AreaFull damaged = ⊥
+IsGroupsRefused OutOfOrder damaged = ⊥
+IsGroupsRefused DamagedGroup damaged = damaged
+IsGroupsRefused Failed damaged = ⊥
+
+-- The areas that the header says are in use hold lists of groups, and this is the last of them.
+pub record HoldsAreas (state : State) (header : Header) (area : AreaState) : Type 0 where
+  pub earlier : List StoredGroup
+  pub groups : List StoredGroup
+  pub first_list : HoldsEarlier header.areas state.seen (area_of header.geometry header.first_area) (next_number header.base) earlier
+  pub held : IsHeld area (next_behind (next_number header.base) earlier) groups state
+
+-- A device that is good was read: this is its header, its map, and its last area in use.
+pub record IsOpened (state : State) (header : Header) (states : List Kind) (area : AreaState) : Type 0 where
+  pub slot : Side
+  pub synced : IsAllSynced state
+  pub in_force : HoldsHeader state.seen (length state.seen) header slot
+  pub map : HoldsMap state.seen (map_at header.geometry header.map_slot) header.geometry.blocks states
+  pub areas : HoldsAreas state header area
 
 -- a refusal that says nothing of the content
 abbrev pub IsPassing : KeeperFault → Type 0

@@ -34,12 +34,12 @@ stored_image content geometry states = record {
 }
 
 -- the number that follows this one; 0 where no number is left
-abbrev pub number_behind : ℕ → ℕ
-number_behind number = (number + 1) % 18446744073709551616
+abbrev pub next_number : ℕ → ℕ
+next_number number = (number + 1) % 18446744073709551616
 
 -- an area of a device with these sizes; the place in it and the next number are those of an empty one
 abbrev pub area_of : Geometry → Side → AreaState
-area_of geometry side = record { from = area_at geometry side; bytes = geometry.area; blocks = geometry.blocks; next = 0; gate = 0 }
+area_of geometry side = record { from = area_at geometry side; bytes = geometry.area; blocks = geometry.blocks; next = 0; gate = 0; touched = [] }
 
 -- the last area in use, to which groups are added
 abbrev pub last_area : Areas → Side → Side
@@ -66,7 +66,7 @@ pub record StandsFor (content : List ℕ) (image : Image) (number : ℕ) : Type 
   pub groups : List StoredGroup
   pub in_force : HoldsHeader content (length content) header slot
   pub map : HoldsMap content (map_at header.geometry header.map_slot) header.geometry.blocks states
-  pub first_list : HoldsEarlier header.areas content (area_of header.geometry header.first_area) (number_behind header.base) earlier
-  pub last_list : IsList (area_of header.geometry (last_area header.areas header.first_area)) (next_behind (number_behind header.base) earlier) groups content
+  pub first_list : HoldsEarlier header.areas content (area_of header.geometry header.first_area) (next_number header.base) earlier
+  pub last_list : IsList (area_of header.geometry (last_area header.areas header.first_area)) (next_behind (next_number header.base) earlier) groups content
   pub count : number ≡ header.base + length (changes_of (earlier ++ groups))
   pub shows : image ≡ apply_all (changes_of (earlier ++ groups)) (stored_image content header.geometry states)

@@ -1,19 +1,19 @@
 ghost use Rattle.std.specs.Prelude.{◌≡◌, ◌≢◌, ℕ, ◌+◌, ◌≤◌, ◌<◌, ◌⊎◌, ◌↔◌, length, map, IfErr, IfOk, OnOk, IsErrAnd, IsTrue, false};
 ghost use Rattle.checkpoint.specs.Keeper.{end_after, faults_by, grown_by, refused_by, IsAppendFault};
 ghost use Rattle.checkpoint.specs.Keeps.{Keeps};
-ghost use Rattle.checkpoint.specs.Opening.{disk_after};
+ghost use Rattle.checkpoint.specs.Opening.{disk_after, faults_after_opening, IsPassing, IsRefused};
 ghost use Rattle.checkpoint.specs.Stands.{StandsFor};
 ghost use Rattle.checkpoint.specs.declared.fault.KeeperFault.TheVariants as KeeperFault;
-ghost use Rattle.disk_model.specs.Disk.{LeavesOnly};
+ghost use Rattle.disk_model.specs.Disk.{IsAllSynced, LeavesOnly, MayLeave};
 ghost use Rattle.image_model.specs.Change.{AreChanges, change_of};
 ghost use Rattle.image_model.specs.Image.{Image, apply_all};
 
 use crate::fault::KeeperFault;
+use crate::opening::{Opened, read_device};
+use alloc_map::AllocMap;
 use disk_model::Disk;
-use header_slots::{Areas, Header, read_current};
 use image_model::Geometry;
 use journal::{Area, Group};
-use regions::Regions;
 use std::alloc::Global;
 use std::marker::Model;
 
@@ -24,6 +24,8 @@ pub struct Keeper<D: Disk> {
     geometry: Geometry,
     base: u64,
     count: u64,
+    // The states of the blocks at the base.
+    map: AllocMap,
     // The area that the next group goes to.
     area: Area,
     failed: bool,
@@ -32,7 +34,7 @@ pub struct Keeper<D: Disk> {
 impl<D: Disk> Model for Keeper<D> {
     ghost use Rattle.std.specs.Prelude.{◌≡◌, ◌+◌, ◌-◌, ◌%◌, ◌≤◌};
     ghost use Rattle.checkpoint.specs.Keeper.{KeeperState};
-    ghost use Rattle.checkpoint.specs.Stands.{number_behind};
+    ghost use Rattle.checkpoint.specs.Stands.{next_number};
 
     ghost Value = { KeeperState D };
 
@@ -43,11 +45,12 @@ impl<D: Disk> Model for Keeper<D> {
       base = keeper.base;
       used = keeper.area.gate;
       failed = keeper.failed;
+      map = keeper.map;
       area = keeper.area;
     } };
 
     ghost invariant = { λ keeper. (keeper.area.from + keeper.area.bytes ≤ D.extent keeper.disk)
-        × (keeper.area.bytes ≡ keeper.geometry.area) × (keeper.area.next ≡ number_behind keeper.count) };
+        × (keeper.area.bytes ≡ keeper.geometry.area) × (keeper.area.next ≡ next_number keeper.count) };
 }
 
 impl<D: Disk> Keeper<D> {
@@ -57,14 +60,31 @@ impl<D: Disk> Keeper<D> {
     /// its map is, 12 where an area in use is damaged, the first of these that applies; 0 and 1 say nothing of the
     /// content.
     pub fn open(alloc: Global, mut disk: D) -> Result<Keeper<D>, (KeeperFault, D)>
-        ensures { D.extent (disk_after result) ≡ D.extent disk }
+        ensures extent { D.extent (disk_after result) ≡ D.extent disk }
+        ensures faults { D.faults (disk_after result) ≡ faults_after_opening result (D.faults disk) }
+        ensures honest { D.honest (disk_after result) ↔ D.honest disk }
+
+        // On an honest device: the content that is fixed is one that a crash at the start may leave; at `Ok` it stands
+        // for an image, which the keeper keeps, and a refusal says what is bad of it.
+        ensures fixed { D.honest disk → MayLeave (D.state disk) (D.state (disk_after result)).seen }
+        ensures opened { D.honest disk → IfOk result (λ keeper. (image : Image) × Keeps keeper (D.state keeper.disk) image keeper.count) }
+        ensures refused { D.honest disk → IfErr result (λ refused. IsRefused refused.0 (D.state refused.1).seen) }
+        ensures any_moment { D.honest disk → LeavesOnly (D.state disk) (D.state (disk_after result)) (MayLeave (D.state disk)) }
+
+        // Where nothing is unsynced at the start and the content stands for an image, the keeper keeps that one, and
+        // only want of memory and a device fault refuse it.
+        ensures same { D.honest disk → IsAllSynced (D.state disk) → (image : Image) (number : ℕ) → StandsFor (D.state disk).seen image number
+            → IfOk result (λ keeper. Keeps keeper (D.state keeper.disk) image number) }
+        ensures passing { D.honest disk → IsAllSynced (D.state disk) → (image : Image) (number : ℕ) → StandsFor (D.state disk).seen image number
+            → IfErr result (λ refused. IsPassing refused.0) }
     {
         match read_device(alloc, &mut disk) {
-            Ok((header, area)) => Ok(Keeper {
+            Ok(Opened { header, map, area }) => Ok(Keeper {
                 disk,
                 geometry: header.geometry,
                 base: header.base,
                 count: area.next().wrapping_sub(1),
+                map,
                 area,
                 failed: false,
             }),
@@ -81,6 +101,7 @@ impl<D: Disk> Keeper<D> {
             geometry: _,
             base: _,
             count: _,
+            map: _,
             area: _,
             failed: _,
         } = self;
@@ -156,41 +177,4 @@ impl<D: Disk> Keeper<D> {
             }
         }
     }
-}
-
-// The header in force, and the area that the next group goes to, with its list read.
-fn read_device<D: Disk>(alloc: Global, disk: &mut D) -> Result<(Header, Area), KeeperFault>
-    ensures extent { D.extent disk.new ≡ D.extent disk.old }
-    ensures inside { IfOk result (λ read. read.1.from + read.1.bytes ≤ D.extent disk.old) }
-    ensures bytes { IfOk result (λ read. read.1.bytes ≡ read.0.geometry.area) }
-{
-    disk.sync()?;
-    let (header, _slot) = read_current(disk)?;
-    let geometry = header.geometry;
-    let regions = Regions::of(&geometry);
-    let _map = regions.read_slot(alloc, disk, header.map_slot)?;
-    // The number behind 2^64 - 1 is 0: no number is left.
-    let mut next = header.base.wrapping_add(1);
-    let mut side = header.first_area;
-    if header.areas == Areas::Two {
-        let mut first = Area::new(
-            alloc,
-            regions.area_from(side),
-            geometry.area,
-            geometry.blocks,
-            next,
-        );
-        first.scan(alloc, disk)?;
-        next = first.next();
-        side = side.other();
-    }
-    let mut area = Area::new(
-        alloc,
-        regions.area_from(side),
-        geometry.area,
-        geometry.blocks,
-        next,
-    );
-    area.scan(alloc, disk)?;
-    Ok((header, area))
 }

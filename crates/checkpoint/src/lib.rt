@@ -5,6 +5,7 @@ mod fault;
 mod format;
 mod keeper;
 mod laws;
+mod opening;
 
 pub use fault::KeeperFault;
 pub use keeper::Keeper;

@@ -8,8 +8,11 @@ use Rattle.image_model.specs.Command.{bodies_of}
 use Rattle.journal.specs.Append.{IsNext}
 use Rattle.journal.specs.Area.{AreaState}
 use Rattle.journal.specs.Group.{Numbered, IsGroup}
+use Rattle.journal.specs.declared.touch.TouchedRange.{TouchedRange}
 use Rattle.journal.specs.Spelling.{StoredGroup, stored_of, group_bytes}
+use Rattle.journal.specs.Touches.{touched_by_changes, touched_by_groups}
 use Rattle.journal.specs.GroupList.{StandsAt, IsOpen, size_of, sizes_of, number_behind, IsNextGroup, IsList, IsHeld, IsListStored, LeavesEither, LeavesGateOrBytes, IsOpenBefore}
+use Rattle.journal.proofs.Groups.{touched_groups-push}
 use Rattle.journal.proofs.Spelled.{length-body, length-group, sizes-push, next-push}
 use Rattle.journal.proofs.Contents.{IsSameFrom, list_ends, list_stays, list_grows}
 
@@ -112,9 +115,10 @@ module _ (area : AreaState) (first : ℕ) (groups : List StoredGroup) (before : 
         }
 
     -- and when the gate is open the area holds the longer list
-    pub held_after : (number gate : ℕ) (after : State) → number ≡ number_behind group → gate ≡ area.gate + size_of group → IsOpenBefore before (area.from + area.gate) (written group) after
-        → IsListStored (record area { next = number; gate = gate }) first (groups ++ group ∷ []) before after
-    held_after number gate after number_is gate_is opened =
+    pub held_after : (number gate : ℕ) (touched : List TouchedRange) (after : State) → number ≡ number_behind group → gate ≡ area.gate + size_of group
+        → touched ≡ area.touched ++ touched_by_changes (area.from + area.gate + 17) group.changes → IsOpenBefore before (area.from + area.gate) (written group) after
+        → IsListStored (record area { next = number; gate = gate; touched = touched }) first (groups ++ group ∷ []) before after
+    held_after number gate touched after number_is gate_is touched_is opened =
         let list = added_list after.seen (in_front after.seen opened.others) opened.gate_open opened.whole in
         let wide = widened after.seen opened.others in
         record {
@@ -122,6 +126,10 @@ module _ (area : AreaState) (first : ℕ) (groups : List StoredGroup) (before : 
             list = record { stand = list.stand; inside = list.inside };
             gate = omega (arith, gate_is, held.gate, sizes-push groups group);
             next = number_is ∙ sym (next-push first groups group);
+            touched = touched_is
+                ∙ ap (λ (l : List TouchedRange). l ++ touched_by_changes (area.from + area.gate + 17) group.changes) held.touched
+                ∙ ap (λ (p : ℕ). touched_by_groups area.from groups ++ touched_by_changes (p + 17) group.changes) gate_at
+                ∙ sym (touched_groups-push area.from groups group);
             synced = λ place within. opened.synced place;
           };
           others = record { size = wide.size; bytes = wide.bytes; same = wide.same };
@@ -138,8 +146,9 @@ module _ (area : AreaState) (first : ℕ) (groups : List StoredGroup) (before : 
           (subst (λ (b : List ℕ). LeavesGateOrBytes before (area.from + area.gate) b content) bytes_are
           (subst (λ (p : ℕ). LeavesGateOrBytes before p bytes content) place_is left))
 
-      pub held_after_at : (number gate : ℕ) (after : State) → number ≡ number_behind group → gate ≡ area.gate + size_of group → IsOpenBefore before place bytes after
-          → IsListStored (record area { next = number; gate = gate }) first (groups ++ group ∷ []) before after
-      held_after_at number gate after number_is gate_is opened = held_after number gate after number_is gate_is
+      pub held_after_at : (number gate : ℕ) (touched : List TouchedRange) (after : State) → number ≡ number_behind group → gate ≡ area.gate + size_of group
+          → touched ≡ area.touched ++ touched_by_changes (area.from + area.gate + 17) group.changes → IsOpenBefore before place bytes after
+          → IsListStored (record area { next = number; gate = gate; touched = touched }) first (groups ++ group ∷ []) before after
+      held_after_at number gate touched after number_is gate_is touched_is opened = held_after number gate touched after number_is gate_is touched_is
           (subst (λ (b : List ℕ). IsOpenBefore before (area.from + area.gate) b after) bytes_are
           (subst (λ (p : ℕ). IsOpenBefore before p bytes after) place_is opened))

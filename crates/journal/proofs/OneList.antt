@@ -15,15 +15,15 @@ use Rattle.journal.specs.GroupList.{StandsAt, size_of, sizes_of, number_behind, 
 use Rattle.journal.proofs.Spelled.{length-change_head, length-group_head}
 
 -- bytes at a place
-front : (content : List ℕ) (place : ℕ) (xs ys : List ℕ) → StandsAt content place (xs ++ ys) → StandsAt content place xs
+pub front : (content : List ℕ) (place : ℕ) (xs ys : List ℕ) → StandsAt content place (xs ++ ys) → StandsAt content place xs
 front content place xs ys stand k below = stand k (omega (arith, below, length-append xs ys)) ∙ get_or_append_left xs ys 0 k below
 
-back : (content : List ℕ) (place : ℕ) (xs ys : List ℕ) → StandsAt content place (xs ++ ys) → StandsAt content (place + length xs) ys
+pub back : (content : List ℕ) (place : ℕ) (xs ys : List ℕ) → StandsAt content place (xs ++ ys) → StandsAt content (place + length xs) ys
 back content place xs ys stand k below =
     let at : place + length xs + k ≡ place + (length xs + k) = omega arith in
     ap (λ (p : ℕ). slice_index content p) at ∙ stand (length xs + k) (omega (arith, below, length-append xs ys)) ∙ get_or-append-add xs ys k 0
 
-same_bytes : (content : List ℕ) (place : ℕ) (xs ys : List ℕ) → length xs ≡ length ys → StandsAt content place xs → StandsAt content place ys → xs ≡ ys
+pub same_bytes : (content : List ℕ) (place : ℕ) (xs ys : List ℕ) → length xs ≡ length ys → StandsAt content place xs → StandsAt content place ys → xs ≡ ys
 same_bytes content place xs ys count left right =
     ext_get_or 0 xs ys count (λ k below. sym (left k below) ∙ right k (omega (arith, below, count)))
 
@@ -34,7 +34,7 @@ same_split a b r s count same = (
 )
 
 -- heads that are spelled alike are alike
-body_read : (body first count : ℕ) → body < 256 ^ 4 → big_from 0 4 (group_head body first count) ≡ body
+pub body_read : (body first count : ℕ) → body < 256 ^ 4 → big_from 0 4 (group_head body first count) ≡ body
 unfolding group_head
 body_read body first count fits = big_number-reads_back 4 body (big_bytes 8 first ++ big_bytes 4 count) fits
 
@@ -66,12 +66,12 @@ same_kind Hole Zero cleared also same = absurd (omega (arith, same))
 same_kind Hole Hole cleared also same = refl
 
 -- the three parts of heads of commands
-record SameHeads (k f n k' f' n' : ℕ) : Type 0 where
-  kind : k ≡ k'
-  first : f ≡ f'
-  blocks : n ≡ n'
+pub record SameHeads (k f n k' f' n' : ℕ) : Type 0 where
+  pub kind : k ≡ k'
+  pub first : f ≡ f'
+  pub blocks : n ≡ n'
 
-same_heads : (k f n k' f' n' : ℕ) (r s : List ℕ) → f < 256 ^ 8 → n < 256 ^ 4 → f' < 256 ^ 8 → n' < 256 ^ 4 → change_head k f n ++ r ≡ change_head k' f' n' ++ s → SameHeads k f n k' f' n' × (r ≡ s)
+pub same_heads : (k f n k' f' n' : ℕ) (r s : List ℕ) → f < 256 ^ 8 → n < 256 ^ 4 → f' < 256 ^ 8 → n' < 256 ^ 4 → change_head k f n ++ r ≡ change_head k' f' n' ++ s → SameHeads k f n k' f' n' × (r ≡ s)
 same_heads k f n k' f' n' r s f_fits n_fits f'_fits n'_fits same =
     let parts = same_split (change_head k f n) (change_head k' f' n') r s (length-change_head k f n ∙ sym (length-change_head k' f' n')) same in (
       record {

@@ -1,11 +1,13 @@
 -- what adding a group does to an area, and when it is refused
-use Rattle.std.specs.Prelude.{ℕ, ◌≡◌, ◌+◌, ◌≤◌}
+use Rattle.std.specs.Prelude.{ℕ, ◌≡◌, ◌+◌, ◌≤◌, ◌++◌}
 use Rattle.disk_model.specs.Faults.{counted}
 use Rattle.image_model.specs.Command.{bodies_of}
 use Rattle.journal.specs.declared.fault.JournalFault.{JournalFault}
 use Rattle.journal.specs.declared.fault.JournalFault.TheVariants.{NoMemory, DeviceFault, AreaFull, OutOfOrder, DamagedGroup}
 use Rattle.journal.specs.Area.{AreaState}
 use Rattle.journal.specs.Group.{Numbered, number_after}
+use Rattle.journal.specs.Spelling.{stored_of}
+use Rattle.journal.specs.Touches.{touched_by_changes}
 
 -- where in the area the gate behind the group would end
 abbrev pub end_after : AreaState → Numbered → ℕ
@@ -17,7 +19,11 @@ IsNext area group = (1 ≤ area.next) × (group.first ≡ area.next)
 
 -- the area with the group added
 abbrev pub grown : AreaState → Numbered → AreaState
-grown area group = record area { next = number_after group; gate = area.gate + 17 + bodies_of group.commands }
+grown area group = record area {
+  next = number_after group;
+  gate = area.gate + 17 + bodies_of group.commands;
+  touched = area.touched ++ touched_by_changes (area.from + area.gate + 17) (stored_of group).changes;
+}
 
 -- the number of faults of the device after a refusal: only a device fault is counted
 abbrev pub faults_by : JournalFault → ℕ → ℕ

@@ -1,5 +1,6 @@
 -- areas as callers see them
-use Rattle.std.specs.Prelude.{ℕ}
+use Rattle.std.specs.Prelude.{ℕ, List}
+use Rattle.journal.specs.declared.touch.TouchedRange.{TouchedRange}
 
 -- an area of a device
 pub record AreaState : Type 0 where
@@ -12,3 +13,5 @@ pub record AreaState : Type 0 where
   pub next : ℕ
   -- the place in the area of the gate behind its last group
   pub gate : ℕ
+  -- what its commands touched, in their order
+  pub touched : List TouchedRange

@@ -1,9 +1,11 @@
 -- The list of groups that the bytes of an area hold, by docs/FORMATS.md, "Group". A place is a byte of the device.
 use Rattle.std.specs.Prelude.{ℕ, ◌≡◌, ◌+◌, ◌%◌, ◌≤◌, ◌<◌, ◌⊎◌, List, [], ◌∷◌, ◌++◌, length, slice_index, sum_by, ⊤}
 use Rattle.disk_model.specs.Disk.{State, IsAllSynced, IsSyncedIn, MayLeaveTorn}
-use Rattle.image_model.specs.Change.{AreChanges}
+use Rattle.std.specs.List.{flat_map}
+use Rattle.image_model.specs.Change.{Change, AreChanges}
 use Rattle.journal.specs.Area.{AreaState}
 use Rattle.journal.specs.Spelling.{StoredGroup, body_of_group, group_bytes}
+use Rattle.journal.specs.Touches.{touched_by_groups}
 
 -- from the place on the content has these bytes
 abbrev pub StandsAt : List ℕ → ℕ → List ℕ → Type 0
@@ -19,6 +21,10 @@ size_of group = 17 + length (body_of_group group)
 
 abbrev pub sizes_of : List StoredGroup → ℕ
 sizes_of groups = sum_by size_of groups
+
+-- the changes of groups, one after another
+abbrev pub changes_of : List StoredGroup → List Change
+changes_of groups = flat_map (λ group. group.changes) groups
 
 -- the number that follows a group's last; 0 where no number is left
 abbrev pub number_behind : StoredGroup → ℕ
@@ -68,12 +74,18 @@ pub record IsDamaged (area : AreaState) (first : ℕ) (content : List ℕ) : Typ
   pub none : (group : StoredGroup) → IsNextGroup area.blocks (next_behind first groups) group
       → StandsAt content (area.from + sizes_of groups + 1) (group_bytes group) → sizes_of groups + size_of group < area.bytes → ⊥
 
--- the area is where its list ends, and nothing in it is unsynced
+-- the area is where its list ends and knows what its commands touched, and nothing in it is unsynced
 pub record IsHeld (area : AreaState) (first : ℕ) (groups : List StoredGroup) (state : State) : Type 0 where
   pub list : IsList area first groups state.seen
   pub gate : area.gate ≡ sizes_of groups
   pub next : area.next ≡ next_behind first groups
+  pub touched : area.touched ≡ touched_by_groups area.from groups
   pub synced : IsSyncedIn state area.from area.bytes
+
+-- the area is where the list ends that it holds, whose first group has to begin with `first`
+pub record HoldsList (area : AreaState) (first : ℕ) (state : State) : Type 0 where
+  pub groups : List StoredGroup
+  pub held : IsHeld area first groups state
 
 -- after the area's list was stored: the area holds it, what was stable outside the area stays, and nothing on the
 -- device is unsynced

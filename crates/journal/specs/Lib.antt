@@ -4,3 +4,5 @@ pub mod Group
 pub mod GroupList
 pub mod Reading
 pub mod Spelling
+pub mod Touches
+pub mod Scanning

@@ -1,16 +1,19 @@
-ghost use Rattle.std.specs.Prelude.{◌≡◌, ◌≢◌, ◌⊎◌, ℕ, ◌+◌, ◌≤◌, ◌<◌, ◌^◌, ◌==◌, ◌↔◌, List, [], ◌∷◌, ◌++◌, length, OnOk, IfErr, OnErr, IsErrOf, IsErrAnd};
+ghost use Rattle.std.specs.Prelude.{◌≡◌, ◌≢◌, ◌⊎◌, ℕ, ◌+◌, ◌≤◌, ◌<◌, ◌^◌, ◌==◌, ◌↔◌, List, [], ◌∷◌, ◌++◌, length, take, drop, Option, Some, None, OnOk, IfErr, IfSome, IfNone, OnErr, IsErr, IsErrOf, IsErrAnd};
 ghost use Rattle.disk_model.specs.Disk.{IsSyncedIn, IsWritten, IsWriteFailed, LeavesOnly, MayLeaveTorn};
 ghost use Rattle.disk_model.specs.Faults.{faults_after};
 ghost use Rattle.image_model.specs.Change.{AreChanges};
 ghost use Rattle.journal.specs.Append.{end_after, grown, IsNext, faults_by};
 ghost use Rattle.journal.specs.Group.{IsGroup};
-ghost use Rattle.journal.specs.GroupList.{IsHeld, IsList, IsListStored, IsOpenBefore, LeavesEither, LeavesGateOrBytes};
+ghost use Rattle.journal.specs.GroupList.{HoldsList, IsDamaged, IsHeld, IsList, IsListStored, IsOpenBefore, LeavesEither, LeavesGateOrBytes};
 ghost use Rattle.journal.specs.Reading.{IsOnlyRead};
+ghost use Rattle.journal.specs.Scanning.{IsScanFault};
 ghost use Rattle.journal.specs.Spelling.{StoredGroup, stored_of};
+ghost use Rattle.journal.specs.Touches.{HasBytesWithin, last_touch};
 
 use crate::fault::JournalFault;
 use crate::group::Group;
 use crate::scan::Place;
+use crate::touch::{Touch, TouchedRange};
 use disk_model::{DeviceFault, Disk, write_synced};
 use std::alloc::Global;
 use std::marker::Model;
@@ -34,18 +37,28 @@ pub struct Area {
     blocks: u64,
     next: u64,
     gate: u32,
+    touched: Vec<TouchedRange>,
     buffer: Vec<u8>,
 }
 
 impl Model for Area {
     ghost use Rattle.std.specs.Prelude.{◌+◌, ◌<◌, ◌^◌};
     ghost use Rattle.journal.specs.Area.{AreaState};
+    ghost use Rattle.journal.specs.Scanning.{AreWithin};
 
     ghost Value = { AreaState };
 
-    ghost view = { λ area. record { from = area.from; bytes = area.bytes; blocks = area.blocks; next = area.next; gate = area.gate } };
+    ghost view = { λ area. record {
+      from = area.from;
+      bytes = area.bytes;
+      blocks = area.blocks;
+      next = area.next;
+      gate = area.gate;
+      touched = area.touched.items;
+    } };
 
-    ghost invariant = { λ area. (area.from + area.bytes < 2 ^ 64) × (area.gate < area.bytes) };
+    ghost invariant = { λ area. (area.from + area.bytes < 2 ^ 64) × (area.gate < area.bytes)
+        × AreWithin (area.from + area.bytes) area.touched.items };
 }
 
 impl Area {
@@ -54,7 +67,7 @@ impl Area {
     pub fn new(alloc: Global, from: u64, bytes: u32, blocks: u64, next: u64) -> Area
         requires on_device { from + bytes < 2 ^ 64 }
         requires some { 0 < bytes }
-        ensures { result ≡ record { from = from; bytes = bytes; blocks = blocks; next = next; gate = 0 } }
+        ensures { result ≡ record { from = from; bytes = bytes; blocks = blocks; next = next; gate = 0; touched = [] } }
     {
         Area {
             from,
@@ -62,6 +75,7 @@ impl Area {
             blocks,
             next,
             gate: 0,
+            touched: Vec::new(alloc),
             buffer: Vec::new(alloc),
         }
     }
@@ -87,7 +101,7 @@ impl Area {
     /// Before the next `append` the device has to be synced.
     pub fn close_first<D: Disk>(&mut self, disk: &mut D) -> Result<(), DeviceFault>
         requires { self.old.from + self.old.bytes ≤ D.extent disk.old }
-        ensures closed { OnOk result (self.new ≡ record self.old { gate = 0 }) }
+        ensures closed { OnOk result (self.new ≡ record self.old { gate = 0; touched = [] }) }
         ensures err { OnErr result (self.new ≡ self.old) }
         ensures extent { D.extent disk.new ≡ D.extent disk.old }
         ensures faults { D.faults disk.new ≡ faults_after result (D.faults disk.old) }
@@ -105,6 +119,7 @@ impl Area {
     {
         disk.write_at(self.from, &[CLOSED])?;
         self.gate = 0;
+        self.touched.clear();
         Ok(())
     }
 
@@ -142,6 +157,7 @@ impl Area {
             → AreChanges self.old.blocks (stored_of group).changes
             → LeavesOnly (D.state disk.old) (D.state disk.new) (LeavesEither self.old first groups (stored_of group) (D.state disk.old)) }
     {
+        let held = self.touched.len();
         match self.store(disk, &group) {
             Ok(()) => {
                 self.gate += GROUP_HEAD_BYTES + group.body_bytes();
@@ -149,14 +165,20 @@ impl Area {
                 let _parts = group.into_parts();
                 Ok(())
             }
-            Err(fault) => Err((fault, group)),
+            Err(fault) => {
+                self.touched.truncate(held);
+                Err((fault, group))
+            }
         }
     }
 
-    // Writes the group behind the list and opens its gate; what the area remembers of its list stays as it was.
+    // Writes the group behind the list and opens its gate. What the group touches is noted; else what the area remembers
+    // of its list stays as it was.
     fn store<D: Disk>(&mut self, disk: &mut D, group: &Group) -> Result<(), JournalFault>
         requires { self.old.from + self.old.bytes ≤ D.extent disk.old }
-        ensures same { self.new ≡ self.old }
+        ensures noted { OnOk result (self.new ≡ record self.old { touched = (grown self.old group.now).touched }) }
+        ensures same { self.new ≡ record self.old { touched = self.new.touched } }
+        ensures begins { take (length self.old.touched) self.new.touched ≡ self.old.touched }
         ensures fits { OnOk result (end_after self.old group.now ≤ self.old.bytes) }
         ensures extent { D.extent disk.new ≡ D.extent disk.old }
         ensures honest { D.honest disk.new ↔ D.honest disk.old }
@@ -175,8 +197,10 @@ impl Area {
             → LeavesOnly (D.state disk.old) (D.state disk.new) (LeavesEither self.old first groups (stored_of group.now) (D.state disk.old)) }
     {
         self.check(group)?;
+        let gate = self.from + self.gate as u64;
         group.spell(&mut self.buffer)?;
-        write_group(disk, self.from + self.gate as u64, &self.buffer)?;
+        group.note(gate + GROUP_HEAD_BYTES as u64, &mut self.touched)?;
+        write_group(disk, gate, &self.buffer)?;
         Ok(())
     }
 }
@@ -189,6 +213,7 @@ impl Area {
     pub fn scan<D: Disk>(&mut self, alloc: Global, disk: &mut D) -> Result<(), JournalFault>
         requires { self.old.from + self.old.bytes ≤ D.extent disk.old }
         ensures err { OnErr result (self.new ≡ self.old) }
+        ensures causes { IfErr result IsScanFault }
         ensures same { (self.new.from ≡ self.old.from) × (self.new.bytes ≡ self.old.bytes) × (self.new.blocks ≡ self.old.blocks) }
         ensures extent { D.extent disk.new ≡ D.extent disk.old }
         ensures honest { D.honest disk.new ↔ D.honest disk.old }
@@ -197,16 +222,54 @@ impl Area {
 
         // On an honest device nothing is written, and a crash leaves what it might have left before.
         ensures only_read { D.honest disk.old → IsOnlyRead (D.state disk.old) (D.state disk.new) }
+
+        // Where besides nothing of the area is unsynced: at `Ok` the area is at the end of the list that it holds, and
+        // `DamagedGroup` comes only where it is damaged, and some refusal always does there.
+        ensures held { D.honest disk.old → IsSyncedIn (D.state disk.old) self.old.from self.old.bytes
+            → OnOk result (HoldsList self.new self.old.next (D.state disk.new)) }
+        ensures damaged { D.honest disk.old → IsSyncedIn (D.state disk.old) self.old.from self.old.bytes
+            → IsErrOf result JournalFault.DamagedGroup → IsDamaged self.old self.old.next (D.state disk.old).seen }
+        ensures damage_found { D.honest disk.old → IsSyncedIn (D.state disk.old) self.old.from self.old.bytes
+            → IsDamaged self.old self.old.next (D.state disk.old).seen → IsErr result }
     {
         let place = Place {
             from: self.from,
             bytes: self.bytes,
             blocks: self.blocks,
         };
-        let end = place.list_end(alloc, disk, self.next)?;
+        let mut touched = Vec::new(alloc);
+        let end = place.list_end(alloc, disk, self.next, &mut touched)?;
         self.gate = end.gate;
         self.next = end.next;
+        self.touched = touched;
         Ok(())
+    }
+
+    /// The last touch of the block by a command of the area's list; none where no command touches it.
+    pub fn last_touch(&self, block: u64) -> Option<Touch>
+        ensures exact { result ≡ last_touch block self.now.touched }
+        ensures readable { IfSome result (HasBytesWithin (self.now.from + self.now.bytes) 1) }
+    {
+        let mut index = self.touched.len();
+        while index > 0 {
+            index -= 1;
+            if let Some(touch) = self.touch_at(index, block) {
+                return Some(touch);
+            }
+        }
+        None
+    }
+
+    // What the command at this index made of the block, where no later one touches it.
+    fn touch_at(&self, index: usize, block: u64) -> Option<Touch>
+        requires { index < length self.now.touched }
+        ensures last { last_touch block (drop (index + 1) self.now.touched) ≡ None
+            → IfSome result (λ touch. last_touch block self.now.touched ≡ Some touch) }
+        ensures none { last_touch block (drop (index + 1) self.now.touched) ≡ None
+            → IfNone result (last_touch block (drop index self.now.touched) ≡ None) }
+        ensures readable { IfSome result (HasBytesWithin (self.now.from + self.now.bytes) 1) }
+    {
+        self.touched[index].of_block(block)
     }
 
     // Whether the group fits and is the next one.

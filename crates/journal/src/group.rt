@@ -1,10 +1,14 @@
-ghost use Rattle.std.specs.Prelude.{◌≡◌, ◌+◌, ◌≤◌, ◌<◌, ◌^◌, [], ◌∷◌, ◌++◌, length, OnOk};
+ghost use Rattle.std.specs.Prelude.{◌≡◌, ℕ, take, ◌+◌, ◌≤◌, ◌<◌, ◌^◌, [], ◌∷◌, ◌++◌, length, OnOk};
 ghost use Rattle.image_model.specs.Change.{change_of};
 ghost use Rattle.image_model.specs.Command.{bodies_of, body_of};
 ghost use Rattle.journal.specs.Group.{IsGroup, number_after};
+ghost use Rattle.journal.specs.Scanning.{AreWithin};
+ghost use Rattle.journal.specs.Touches.{touched_by, touched_by_changes};
 ghost use Rattle.journal.specs.Spelling.{stored_of, clear_byte, change_head, change_bytes, group_head, group_bytes};
 
 use crate::area::CLOSED;
+use crate::scan::COMMAND_HEAD_BYTES;
+use crate::touch::{Touch, TouchedRange, note};
 use image_model::{BLOCK_BYTES, Command, Kind};
 use std::alloc::AllocError;
 use std::marker::Model;
@@ -109,19 +113,69 @@ impl Group {
         self.commands.len() as u32
     }
 
+    // Notes what the commands touch, whose bytes stand from this place of the device on.
+    pub(crate) fn note(&self, place: u64, touched: &mut Vec<TouchedRange>) -> Result<(), AllocError>
+        requires { place + bodies_of self.now.commands < 2 ^ 64 }
+        ensures noted { OnOk result (touched.new.items ≡ touched.old.items ++ touched_by_changes place (stored_of self.now).changes) }
+        ensures begins { take (length touched.old.items) touched.new.items ≡ touched.old.items }
+        ensures within { (end : ℕ) → place + bodies_of self.now.commands ≤ end → AreWithin end touched.old.items
+            → AreWithin end touched.new.items }
+    {
+        let mut place = place;
+        for command in &self.commands {
+            note(touched, touched_by(place, command))?;
+            place += command.body_bytes();
+        }
+        Ok(())
+    }
+
     // What is written behind the group's gate: its head, its commands, and the next gate closed.
-    #[tactic(auto, using(std::proofs::lemmas::List::Sums::sum_by_more, std::proofs::lemmas::List::Sums::sum_by_more_le))]
     pub(crate) fn spell(&self, buffer: &mut Vec<u8>) -> Result<(), AllocError>
         ensures spelled { OnOk result (buffer.new.items ≡ group_bytes (stored_of self.now) ++ 0 ∷ []) }
     {
         buffer.clear();
         buffer.reserve(self.body as usize + 17)?;
+        self.spell_commands(buffer)?;
+        buffer.push(CLOSED)?;
+        Ok(())
+    }
+
+    // The head of the group and its commands.
+    #[tactic(auto, using(std::proofs::lemmas::List::Sums::sum_by_more, std::proofs::lemmas::List::Sums::sum_by_more_le))]
+    fn spell_commands(&self, buffer: &mut Vec<u8>) -> Result<(), AllocError>
+        requires { buffer.old.items ≡ [] }
+        ensures { OnOk result (buffer.new.items ≡ group_bytes (stored_of self.now)) }
+    {
         spell_group_head(self.body, self.first, self.count(), buffer)?;
         for command in &self.commands {
             spell_command(command, buffer)?;
         }
-        buffer.push(CLOSED)?;
         Ok(())
+    }
+}
+
+// What the command touches, whose bytes stand from this place of the device on.
+fn touched_by(place: u64, command: &Command) -> TouchedRange
+    requires on_device { place + body_of command.now < 2 ^ 64 }
+    requires small { body_of command.now ≤ 8388608 }
+    ensures { result ≡ touched_by place (change_of command.now) }
+{
+    let data = place + COMMAND_HEAD_BYTES as u64;
+    match command {
+        Command::Put { first, bytes } => TouchedRange {
+            first: *first,
+            blocks: (bytes.len() as u64 / BLOCK_BYTES) as u32,
+            touch: Touch::Put(data),
+        },
+        Command::Clear {
+            first,
+            blocks,
+            kind,
+        } => TouchedRange {
+            first: *first,
+            blocks: *blocks,
+            touch: Touch::Clear(*kind),
+        },
     }
 }
 

@@ -6,9 +6,11 @@ mod fault;
 mod group;
 mod laws;
 mod scan;
+mod touch;
 mod window;
 
 pub use area::Area;
 pub use fault::JournalFault;
 pub use group::Group;
-pub use laws::{damaged_holds_none, holds_one_list};
+pub use laws::{damaged_holds_none, holds_one_list, last_touches_tell};
+pub use touch::Touch;

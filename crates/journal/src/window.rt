@@ -1,9 +1,11 @@
-ghost use Rattle.std.specs.Prelude.{◌≡◌, ◌+◌, ◌≤◌, ◌<◌, ◌^◌, ◌-◌, min, length, OnOk, IfOk, IsTrue, ◌↔◌, vec_len};
+ghost use Rattle.std.specs.Prelude.{◌≡◌, ℕ, ◌+◌, ◌≤◌, ◌<◌, ◌^◌, ◌-◌, min, List, length, slice_index, OnOk, IfOk, IsTrue, ◌↔◌, vec_len};
 ghost use Rattle.disk_model.specs.Faults.{faults_after};
 ghost use Rattle.journal.specs.Reading.{IsOnlyRead};
+ghost use Rattle.journal.specs.Scanning.{IsReadAs};
 
 use disk_model::{DeviceFault, Disk};
 use std::alloc::{AllocError, Global};
+use std::marker::Model;
 
 // The most bytes that one read takes.
 const WINDOW_BYTES: u32 = 65_536;
@@ -11,56 +13,45 @@ const WINDOW_BYTES: u32 = 65_536;
 // A part of an area that is held in memory, so that small pieces of it cost few reads.
 #[derive(Drop)]
 pub struct Window {
-    bytes: Vec<u8>,
+    buffer: Vec<u8>,
     from: u32,
     held: u32,
-    ghost whole: { vec_len bytes ≡ 65536 },
-    ghost held_fits: { held ≤ 65536 },
+}
+
+impl Model for Window {
+    ghost use Rattle.std.specs.Prelude.{◌≡◌, ◌≤◌, length};
+    ghost use Rattle.journal.specs.Scanning.{WindowState};
+
+    ghost Value = { WindowState };
+
+    ghost view = { λ window. record { from = window.from; held = window.held; buffer = window.buffer.items } };
+
+    ghost invariant = { λ window. (length window.buffer.items ≡ 65536) × (window.held ≤ 65536) };
 }
 
 impl Window {
-    pub fn new(alloc: Global) -> Result<Window, AllocError> {
+    pub fn new(alloc: Global) -> Result<Window, AllocError>
+        ensures { IfOk result (λ window. window.held ≡ 0) }
+    {
         Ok(Window {
-            bytes: vec![in alloc; 0; WINDOW_BYTES as usize]?,
+            buffer: vec![in alloc; 0; WINDOW_BYTES as usize]?,
             from: 0,
             held: 0,
         })
     }
 
-    // The bytes of a place in the area that begins at `area` and has `area_bytes` bytes.
-    pub fn fetch<D: Disk>(
-        &mut self,
-        disk: &mut D,
-        area: u64,
-        area_bytes: u32,
-        place: u32,
-        count: u32,
-    ) -> Result<&[u8], DeviceFault>
-        requires small { count ≤ 32 }
-        requires inside { place + count ≤ area_bytes }
-        requires on_disk { area + area_bytes ≤ D.extent disk.old }
-        ensures count { IfOk result (λ bytes. length bytes.now ≡ count) }
-        ensures extent { D.extent disk.new ≡ D.extent disk.old }
-        ensures faults { D.faults disk.new ≡ faults_after result (D.faults disk.old) }
-        ensures honest { D.honest disk.new ↔ D.honest disk.old }
-        ensures only_read { D.honest disk.old → IsOnlyRead (D.state disk.old) (D.state disk.new) }
+    // The bytes of a place in the area, which are in memory.
+    pub fn bytes(&self, place: u32, count: u32) -> &[u8]
+        requires { (self.now.from ≤ place) × (place + count ≤ self.now.from + self.now.held) }
+        ensures count { length result.now ≡ count }
+        ensures bytes { (k : ℕ) → k < count → slice_index result.now k ≡ slice_index self.now.buffer (place - self.now.from + k) }
     {
-        self.load(disk, area, area_bytes, place, count)?;
         let at = (place - self.from) as usize;
-        Ok(&self.bytes[at..at + count as usize])
-    }
-}
-
-impl Window {
-    // Whether these bytes are in memory.
-    fn holds(&self, place: u32, count: u32) -> bool
-        ensures { IsTrue result ↔ ((self.now.from ≤ place) × (place + count ≤ self.now.from + self.now.held)) }
-    {
-        self.from <= place && count <= self.held && place - self.from <= self.held - count
+        &self.buffer[at..at + count as usize]
     }
 
-    // Has these bytes in memory.
-    fn load<D: Disk>(
+    // Has the bytes of a place in memory, in the area that begins at `area` and has `area_bytes` bytes.
+    pub fn load<D: Disk>(
         &mut self,
         disk: &mut D,
         area: u64,
@@ -76,11 +67,22 @@ impl Window {
         ensures faults { D.faults disk.new ≡ faults_after result (D.faults disk.old) }
         ensures honest { D.honest disk.new ↔ D.honest disk.old }
         ensures only_read { D.honest disk.old → IsOnlyRead (D.state disk.old) (D.state disk.new) }
+        ensures read_as { D.honest disk.old → (content : List ℕ) → IsReadAs content (D.state disk.old) area area_bytes self.old
+            → IsReadAs content (D.state disk.new) area area_bytes self.new }
     {
         if self.holds(place, count) {
             return Ok(());
         }
         self.fill(disk, area, area_bytes, place)
+    }
+}
+
+impl Window {
+    // Whether these bytes are in memory.
+    fn holds(&self, place: u32, count: u32) -> bool
+        ensures { IsTrue result ↔ ((self.now.from ≤ place) × (place + count ≤ self.now.from + self.now.held)) }
+    {
+        self.from <= place && count <= self.held && place - self.from <= self.held - count
     }
 
     // Reads the part of the area from this place on.
@@ -98,11 +100,13 @@ impl Window {
         ensures faults { D.faults disk.new ≡ faults_after result (D.faults disk.old) }
         ensures honest { D.honest disk.new ↔ D.honest disk.old }
         ensures only_read { D.honest disk.old → IsOnlyRead (D.state disk.old) (D.state disk.new) }
+        ensures read_as { D.honest disk.old → (content : List ℕ) → IsReadAs content (D.state disk.old) area area_bytes self.old
+            → IsReadAs content (D.state disk.new) area area_bytes self.new }
     {
         self.from = place;
         self.held = 0;
         let held = WINDOW_BYTES.min(area_bytes - place);
-        read_front(disk, area + place as u64, &mut self.bytes, held)?;
+        read_front(disk, area + place as u64, &mut self.buffer, held)?;
         self.held = held;
         Ok(())
     }
@@ -112,16 +116,17 @@ impl Window {
 fn read_front<D: Disk>(
     disk: &mut D,
     offset: u64,
-    buffer: &mut Vec<u8>,
+    buffer: &mut [u8],
     count: u32,
 ) -> Result<(), DeviceFault>
-    requires room { count ≤ vec_len buffer.old }
+    requires room { count ≤ length buffer.old }
     requires on_disk { offset + count ≤ D.extent disk.old }
-    ensures length { vec_len buffer.new ≡ vec_len buffer.old }
     ensures extent { D.extent disk.new ≡ D.extent disk.old }
     ensures faults { D.faults disk.new ≡ faults_after result (D.faults disk.old) }
     ensures honest { D.honest disk.new ↔ D.honest disk.old }
     ensures only_read { D.honest disk.old → IsOnlyRead (D.state disk.old) (D.state disk.new) }
+    ensures bytes { D.honest disk.old → OnOk result
+        ((k : ℕ) → k < count → slice_index buffer.new k ≡ slice_index (D.state disk.new).seen (offset + k)) }
 {
     disk.read(offset, &mut buffer[..count as usize])
 }

@@ -1,4 +1,4 @@
-use Rattle.std.proofs.Common.{◌≡◌, ℕ, ◌≤◌, [], ◌∷◌, replicate, subst, sym, ◌∙◌, ap, arith, rules}
+use Rattle.std.proofs.Common.{◌≡◌, ℕ, [], ◌∷◌, replicate, subst, ◌∙◌, ap, arith, rules}
 use Rattle.disk_model.specs.Disk.{IsWritten}
 use Rattle.header_slots.specs.Slots.{IsBodyWritten}
 use Rattle.header_slots.specs.declared.header.Header.{Header}
@@ -7,7 +7,6 @@ use Rattle.image_model.specs.Geometry.{map_bytes_of}
 use Rattle.image_model.specs.declared.geometry.Geometry.{Geometry}
 use Rattle.journal.specs.Area.{AreaState}
 use Rattle.regions.specs.Layout.{area_at, map_at}
-use Rattle.checkpoint.specs.Format.{first_header}
 use Rattle.checkpoint.proofs.Formatted.{body_moments, gate_moments, map_moments, parts_written}
 use Rattle.checkpoint.proofs.format.write_parts.Goals as goal
 

@@ -55,7 +55,7 @@ returns-in-Ok-clause-stored g c honest image number keeps changes =
     (omega (arith, long))
     (c.in-Ok.ensures.stored sound (first_number inside.stands) inside.stands.groups inside.held (taken _ _ image number group inside sizes))
     (ap (λ (area : AreaState). area.from) grown_is) (ap (λ (area : AreaState). area.bytes) grown_is) (ap (λ (area : AreaState). area.blocks) grown_is)
-    refl refl
+    refl refl refl
     (count_on keeper.area.next group.first (length group.commands) keeper.count number c.next.result c.self.invariant.2 (omega arith) next whole.some whole.numbers (c.next.ensures ∙ ap (λ (area : AreaState). area.next) grown_is) inside.counted)
     (omega (arith, ap (λ (area : AreaState). area.gate) grown_is, size-stored group)) refl
 

@@ -1,4 +1,4 @@
-use Rattle.std.proofs.Common.{◌≡◌, ◌+◌, ◌≤◌, length, ap, ◌∙◌, arith}
+use Rattle.std.proofs.Common.{◌≡◌, ◌+◌, ◌≤◌, length, ap, ◌∙◌, refl, arith}
 use Rattle.std.proofs.lemmas.List.{length-map}
 use Rattle.disk_model.proofs.Moments.{begins, weakens}
 use Rattle.image_model.specs.Change.{change_of}
@@ -51,7 +51,7 @@ returns-clause-stored g c honest first groups held changes =
     let next = follows area group c.check.ensures.sound c.in_ok-check.ensures.next changes in
     let fits : area.gate + 1 + size_of (stored_of group) ≤ area.bytes = omega (arith, size-stored group, c.in_ok-check.ensures.fits) in
     let number : number_after group ≡ number_behind (stored_of group) = omega (arith, length-map group.commands change_of) in
-    held_after_at area first groups _ held (stored_of group) next fits _ _ place bytes _ _ _ number (omega (arith, size-stored group))
+    held_after_at area first groups _ held (stored_of group) next fits _ _ place bytes _ _ _ _ number (omega (arith, size-stored group)) refl
     (c.in_ok-write_group.ensures.stored honest (range_synced area first groups _ held (stored_of group) next fits _ _ place bytes))
 
 pub returns-clause-any_moment : goal.returns-clause-any_moment
@@ -64,3 +64,19 @@ returns-clause-any_moment g c honest first groups held changes =
     let fits : area.gate + 1 + size_of (stored_of group) ≤ area.bytes = omega (arith, size-stored group, c.in_ok-check.ensures.fits) in
     weakens (c.write_group.ensures.any_moment honest (range_synced area first groups _ held (stored_of group) next fits _ _ place bytes))
     (either_at area first groups _ held (stored_of group) next fits _ _ place bytes)
+
+pub invariant_of-self-in_err-note : goal.invariant_of-self-in_err-note
+invariant_of-self-in_err-note g c =
+    (c.self.invariant.0, c.self.invariant.1, c.in_err-note.ensures.within (c.self.inside.from + c.self.inside.bytes) (omega (arith, c.in_ok-check.ensures.fits, ap (λ (area : AreaState). area.gate) c.self.view_is, ap (λ (area : AreaState). area.bytes) c.self.view_is)) c.self.invariant.2)
+
+pub returns-in_err-note-clause-any_moment : goal.returns-in_err-note-clause-any_moment
+returns-in_err-note-clause-any_moment g c honest first groups held changes =
+    begins (g.met.D.Disk.sound c.args.disk.now honest) (stays_either c.args.self.now first groups _ held (stored_of c.args.group.now))
+
+pub invariant_of-self-in_err-write_group : goal.invariant_of-self-in_err-write_group
+invariant_of-self-in_err-write_group g c =
+    (c.self.invariant.0, c.self.invariant.1, c.in_ok-note.ensures.within (c.self.inside.from + c.self.inside.bytes) (omega (arith, c.in_ok-check.ensures.fits, ap (λ (area : AreaState). area.gate) c.self.view_is, ap (λ (area : AreaState). area.bytes) c.self.view_is)) c.self.invariant.2)
+
+pub invariant_of-self-2 : goal.invariant_of-self-2
+invariant_of-self-2 g c =
+    (c.self.invariant.0, c.self.invariant.1, c.in_ok-note.ensures.within (c.self.inside.from + c.self.inside.bytes) (omega (arith, c.in_ok-check.ensures.fits, ap (λ (area : AreaState). area.gate) c.self.view_is, ap (λ (area : AreaState). area.bytes) c.self.view_is)) c.self.invariant.2)

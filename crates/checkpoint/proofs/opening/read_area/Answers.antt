@@ -1,0 +1,30 @@
+use Rattle.std.proofs.Common.{◌≡◌, ℕ, Err, List, ◌∙◌, ap, subst}
+use Rattle.image_model.specs.declared.geometry.Geometry.{Geometry}
+use Rattle.journal.specs.Area.{AreaState}
+use Rattle.journal.specs.GroupList.{HoldsList, IsDamaged}
+use Rattle.regions.specs.Layout.{area_at}
+use Rattle.checkpoint.specs.Stands.{area_of}
+use Rattle.checkpoint.proofs.Areas.{moved_damage, scan_refused}
+use Rattle.checkpoint.proofs.Readings.{at_refusal, seen_same}
+use Rattle.checkpoint.proofs.opening.read_area.Goals as goal
+
+pub returns-in_err-scan-clause-read : goal.returns-in_err-scan-clause-read
+returns-in_err-scan-clause-read g c honest synced =
+    let call = c.in_err-scan.ensures in
+    let area = c.new-area.result in
+    let before = g.D.Disk.state c.args.disk.now in
+    let after = g.D.Disk.state c.scan.new.disk in
+    let new = c.new-area.ensures in
+    let from : area.from ≡ area_at c.args.geometry.now c.args.side = ap (λ (a : AreaState). a.from) new ∙ c.area_from-from.ensures.place ∙ ap (λ (size : Geometry). area_at size c.args.side) c.of.ensures in
+    let same = seen_same (g.met.D.Disk.sound c.args.disk.now honest) synced (call.only_read honest) in
+    let first : area.next ≡ c.args.next = ap (λ (a : AreaState). a.next) new in
+    at_refusal _ _ _ _ c.from_residual.ensures.1
+    (scan_refused c.in_err-scan.field-0.0 _ call.causes (λ is.
+    moved_damage area (area_of c.args.geometry.now c.args.side) c.args.next after.seen from (ap (λ (a : AreaState). a.bytes) new) (ap (λ (a : AreaState). a.blocks) new)
+    (subst (λ (content : List ℕ). IsDamaged area c.args.next content) same
+    (subst (λ (n : ℕ). IsDamaged area n before.seen) first (call.damaged honest (λ place within. synced place) (ap Err is))))))
+
+pub returns-clause-read : goal.returns-clause-read
+returns-clause-read g c honest synced =
+    let first : c.new-area.result.next ≡ c.args.next = ap (λ (a : AreaState). a.next) c.new-area.ensures in
+    subst (λ (n : ℕ). HoldsList c.scan.new.self n (g.D.Disk.state c.scan.new.disk)) first (c.in_ok-scan.ensures.held honest (λ place within. synced place))

@@ -1,0 +1,99 @@
+use Rattle.std.proofs.Common.{ℕ, List, length, Err, sym, ◌∙◌, subst}
+use Rattle.disk_model.specs.Disk.{IsSound}
+use Rattle.header_slots.specs.Slots.{HoldsHeader}
+use Rattle.image_model.specs.declared.geometry.Geometry.{Geometry}
+use Rattle.journal.proofs.Chained.{one_read, reads_on}
+use Rattle.regions.specs.Layout.{map_at}
+use Rattle.regions.specs.Map.{HoldsMap, IsMapReading}
+use Rattle.checkpoint.proofs.Readings.{at_refusal, groups_refused, header_read, header_refused, header_stays, map_refused, map_stays, seen_same, still_synced}
+use Rattle.checkpoint.proofs.opening.read_parts.Goals as goal
+
+pub returns-in_err-header-clause-read : goal.returns-in_err-header-clause-read
+returns-in_err-header-clause-read g c honest synced =
+    let call = c.in_err-header.ensures in
+    let sound = g.met.D.Disk.sound c.read_current.new.disk (call.honest.1 honest) in
+    at_refusal _ _ _ _ c.from_residual.ensures.1 (header_refused _ _ c.in_err-header.field-0.0 (sym call.extent ∙ sym sound.size) (call.reading honest))
+
+pub returns-in_err-map-clause-only_read : goal.returns-in_err-map-clause-only_read
+returns-in_err-map-clause-only_read g c honest =
+    let first = c.in_ok-header.ensures in
+    let second = c.in_err-map.ensures in
+    reads_on (g.met.D.Disk.sound c.args.disk.now honest) (one_read (first.kept honest) (first.any_moment honest)) (one_read (second.kept (first.honest.1 honest)) (second.any_moment (first.honest.1 honest)))
+
+pub returns-in_err-map-clause-read : goal.returns-in_err-map-clause-read
+returns-in_err-map-clause-read g c honest synced =
+    let first = c.in_ok-header.ensures in
+    let second = c.in_err-map.ensures in
+    let one_honest = first.honest.1 honest in
+    let sound = g.met.D.Disk.sound c.read_current.new.disk one_honest in
+    let one_synced = still_synced synced (one_read (first.kept honest) (first.any_moment honest)) in
+    let same = seen_same sound one_synced (one_read (second.kept one_honest) (second.any_moment one_honest)) in
+    let header = header_read _ _ c.in_ok-header.header c.in_ok-header._slot (sym first.extent ∙ sym sound.size) (first.reading honest) in
+    let held = subst (λ (content : List ℕ). HoldsHeader content (length content) c.in_ok-header.header c.in_ok-header._slot) same header in
+    let reading = subst (λ (size : Geometry). IsMapReading (g.D.Disk.state c.read_slot.new.disk).seen (map_at size c.in_ok-header.header.map_slot) size.blocks (Err c.in_err-map.field-0.0)) c.of.ensures (second.reading one_honest) in
+    at_refusal _ _ _ _ c.from_residual-in_err-map.ensures.1 (map_refused _ c.in_ok-header.header c.in_ok-header._slot c.in_err-map.field-0.0 held reading)
+
+pub returns-in_err-area-clause-only_read : goal.returns-in_err-area-clause-only_read
+returns-in_err-area-clause-only_read g c honest =
+    let first = c.in_ok-header.ensures in
+    let second = c.in_ok-map.ensures in
+    let one_honest = first.honest.1 honest in
+    reads_on (g.met.D.Disk.sound c.args.disk.now honest) (one_read (first.kept honest) (first.any_moment honest))
+    (reads_on (g.met.D.Disk.sound c.read_current.new.disk one_honest) (one_read (second.kept one_honest) (second.any_moment one_honest)) (c.in_err-area.ensures.only_read (second.honest.1 one_honest)))
+
+pub returns-in_err-area-clause-read : goal.returns-in_err-area-clause-read
+returns-in_err-area-clause-read g c honest synced =
+    let first = c.in_ok-header.ensures in
+    let second = c.in_ok-map.ensures in
+    let third = c.in_err-area.ensures in
+    let one_honest = first.honest.1 honest in
+    let two_honest = second.honest.1 one_honest in
+    let header = c.in_ok-header.header in
+    let one = g.D.Disk.state c.read_current.new.disk in
+    let two = g.D.Disk.state c.read_slot.new.disk in
+    let three = g.D.Disk.state c.read_areas.new.disk in
+    let sound = g.met.D.Disk.sound c.read_current.new.disk one_honest in
+    let also = subst (λ e. IsSound e two) second.extent (g.met.D.Disk.sound c.read_slot.new.disk two_honest) in
+    let one_synced = still_synced synced (one_read (first.kept honest) (first.any_moment honest)) in
+    let map_read = one_read (second.kept one_honest) (second.any_moment one_honest) in
+    let held = header_stays one two three sound also one_synced map_read (third.only_read two_honest) header c.in_ok-header._slot c.in_ok-map.map
+    (header_read _ _ header c.in_ok-header._slot (sym first.extent ∙ sym sound.size) (first.reading honest)) in
+    let map = map_stays one two three sound also one_synced map_read (third.only_read two_honest) header c.in_ok-header._slot c.in_ok-map.map
+    (subst (λ (size : Geometry). HoldsMap two.seen (map_at size header.map_slot) size.blocks c.in_ok-map.map) c.of.ensures (second.reading one_honest)) in
+    at_refusal _ _ _ _ c.from_residual-in_err-area.ensures.1
+    (groups_refused three.seen header c.in_ok-header._slot c.in_ok-map.map c.in_err-area.field-0.0 held map (third.read two_honest (still_synced one_synced map_read)))
+
+pub returns-clause-only_read : goal.returns-clause-only_read
+returns-clause-only_read g c honest =
+    let first = c.in_ok-header.ensures in
+    let second = c.in_ok-map.ensures in
+    let one_honest = first.honest.1 honest in
+    reads_on (g.met.D.Disk.sound c.args.disk.now honest) (one_read (first.kept honest) (first.any_moment honest))
+    (reads_on (g.met.D.Disk.sound c.read_current.new.disk one_honest) (one_read (second.kept one_honest) (second.any_moment one_honest)) (c.in_ok-area.ensures.only_read (second.honest.1 one_honest)))
+
+pub returns-clause-read : goal.returns-clause-read
+returns-clause-read g c honest synced =
+    let first = c.in_ok-header.ensures in
+    let second = c.in_ok-map.ensures in
+    let third = c.in_ok-area.ensures in
+    let one_honest = first.honest.1 honest in
+    let two_honest = second.honest.1 one_honest in
+    let header = c.in_ok-header.header in
+    let one = g.D.Disk.state c.read_current.new.disk in
+    let two = g.D.Disk.state c.read_slot.new.disk in
+    let three = g.D.Disk.state c.read_areas.new.disk in
+    let sound = g.met.D.Disk.sound c.read_current.new.disk one_honest in
+    let also = subst (λ e. IsSound e two) second.extent (g.met.D.Disk.sound c.read_slot.new.disk two_honest) in
+    let one_synced = still_synced synced (one_read (first.kept honest) (first.any_moment honest)) in
+    let map_read = one_read (second.kept one_honest) (second.any_moment one_honest) in
+    let held = header_stays one two three sound also one_synced map_read (third.only_read two_honest) header c.in_ok-header._slot c.in_ok-map.map
+    (header_read _ _ header c.in_ok-header._slot (sym first.extent ∙ sym sound.size) (first.reading honest)) in
+    let map = map_stays one two three sound also one_synced map_read (third.only_read two_honest) header c.in_ok-header._slot c.in_ok-map.map
+    (subst (λ (size : Geometry). HoldsMap two.seen (map_at size header.map_slot) size.blocks c.in_ok-map.map) c.of.ensures (second.reading one_honest)) in
+    record {
+      slot = c.in_ok-header._slot;
+      synced = still_synced (still_synced one_synced map_read) (third.only_read two_honest);
+      in_force = held;
+      map = map;
+      areas = third.read two_honest (still_synced one_synced map_read);
+    }

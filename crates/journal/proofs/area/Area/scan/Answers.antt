@@ -1,0 +1,48 @@
+use Rattle.std.proofs.Common.{ℕ, ◌+◌, ◌≤◌, ◌<◌, ◌^◌, List, ap, sym, subst, arith}
+use Rattle.disk_model.specs.Disk.{IsSyncedIn}
+use Rattle.journal.specs.Area.{AreaState}
+use Rattle.journal.specs.GroupList.{HoldsList, IsDamaged}
+use Rattle.journal.proofs.Groups.{damage_of, holds_list, list_of}
+use Rattle.journal.proofs.Noted.{passed_on}
+use Rattle.journal.proofs.OneList.{damaged_none}
+use Rattle.journal.proofs.Windows.{scanned_before, scanned_after, scanned_on}
+use Rattle.journal.proofs.area.Area.scan.Goals as goal
+
+pub returns-in_err-end-clause-damaged : goal.returns-in_err-end-clause-damaged
+returns-in_err-end-clause-damaged g c honest synced damaged =
+    let content = (g.D.Disk.state c.args.disk.now).seen in
+    let sound = g.met.D.Disk.sound c.args.disk.now honest in
+    subst (λ (area : AreaState). IsSyncedIn (g.D.Disk.state c.args.disk.now) area.from area.bytes → area.from + area.bytes ≤ g.D.Disk.extent c.args.disk.now → IsDamaged area area.next content) c.self.view_is
+    (λ synced inside. damage_of _ _ content (c.in_err-end.ensures.damaged honest content (scanned_before c.self.inside.from c.self.inside.bytes sound inside synced)
+    (passed_on c.from_residual.result c.in_err-end.field-0.0 _ c.from_residual.ensures.1 damaged)))
+    synced c.requires
+
+pub returns-clause-held : goal.returns-clause-held
+returns-clause-held g c honest synced =
+    let before = g.D.Disk.state c.args.disk.now in
+    let after = g.D.Disk.state c.list_end.new.disk in
+    let sound = g.met.D.Disk.sound c.args.disk.now honest in
+    let read = c.in_ok-end.ensures.only_read honest in
+    subst (λ (area : AreaState). IsSyncedIn before area.from area.bytes → area.from + area.bytes ≤ g.D.Disk.extent c.args.disk.now → HoldsList (record {
+      from = c.self.inside.from;
+      bytes = c.self.inside.bytes;
+      blocks = c.self.inside.blocks;
+      next = c.in_ok-end.end.next;
+      gate = c.in_ok-end.end.gate;
+      touched = c.list_end.new.touched.items;
+    }) area.next after) c.self.view_is
+    (λ synced inside. holds_list c.self.inside.from c.self.inside.bytes c.self.inside.blocks c.self.inside.next _ _ _ after
+    (c.in_ok-end.ensures.found honest after.seen (scanned_after c.self.inside.from c.self.inside.bytes sound read inside synced))
+    c.in_ok-end.ensures.inside
+    (scanned_on before.seen c.self.inside.from c.self.inside.bytes sound read (scanned_before c.self.inside.from c.self.inside.bytes sound inside synced)).synced)
+    synced c.requires
+
+pub returns-clause-damage_found : goal.returns-clause-damage_found
+returns-clause-damage_found g c honest synced damaged =
+    let before = g.D.Disk.state c.args.disk.now in
+    let sound = g.met.D.Disk.sound c.args.disk.now honest in
+    absurd (subst (λ (area : AreaState). IsSyncedIn before area.from area.bytes → area.from + area.bytes ≤ g.D.Disk.extent c.args.disk.now → IsDamaged area area.next before.seen → ⊥) c.self.view_is
+    (λ synced inside damaged.
+    let found = c.in_ok-end.ensures.found honest before.seen (scanned_before c.self.inside.from c.self.inside.bytes sound inside synced) in
+    damaged_none _ c.self.inside.next before.seen found.groups (omega (arith, c.self.ranges)) damaged (list_of _ c.self.inside.next _ _ _ before.seen found c.in_ok-end.ensures.inside))
+    synced c.requires damaged)

@@ -1,0 +1,48 @@
+ghost use Rattle.std.specs.Prelude.{◌≡◌, ℕ, IfSome, ◌+◌, ◌*◌, ◌<◌, ◌^◌, [], ◌∷◌, ◌++◌, OnOk, OnErr};
+ghost use Rattle.journal.specs.Touches.{EndsWithin, HasBytesWithin, touch_in};
+
+use image_model::{BLOCK_BYTES, Kind};
+use std::alloc::AllocError;
+
+/// What a command of an area made of a block.
+#[derive(Clone, Copy, Debug, PartialEq, Eq)]
+pub enum Touch {
+    /// A put: the block's bytes stand from this byte of the device on.
+    Put(u64),
+    /// A clear to this kind.
+    Clear(Kind),
+}
+
+/// What a command of an area made of its blocks; a put's place is that of the first of them.
+#[derive(Clone, Copy, Drop)]
+pub struct TouchedRange {
+    pub first: u64,
+    pub blocks: u32,
+    pub touch: Touch,
+}
+
+impl TouchedRange {
+    // What the range says of the block; none where the block isn't in it.
+    pub fn of_block(self, block: u64) -> Option<Touch>
+        requires { EndsWithin 18446744073709551615 self }
+        ensures exact { result ≡ touch_in block self }
+        ensures readable { (end : ℕ) → EndsWithin end self → IfSome result (HasBytesWithin end 1) }
+    {
+        if block < self.first || block - self.first >= self.blocks as u64 {
+            return None;
+        }
+        match self.touch {
+            Touch::Put(place) => Some(Touch::Put(place + BLOCK_BYTES * (block - self.first))),
+            Touch::Clear(kind) => Some(Touch::Clear(kind)),
+        }
+    }
+}
+
+// One more range at the end.
+pub fn note(touched: &mut Vec<TouchedRange>, range: TouchedRange) -> Result<(), AllocError>
+    ensures ok { OnOk result (touched.new.items ≡ touched.old.items ++ range ∷ []) }
+    ensures err { OnErr result (touched.new.items ≡ touched.old.items) }
+{
+    touched.push(range)?;
+    Ok(())
+}
