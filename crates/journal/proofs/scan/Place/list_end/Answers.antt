@@ -1,4 +1,4 @@
-use Rattle.std.proofs.Common.{◌+◌, ◌∙◌, ◌<◌, List, sym, subst, refl, arith}
+use Rattle.std.proofs.Common.{◌+◌, ◌∙◌, List, sym, subst, refl, arith}
 use Rattle.journal.specs.declared.touch.TouchedRange.{TouchedRange}
 use Rattle.journal.specs.Scanning.{AreWithin, FoundList}
 use Rattle.journal.proofs.Chained.{none_read, reads_on}
