@@ -35,7 +35,7 @@ later_none : (touch : Option Touch) → later None touch ≡ touch
 later_none None = refl
 later_none (Some touch) = refl
 
-last_touch-append : (block : ℕ) (xs ys : List TouchedRange) → last_touch block (xs ++ ys) ≡ later (last_touch block xs) (last_touch block ys)
+pub last_touch-append : (block : ℕ) (xs ys : List TouchedRange) → last_touch block (xs ++ ys) ≡ later (last_touch block xs) (last_touch block ys)
 last_touch-append block [] ys = sym (later_none (last_touch block ys))
 last_touch-append block (x ∷ xs) ys =
     ap (λ (t : Option Touch). later (touch_in block x) t) (last_touch-append block xs ys) ∙ later_later (touch_in block x) (last_touch block xs) (last_touch block ys)

@@ -160,6 +160,10 @@ fn check_list(rt: &impl Abort, area: &Area, second: bool) {
     assert_eq!(rt; area.last_touch(1), Some(touch));
     assert_eq!(rt; area.last_touch(3), Some(Touch::Clear(Kind::Hole)));
     assert_eq!(rt; area.last_touch(4), None);
+    for block in 0..4 {
+        assert_eq!(rt; area.next_touched(block), Some(block));
+    }
+    assert_eq!(rt; area.next_touched(4), None);
 }
 
 #[test]
