@@ -20,7 +20,7 @@ use std::marker::Model;
 /// The keeper of an open device.
 #[derive(Drop)]
 pub struct Keeper<D: Disk> {
-    disk: D,
+    pub(crate) disk: D,
     geometry: Geometry,
     base: u64,
     count: u64,

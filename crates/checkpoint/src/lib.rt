@@ -6,6 +6,7 @@ mod format;
 mod keeper;
 mod laws;
 mod opening;
+mod simulated;
 
 pub use fault::KeeperFault;
 pub use keeper::Keeper;
