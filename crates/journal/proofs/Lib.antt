@@ -5,6 +5,7 @@ pub mod Contents
 pub mod Found
 pub mod Groups
 pub mod Heads
+pub mod LastTouches
 pub mod Noted
 pub mod OneList
 pub mod Spelled

@@ -1,6 +1,6 @@
 -- What an area notes of the commands of a group, and the last touch that it finds.
-use Rattle.std.proofs.Common.{◌≡◌, ℕ, zero, suc, ◌+◌, ◌≤◌, ◌<◌, List, [], ◌∷◌, ◌++◌, length, get_or, map, take, drop, Some, None, Result, Err, sym, ◌∙◌, ap, subst, refl, arith}
-use Rattle.std.specs.Prelude.{sum_by, IsErrAnd, IsErrOf}
+use Rattle.std.proofs.Common.{◌≡◌, ℕ, zero, suc, ◌+◌, ◌≤◌, ◌<◌, List, [], ◌∷◌, ◌++◌, length, get_or, map, take, drop, Option, Some, None, Result, Err, sym, ◌∙◌, ap, subst, refl, arith}
+use Rattle.std.specs.Prelude.{sum_by, IfSome, IfNone, IsErrAnd, IsErrOf}
 use Rattle.std.specs.List.{flat_map}
 use Rattle.std.proofs.lemmas.List.{take_more, map-append}
 use Rattle.std.proofs.lemmas.List.Sums.{sum_by-take-le}
@@ -39,7 +39,7 @@ noted_within end place commands index old new inside new_is within =
     (touched_within end place (map change_of front) (omega (arith, length-body front, sum_by-take-le body_of commands index, inside))))
 
 -- the last range that has the block
-pub last_found : (block : ℕ) (ranges : List TouchedRange) (index : ℕ) (range : TouchedRange) (touch : Touch) → index < length ranges → range ≡ get_or ranges index range
+last_found : (block : ℕ) (ranges : List TouchedRange) (index : ℕ) (range : TouchedRange) (touch : Touch) → index < length ranges → range ≡ get_or ranges index range
     → last_touch block (drop (suc index) ranges) ≡ None → touch_in block range ≡ Some touch → last_touch block ranges ≡ Some touch
 last_found block [] index range touch below is none found = absurd (omega arith)
 last_found block (r ∷ ranges) zero range touch below is none found =
@@ -47,12 +47,27 @@ last_found block (r ∷ ranges) zero range touch below is none found =
 last_found block (r ∷ ranges) (suc index) range touch below is none found =
     ap (λ t. later (touch_in block r) t) (last_found block ranges index range touch (omega arith) is none found)
 
-pub last_none : (block : ℕ) (ranges : List TouchedRange) (index : ℕ) (range : TouchedRange) → index < length ranges → range ≡ get_or ranges index range
+last_none : (block : ℕ) (ranges : List TouchedRange) (index : ℕ) (range : TouchedRange) → index < length ranges → range ≡ get_or ranges index range
     → last_touch block (drop (suc index) ranges) ≡ None → touch_in block range ≡ None → last_touch block (drop index ranges) ≡ None
 last_none block [] index range below is none found = absurd (omega arith)
 last_none block (r ∷ ranges) zero range below is none found =
     ap (λ t. later (touch_in block r) t) none ∙ ap (λ (q : TouchedRange). touch_in block q) (sym is) ∙ found
 last_none block (r ∷ ranges) (suc index) range below is none found = last_none block ranges index range (omega arith) is none found
+
+-- what is asked of one range, where no later one has the block
+module _ (block : ℕ) (ranges : List TouchedRange) (index : ℕ) (range : TouchedRange) (below : index < length ranges) (is : range ≡ get_or ranges index range) (none : last_touch block (drop (index + 1) ranges) ≡ None) where
+  none_later : last_touch block (drop (suc index) ranges) ≡ None
+  none_later =
+      let next : suc index ≡ index + 1 = omega arith in
+      ap (λ (n : ℕ). last_touch block (drop n ranges)) next ∙ none
+
+  pub last_here : (found : Option Touch) → found ≡ touch_in block range → IfSome found (λ touch. last_touch block ranges ≡ Some touch)
+  last_here None found = tt
+  last_here (Some touch) found = last_found block ranges index range touch below is none_later (sym found)
+
+  pub none_here : (found : Option Touch) → found ≡ touch_in block range → IfNone found (last_touch block (drop index ranges) ≡ None)
+  none_here None found = last_none block ranges index range below is none_later (sym found)
+  none_here (Some touch) found = tt
 
 -- the fault of a call that a `?` passes on
 pub passed_on : {T U : Type 0} (result : Result T JournalFault) (fault found : JournalFault) → IsErrAnd result (λ passed. passed ≡ fault) → IsErrOf result found → IsErrOf {T = U} {E = JournalFault} (Err fault) found

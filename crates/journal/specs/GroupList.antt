@@ -1,7 +1,8 @@
 -- The list of groups that the bytes of an area hold, by docs/FORMATS.md, "Group". A place is a byte of the device.
 use Rattle.std.specs.Prelude.{ℕ, ◌≡◌, ◌+◌, ◌%◌, ◌≤◌, ◌<◌, ◌⊎◌, List, [], ◌∷◌, ◌++◌, length, slice_index, sum_by, ⊤}
 use Rattle.disk_model.specs.Disk.{State, IsAllSynced, IsSyncedIn, MayLeaveTorn}
-use Rattle.image_model.specs.Change.{AreChanges}
+use Rattle.std.specs.List.{flat_map}
+use Rattle.image_model.specs.Change.{Change, AreChanges}
 use Rattle.journal.specs.Area.{AreaState}
 use Rattle.journal.specs.Spelling.{StoredGroup, body_of_group, group_bytes}
 use Rattle.journal.specs.Touches.{touched_by_groups}
@@ -20,6 +21,10 @@ size_of group = 17 + length (body_of_group group)
 
 abbrev pub sizes_of : List StoredGroup → ℕ
 sizes_of groups = sum_by size_of groups
+
+-- the changes of groups, one after another
+abbrev pub changes_of : List StoredGroup → List Change
+changes_of groups = flat_map (λ group. group.changes) groups
 
 -- the number that follows a group's last; 0 where no number is left
 abbrev pub number_behind : StoredGroup → ℕ

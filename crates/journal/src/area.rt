@@ -1,4 +1,4 @@
-ghost use Rattle.std.specs.Prelude.{◌≡◌, ◌≢◌, ◌⊎◌, ℕ, ◌+◌, ◌≤◌, ◌<◌, ◌^◌, ◌==◌, ◌↔◌, List, [], ◌∷◌, ◌++◌, length, take, Option, OnOk, IfErr, IfSome, OnErr, IsErr, IsErrOf, IsErrAnd};
+ghost use Rattle.std.specs.Prelude.{◌≡◌, ◌≢◌, ◌⊎◌, ℕ, ◌+◌, ◌≤◌, ◌<◌, ◌^◌, ◌==◌, ◌↔◌, List, [], ◌∷◌, ◌++◌, length, take, drop, Option, Some, None, OnOk, IfErr, IfSome, IfNone, OnErr, IsErr, IsErrOf, IsErrAnd};
 ghost use Rattle.disk_model.specs.Disk.{IsSyncedIn, IsWritten, IsWriteFailed, LeavesOnly, MayLeaveTorn};
 ghost use Rattle.disk_model.specs.Faults.{faults_after};
 ghost use Rattle.image_model.specs.Change.{AreChanges};
@@ -253,11 +253,23 @@ impl Area {
         let mut index = self.touched.len();
         while index > 0 {
             index -= 1;
-            if let Some(touch) = self.touched[index].of_block(block) {
+            if let Some(touch) = self.touch_at(index, block) {
                 return Some(touch);
             }
         }
         None
+    }
+
+    // What the command at this index made of the block, where no later one touches it.
+    fn touch_at(&self, index: usize, block: u64) -> Option<Touch>
+        requires { index < length self.now.touched }
+        ensures last { last_touch block (drop (index + 1) self.now.touched) ≡ None
+            → IfSome result (λ touch. last_touch block self.now.touched ≡ Some touch) }
+        ensures none { last_touch block (drop (index + 1) self.now.touched) ≡ None
+            → IfNone result (last_touch block (drop index self.now.touched) ≡ None) }
+        ensures readable { IfSome result (HasBytesWithin (self.now.from + self.now.bytes) 1) }
+    {
+        self.touched[index].of_block(block)
     }
 
     // Whether the group fits and is the next one.

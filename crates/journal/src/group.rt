@@ -130,17 +130,26 @@ impl Group {
     }
 
     // What is written behind the group's gate: its head, its commands, and the next gate closed.
-    #[tactic(auto, using(std::proofs::lemmas::List::Sums::sum_by_more, std::proofs::lemmas::List::Sums::sum_by_more_le))]
     pub(crate) fn spell(&self, buffer: &mut Vec<u8>) -> Result<(), AllocError>
         ensures spelled { OnOk result (buffer.new.items ≡ group_bytes (stored_of self.now) ++ 0 ∷ []) }
     {
         buffer.clear();
         buffer.reserve(self.body as usize + 17)?;
+        self.spell_commands(buffer)?;
+        buffer.push(CLOSED)?;
+        Ok(())
+    }
+
+    // The head of the group and its commands.
+    #[tactic(auto, using(std::proofs::lemmas::List::Sums::sum_by_more, std::proofs::lemmas::List::Sums::sum_by_more_le))]
+    fn spell_commands(&self, buffer: &mut Vec<u8>) -> Result<(), AllocError>
+        requires { buffer.old.items ≡ [] }
+        ensures { OnOk result (buffer.new.items ≡ group_bytes (stored_of self.now)) }
+    {
         spell_group_head(self.body, self.first, self.count(), buffer)?;
         for command in &self.commands {
             spell_command(command, buffer)?;
         }
-        buffer.push(CLOSED)?;
         Ok(())
     }
 }

@@ -1,7 +1,9 @@
-ghost use Rattle.std.specs.Prelude.{◌≡◌, ℕ, ◌<◌, ◌^◌, List};
+ghost use Rattle.std.specs.Prelude.{◌≡◌, ℕ, ◌+◌, ◌*◌, ◌<◌, ◌^◌, List};
+ghost use Rattle.image_model.specs.Image.{Image, apply_all};
 ghost use Rattle.journal.specs.Area.{AreaState};
-ghost use Rattle.journal.specs.GroupList.{IsDamaged, IsList};
+ghost use Rattle.journal.specs.GroupList.{IsDamaged, IsList, changes_of};
 ghost use Rattle.journal.specs.Spelling.{StoredGroup};
+ghost use Rattle.journal.specs.Touches.{byte_after_touch, kind_after, last_touch, touched_by_groups};
 
 /// A law: the bytes of an area hold at most one list of groups, where its first number is known.
 pub fn holds_one_list()
@@ -13,4 +15,16 @@ pub fn holds_one_list()
 pub fn damaged_holds_none()
     ensures { (area : AreaState) (first : ℕ) (content : List ℕ) (groups : List StoredGroup) → area.blocks < 2 ^ 64
         → IsDamaged area first content → IsList area first groups content → ⊥ }
+{}
+
+/// A law: what the commands of an area's list make of an image is told by the last touch of each block: its state, and
+/// its bytes, which are those that stand in the area where the last touch is a put.
+pub fn last_touches_tell()
+    ensures kinds { (area : AreaState) (first : ℕ) (groups : List StoredGroup) (content : List ℕ) → IsList area first groups content
+        → area.touched ≡ touched_by_groups area.from groups → (image : Image) (block : ℕ)
+        → (apply_all (changes_of groups) image).kind block ≡ kind_after (last_touch block area.touched) (image.kind block) }
+    ensures bytes { (area : AreaState) (first : ℕ) (groups : List StoredGroup) (content : List ℕ) → IsList area first groups content
+        → area.touched ≡ touched_by_groups area.from groups → (image : Image) (block offset : ℕ) → offset < 4096
+        → (apply_all (changes_of groups) image).byte (4096 * block + offset)
+        ≡ byte_after_touch (last_touch block area.touched) content offset (image.byte (4096 * block + offset)) }
 {}

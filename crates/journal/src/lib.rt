@@ -12,5 +12,5 @@ mod window;
 pub use area::Area;
 pub use fault::JournalFault;
 pub use group::Group;
-pub use laws::{damaged_holds_none, holds_one_list};
+pub use laws::{damaged_holds_none, holds_one_list, last_touches_tell};
 pub use touch::Touch;

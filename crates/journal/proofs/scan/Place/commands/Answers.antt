@@ -1,4 +1,5 @@
-use Rattle.std.proofs.Common.{◌+◌, ◌∙◌, ◌∷◌, [], sym, subst, refl, arith}
+use Rattle.std.proofs.Common.{◌+◌, ◌∙◌, ◌∷◌, [], List, sym, subst, refl, arith}
+use Rattle.journal.specs.declared.touch.TouchedRange.{TouchedRange}
 use Rattle.journal.specs.Scanning.{AreWithin}
 use Rattle.journal.proofs.Chained.{none_read, reads_on}
 use Rattle.journal.proofs.Found.{found_none, left_none, found_more, left_more, none_next, none_end, within_append, range_within}
@@ -32,7 +33,7 @@ loop-preserved g c =
       only_read = λ honest. reads_on (g.met.D.Disk.sound c.args.disk.now honest) (loop.only_read honest) (read.only_read (loop.honest.1 honest));
       order = read.inside.1;
       within = λ within.
-          subst (AreWithin (area.from + area.bytes)) (sym c.in_ok-note.ensures.ok)
+          subst (AreWithin (area.from + area.bytes)) (sym {A = List TouchedRange} c.in_ok-note.ensures.ok)
           (within_append (area.from + area.bytes) c.loop.touched.items (c.in_ok-found.found.range ∷ []) (loop.within within)
           (range_within (area.from + c.in_ok-found.found.end) (area.from + area.bytes) (omega (arith, read.inside.1, c.requires.inside)) c.in_ok-found.found.range read.within, tt));
       read_as = λ honest content known. read.read_as (loop.honest.1 honest) content (loop.read_as honest content known);

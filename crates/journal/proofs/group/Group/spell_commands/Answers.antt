@@ -7,7 +7,7 @@ use Rattle.image_model.specs.Command.{bodies_of}
 use Rattle.journal.specs.Group.{Numbered}
 use Rattle.journal.specs.Spelling.{change_bytes, group_head}
 use Rattle.journal.proofs.Spelled.{group_spelled}
-use Rattle.journal.proofs.group.Group.spell.Goals as goal
+use Rattle.journal.proofs.group.Group.spell_commands.Goals as goal
 
 pub returns : goal.returns
 returns c =
@@ -16,4 +16,4 @@ returns c =
     let spelled = c.loop-command.invariant
     ∙ ap (λ (done : List Command). group_head (bodies_of commands) c.args.self.now.first (length commands) ++ flat_map (λ command. change_bytes (change_of command)) done) all
     ∙ sym (group_spelled c.args.self.now) in
-    record { spelled = c.in_ok-push.ensures.items ∙ ap (λ (bytes : List ℕ). bytes ++ 0 ∷ []) spelled }
+    spelled
