@@ -21,16 +21,16 @@ use std::marker::Model;
 #[derive(Drop)]
 pub struct Keeper<D: Disk> {
     pub(crate) disk: D,
-    geometry: Geometry,
+    pub(crate) geometry: Geometry,
     base: u64,
     count: u64,
     // The states of the blocks at the base.
-    map: AllocMap,
+    pub(crate) map: AllocMap,
     // The area in front of the last one in use, where two are in use.
-    first: Option<Area>,
+    pub(crate) first: Option<Area>,
     // The area that the next group goes to.
-    area: Area,
-    failed: bool,
+    pub(crate) area: Area,
+    pub(crate) failed: bool,
 }
 
 impl<D: Disk> Model for Keeper<D> {
@@ -54,8 +54,8 @@ impl<D: Disk> Model for Keeper<D> {
     } };
 
     ghost invariant = { λ keeper. (D.extent keeper.disk ≡ device_bytes_of keeper.geometry.blocks keeper.geometry.area)
-      × (length keeper.map ≡ keeper.geometry.blocks) × IfSome keeper.first (λ area. area.from + area.bytes ≤ D.extent keeper.disk)
-      × (keeper.area.from + keeper.area.bytes ≤ D.extent keeper.disk)
+        × (length keeper.map ≡ keeper.geometry.blocks) × IfSome keeper.first (λ area. area.from + area.bytes ≤ D.extent keeper.disk)
+        × (keeper.area.from + keeper.area.bytes ≤ D.extent keeper.disk)
         × (keeper.area.bytes ≡ keeper.geometry.area) × (keeper.area.next ≡ next_number keeper.count) };
 }
 
@@ -85,12 +85,14 @@ impl<D: Disk> Keeper<D> {
             → IfErr result (λ refused. IsPassing refused.0) }
     {
         match read_device(alloc, &mut disk) {
-            Ok(Opened {
-                header,
-                map,
-                first,
-                area,
-            }) => Ok(Keeper {
+            Ok(
+                Opened {
+                    header,
+                    map,
+                    first,
+                    area,
+                },
+            ) => Ok(Keeper {
                 disk,
                 geometry: header.geometry,
                 base: header.base,

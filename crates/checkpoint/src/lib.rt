@@ -7,6 +7,7 @@ mod keeper;
 mod laws;
 mod opening;
 mod simulated;
+mod stored;
 
 pub use fault::KeeperFault;
 pub use keeper::Keeper;

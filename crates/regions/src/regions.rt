@@ -45,10 +45,11 @@ impl Regions {
         8192 + 2 * self.geometry.area as u64 + self.geometry.map_bytes() * slot.index() as u64
     }
 
-    // The first byte of a block's data.
-    fn block_from(&self, block: u64) -> u64
+    /// The first byte of a block's data.
+    pub fn block_from(&self, block: u64) -> u64
         requires { block < self.now.geometry.blocks }
-        ensures { result ≡ block_at self.now.geometry block }
+        ensures place { result ≡ block_at self.now.geometry block }
+        ensures inside { result + 4096 ≤ device_bytes_of self.now.geometry.blocks self.now.geometry.area }
     {
         8192 + 2 * self.geometry.area as u64 + 2 * self.geometry.map_bytes() + BLOCK_BYTES * block
     }
