@@ -1,6 +1,13 @@
--- keepers as callers see them
-use Rattle.std.specs.Prelude.{ℕ, Bool}
+-- keepers as callers see them, and what a call makes of one
+use Rattle.std.specs.Prelude.{ℕ, ◌+◌, Bool, true, length}
+use Rattle.disk_model.specs.Faults.{counted}
+use Rattle.image_model.specs.Command.{bodies_of}
 use Rattle.image_model.specs.declared.geometry.Geometry.{Geometry}
+use Rattle.journal.specs.Append.{grown}
+use Rattle.journal.specs.Area.{AreaState}
+use Rattle.journal.specs.Group.{Numbered}
+use Rattle.checkpoint.specs.declared.fault.KeeperFault.{KeeperFault}
+use Rattle.checkpoint.specs.declared.fault.KeeperFault.TheVariants.{NoMemory, DeviceFault, BadMap, NoHeader, BadHeader, AreaFull, OutOfOrder, DamagedGroup, Failed}
 
 pub record KeeperState (D : Type 0) : Type 0 where
   pub disk : D
@@ -9,5 +16,58 @@ pub record KeeperState (D : Type 0) : Type 0 where
   pub count : ℕ
   -- the number of the last command in map and data
   pub base : ℕ
+  -- the bytes of its journal area that its groups take
+  pub used : ℕ
   -- whether a call of the device has failed
   pub failed : Bool
+  -- what it remembers of the area that groups are added to; no caller needs it
+  pub area : AreaState
+
+-- the bytes of an area that are taken once the group is added and a gate stands behind it
+abbrev pub end_after : {D : Type 0} → KeeperState D → Numbered → ℕ
+end_after keeper group = keeper.used + 18 + bodies_of group.commands
+
+-- the keeper with the group added, and its device as it then is
+abbrev pub grown_by : {D : Type 0} → KeeperState D → Numbered → D → KeeperState D
+grown_by keeper group disk = record keeper {
+  disk = disk;
+  count = keeper.count + length group.commands;
+  used = keeper.used + 17 + bodies_of group.commands;
+  area = grown keeper.area group;
+}
+
+-- the keeper after a refusal, and its device as it then is: a device fault stops it, and any other leaves it as it was
+abbrev pub refused_by : {D : Type 0} → KeeperFault → KeeperState D → D → KeeperState D
+refused_by NoMemory keeper disk = keeper
+refused_by DeviceFault keeper disk = record keeper { disk = disk; failed = true }
+refused_by BadMap keeper disk = keeper
+refused_by NoHeader keeper disk = keeper
+refused_by BadHeader keeper disk = keeper
+refused_by AreaFull keeper disk = keeper
+refused_by OutOfOrder keeper disk = keeper
+refused_by DamagedGroup keeper disk = keeper
+refused_by Failed keeper disk = keeper
+
+-- the number of faults of the device after a refusal: only a device fault is counted
+abbrev pub faults_by : KeeperFault → ℕ → ℕ
+faults_by NoMemory faults = faults
+faults_by DeviceFault faults = counted faults
+faults_by BadMap faults = faults
+faults_by NoHeader faults = faults
+faults_by BadHeader faults = faults
+faults_by AreaFull faults = faults
+faults_by OutOfOrder faults = faults
+faults_by DamagedGroup faults = faults
+faults_by Failed faults = faults
+
+-- the refusals that adding a group may give
+abbrev pub IsAppendFault : KeeperFault → Type 0
+IsAppendFault NoMemory = Unit {0}
+IsAppendFault DeviceFault = Unit {0}
+IsAppendFault BadMap = ⊥
+IsAppendFault NoHeader = ⊥
+IsAppendFault BadHeader = ⊥
+IsAppendFault AreaFull = Unit {0}
+IsAppendFault OutOfOrder = Unit {0}
+IsAppendFault DamagedGroup = ⊥
+IsAppendFault Failed = Unit {0}

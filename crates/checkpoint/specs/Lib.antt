@@ -1,2 +1,6 @@
+pub mod Faults
+pub mod Format
 pub mod Keeper
-pub mod Layout
+pub mod Keeps
+pub mod Opening
+pub mod Stands

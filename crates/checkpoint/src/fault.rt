@@ -1,9 +1,11 @@
 ghost use Rattle.std.specs.Prelude.{◌≡◌};
+ghost use Rattle.checkpoint.specs.Faults.{of_header, of_journal, of_region};
 ghost use Rattle.checkpoint.specs.declared.fault.KeeperFault.TheVariants as KeeperFault;
 
 use disk_model::DeviceFault;
 use header_slots::HeaderFault;
 use journal::JournalFault;
+use regions::RegionFault;
 use std::alloc::AllocError;
 use thiserror::Error;
 
@@ -16,6 +18,9 @@ pub enum KeeperFault {
     /// 1: a call of the device failed.
     #[error("device fault")]
     DeviceFault,
+    /// 6: the map in the header's map slot has a block with code 3, or a bit past the last block is set.
+    #[error("bad map")]
+    BadMap,
     /// 7: no header is in force.
     #[error("no header")]
     NoHeader,
@@ -53,6 +58,8 @@ impl From<AllocError> for KeeperFault {
 }
 
 impl From<HeaderFault> for KeeperFault {
+    ghost from_gives = { λ fault given. given ≡ of_header fault };
+
     fn from(fault: HeaderFault) -> KeeperFault {
         match fault {
             HeaderFault::DeviceFault => KeeperFault::DeviceFault,
@@ -62,7 +69,21 @@ impl From<HeaderFault> for KeeperFault {
     }
 }
 
+impl From<RegionFault> for KeeperFault {
+    ghost from_gives = { λ fault given. given ≡ of_region fault };
+
+    fn from(fault: RegionFault) -> KeeperFault {
+        match fault {
+            RegionFault::NoMemory => KeeperFault::NoMemory,
+            RegionFault::DeviceFault => KeeperFault::DeviceFault,
+            RegionFault::BadMap => KeeperFault::BadMap,
+        }
+    }
+}
+
 impl From<JournalFault> for KeeperFault {
+    ghost from_gives = { λ fault given. given ≡ of_journal fault };
+
     fn from(fault: JournalFault) -> KeeperFault {
         match fault {
             JournalFault::NoMemory => KeeperFault::NoMemory,

@@ -1,54 +1,121 @@
-ghost use Rattle.std.specs.Prelude.{◌≡◌, ◌+◌, ◌≤◌};
+ghost use Rattle.std.specs.Prelude.{◌≡◌, ◌+◌, ◌≤◌, ◌⊎◌, ◌↔◌, length, IfErr, OnOk};
+ghost use Rattle.checkpoint.specs.Format.{AreClosed, IsFresh, LeavesButGates, LeavesFormat, first_header};
+ghost use Rattle.checkpoint.specs.Keeper.{faults_by};
+ghost use Rattle.checkpoint.specs.Stands.{StandsFor, holes};
+ghost use Rattle.disk_model.specs.Disk.{IsAllSynced, IsSteady, LeavesOnly};
+ghost use Rattle.disk_model.specs.Faults.{faults_after};
+ghost use Rattle.header_slots.specs.Slots.{HoldsNone};
 ghost use Rattle.image_model.specs.Geometry.{device_bytes_of};
+ghost use Rattle.image_model.specs.declared.geometry.Geometry.{Geometry};
 
 use crate::fault::KeeperFault;
 use crate::keeper::Keeper;
-use crate::layout::{area_at, map_slot_at};
-use disk_model::Disk;
+use disk_model::{DeviceFault, Disk};
 use header_slots::{Areas, Header, Side, close_gate, open_gate, write_body};
 use image_model::Geometry;
 use journal::Area;
+use regions::Regions;
 use std::alloc::Global;
 
 impl<D: Disk> Keeper<D> {
     /// Makes the device an image of holes with an empty journal.
     ///
-    /// Both header gates are closed and synced first; the header's gate is opened last, when all else is stable.
+    /// Both header gates are closed and synced first; the header's gate is opened last, when all else is stable. It
+    /// refuses with 0 and 1.
     pub fn format(alloc: Global, disk: &mut D, geometry: Geometry) -> Result<(), KeeperFault>
         requires { D.extent disk.old ≡ device_bytes_of geometry.blocks geometry.area }
         ensures extent { D.extent disk.new ≡ D.extent disk.old }
+        ensures faults_ok { OnOk result (D.faults disk.new ≡ D.faults disk.old) }
+        ensures faults_err { IfErr result (λ fault. D.faults disk.new ≡ faults_by fault (D.faults disk.old)) }
+        ensures honest { D.honest disk.new ↔ D.honest disk.old }
+
+        // On an honest device of which no place is loose.
+        ensures synced { D.honest disk.old → IsSteady (D.state disk.old) → OnOk result (IsAllSynced (D.state disk.new)) }
+        ensures formatted { D.honest disk.old → IsSteady (D.state disk.old) → OnOk result (StandsFor (D.state disk.new).seen holes 0) }
+        ensures any_moment { D.honest disk.old → IsSteady (D.state disk.old)
+            → LeavesOnly (D.state disk.old) (D.state disk.new) (LeavesFormat (D.state disk.old)) }
     {
-        close_gate(disk, Side::Zero)?;
-        close_gate(disk, Side::One)?;
-        disk.sync()?;
-        let header = Header {
-            generation: 1,
-            geometry,
-            areas: Areas::One,
-            first_area: Side::Zero,
-            map_slot: Side::Zero,
-            base: 0,
-        };
-        write_parts(alloc, disk, &header)?;
-        disk.sync()?;
-        open_gate(disk, Side::Zero)?;
-        disk.sync()?;
+        close_headers(disk)?;
+        write_parts(alloc, disk, geometry)?;
+        open_header(disk)?;
         Ok(())
     }
 }
 
-// Writes the empty journal, the map of holes and the header's body.
-fn write_parts<D: Disk>(alloc: Global, disk: &mut D, header: &Header) -> Result<(), KeeperFault>
-    requires { D.extent disk.old ≡ device_bytes_of header.now.geometry.blocks header.now.geometry.area }
+// Closes the gates of both headers, and makes that stable.
+fn close_headers<D: Disk>(disk: &mut D) -> Result<(), DeviceFault>
+    requires { 8192 ≤ D.extent disk.old }
     ensures extent { D.extent disk.new ≡ D.extent disk.old }
+    ensures faults { D.faults disk.new ≡ faults_after result (D.faults disk.old) }
+    ensures honest { D.honest disk.new ↔ D.honest disk.old }
+
+    ensures closed { D.honest disk.old → IsSteady (D.state disk.old) → OnOk result (AreClosed (D.state disk.new)) }
+    ensures any_moment { D.honest disk.old → LeavesOnly (D.state disk.old) (D.state disk.new) (LeavesButGates (D.state disk.old)) }
 {
-    let geometry = header.geometry;
-    let from = area_at(&geometry, Side::Zero);
-    let mut area = Area::new(alloc, from, geometry.area, geometry.blocks, 1);
-    area.close_first(disk)?;
-    let map = map_slot_at(&geometry, Side::Zero);
+    close_gate(disk, Side::Zero)?;
+    close_gate(disk, Side::One)?;
+    disk.sync()
+}
+
+// Writes the empty journal, the map of holes and the header's body.
+fn write_parts<D: Disk>(alloc: Global, disk: &mut D, geometry: Geometry) -> Result<(), KeeperFault>
+    requires { D.extent disk.old ≡ device_bytes_of geometry.blocks geometry.area }
+    ensures extent { D.extent disk.new ≡ D.extent disk.old }
+    ensures faults_ok { OnOk result (D.faults disk.new ≡ D.faults disk.old) }
+    ensures faults_err { IfErr result (λ fault. D.faults disk.new ≡ faults_by fault (D.faults disk.old)) }
+    ensures honest { D.honest disk.new ↔ D.honest disk.old }
+
+    ensures closed { D.honest disk.old → AreClosed (D.state disk.old) → OnOk result (AreClosed (D.state disk.new)) }
+    ensures fresh { D.honest disk.old → AreClosed (D.state disk.old) → OnOk result (IsFresh (D.state disk.new).seen geometry) }
+    ensures any_moment { D.honest disk.old → AreClosed (D.state disk.old)
+        → LeavesOnly (D.state disk.old) (D.state disk.new) (λ content. HoldsNone content (length content)) }
+{
+    let regions = Regions::of(&geometry);
     let holes = vec![in alloc; 0; geometry.map_bytes() as usize]?;
-    disk.write_at(map, &holes)?;
-    write_body(disk, Side::Zero, header)?;
+    let mut area = Area::new(
+        alloc,
+        regions.area_from(Side::Zero),
+        geometry.area,
+        geometry.blocks,
+        1,
+    );
+    area.close_first(disk)?;
+    disk.write_at(regions.map_from(Side::Zero), &holes)?;
+    write_body(disk, Side::Zero, &first_header(geometry))?;
     Ok(())
+}
+
+// The header of a device that was just formatted.
+fn first_header(geometry: Geometry) -> Header
+    ensures { result ≡ first_header geometry }
+{
+    Header {
+        generation: 1,
+        geometry,
+        areas: Areas::One,
+        first_area: Side::Zero,
+        map_slot: Side::Zero,
+        base: 0,
+    }
+}
+
+// Makes what was written stable, and then opens the gate of the header that it belongs to.
+fn open_header<D: Disk>(disk: &mut D) -> Result<(), DeviceFault>
+    requires { 8192 ≤ D.extent disk.old }
+    ensures extent { D.extent disk.new ≡ D.extent disk.old }
+    ensures faults { D.faults disk.new ≡ faults_after result (D.faults disk.old) }
+    ensures honest { D.honest disk.new ↔ D.honest disk.old }
+
+    ensures synced { D.honest disk.old → OnOk result (IsAllSynced (D.state disk.new)) }
+    ensures opened { D.honest disk.old → AreClosed (D.state disk.old) → (geometry : Geometry)
+        → D.extent disk.old ≡ device_bytes_of geometry.blocks geometry.area → IsFresh (D.state disk.old).seen geometry
+        → OnOk result (StandsFor (D.state disk.new).seen holes 0) }
+    ensures any_moment { D.honest disk.old → AreClosed (D.state disk.old) → (geometry : Geometry)
+        → D.extent disk.old ≡ device_bytes_of geometry.blocks geometry.area → IsFresh (D.state disk.old).seen geometry
+        → LeavesOnly (D.state disk.old) (D.state disk.new)
+        (λ content. HoldsNone content (length content) ⊎ StandsFor content holes 0) }
+{
+    disk.sync()?;
+    open_gate(disk, Side::Zero)?;
+    disk.sync()
 }

@@ -4,7 +4,8 @@
 mod fault;
 mod format;
 mod keeper;
-mod layout;
+mod laws;
 
 pub use fault::KeeperFault;
 pub use keeper::Keeper;
+pub use laws::{keeper_laws, stands_laws};

@@ -12,6 +12,8 @@ pub enum Refusal {
     NoMemory,
     #[error("device fault")]
     DeviceFault,
+    #[error("bad map")]
+    BadMap,
     #[error("no header")]
     NoHeader,
     #[error("bad header")]
@@ -44,6 +46,7 @@ impl Refusal {
         match self {
             Refusal::NoMemory => 0,
             Refusal::DeviceFault => 1,
+            Refusal::BadMap => 6,
             Refusal::NoHeader => 7,
             Refusal::BadHeader => 8,
             Refusal::NumbersFull => 9,
@@ -77,6 +80,7 @@ impl From<KeeperFault> for Refusal {
         match fault {
             KeeperFault::NoMemory => Refusal::NoMemory,
             KeeperFault::DeviceFault => Refusal::DeviceFault,
+            KeeperFault::BadMap => Refusal::BadMap,
             KeeperFault::NoHeader => Refusal::NoHeader,
             KeeperFault::BadHeader => Refusal::BadHeader,
             KeeperFault::AreaFull => Refusal::AreaFull,

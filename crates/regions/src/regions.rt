@@ -1,8 +1,9 @@
-ghost use Rattle.std.specs.Prelude.{◌≡◌, ◌+◌, ◌<◌, ◌↔◌, ℕ, length, slice_index, OnOk};
+ghost use Rattle.std.specs.Prelude.{◌≡◌, ◌+◌, ◌≤◌, ◌<◌, ◌↔◌, ℕ, length, slice_index, OnOk};
 ghost use Rattle.disk_model.specs.Disk.{MayLeave, IsKept, LeavesOnly};
 ghost use Rattle.disk_model.specs.Faults.{faults_after};
-ghost use Rattle.image_model.specs.Geometry.{device_bytes_of};
-ghost use Rattle.regions.specs.Layout.{map_at, block_at};
+ghost use Rattle.image_model.specs.Geometry.{device_bytes_of, map_bytes_of};
+ghost use Rattle.header_slots.specs.declared.header.Side.TheVariants as Side;
+ghost use Rattle.regions.specs.Layout.{area_at, map_at, block_at};
 ghost use Rattle.regions.specs.Map.{IsMapReading, faults_after_reading};
 
 use crate::fault::RegionFault;
@@ -28,9 +29,18 @@ impl Regions {
         }
     }
 
-    // The first byte of a map slot.
-    fn map_from(&self, slot: Side) -> u64
-        ensures { result ≡ map_at self.now.geometry slot }
+    /// The first byte of an area.
+    pub fn area_from(&self, area: Side) -> u64
+        ensures place { result ≡ area_at self.now.geometry area }
+        ensures inside { result + self.now.geometry.area ≤ map_at self.now.geometry Side.Zero }
+    {
+        8192 + self.geometry.area as u64 * area.index() as u64
+    }
+
+    /// The first byte of a map slot.
+    pub fn map_from(&self, slot: Side) -> u64
+        ensures place { result ≡ map_at self.now.geometry slot }
+        ensures inside { result + map_bytes_of self.now.geometry.blocks ≤ block_at self.now.geometry 0 }
     {
         8192 + 2 * self.geometry.area as u64 + self.geometry.map_bytes() * slot.index() as u64
     }

@@ -1,0 +1,4 @@
+pub mod Frame
+pub mod Added
+pub mod Sole
+pub mod Formatted

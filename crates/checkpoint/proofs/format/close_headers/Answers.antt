@@ -1,0 +1,37 @@
+use Rattle.std.proofs.Common.{subst}
+use Rattle.std.proofs.lemmas.Result.{on_ok_weaker}
+use Rattle.disk_model.specs.Disk.{IsSound}
+use Rattle.disk_model.proofs.Moments.{stays_on}
+use Rattle.checkpoint.proofs.Formatted.{closed_after, gates_moments}
+use Rattle.checkpoint.proofs.format.close_headers.Goals as goal
+
+pub returns-in_err-close_gate-2-clause-any_moment : goal.returns-in_err-close_gate-2-clause-any_moment
+returns-in_err-close_gate-2-clause-any_moment g c honest =
+    let first = c.in_ok-close_gate.ensures in
+    let mid_honest = first.honest.1 honest in
+    let sound = g.met.D.Disk.sound c.args.disk.now honest in
+    let mid = subst (λ e. IsSound e (g.D.Disk.state c.close_gate.new.disk)) first.extent (g.met.D.Disk.sound c.close_gate.new.disk mid_honest) in
+    gates_moments sound mid (first.any_moment honest) (first.written honest) (c.close_gate-2.ensures.any_moment mid_honest)
+
+pub returns-clause-closed : goal.returns-clause-closed
+returns-clause-closed g c honest steady =
+    let first = c.in_ok-close_gate.ensures in
+    let second = c.in_ok-close_gate-2.ensures in
+    let mid_honest = first.honest.1 honest in
+    let both_honest = second.honest.1 mid_honest in
+    let after = g.met.D.Disk.sound c.sync.new.self (c.sync.ensures.honest.1 both_honest) in
+    on_ok_weaker c.sync.result
+    (λ synced. closed_after _ _ _ _ _ (g.met.D.Disk.sound c.args.disk.now honest) steady (first.written honest) (second.written mid_honest) synced
+    (subst (λ e. IsSound e (g.D.Disk.state c.sync.new.self)) first.extent (subst (λ e. IsSound e (g.D.Disk.state c.sync.new.self)) second.extent (subst (λ e. IsSound e (g.D.Disk.state c.sync.new.self)) c.sync.ensures.extent after))))
+    (c.sync.ensures.synced both_honest)
+
+pub returns-clause-any_moment : goal.returns-clause-any_moment
+returns-clause-any_moment g c honest =
+    let first = c.in_ok-close_gate.ensures in
+    let second = c.in_ok-close_gate-2.ensures in
+    let mid_honest = first.honest.1 honest in
+    let both_honest = second.honest.1 mid_honest in
+    let sound = g.met.D.Disk.sound c.args.disk.now honest in
+    let mid = subst (λ e. IsSound e (g.D.Disk.state c.close_gate.new.disk)) first.extent (g.met.D.Disk.sound c.close_gate.new.disk mid_honest) in
+    stays_on (gates_moments sound mid (first.any_moment honest) (first.written honest) (second.any_moment mid_honest))
+    (g.met.D.Disk.sound c.close_gate-2.new.disk both_honest) (c.sync.ensures.any_moment both_honest)

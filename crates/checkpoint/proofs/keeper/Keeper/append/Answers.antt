@@ -1,0 +1,86 @@
+use Rattle.std.proofs.Common.{◌≡◌, ℕ, ◌+◌, ◌⊎◌, List, length, map, false, refl, sym, ◌∙◌, ap, subst, arith, rules}
+use Rattle.std.proofs.lemmas.List.{length-map}
+use Rattle.disk_model.specs.Disk.{State, LeavesOnly}
+use Rattle.disk_model.proofs.Moments.{weakens}
+use Rattle.image_model.specs.Change.{AreChanges, change_of}
+use Rattle.image_model.specs.Image.{Image, apply_all}
+use Rattle.image_model.specs.declared.geometry.Geometry.{Geometry}
+use Rattle.journal.specs.Area.{AreaState}
+use Rattle.journal.specs.Group.{IsGroup, Numbered}
+use Rattle.journal.specs.GroupList.{IsHeld, LeavesEither}
+use Rattle.journal.specs.Spelling.{StoredGroup, stored_of}
+use Rattle.journal.proofs.Added.{size-stored}
+use Rattle.checkpoint.specs.Faults.{of_journal}
+use Rattle.checkpoint.specs.Keeper.{KeeperState}
+use Rattle.checkpoint.specs.Keeps.{Keeps}
+use Rattle.checkpoint.specs.Stands.{StandsFor}
+use Rattle.checkpoint.proofs.Frame.{first_number}
+use Rattle.checkpoint.proofs.Added.{leaves_either, keeps_more, count_below, count_above, count_on, is_next, ordered}
+use Rattle.checkpoint.proofs.keeper.Keeper.append.Goals as goal
+
+-- the area takes what the keeper's sizes take
+taken : {D : Type 0} (keeper : KeeperState D) (state : State) (image : Image) (number : ℕ) (group : Numbered) → Keeps keeper state image number
+    → AreChanges keeper.geometry.blocks (map change_of group.commands) → AreChanges keeper.area.blocks (map change_of group.commands)
+taken keeper state image number group keeps changes =
+    let blocks : keeper.geometry.blocks ≡ keeper.area.blocks = ap (λ (size : Geometry). size.blocks) keeps.sizes ∙ sym keeps.placed.blocks in
+    subst (λ (n : ℕ). AreChanges n (map change_of group.commands)) blocks changes
+
+-- the journal's clause on any moment as the keeper's
+any_moment : {D : Type 0} (state : D → State) (honest : D → Type 0) (inside now : KeeperState D) (group : Numbered) (after : State) (image : Image) (number : ℕ) → inside ≡ now
+    → (honest inside.disk → (first : ℕ) (groups : List StoredGroup) → IsHeld inside.area first groups (state inside.disk) → AreChanges inside.area.blocks (map change_of group.commands)
+    → LeavesOnly (state inside.disk) after (LeavesEither inside.area first groups (stored_of group) (state inside.disk)))
+    → honest now.disk → Keeps now (state now.disk) image number → AreChanges now.geometry.blocks (map change_of group.commands)
+    → LeavesOnly (state now.disk) after (λ content. StandsFor content image number ⊎ StandsFor content (apply_all (map change_of group.commands) image) (number + length group.commands))
+any_moment {D} state honest inside now group after image number same clause =
+    subst (λ (k : KeeperState D). honest k.disk → Keeps k (state k.disk) image number → AreChanges k.geometry.blocks (map change_of group.commands)
+    → LeavesOnly (state k.disk) after (λ content. StandsFor content image number ⊎ StandsFor content (apply_all (map change_of group.commands) image) (number + length group.commands))) same
+    (λ is_honest keeps changes.
+    let long : length (map change_of group.commands) ≡ length group.commands = length-map group.commands change_of in
+    weakens (clause is_honest (first_number keeps.stands) keeps.stands.groups keeps.held (taken inside (state inside.disk) image number group keeps changes))
+    (λ content left. leaves_either inside (state inside.disk) image number keeps (stored_of group) (number + length group.commands) content (omega (arith, long)) left))
+
+pub returns-in-Ok-clause-stored : goal.returns-in-Ok-clause-stored
+returns-in-Ok-clause-stored g c honest image number keeps changes =
+    let keeper = c.self.inside in
+    let group = c.args.group in
+    let inside = subst (λ (k : KeeperState g.row.D.Denot). Keeps k (g.D.Disk.state k.disk) image number) (sym c.self.view_is) keeps in
+    let sound = subst (λ (k : KeeperState g.row.D.Denot). g.D.Disk.honest k.disk) (sym c.self.view_is) honest in
+    let sizes = subst (λ (k : KeeperState g.row.D.Denot). AreChanges k.geometry.blocks (map change_of group.commands)) (sym c.self.view_is) changes in
+    let long : length (map change_of group.commands) ≡ length group.commands = length-map group.commands change_of in
+    let whole : IsGroup group.first group.commands = search rules in
+    let grown_is = c.in-Ok.ensures.ok in
+    let full = c.in-Ok.ensures.full in
+    let next = is_next keeper.area.next group.first (λ not. c.in-Ok.ensures.out_of_order.1 (omega (arith, full.1), not)) in
+    keeps_more _ (g.D.Disk.state keeper.disk) image number inside (stored_of group) (g.D.Disk.state c.append.new.disk) _ (number + length group.commands)
+    (omega (arith, long))
+    (c.in-Ok.ensures.stored sound (first_number inside.stands) inside.stands.groups inside.held (taken _ _ image number group inside sizes))
+    (ap (λ (area : AreaState). area.from) grown_is) (ap (λ (area : AreaState). area.bytes) grown_is) (ap (λ (area : AreaState). area.blocks) grown_is)
+    refl refl
+    (count_on keeper.area.next group.first (length group.commands) keeper.count number c.next.result c.self.invariant.2 (omega arith) next whole.some whole.numbers (c.next.ensures ∙ ap (λ (area : AreaState). area.next) grown_is) inside.counted)
+    (omega (arith, ap (λ (area : AreaState). area.gate) grown_is, size-stored group)) refl
+
+pub returns-in-Ok-clause-any_moment : goal.returns-in-Ok-clause-any_moment
+returns-in-Ok-clause-any_moment g c honest image number keeps changes =
+    any_moment g.D.Disk.state g.D.Disk.honest _ c.args.self.now c.args.group (g.D.Disk.state c.append.new.disk) image number c.self.view_is c.append.ensures.any_moment honest keeps changes
+
+pub returns-in-Err-clause-out_of_order : goal.returns-in-Err-clause-out_of_order
+returns-in-Err-clause-out_of_order g c =
+    let keeper = c.self.inside in
+    let group = c.args.group in
+    let whole : IsGroup group.first group.commands = search rules in
+    let working : c.args.self.now.failed ≡ false = sym (ap (λ (k : KeeperState g.row.D.Denot). k.failed) c.self.view_is) ∙ c.if-self.false in
+    let count : keeper.count ≡ c.args.self.now.count = ap (λ (k : KeeperState g.row.D.Denot). k.count) c.self.view_is in
+    let used : keeper.area.gate ≡ c.args.self.now.used = ap (λ (k : KeeperState g.row.D.Denot). k.used) c.self.view_is in
+    let size : keeper.geometry.area ≡ c.args.self.now.geometry.area = ap (λ (k : KeeperState g.row.D.Denot). k.geometry.area) c.self.view_is in
+    let invariant = c.self.invariant in (
+      λ is.
+          let given = c.in-Err.ensures.out_of_order.0 (ordered c.in-Err.fault (sym c.from-fault.ensures ∙ is)) in
+          (working, omega (arith, given.0, used, size, invariant.1), λ same. given.1 (count_below keeper.area.next group.first c.self.inside.count invariant.2 (omega (arith, whole.some, whole.numbers)) (same ∙ ap (λ (n : ℕ). n + 1) (sym count)))),
+      λ given.
+          let fault = c.in-Err.ensures.out_of_order.1 (omega (arith, given.1, used, size, invariant.1), λ follows. given.2 (count_above keeper.area.next group.first keeper.count invariant.2 (omega arith) follows ∙ ap (λ (n : ℕ). n + 1) count)) in
+          c.from-fault.ensures ∙ ap of_journal fault,
+    )
+
+pub returns-in-Err-clause-any_moment : goal.returns-in-Err-clause-any_moment
+returns-in-Err-clause-any_moment g c honest image number keeps changes =
+    any_moment g.D.Disk.state g.D.Disk.honest _ c.args.self.now c.args.group (g.D.Disk.state c.append.new.disk) image number c.self.view_is c.append.ensures.any_moment honest keeps changes

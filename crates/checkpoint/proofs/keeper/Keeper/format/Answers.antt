@@ -1,0 +1,31 @@
+use Rattle.std.proofs.Common.{inl, inr, ◌∙◌}
+use Rattle.disk_model.proofs.Moments.{goes_on, weakens}
+use Rattle.checkpoint.proofs.keeper.Keeper.format.Goals as goal
+
+pub returns-in_err-write_parts-clause-any_moment : goal.returns-in_err-write_parts-clause-any_moment
+returns-in_err-write_parts-clause-any_moment g c honest steady =
+    let first = c.in_ok-close_headers.ensures in
+    goes_on (weakens (first.any_moment honest) (λ content left. inl left))
+    (c.write_parts.ensures.any_moment (first.honest.1 honest) (first.closed honest steady)) (λ content left. inr (inl left))
+
+pub returns-in_err-open_header-clause-any_moment : goal.returns-in_err-open_header-clause-any_moment
+returns-in_err-open_header-clause-any_moment g c honest steady =
+    let first = c.in_ok-close_headers.ensures in
+    let second = c.in_ok-write_parts.ensures in
+    let one_honest = first.honest.1 honest in
+    let closed = first.closed honest steady in
+    goes_on
+    (goes_on (weakens (first.any_moment honest) (λ content left. inl left)) (second.any_moment one_honest closed) (λ content left. inr (inl left)))
+    (c.open_header.ensures.any_moment (second.honest.1 one_honest) (second.closed one_honest closed) c.args.geometry (second.extent ∙ first.extent ∙ c.requires) (second.fresh one_honest closed))
+    (λ content left. inr left)
+
+pub returns-clause-any_moment : goal.returns-clause-any_moment
+returns-clause-any_moment g c honest steady =
+    let first = c.in_ok-close_headers.ensures in
+    let second = c.in_ok-write_parts.ensures in
+    let one_honest = first.honest.1 honest in
+    let closed = first.closed honest steady in
+    goes_on
+    (goes_on (weakens (first.any_moment honest) (λ content left. inl left)) (second.any_moment one_honest closed) (λ content left. inr (inl left)))
+    (c.in_ok-open_header.ensures.any_moment (second.honest.1 one_honest) (second.closed one_honest closed) c.args.geometry (second.extent ∙ first.extent ∙ c.requires) (second.fresh one_honest closed))
+    (λ content left. inr left)
