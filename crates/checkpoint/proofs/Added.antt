@@ -8,13 +8,14 @@ use Rattle.image_model.specs.Image.{Image, apply_all}
 use Rattle.checkpoint.specs.declared.fault.KeeperFault.TheVariants.{OutOfOrder}
 use Rattle.journal.specs.declared.fault.JournalFault.{JournalFault}
 use Rattle.journal.specs.declared.fault.JournalFault.TheVariants as journals
-use Rattle.journal.specs.GroupList.{IsList, IsListStored, LeavesEither, size_of}
+use Rattle.journal.specs.GroupList.{IsList, IsListStored, LeavesEither, size_of, changes_of}
 use Rattle.journal.specs.Spelling.{StoredGroup}
 use Rattle.journal.proofs.Spelled.{sizes-push}
 use Rattle.checkpoint.specs.Faults.{of_journal}
 use Rattle.checkpoint.specs.Keeper.{KeeperState}
 use Rattle.checkpoint.specs.Keeps.{Keeps}
-use Rattle.checkpoint.specs.Stands.{StandsFor, changes_of, next_number, stored_image}
+use Rattle.checkpoint.specs.Stored.{touched_in}
+use Rattle.checkpoint.specs.Stands.{StandsFor, next_number, stored_image}
 use Rattle.checkpoint.proofs.Frame.{last_of, first_number, moved_list, stands_with, apply_all-append, changes-append}
 
 pub kept_content : {D : Type 0} (keeper : KeeperState D) (state : State) (image : Image) (number : ℕ) (content : List ℕ)
@@ -70,9 +71,9 @@ module _ {D : Type 0} (keeper : KeeperState D) (state : State) (image : Image) (
   pub keeps_more : (after : State) (now : KeeperState D) (count : ℕ) → count ≡ number + length group.changes
       → IsListStored now.area (first_number keeps.stands) (keeps.stands.groups ++ group ∷ []) state after
       → now.area.from ≡ keeper.area.from → now.area.bytes ≡ keeper.area.bytes → now.area.blocks ≡ keeper.area.blocks
-      → now.geometry ≡ keeper.geometry → now.base ≡ keeper.base → now.map ≡ keeper.map → now.count ≡ count → now.used ≡ keeper.used + size_of group → now.failed ≡ keeper.failed
+      → now.geometry ≡ keeper.geometry → now.base ≡ keeper.base → now.map ≡ keeper.map → now.first ≡ keeper.first → now.count ≡ count → now.used ≡ keeper.used + size_of group → now.failed ≡ keeper.failed
       → Keeps now after (apply_all group.changes image) count
-  keeps_more after now count count_is stored from bytes blocks geometry base map counted used failed =
+  keeps_more after now count count_is stored from bytes blocks geometry base map earlier counted used failed =
       let list = moved_list now.area keeper.area _ _ after.seen from bytes blocks stored.held.list in
       record {
         works = failed ∙ keeps.works;
@@ -87,6 +88,7 @@ module _ {D : Type 0} (keeper : KeeperState D) (state : State) (image : Image) (
         counted = counted;
         taken = omega (arith, used, keeps.taken, sizes-push keeps.stands.groups group);
         mapped = map ∙ keeps.mapped;
+        first_touched = ap touched_in earlier ∙ keeps.first_touched;
         placed = record { from = from ∙ keeps.placed.from; bytes = bytes ∙ keeps.placed.bytes; blocks = blocks ∙ keeps.placed.blocks };
         held = stored.held;
       }

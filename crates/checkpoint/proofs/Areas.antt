@@ -1,5 +1,5 @@
 -- The areas in use, read one after the other.
-use Rattle.std.proofs.Common.{◌≡◌, inl, inr, ℕ, ◌+◌, ◌<◌, List, [], refl, sym, ◌∙◌, subst, arith}
+use Rattle.std.proofs.Common.{◌≡◌, Some, None, inl, inr, ℕ, ◌+◌, ◌<◌, List, [], refl, sym, ◌∙◌, ap, subst, arith}
 use Rattle.disk_model.specs.Disk.{State}
 use Rattle.header_slots.specs.Place.{index_of}
 use Rattle.header_slots.specs.Slots.{other_of}
@@ -10,6 +10,7 @@ use Rattle.header_slots.specs.declared.header.Side.TheVariants.{Zero, One}
 use Rattle.journal.specs.Area.{AreaState}
 use Rattle.journal.specs.GroupList.{HoldsList, IsDamaged, IsHeld, IsList, IsNextGroup, IsOpen, Lead, StandsAt, next_behind, size_of, sizes_of}
 use Rattle.journal.specs.Spelling.{group_bytes}
+use Rattle.journal.specs.Touches.{touched_by_groups}
 use Rattle.journal.specs.Scanning.{IsScanFault}
 use Rattle.journal.specs.declared.fault.JournalFault.{JournalFault}
 use Rattle.journal.specs.declared.fault.JournalFault.TheVariants as journals
@@ -30,8 +31,8 @@ module _ (header : Header) (one : header.areas ≡ Areas.One) where
   none_earlier : (content : List ℕ) (area : AreaState) (next : ℕ) → HoldsEarlier header.areas content area next []
   none_earlier content area next = subst (λ (areas : Areas). HoldsEarlier areas content area next []) (sym one) refl
 
-  pub one_held : (state : State) (area : AreaState) → HoldsList area (next_number header.base) state → HoldsAreas state header area
-  one_held state area holds = record { earlier = []; groups = holds.groups; first_list = none_earlier state.seen _ _; held = holds.held }
+  pub one_held : (state : State) (area : AreaState) → HoldsList area (next_number header.base) state → HoldsAreas state header None area
+  one_held state area holds = record { earlier = []; groups = holds.groups; first_list = none_earlier state.seen _ _; touched = refl; held = holds.held }
 
   pub one_damaged : (content : List ℕ) → IsDamaged (area_of header.geometry header.first_area) (next_number header.base) content → IsAreaDamaged content header
   one_damaged content damaged = inr (record {
@@ -51,11 +52,12 @@ module _ (header : Header) (two : header.areas ≡ Areas.Two) where
         (moved_list first (area_of header.geometry header.first_area) _ earlier.groups content placed.from placed.bytes placed.blocks
         (subst (λ (bytes : List ℕ). IsList first (next_number header.base) earlier.groups bytes) same earlier.held.list))
 
-    pub two_held : (state : State) (area : AreaState) (next : ℕ) → mid.seen ≡ state.seen → next ≡ first.next → HoldsList area next state → HoldsAreas state header area
+    pub two_held : (state : State) (area : AreaState) (next : ℕ) → mid.seen ≡ state.seen → next ≡ first.next → HoldsList area next state → HoldsAreas state header (Some first) area
     two_held state area next same is holds = record {
       earlier = earlier.groups;
       groups = holds.groups;
       first_list = earlier_stands state.seen same;
+      touched = earlier.held.touched ∙ ap (λ (place : ℕ). touched_by_groups place earlier.groups) placed.from;
       held = subst (λ (n : ℕ). IsHeld area n holds.groups state) (is ∙ earlier.held.next) holds.held;
     }
 

@@ -14,12 +14,12 @@ use Rattle.image_model.specs.Image.{Image, apply, apply_all}
 use Rattle.image_model.specs.declared.command.Kind.{Kind}
 use Rattle.image_model.specs.declared.geometry.Geometry.{Geometry}
 use Rattle.journal.specs.Area.{AreaState}
-use Rattle.journal.specs.GroupList.{IsList, sizes_of, Stand, next_behind}
+use Rattle.journal.specs.GroupList.{IsList, sizes_of, Stand, next_behind, changes_of}
 use Rattle.journal.specs.Spelling.{StoredGroup}
 use Rattle.journal.proofs.Contents.{list_ends, list_stays}
 use Rattle.regions.specs.Layout.{area_at, map_at, block_at}
 use Rattle.regions.specs.Map.{HoldsMap}
-use Rattle.checkpoint.specs.Stands.{StandsFor, HoldsEarlier, area_of, changes_of, is_data, last_area, next_number, stored_image}
+use Rattle.checkpoint.specs.Stands.{StandsFor, HoldsEarlier, area_of, is_data, last_area, next_number, stored_image}
 
 pub area_low : (geometry : Geometry) (side : Side) → 8192 ≤ area_at geometry side
 area_low geometry Zero = omega arith

@@ -5,3 +5,4 @@ pub mod Formatted
 pub mod Readings
 pub mod Areas
 pub mod Opened
+pub mod Located

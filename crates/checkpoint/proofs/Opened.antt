@@ -1,5 +1,5 @@
 -- What is read of a good device, as what a keeper keeps.
-use Rattle.std.proofs.Common.{◌≡◌, ℕ, ◌+◌, ◌%◌, ◌<◌, List, [], ◌∷◌, ◌++◌, length, false, refl, sym, ◌∙◌, ap, subst, arith, length-append}
+use Rattle.std.proofs.Common.{◌≡◌, ℕ, ◌+◌, ◌%◌, ◌<◌, List, [], ◌∷◌, ◌++◌, length, Option, false, refl, sym, ◌∙◌, ap, subst, arith, length-append}
 use Rattle.disk_model.specs.Disk.{State, IsAllSynced, MayLeave}
 use Rattle.disk_model.proofs.Contents.{leaves_seen}
 use Rattle.header_slots.specs.declared.header.Areas.{Areas}
@@ -7,12 +7,13 @@ use Rattle.header_slots.specs.declared.header.Header.{Header}
 use Rattle.image_model.specs.Image.{Image, apply_all}
 use Rattle.image_model.specs.declared.command.Kind.{Kind}
 use Rattle.journal.specs.Area.{AreaState}
-use Rattle.journal.specs.GroupList.{IsHeld, Stand, next_behind, number_behind, size_of}
+use Rattle.journal.specs.GroupList.{IsHeld, Stand, next_behind, number_behind, size_of, changes_of}
 use Rattle.journal.specs.Spelling.{StoredGroup}
 use Rattle.checkpoint.specs.Keeper.{KeeperState}
 use Rattle.checkpoint.specs.Keeps.{IsPlaced, Keeps}
 use Rattle.checkpoint.specs.Opening.{IsOpened, IsPassing, IsRefused}
-use Rattle.checkpoint.specs.Stands.{StandsFor, HoldsEarlier, area_of, changes_of, last_area, next_number, stored_image}
+use Rattle.checkpoint.specs.Stored.{touched_in}
+use Rattle.checkpoint.specs.Stands.{StandsFor, HoldsEarlier, area_of, last_area, next_number, stored_image}
 use Rattle.checkpoint.specs.declared.fault.KeeperFault.{KeeperFault}
 use Rattle.checkpoint.specs.declared.fault.KeeperFault.TheVariants.{NoMemory, DeviceFault, BadMap, NoHeader, BadHeader, AreaFull, OutOfOrder, DamagedGroup, Failed}
 use Rattle.checkpoint.proofs.Frame.{changes-append, moved_list}
@@ -42,7 +43,7 @@ earlier_follows Areas.One content area last groups fits none =
     subst (λ (list : List StoredGroup). Follows last (next_number last) list) (sym none) (record { following = omega arith; fits = omega (arith, fits) })
 earlier_follows Areas.Two content area last groups fits list = follows area.blocks content area.from (next_number last) last groups fits refl list.stand
 
-module _ (state : State) (header : Header) (states : List Kind) (area : AreaState) (opened : IsOpened state header states area) (placed : IsPlaced area header.geometry (last_area header.areas header.first_area)) (fits : header.base < 18446744073709551616) where
+module _ (state : State) (header : Header) (states : List Kind) (first : Option AreaState) (area : AreaState) (opened : IsOpened state header states first area) (placed : IsPlaced area header.geometry (last_area header.areas header.first_area)) (fits : header.base < 18446744073709551616) where
   all_changes : length (changes_of (opened.areas.earlier ++ opened.areas.groups)) ≡ length (changes_of opened.areas.earlier) + length (changes_of opened.areas.groups)
   all_changes = ap length (changes-append opened.areas.earlier opened.areas.groups) ∙ length-append (changes_of opened.areas.earlier) (changes_of opened.areas.groups)
 
@@ -71,9 +72,9 @@ module _ (state : State) (header : Header) (states : List Kind) (area : AreaStat
     shows = refl;
   }
 
-  pub opened_keeps : {D : Type 0} (keeper : KeeperState D) → keeper.failed ≡ false → keeper.geometry ≡ header.geometry → keeper.base ≡ header.base → keeper.map ≡ states → keeper.area ≡ area → keeper.used ≡ area.gate
+  pub opened_keeps : {D : Type 0} (keeper : KeeperState D) → keeper.failed ≡ false → keeper.geometry ≡ header.geometry → keeper.base ≡ header.base → keeper.map ≡ states → keeper.first ≡ first → keeper.area ≡ area → keeper.used ≡ area.gate
       → keeper.count ≡ (area.next + 18446744073709551615) % 18446744073709551616 → Keeps keeper state opened_image keeper.count
-  opened_keeps keeper works sizes base map area_is used counted = record {
+  opened_keeps keeper works sizes base map first_is area_is used counted = record {
     works = works;
     synced = opened.synced;
     stands = opened_stands keeper.count (last_number keeper.count counted);
@@ -82,6 +83,7 @@ module _ (state : State) (header : Header) (states : List Kind) (area : AreaStat
     counted = refl;
     taken = used ∙ opened.areas.held.gate;
     mapped = map;
+    first_touched = ap touched_in first_is ∙ opened.areas.touched;
     placed = subst (λ (a : AreaState). IsPlaced a header.geometry (last_area header.areas header.first_area)) (sym area_is) placed;
     held = subst (λ (a : AreaState). IsHeld a (next_behind (next_number header.base) opened.areas.earlier) opened.areas.groups state) (sym area_is) opened.areas.held;
   }

@@ -13,13 +13,13 @@ use Rattle.image_model.specs.Geometry.{map_bytes_of}
 use Rattle.image_model.specs.Image.{Image, apply_all}
 use Rattle.image_model.specs.declared.command.Kind.{Kind}
 use Rattle.image_model.specs.declared.geometry.Geometry.{Geometry}
-use Rattle.journal.specs.GroupList.{IsList, IsDamaged, next_behind}
+use Rattle.journal.specs.GroupList.{IsList, IsDamaged, next_behind, changes_of}
 use Rattle.journal.specs.Spelling.{StoredGroup}
 use Rattle.journal.proofs.OneList.{one_list, damaged_none}
 use Rattle.regions.specs.Layout.{area_at, map_at}
 use Rattle.regions.specs.Map.{AreSlot, HoldsMap, HoldsBadMap}
 use Rattle.checkpoint.specs.Opening.{HasBadMap, HasDamagedGroup, IsFirstDamaged, IsLastDamaged, IsPassing, IsRefused}
-use Rattle.checkpoint.specs.Stands.{StandsFor, HoldsEarlier, area_of, changes_of, last_area, next_number, stored_image}
+use Rattle.checkpoint.specs.Stands.{StandsFor, HoldsEarlier, area_of, last_area, next_number, stored_image}
 use Rattle.checkpoint.specs.declared.fault.KeeperFault.{KeeperFault}
 use Rattle.checkpoint.specs.declared.fault.KeeperFault.TheVariants.{NoMemory, DeviceFault, BadMap, NoHeader, BadHeader, AreaFull, OutOfOrder, DamagedGroup, Failed}
 

@@ -1,5 +1,5 @@
 -- keepers as callers see them, and what a call makes of one
-use Rattle.std.specs.Prelude.{ℕ, ◌+◌, Bool, true, List, length}
+use Rattle.std.specs.Prelude.{ℕ, ◌+◌, Bool, true, List, length, Option}
 use Rattle.disk_model.specs.Faults.{counted}
 use Rattle.image_model.specs.Command.{bodies_of}
 use Rattle.image_model.specs.declared.command.Kind.{Kind}
@@ -21,8 +21,10 @@ pub record KeeperState (D : Type 0) : Type 0 where
   pub used : ℕ
   -- whether a call of the device has failed
   pub failed : Bool
-  -- what it remembers of the map and of the area that groups are added to; no caller needs it
+  -- what it remembers of the map, of the area that groups are added to, and of the one in front of it where two are in
+  -- use; no caller needs it
   pub map : List Kind
+  pub first : Option AreaState
   pub area : AreaState
 
 -- the bytes of an area that are taken once the group is added and a gate stands behind it

@@ -6,8 +6,10 @@ use Rattle.image_model.specs.Image.{Image}
 use Rattle.image_model.specs.declared.geometry.Geometry.{Geometry}
 use Rattle.journal.specs.Area.{AreaState}
 use Rattle.journal.specs.GroupList.{IsHeld, next_behind, sizes_of}
+use Rattle.journal.specs.Touches.{touched_by_groups}
 use Rattle.regions.specs.Layout.{area_at}
 use Rattle.checkpoint.specs.Keeper.{KeeperState}
+use Rattle.checkpoint.specs.Stored.{touched_in}
 use Rattle.checkpoint.specs.Stands.{StandsFor, last_area, next_number}
 
 -- the area is this one of a device with these sizes
@@ -27,5 +29,6 @@ pub record Keeps {D : Type 0} (keeper : KeeperState D) (state : State) (image : 
   pub counted : keeper.count ≡ number
   pub taken : keeper.used ≡ sizes_of stands.groups
   pub mapped : keeper.map ≡ stands.states
+  pub first_touched : touched_in keeper.first ≡ touched_by_groups (area_at stands.header.geometry stands.header.first_area) stands.earlier
   pub placed : IsPlaced keeper.area stands.header.geometry (last_area stands.header.areas stands.header.first_area)
   pub held : IsHeld keeper.area (next_behind (next_number stands.header.base) stands.earlier) stands.groups state

@@ -4,3 +4,4 @@ pub mod Keeper
 pub mod Keeps
 pub mod Opening
 pub mod Stands
+pub mod Stored

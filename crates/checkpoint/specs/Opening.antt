@@ -1,5 +1,5 @@
 -- what an opening refuses
-use Rattle.std.specs.Prelude.{ℕ, ◌⊎◌, List, length, Result, Ok, Err}
+use Rattle.std.specs.Prelude.{ℕ, ◌≡◌, ◌⊎◌, List, length, Option, Result, Ok, Err}
 use Rattle.header_slots.specs.Slots.{HoldsHeader, HoldsNone, HoldsBad}
 use Rattle.header_slots.specs.declared.header.Areas.{Areas}
 use Rattle.header_slots.specs.declared.header.Header.{Header}
@@ -9,7 +9,9 @@ use Rattle.disk_model.specs.Disk.{State, IsAllSynced}
 use Rattle.journal.specs.Area.{AreaState}
 use Rattle.journal.specs.GroupList.{IsDamaged, IsHeld, next_behind}
 use Rattle.journal.specs.Spelling.{StoredGroup}
-use Rattle.regions.specs.Layout.{map_at}
+use Rattle.journal.specs.Touches.{touched_by_groups}
+use Rattle.regions.specs.Layout.{area_at, map_at}
+use Rattle.checkpoint.specs.Stored.{touched_in}
 use Rattle.regions.specs.Map.{HoldsMap, HoldsBadMap}
 use Rattle.checkpoint.specs.Keeper.{KeeperState, faults_by}
 use Rattle.checkpoint.specs.Stands.{HoldsEarlier, area_of, last_area, next_number}
@@ -71,20 +73,22 @@ IsGroupsRefused OutOfOrder damaged = ⊥
 IsGroupsRefused DamagedGroup damaged = damaged
 IsGroupsRefused Failed damaged = ⊥
 
--- The areas that the header says are in use hold lists of groups, and this is the last of them.
-pub record HoldsAreas (state : State) (header : Header) (area : AreaState) : Type 0 where
+-- The areas that the header says are in use hold lists of groups, and this is the last of them, and the first where
+-- there are two.
+pub record HoldsAreas (state : State) (header : Header) (first : Option AreaState) (area : AreaState) : Type 0 where
   pub earlier : List StoredGroup
   pub groups : List StoredGroup
   pub first_list : HoldsEarlier header.areas state.seen (area_of header.geometry header.first_area) (next_number header.base) earlier
+  pub touched : touched_in first ≡ touched_by_groups (area_at header.geometry header.first_area) earlier
   pub held : IsHeld area (next_behind (next_number header.base) earlier) groups state
 
--- A device that is good was read: this is its header, its map, and its last area in use.
-pub record IsOpened (state : State) (header : Header) (states : List Kind) (area : AreaState) : Type 0 where
+-- A device that is good was read: this is its header, its map, the first of two areas in use, and the last one.
+pub record IsOpened (state : State) (header : Header) (states : List Kind) (first : Option AreaState) (area : AreaState) : Type 0 where
   pub slot : Side
   pub synced : IsAllSynced state
   pub in_force : HoldsHeader state.seen (length state.seen) header slot
   pub map : HoldsMap state.seen (map_at header.geometry header.map_slot) header.geometry.blocks states
-  pub areas : HoldsAreas state header area
+  pub areas : HoldsAreas state header first area
 
 -- a refusal that says nothing of the content
 abbrev pub IsPassing : KeeperFault → Type 0

@@ -1,18 +1,16 @@
 -- What the content of a device stands for: an image, and the number of the last command in it.
 use Rattle.std.specs.Prelude.{ℕ, ◌≡◌, ◌+◌, ◌%◌, ◌/◌, Bool, true, false, if◌then◌else◌, List, [], ◌++◌, length, slice_index}
-use Rattle.std.specs.List.{flat_map}
 use Rattle.alloc_map.specs.Codes.{state_at}
 use Rattle.header_slots.specs.Slots.{HoldsHeader, other_of}
 use Rattle.header_slots.specs.declared.header.Areas.{Areas}
 use Rattle.header_slots.specs.declared.header.Header.{Header}
 use Rattle.header_slots.specs.declared.header.Side.{Side}
-use Rattle.image_model.specs.Change.{Change}
 use Rattle.image_model.specs.Image.{Image, apply_all}
 use Rattle.image_model.specs.declared.command.Kind.{Kind}
 use Rattle.image_model.specs.declared.command.Kind.TheVariants.{Data, Zero, Hole}
 use Rattle.image_model.specs.declared.geometry.Geometry.{Geometry}
 use Rattle.journal.specs.Area.{AreaState}
-use Rattle.journal.specs.GroupList.{IsList, next_behind}
+use Rattle.journal.specs.GroupList.{IsList, changes_of, next_behind}
 use Rattle.journal.specs.Spelling.{StoredGroup}
 use Rattle.regions.specs.Layout.{area_at, map_at, block_at}
 use Rattle.regions.specs.Map.{HoldsMap}
@@ -50,10 +48,6 @@ last_area Areas.Two first = other_of first
 abbrev pub HoldsEarlier : Areas → List ℕ → AreaState → ℕ → List StoredGroup → Type 0
 HoldsEarlier Areas.One content area next groups = groups ≡ []
 HoldsEarlier Areas.Two content area next groups = IsList area next groups content
-
--- the changes of groups, in their order
-abbrev pub changes_of : List StoredGroup → List Change
-changes_of groups = flat_map (λ group. group.changes) groups
 
 -- The content stands for this image, whose last command has this number: the header in force isn't bad, its map slot
 -- holds a map, its areas in use hold lists of groups, numbered from the base on, and the image is what map and data hold

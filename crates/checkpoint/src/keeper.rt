@@ -20,19 +20,22 @@ use std::marker::Model;
 /// The keeper of an open device.
 #[derive(Drop)]
 pub struct Keeper<D: Disk> {
-    disk: D,
-    geometry: Geometry,
+    pub(crate) disk: D,
+    pub(crate) geometry: Geometry,
     base: u64,
     count: u64,
     // The states of the blocks at the base.
-    map: AllocMap,
+    pub(crate) map: AllocMap,
+    // The area in front of the last one in use, where two are in use.
+    pub(crate) first: Option<Area>,
     // The area that the next group goes to.
-    area: Area,
-    failed: bool,
+    pub(crate) area: Area,
+    pub(crate) failed: bool,
 }
 
 impl<D: Disk> Model for Keeper<D> {
-    ghost use Rattle.std.specs.Prelude.{◌≡◌, ◌+◌, ◌-◌, ◌%◌, ◌≤◌};
+    ghost use Rattle.std.specs.Prelude.{◌≡◌, ◌+◌, ◌≤◌, length, IfSome};
+    ghost use Rattle.image_model.specs.Geometry.{device_bytes_of};
     ghost use Rattle.checkpoint.specs.Keeper.{KeeperState};
     ghost use Rattle.checkpoint.specs.Stands.{next_number};
 
@@ -46,10 +49,13 @@ impl<D: Disk> Model for Keeper<D> {
       used = keeper.area.gate;
       failed = keeper.failed;
       map = keeper.map;
+      first = keeper.first;
       area = keeper.area;
     } };
 
-    ghost invariant = { λ keeper. (keeper.area.from + keeper.area.bytes ≤ D.extent keeper.disk)
+    ghost invariant = { λ keeper. (D.extent keeper.disk ≡ device_bytes_of keeper.geometry.blocks keeper.geometry.area)
+        × (length keeper.map ≡ keeper.geometry.blocks) × IfSome keeper.first (λ area. area.from + area.bytes ≤ D.extent keeper.disk)
+        × (keeper.area.from + keeper.area.bytes ≤ D.extent keeper.disk)
         × (keeper.area.bytes ≡ keeper.geometry.area) × (keeper.area.next ≡ next_number keeper.count) };
 }
 
@@ -79,12 +85,20 @@ impl<D: Disk> Keeper<D> {
             → IfErr result (λ refused. IsPassing refused.0) }
     {
         match read_device(alloc, &mut disk) {
-            Ok(Opened { header, map, area }) => Ok(Keeper {
+            Ok(
+                Opened {
+                    header,
+                    map,
+                    first,
+                    area,
+                },
+            ) => Ok(Keeper {
                 disk,
                 geometry: header.geometry,
                 base: header.base,
                 count: area.next().wrapping_sub(1),
                 map,
+                first,
                 area,
                 failed: false,
             }),
@@ -102,6 +116,7 @@ impl<D: Disk> Keeper<D> {
             base: _,
             count: _,
             map: _,
+            first: _,
             area: _,
             failed: _,
         } = self;

@@ -6,6 +6,8 @@ mod format;
 mod keeper;
 mod laws;
 mod opening;
+mod simulated;
+mod stored;
 
 pub use fault::KeeperFault;
 pub use keeper::Keeper;

@@ -1,4 +1,4 @@
-ghost use Rattle.std.specs.Prelude.{◌≡◌, ◌+◌, ◌≤◌, ◌↔◌, IfErr, IfOk, MatchResult, OnOk};
+ghost use Rattle.std.specs.Prelude.{◌≡◌, ◌+◌, ◌≤◌, ◌↔◌, length, IfErr, IfOk, IfSome, MatchResult, OnOk};
 ghost use Rattle.checkpoint.specs.Keeper.{faults_by};
 ghost use Rattle.checkpoint.specs.Keeps.{IsPlaced};
 ghost use Rattle.checkpoint.specs.Opening.{HoldsAreas, IsAreaDamaged, IsGroupsRefused, IsOpened, IsRefused};
@@ -17,12 +17,13 @@ use journal::Area;
 use regions::Regions;
 use std::alloc::Global;
 
-// What an opening reads of a device: its header in force, the map that the header names, and the area that the next
-// group goes to.
+// What an opening reads of a device: its header in force, the map that the header names, the first of two areas in
+// use, and the area that the next group goes to.
 #[derive(Drop)]
 pub struct Opened {
     pub header: Header,
     pub map: AllocMap,
+    pub first: Option<Area>,
     pub area: Area,
 }
 
@@ -36,9 +37,12 @@ pub fn read_device<D: Disk>(alloc: Global, disk: &mut D) -> Result<Opened, Keepe
     ensures placed { IfOk result (λ opened.
         IsPlaced opened.area opened.header.geometry (last_area opened.header.areas opened.header.first_area)) }
 
+    ensures within { IfOk result (λ opened. IfSome opened.first (λ area. area.from + area.bytes ≤ D.extent disk.old)) }
+    ensures blocks { IfOk result (λ opened. length opened.map ≡ opened.header.geometry.blocks) }
+
     ensures fixed { D.honest disk.old → MayLeave (D.state disk.old) (D.state disk.new).seen }
     ensures read { D.honest disk.old → MatchResult result
-        (λ opened. IsOpened (D.state disk.new) opened.header opened.map opened.area)
+        (λ opened. IsOpened (D.state disk.new) opened.header opened.map opened.first opened.area)
         (λ fault. IsRefused fault (D.state disk.new).seen) }
     ensures any_moment { D.honest disk.old → LeavesOnly (D.state disk.old) (D.state disk.new) (MayLeave (D.state disk.old)) }
 {
@@ -55,41 +59,58 @@ fn read_parts<D: Disk>(alloc: Global, disk: &mut D) -> Result<Opened, KeeperFaul
     ensures whole { IfOk result (λ opened. D.extent disk.old ≡ device_bytes_of opened.header.geometry.blocks opened.header.geometry.area) }
     ensures placed { IfOk result (λ opened.
         IsPlaced opened.area opened.header.geometry (last_area opened.header.areas opened.header.first_area)) }
+    ensures within { IfOk result (λ opened. IfSome opened.first (λ area. area.from + area.bytes ≤ D.extent disk.old)) }
+    ensures blocks { IfOk result (λ opened. length opened.map ≡ opened.header.geometry.blocks) }
 
     ensures only_read { D.honest disk.old → IsOnlyRead (D.state disk.old) (D.state disk.new) }
     ensures read { D.honest disk.old → IsAllSynced (D.state disk.old) → MatchResult result
-        (λ opened. IsOpened (D.state disk.new) opened.header opened.map opened.area)
+        (λ opened. IsOpened (D.state disk.new) opened.header opened.map opened.first opened.area)
         (λ fault. IsRefused fault (D.state disk.new).seen) }
 {
     let (header, _slot) = read_current(disk)?;
     let map = Regions::of(&header.geometry).read_slot(alloc, disk, header.map_slot)?;
-    let area = read_areas(alloc, disk, &header)?;
-    Ok(Opened { header, map, area })
+    let (first, area) = read_areas(alloc, disk, &header)?;
+    Ok(Opened {
+        header,
+        map,
+        first,
+        area,
+    })
 }
 
-// Reads the areas in use; the last one comes back.
-fn read_areas<D: Disk>(alloc: Global, disk: &mut D, header: &Header) -> Result<Area, KeeperFault>
+// Reads the areas in use: the first where there are two, and the last one.
+fn read_areas<D: Disk>(
+    alloc: Global,
+    disk: &mut D,
+    header: &Header,
+) -> Result<(Option<Area>, Area), KeeperFault>
     requires { D.extent disk.old ≡ device_bytes_of header.now.geometry.blocks header.now.geometry.area }
     ensures extent { D.extent disk.new ≡ D.extent disk.old }
     ensures faults_ok { OnOk result (D.faults disk.new ≡ D.faults disk.old) }
     ensures faults_err { IfErr result (λ fault. D.faults disk.new ≡ faults_by fault (D.faults disk.old)) }
     ensures honest { D.honest disk.new ↔ D.honest disk.old }
-    ensures placed { IfOk result (λ area.
-        IsPlaced area header.now.geometry (last_area header.now.areas header.now.first_area)) }
+    ensures placed { IfOk result (λ areas.
+        IsPlaced areas.1 header.now.geometry (last_area header.now.areas header.now.first_area)) }
+    ensures within { IfOk result (λ areas. IfSome areas.0 (λ area. area.from + area.bytes ≤ D.extent disk.old)) }
 
     ensures only_read { D.honest disk.old → IsOnlyRead (D.state disk.old) (D.state disk.new) }
     ensures read { D.honest disk.old → IsAllSynced (D.state disk.old) → MatchResult result
-        (λ area. HoldsAreas (D.state disk.new) header.now area)
+        (λ areas. HoldsAreas (D.state disk.new) header.now areas.0 areas.1)
         (λ fault. IsGroupsRefused fault (IsAreaDamaged (D.state disk.new).seen header.now)) }
 {
     // The number behind 2^64 - 1 is 0: no number is left.
     let next = header.base.wrapping_add(1);
+    let geometry = &header.geometry;
     match header.areas {
-        Areas::One => read_area(alloc, disk, &header.geometry, header.first_area, next),
+        Areas::One => {
+            let area = read_area(alloc, disk, geometry, header.first_area, next)?;
+            Ok((None, area))
+        }
         Areas::Two => {
-            let first = read_area(alloc, disk, &header.geometry, header.first_area, next)?;
+            let first = read_area(alloc, disk, geometry, header.first_area, next)?;
             let side = header.first_area.other();
-            read_area(alloc, disk, &header.geometry, side, first.next())
+            let area = read_area(alloc, disk, geometry, side, first.next())?;
+            Ok((Some(first), area))
         }
     }
 }

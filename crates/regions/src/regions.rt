@@ -1,4 +1,4 @@
-ghost use Rattle.std.specs.Prelude.{◌≡◌, ◌+◌, ◌≤◌, ◌<◌, ◌↔◌, ℕ, length, slice_index, OnOk};
+ghost use Rattle.std.specs.Prelude.{◌≡◌, ◌+◌, ◌≤◌, ◌<◌, ◌↔◌, ℕ, length, slice_index, IfOk, OnOk};
 ghost use Rattle.disk_model.specs.Disk.{MayLeave, IsKept, LeavesOnly};
 ghost use Rattle.disk_model.specs.Faults.{faults_after};
 ghost use Rattle.image_model.specs.Geometry.{device_bytes_of, map_bytes_of};
@@ -45,10 +45,11 @@ impl Regions {
         8192 + 2 * self.geometry.area as u64 + self.geometry.map_bytes() * slot.index() as u64
     }
 
-    // The first byte of a block's data.
-    fn block_from(&self, block: u64) -> u64
+    /// The first byte of a block's data.
+    pub fn block_from(&self, block: u64) -> u64
         requires { block < self.now.geometry.blocks }
-        ensures { result ≡ block_at self.now.geometry block }
+        ensures place { result ≡ block_at self.now.geometry block }
+        ensures inside { result + 4096 ≤ device_bytes_of self.now.geometry.blocks self.now.geometry.area }
     {
         8192 + 2 * self.geometry.area as u64 + 2 * self.geometry.map_bytes() + BLOCK_BYTES * block
     }
@@ -61,6 +62,7 @@ impl Regions {
         slot: Side,
     ) -> Result<AllocMap, RegionFault>
         requires { D.extent disk.old ≡ device_bytes_of self.now.geometry.blocks self.now.geometry.area }
+        ensures blocks { IfOk result (λ map. length map ≡ self.now.geometry.blocks) }
         ensures extent { D.extent disk.new ≡ D.extent disk.old }
         ensures faults { D.faults disk.new ≡ faults_after_reading result (D.faults disk.old) }
         ensures honest { D.honest disk.new ↔ D.honest disk.old }

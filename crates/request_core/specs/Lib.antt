@@ -1,2 +1,5 @@
 pub mod Bench
+pub mod Life
+pub mod Parts
 pub mod Serving
+pub mod Storing

@@ -1,17 +1,105 @@
--- what serving a connection does to the order
-use Rattle.std.specs.Prelude.{◌≡◌, vec_len}
-use Rattle.order_book.specs.Order.{OrderState}
+-- what serving and answering a connection do
+use Rattle.std.specs.Prelude.{ℕ, ◌≡◌, ◌⊎◌, MatchBool, MatchOption, slice_index_or, slice_set, Bool, true, false, nat_le, if◌then◌else◌, Option, Some, None, List, [], ◌∷◌, ◌++◌, vec_len}
+use Rattle.image_model.specs.Change.{Change, AreChanges}
 use Rattle.image_model.specs.declared.command.Command.{Command}
 use Rattle.image_model.specs.declared.command.Command.TheVariants.{Put, Clear}
-use Rattle.nbd_wire.specs.Request.{handed_len}
+use Rattle.image_model.specs.declared.geometry.Geometry.{Geometry}
+use Rattle.journal.specs.Group.{Numbered}
+use Rattle.nbd_wire.specs.Request.{Message, handed_len}
+use Rattle.nbd_wire.specs.declared.error.Errno.TheVariants.{Io}
 use Rattle.nbd_wire.specs.declared.head.RequestHead.{RequestHead}
+use Rattle.nbd_wire.specs.declared.message.SessionFlags.{SessionFlags}
+use Rattle.order_book.specs.Order.{OrderState}
+use Rattle.request_core.specs.Parts.{Stage, stage_of, AreConnectionsOf, IsOrderOf}
+use Rattle.world.specs.declared.connection.Connection.{Connection}
+use Rattle.world.specs.declared.connection.Connection.TheVariants.{Idle, Requested, Waiting, Ready, Closed}
+use Rattle.world.specs.declared.event.Event.{Event}
+use Rattle.world.specs.declared.event.Event.TheVariants.{Sent, Answered, Held, Failed}
+use Rattle.world.specs.declared.event.StepFault.TheVariants.{NoMemory}
+use Rattle.world.specs.declared.event.Outcome.{Outcome}
+use Rattle.world.specs.declared.event.Outcome.TheVariants.{Done, Refused}
+use Rattle.world.specs.declared.step.Mode.{Mode}
+use Rattle.world.specs.World.{World, put}
 
 -- the command is a Put of a request's own data
 abbrev pub IsHandedBack : RequestHead → Command → Type 0
 IsHandedBack head (Put first bytes) = vec_len bytes ≡ handed_len head
 IsHandedBack head (Clear first blocks kind) = ⊥
 
+-- the request again, of which the command is a Put
+abbrev pub request_again : RequestHead → Command → Connection
+request_again head (Put first bytes) = Requested (record { head = head; bytes = bytes.items })
+request_again head (Clear first blocks kind) = Closed
+
 -- the group that was sealed last stays as it is
 pub record IsSameHand (old new : OrderState) : Type 0 where
   pub sealed : new.sealed ≡ old.sealed
   pub in_hand : new.in_hand ≡ old.in_hand
+
+-- whether a connection has no request open
+abbrev pub is_idle : Connection → Bool
+is_idle Idle = true
+is_idle (Requested request) = false
+is_idle (Waiting number) = false
+is_idle (Ready outcome) = false
+is_idle Closed = false
+
+-- the request that wasn't served yet
+abbrev pub request_in : Connection → Option Message
+request_in Idle = None
+request_in (Requested request) = Some request
+request_in (Waiting number) = None
+request_in (Ready outcome) = None
+request_in Closed = None
+
+-- the answer that is due, once all up to a number is durable, before or after a device fault
+abbrev pub due_of : ℕ → Bool → Connection → Option Outcome
+due_of durable stopped Idle = None
+due_of durable stopped (Requested request) = None
+due_of durable stopped (Waiting number) = if nat_le number durable then Some Done else (if stopped then Some (Refused Io) else None)
+due_of durable stopped (Ready outcome) = Some outcome
+due_of durable stopped Closed = None
+
+-- A connection to which an answer is due gets it, and another one stays as it is.
+abbrev pub IsAnsweredBy : ℕ → Bool → List Connection → ℕ → List Connection → Event → Type 0
+IsAnsweredBy durable stopped old connection new event =
+    MatchOption (due_of durable stopped (slice_index_or old connection Closed))
+    ((new ≡ old) × (event ≡ Held))
+    (λ outcome. (new ≡ slice_set old connection Idle) × (event ≡ Answered connection outcome))
+
+-- A connection that has no request open sends one, or memory is refused; another one sends nothing.
+abbrev pub IsSentBy : List Connection → ℕ → Message → List Connection → Event → Type 0
+IsSentBy old connection request new event =
+    MatchBool (is_idle (slice_index_or old connection Closed))
+    (((new ≡ slice_set old connection (Requested request)) × (event ≡ Sent connection request)) ⊎ ((new ≡ old) × (event ≡ Failed NoMemory)))
+    ((new ≡ old) × (event ≡ Held))
+
+-- what every request is judged by is the world's
+pub record AreTermsOf (world : World) (geometry : Geometry) (flags : SessionFlags) (mode : Mode) : Type 0 where
+  pub geometry_is : geometry ≡ world.setting.geometry
+  pub flags_is : flags ≡ world.setting.flags
+  pub mode_is : mode ≡ world.setting.mode
+
+-- the stage with commands more
+abbrev pub with_commands : Stage → List Change → Stage
+with_commands stage commands = record stage { order = stage.order ++ commands }
+
+-- The stage is as it was, but for commands more that the image takes.
+pub record IsGrown (old new : Stage) : Type 0 where
+  pub commands : List Change
+  pub is : new ≡ with_commands old commands
+  pub takes : AreChanges old.setting.geometry.blocks commands
+
+-- A connection that is served comes to this state.
+pub record IsServed (world next : World) (connection : ℕ) (state : Connection) (event : Event) (order : OrderState) (group : Option Numbered) : Type 0 where
+  pub connections : (other : ℕ) → put world.connections connection state other ≡ next.connections other
+  pub log : next.log ≡ world.log ++ event ∷ []
+  pub grown : IsGrown (stage_of world) (stage_of next)
+  pub of_order : IsOrderOf (stage_of next) order group
+
+-- The connections and the order are those of the next world.
+pub record IsTalked (world next : World) (connections : List Connection) (event : Event) (order : OrderState) (group : Option Numbered) : Type 0 where
+  pub of_connections : AreConnectionsOf next connections
+  pub log : next.log ≡ world.log ++ event ∷ []
+  pub grown : IsGrown (stage_of world) (stage_of next)
+  pub of_order : IsOrderOf (stage_of next) order group

@@ -1,7 +1,15 @@
-ghost use Rattle.std.specs.Prelude.{◌≡◌, ◌<◌, IfSome, vec_len};
-ghost use Rattle.nbd_wire.specs.Request.{HasItsData};
-ghost use Rattle.request_core.specs.Serving.{IsHandedBack, IsSameHand};
+ghost use Rattle.std.specs.Prelude.{◌≡◌, ◌<◌, false, [], Some, IfSome, MatchOption, IfNone, Option, slice_index_or, slice_set, vec_len};
+ghost use Rattle.journal.specs.Group.{Numbered};
+ghost use Rattle.nbd_wire.specs.Request.{HasItsData, message};
+ghost use Rattle.request_core.specs.Parts.{AreConnectionsOf, IsOrderOf, stage_of};
+ghost use Rattle.request_core.specs.Serving.{AreTermsOf, IsAnsweredBy, IsHandedBack, IsSameHand, IsSentBy, IsServed, IsTalked, due_of, is_idle, request_again, request_in};
+ghost use Rattle.world.specs.Log.{waits_for_store};
+ghost use Rattle.world.specs.Serve.{Luck, answer as answer_of, serve as serve_of, state_after, write_served};
+ghost use Rattle.world.specs.Step.{send as send_of};
 ghost use Rattle.world.specs.Verdict.{IsServedWrite};
+ghost use Rattle.world.specs.World.{World};
+ghost use Rattle.world.specs.declared.connection.Connection.TheVariants as Connection;
+ghost use Rattle.world_law.specs.Law.{IsWithin};
 
 use crate::judgement::judge;
 use bitflags::Flags;
@@ -20,6 +28,22 @@ pub(crate) struct Terms {
     pub mode: Mode,
 }
 
+// Whether a connection has no request open.
+fn is_idle(connections: &[Connection], connection: usize) -> bool
+    ensures { result ≡ is_idle (slice_index_or connections.now connection Connection.Closed) }
+{
+    if connection >= connections.len() {
+        return false;
+    }
+    match &connections[connection] {
+        Connection::Idle => true,
+        Connection::Requested(_)
+        | Connection::Waiting(_)
+        | Connection::Ready(_)
+        | Connection::Closed => false,
+    }
+}
+
 // A connection sends a request, where it has none open.
 pub(crate) fn send(
     alloc: Global,
@@ -28,8 +52,9 @@ pub(crate) fn send(
     request: &Request,
 ) -> Event
     requires { HasItsData request.now }
+    ensures { IsSentBy connections.old.items connection (message request.now) connections.new.items result }
 {
-    if !matches!(connections.get(connection), Some(Connection::Idle)) {
+    if !is_idle(connections, connection) {
         return Event::Held;
     }
     let (Ok(sent), Ok(copy)) = (
@@ -50,6 +75,9 @@ pub(crate) fn serve(
     terms: Terms,
 ) -> Event
     ensures hand { IsSameHand order.old order.new }
+    ensures world { (world : World) (group : Option Numbered) → IsWithin world → IsOrderOf (stage_of world) order.old group
+        → AreTermsOf world terms.geometry terms.flags terms.mode → AreConnectionsOf world connections.old.items
+        → (luck : Luck) × IsTalked world (serve_of luck world connection (world.connections connection)) connections.new.items result order.new group }
 {
     let Some(request) = take_request(connections, connection) else {
         return Event::Held;
@@ -61,7 +89,10 @@ pub(crate) fn serve(
 
 // Takes a request that a connection has sent and that wasn't served yet.
 fn take_request(connections: &mut Vec<Connection>, connection: usize) -> Option<SentRequest>
+    ensures request { result ≡ request_in (slice_index_or connections.old.items connection Connection.Closed) }
     ensures within { IfSome result (λ request. connection < vec_len connections.new) }
+    ensures taken { IfSome result (λ request. connections.new.items ≡ slice_set connections.old.items connection Connection.Idle) }
+    ensures none { IfNone result (connections.new.items ≡ connections.old.items) }
 {
     if connection >= connections.len() {
         return None;
@@ -83,6 +114,9 @@ fn serve_request(
     terms: Terms,
 ) -> (Connection, Event)
     ensures hand { IsSameHand order.old order.new }
+    ensures world { (world : World) (group : Option Numbered) → IsWithin world → IsOrderOf (stage_of world) order.old group
+        → AreTermsOf world terms.geometry terms.flags terms.mode → world.connections connection ≡ Connection.Requested request
+        → (luck : Luck) × IsServed world (serve_of luck world connection (Connection.Requested request)) connection result.0 result.1 order.new group }
 {
     let head = request.head();
     match judge(&head, &terms.geometry, &terms.flags) {
@@ -94,7 +128,10 @@ fn serve_request(
     }
 }
 
-fn refused(errno: Errno) -> (Connection, Event) {
+fn refused(errno: Errno) -> (Connection, Event)
+    ensures state { result.0 ≡ Connection.Ready (Outcome.Refused errno) }
+    ensures event { result.1 ≡ Event.Took }
+{
     (Connection::Ready(Outcome::Refused(errno)), Event::Took)
 }
 
@@ -107,6 +144,9 @@ fn serve_write(
 ) -> (Connection, Event)
     requires { IsServedWrite request.head terms.geometry }
     ensures hand { IsSameHand order.old order.new }
+    ensures world { (world : World) (group : Option Numbered) → IsWithin world → IsOrderOf (stage_of world) order.old group
+        → AreTermsOf world terms.geometry terms.flags terms.mode → order.old.stopped ≡ false → world.connections connection ≡ Connection.Requested request
+        → (luck : Luck) × IsServed world (write_served luck world connection request) connection result.0 result.1 order.new group }
 {
     let (head, bytes) = request.into_parts();
     let command = Command::Put {
@@ -125,10 +165,22 @@ fn serve_write(
     }
 }
 
+// Whether the answer to a write command waits until it is durable.
+fn waits(head: &RequestHead, mode: Mode) -> bool
+    ensures { result ≡ waits_for_store mode (record { head = head.now; bytes = [] }) }
+{
+    let fua = CommandFlags::FUA.bits();
+    match mode {
+        Mode::Writethrough => true,
+        Mode::Writeback => head.flags & fua == fua,
+    }
+}
+
 // What a connection comes to when its command has got a number.
-fn accepted_state(head: &RequestHead, mode: Mode, number: u64) -> Connection {
-    let flags = CommandFlags::from_bits_retain(head.flags);
-    if mode == Mode::Writethrough || flags.contains(CommandFlags::FUA) {
+fn accepted_state(head: &RequestHead, mode: Mode, number: u64) -> Connection
+    ensures { result ≡ state_after (waits_for_store mode (record { head = head.now; bytes = [] })) number }
+{
+    if waits(head, mode) {
         Connection::Waiting(number)
     } else {
         Connection::Ready(Outcome::Done)
@@ -138,6 +190,7 @@ fn accepted_state(head: &RequestHead, mode: Mode, number: u64) -> Connection {
 // What a connection stays at whose command was handed back.
 fn returned(head: RequestHead, command: Command) -> Connection
     requires { IsHandedBack head command }
+    ensures { result ≡ request_again head command }
 {
     match command {
         Command::Put { first: _, bytes } => {
@@ -148,7 +201,9 @@ fn returned(head: RequestHead, command: Command) -> Connection
 }
 
 // Answers a connection to which an answer is due.
-pub(crate) fn answer(connections: &mut Vec<Connection>, connection: usize, order: &Order) -> Event {
+pub(crate) fn answer(connections: &mut Vec<Connection>, connection: usize, order: &Order) -> Event
+    ensures { IsAnsweredBy order.now.durable order.now.stopped connections.old.items connection connections.new.items result }
+{
     if connection >= connections.len() {
         return Event::Held;
     }
@@ -160,11 +215,20 @@ pub(crate) fn answer(connections: &mut Vec<Connection>, connection: usize, order
 }
 
 // The answer that is due to a connection, if one is.
-fn due(connection: &Connection, order: &Order) -> Option<Outcome> {
+fn due(connection: &Connection, order: &Order) -> Option<Outcome>
+    ensures { result ≡ due_of order.now.durable order.now.stopped connection.now }
+{
     match connection {
+        Connection::Idle | Connection::Requested(_) | Connection::Closed => None,
         Connection::Ready(outcome) => Some(*outcome),
-        Connection::Waiting(number) if *number <= order.durable() => Some(Outcome::Done),
-        Connection::Waiting(_) if order.stopped() => Some(Outcome::Refused(Errno::Io)),
-        _ => None,
+        Connection::Waiting(number) => {
+            if *number <= order.durable() {
+                Some(Outcome::Done)
+            } else if order.stopped() {
+                Some(Outcome::Refused(Errno::Io))
+            } else {
+                None
+            }
+        }
     }
 }

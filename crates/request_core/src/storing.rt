@@ -1,4 +1,11 @@
-ghost use Rattle.std.specs.Prelude.{◌≡◌, None, Some, IfSome};
+ghost use Rattle.std.specs.Prelude.{◌≡◌, ◌↔◌, None, Some, IfSome};
+ghost use Rattle.request_core.specs.Life.{IsAppended};
+ghost use Rattle.request_core.specs.Parts.{IsKeeperOf, IsOrderOf, stage_of};
+ghost use Rattle.request_core.specs.Storing.{PublishesBy, SealsBy, event_of, hand_after, order_after};
+ghost use Rattle.world.specs.Serve.{Luck};
+ghost use Rattle.world.specs.Step.{append as append_of};
+ghost use Rattle.world.specs.World.{World};
+ghost use Rattle.world_law.specs.Law.{IsWithin};
 ghost use Rattle.order_book.specs.Order.{IsInHand};
 ghost use Rattle.request_core.specs.Serving.{IsSameHand};
 
@@ -21,7 +28,8 @@ fn hold(hand: &mut Option<Group>, group: Group)
 // Takes the longest beginning of what is pending as the group in hand.
 pub(crate) fn seal(hand: &mut Option<Group>, order: &mut Order) -> Event
     requires { IfSome hand.old (IsInHand order.old) }
-    ensures { IfSome hand.new (IsInHand order.new) }
+    ensures hand { IfSome hand.new (IsInHand order.new) }
+    ensures seals { SealsBy hand.old order.old order.new hand.new result }
 {
     if hand.is_some() {
         return Event::Held;
@@ -44,39 +52,61 @@ pub(crate) fn append<D: Disk>(
     keeper: &mut Keeper<D>,
 ) -> Event
     requires { IfSome hand.old (IsInHand order.old) }
-    ensures { IfSome hand.new (IsInHand order.new) }
+    ensures hand { IfSome hand.new (IsInHand order.new) }
+    ensures honest { D.honest keeper.new.disk ↔ D.honest keeper.old.disk }
+    ensures world { (world : World) → IsWithin world → IsOrderOf (stage_of world) order.old hand.old
+        → IsKeeperOf (stage_of world) keeper.old (D.faults keeper.old.disk)
+        → (luck : Luck) × IsAppended world (append_of luck world) result order.new hand.new keeper.old keeper.new (D.faults keeper.new.disk)
+        (D.honest keeper.old.disk) (D.state keeper.old.disk) (D.state keeper.new.disk) }
 {
     let Some(group) = hand.take() else {
         return Event::Held;
     };
     match keeper.append(group) {
         Ok(()) => Event::Took,
-        Err((KeeperFault::NoMemory, group)) => {
-            hold(hand, group);
-            Event::Failed(StepFault::NoMemory)
-        }
-        Err((fault, group)) => {
-            order.put_back(group);
-            refused(order, fault)
-        }
+        Err((fault, group)) => give_back(hand, order, fault, group),
     }
 }
 
-// The event of a group that was put back, with this refusal of the keeper; after a device fault the order is stopped.
-fn refused(order: &mut Order, fault: KeeperFault) -> Event {
+// Takes back a group that the keeper refused: where memory was refused it stays in hand, else it is pending again, and
+// after a device fault the order is stopped.
+fn give_back(hand: &mut Option<Group>, order: &mut Order, fault: KeeperFault, group: Group) -> Event
+    requires empty { hand.old ≡ None }
+    requires group { IsInHand order.old group }
+    ensures event { result ≡ event_of fault }
+    ensures order { order.new ≡ order_after fault order.old group }
+    ensures hand { hand.new ≡ hand_after fault group }
+{
     match fault {
+        KeeperFault::NoMemory => {
+            hold(hand, group);
+            Event::Failed(StepFault::NoMemory)
+        }
         KeeperFault::DeviceFault => {
+            order.put_back(group);
             order.stop();
             Event::Failed(StepFault::DeviceFault)
         }
-        KeeperFault::Failed => Event::Failed(StepFault::FailedBefore),
-        _ => Event::Held,
+        KeeperFault::Failed => {
+            order.put_back(group);
+            Event::Failed(StepFault::FailedBefore)
+        }
+        KeeperFault::BadMap
+        | KeeperFault::NoHeader
+        | KeeperFault::BadHeader
+        | KeeperFault::AreaFull
+        | KeeperFault::OutOfOrder
+        | KeeperFault::DamagedGroup => {
+            order.put_back(group);
+            Event::Held
+        }
     }
 }
 
 // Makes durable what is stored.
 pub(crate) fn publish<D: Disk>(order: &mut Order, keeper: &Keeper<D>) -> Event
     ensures hand { IsSameHand order.old order.new }
+    ensures publishes { PublishesBy keeper.now.count order.old order.new result }
 {
     if order.durable() >= keeper.count() {
         return Event::Held;

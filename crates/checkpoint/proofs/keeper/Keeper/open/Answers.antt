@@ -9,8 +9,8 @@ returns-in-Ok-clause-opened g c honest =
     let read = c.in-Ok.field-0 in
     let state = g.D.Disk.state c.read_device.new.disk in
     let fits : read.header.base < 18446744073709551616 = search rules in (
-      opened_image state read.header read.map read.area opened call.placed fits,
-      opened_keeps state read.header read.map read.area opened call.placed fits _ refl refl refl refl refl refl (ap (λ n. (n + 18446744073709551615) % 18446744073709551616) c.next.ensures),
+      opened_image state read.header read.map read.first read.area opened call.placed fits,
+      opened_keeps state read.header read.map read.first read.area opened call.placed fits _ refl refl refl refl refl refl refl (ap (λ n. (n + 18446744073709551615) % 18446744073709551616) c.next.ensures),
     )
 
 pub returns-in-Ok-clause-same : goal.returns-in-Ok-clause-same
@@ -20,8 +20,8 @@ returns-in-Ok-clause-same g c honest synced image number stands =
     let read = c.in-Ok.field-0 in
     let state = g.D.Disk.state c.read_device.new.disk in
     let fits : read.header.base < 18446744073709551616 = search rules in
-    keeps_same _ state (opened_image state read.header read.map read.area opened call.placed fits) image _ number
-    (opened_keeps state read.header read.map read.area opened call.placed fits _ refl refl refl refl refl refl (ap (λ n. (n + 18446744073709551615) % 18446744073709551616) c.next.ensures))
+    keeps_same _ state (opened_image state read.header read.map read.first read.area opened call.placed fits) image _ number
+    (opened_keeps state read.header read.map read.first read.area opened call.placed fits _ refl refl refl refl refl refl refl (ap (λ n. (n + 18446744073709551615) % 18446744073709551616) c.next.ensures))
     (stood (g.D.Disk.state c.args.disk) state image number synced (call.fixed honest) stands)
 
 pub returns-in-Err-clause-passing : goal.returns-in-Err-clause-passing

@@ -1,0 +1,189 @@
+-- what the keeper's answer to a group makes of the world and of its device
+use Rattle.std.proofs.Common.{◌≡◌, ◌≢◌, ◌⊎◌, inl, inr, ℕ, ◌+◌, ◌<◌, ◌≤◌, ◌↔◌, true, false, IsTrue, Option, Some, None, length, map, sym, ◌∙◌, subst, refl, arith}
+use Rattle.std.proofs.lemmas.Bool.{cases_lt}
+use Rattle.checkpoint.specs.Keeper.{KeeperState, end_after, grown_by, refused_by, faults_by, IsAppendFault}
+use Rattle.checkpoint.specs.Keeps.{Keeps}
+use Rattle.checkpoint.proofs.Added.{kept_content}
+use Rattle.checkpoint.specs.Stands.{StandsFor}
+use Rattle.checkpoint.specs.declared.fault.KeeperFault.{KeeperFault}
+use Rattle.checkpoint.specs.declared.fault.KeeperFault.TheVariants as fault
+use Rattle.disk_model.specs.Disk.{State, LeavesOnly, IsSound}
+use Rattle.disk_model.specs.Faults.{counted}
+use Rattle.disk_model.proofs.Moments.{begins, ends, weakens}
+use Rattle.image_model.specs.Change.{AreChanges, change_of}
+use Rattle.image_model.specs.Image.{Image, apply_all}
+use Rattle.journal.specs.Group.{Numbered}
+use Rattle.order_book.specs.Order.{OrderState, with_group}
+use Rattle.request_core.specs.Life.{IsAppended, IsDiskOf, StandsAfter, image_after}
+use Rattle.request_core.specs.Parts.{IsKeeperOf, IsOrderOf, stage_of}
+use Rattle.request_core.specs.Storing.{IsKept, event_of, hand_after, order_after}
+use Rattle.request_core.proofs.Lives.{either_stands, group_takes, image_grows, number_grows}
+use Rattle.request_core.proofs.Stored.{goes_failed, goes_full, goes_none, goes_on_to, kept_back, kept_faulted, kept_held, kept_starved, kept_stored, not_true_is}
+use Rattle.world.specs.declared.event.Event.{Event}
+use Rattle.world.specs.declared.event.Event.TheVariants.{Took, Held, Failed}
+use Rattle.world.specs.declared.event.StepFault.TheVariants.{NoMemory, DeviceFault, FailedBefore}
+use Rattle.world.specs.Serve.{Luck, Fine, Starved, Faulted, held, logged}
+use Rattle.world.specs.Step.{append, faulted, put_back, starved, stored_more}
+use Rattle.world.specs.World.{World}
+use Rattle.world_law.specs.Law.{IsWithin}
+
+module _ {D : Type 0} (state : D → State) (faults extent : D → ℕ) (honest : D → Type 0) (sound : (disk : D) → honest disk → IsSound (extent disk) (state disk)) where
+  -- nothing was asked of the device
+  same_disk : (world next : World) (event : Event) (order : OrderState) (group : Option Numbered) (old new : KeeperState D) → new ≡ old
+      → ((image : Image) → IsDiskOf (stage_of world) image old (state old.disk) → IsDiskOf (stage_of next) image old (state old.disk))
+      → IsKept world next event order group old (faults old.disk)
+      → IsAppended world next event order group old new (faults new.disk) (honest old.disk) (state old.disk) (state new.disk)
+  same_disk world next event order group old new same here kept =
+      subst (λ (k : KeeperState D). IsAppended world next event order group old k (faults k.disk) (honest old.disk) (state old.disk) (state k.disk)) (sym same)
+      (record { kept = kept; disk = λ is_honest image disk. (here image disk, begins (sound old.disk is_honest) disk.leaves) })
+
+  pub appended_none : (world : World) (order : OrderState) (old : KeeperState D) → IsOrderOf (stage_of world) order None → IsKeeperOf (stage_of world) old (faults old.disk)
+      → IsAppended world (append Fine world) Held order None old old (faults old.disk) (honest old.disk) (state old.disk) (state old.disk)
+  appended_none world order old of kept =
+      goes_none world old (faults old.disk) kept order (λ next. IsAppended world next Held order None old old (faults old.disk) (honest old.disk) (state old.disk) (state old.disk)) of
+      (same_disk world (held world) Held order None old old refl (λ image disk. disk) (kept_held world old (faults old.disk) kept order None of))
+
+  module _ (world : World) (order : OrderState) (group : Numbered) (old : KeeperState D) (within : IsWithin world)
+      (of : IsOrderOf (stage_of world) order (Some group)) (kept : IsKeeperOf (stage_of world) old (faults old.disk)) where
+    put_back_here : (event : Event) (image : Image) → IsDiskOf (stage_of world) image old (state old.disk) → IsDiskOf (stage_of (logged (put_back world) event)) image old (state old.disk)
+    put_back_here event image disk = record { keeps = disk.keeps; leaves = disk.leaves }
+
+    pub appended_failed : (new : KeeperState D) → old.failed ≡ true → new ≡ old
+        → IsAppended world (append Fine world) (Failed FailedBefore) (with_group order group) None old new (faults new.disk) (honest old.disk) (state old.disk) (state new.disk)
+    appended_failed new failed same =
+        goes_failed world old (faults old.disk) kept order group of
+        (λ next. IsAppended world next (Failed FailedBefore) (with_group order group) None old new (faults new.disk) (honest old.disk) (state old.disk) (state new.disk)) failed
+        (same_disk world (logged (put_back world) (Failed FailedBefore)) (Failed FailedBefore) (with_group order group) None old new same (put_back_here (Failed FailedBefore))
+        (kept_back world old (faults old.disk) kept order group of (Failed FailedBefore)))
+
+    pub appended_full : (new : KeeperState D) → old.failed ≡ false → old.geometry.area < end_after old group → new ≡ old
+        → IsAppended world (append Fine world) Held (with_group order group) None old new (faults new.disk) (honest old.disk) (state old.disk) (state new.disk)
+    appended_full new failed full same =
+        goes_full world old (faults old.disk) kept order group of
+        (λ next. IsAppended world next Held (with_group order group) None old new (faults new.disk) (honest old.disk) (state old.disk) (state new.disk)) failed full
+        (same_disk world (held (put_back world)) Held (with_group order group) None old new same (put_back_here Held)
+        (kept_back world old (faults old.disk) kept order group of Held))
+
+    pub appended_starved : (new : KeeperState D) → old.failed ≡ false → end_after old group ≤ old.geometry.area → new ≡ old
+        → IsAppended world (append Starved world) (Failed NoMemory) order (Some group) old new (faults new.disk) (honest old.disk) (state old.disk) (state new.disk)
+    appended_starved new failed fit same =
+        goes_on_to world old (faults old.disk) kept order group of Starved
+        (λ next. IsAppended world next (Failed NoMemory) order (Some group) old new (faults new.disk) (honest old.disk) (state old.disk) (state new.disk)) failed fit
+        (same_disk world (starved world) (Failed NoMemory) order (Some group) old new same (λ image disk. disk)
+        (kept_starved world old (faults old.disk) kept order (Some group) of))
+
+    -- every crash while the group was stored leaves what reaches all that was stored before
+    chain : (new : KeeperState D) → IsOrderOf (stage_of world) order (Some group)
+        → ((image : Image) (number : ℕ) → Keeps old (state old.disk) image number → AreChanges old.geometry.blocks (map change_of group.commands)
+        → LeavesOnly (state old.disk) (state new.disk) (λ content. StandsFor content image number
+        ⊎ StandsFor content (apply_all (map change_of group.commands) image) (number + length group.commands)))
+        → old.failed ≡ false → (image : Image) → IsDiskOf (stage_of world) image old (state old.disk)
+        → LeavesOnly (state old.disk) (state new.disk) (StandsAfter world.order image world.setting.opening world.stored)
+    chain new of any failed image disk =
+        weakens (any (image_after world.order world.stored image) (world.setting.opening + world.stored) (disk.keeps (sym kept.failed ∙ failed)) (group_takes (stage_of world) order group of within.sealed old (faults old.disk) kept))
+        (either_stands (stage_of world) order group of within.sealed image)
+
+    pub appended_faulted : (new : KeeperState D) → old.failed ≡ false → end_after old group ≤ old.geometry.area → new ≡ record old { disk = new.disk; failed = true }
+        → faults new.disk ≡ counted (faults old.disk) → (honest old.disk → honest new.disk)
+        → (honest old.disk → (image : Image) (number : ℕ) → Keeps old (state old.disk) image number → AreChanges old.geometry.blocks (map change_of group.commands)
+        → LeavesOnly (state old.disk) (state new.disk) (λ content. StandsFor content image number
+        ⊎ StandsFor content (apply_all (map change_of group.commands) image) (number + length group.commands)))
+        → IsAppended world (append Faulted world) (Failed DeviceFault) (record (with_group order group) { stopped = true }) None old new (faults new.disk) (honest old.disk) (state old.disk) (state new.disk)
+    appended_faulted new failed fit same level stays_honest any =
+        goes_on_to world old (faults old.disk) kept order group of Faulted
+        (λ next. IsAppended world next (Failed DeviceFault) (record (with_group order group) { stopped = true }) None old new (faults new.disk) (honest old.disk) (state old.disk) (state new.disk)) failed fit
+        (record {
+          kept = subst (λ (k : KeeperState D). IsKept world (logged (faulted world) (Failed DeviceFault)) (Failed DeviceFault) (record (with_group order group) { stopped = true }) None k (faults new.disk)) (sym same)
+              (subst (λ (n : ℕ). IsKept world (logged (faulted world) (Failed DeviceFault)) (Failed DeviceFault) (record (with_group order group) { stopped = true }) None (record old { disk = new.disk; failed = true }) n) (sym level)
+              (kept_faulted world old (faults old.disk) kept order group of new.disk));
+          disk = λ is_honest image disk.
+              let leaves = chain new of (any is_honest) failed image disk in
+              (record { keeps = λ works. absurd (works_unlike works); leaves = λ content left. ends leaves (sound new.disk (stays_honest is_honest)) content left }, leaves);
+        })
+      where
+        works_unlike : true ≡ false → ⊥
+        works_unlike is = cc
+
+    pub appended : (new : KeeperState D) → old.failed ≡ false → end_after old group ≤ old.geometry.area → new ≡ grown_by old group new.disk
+        → faults new.disk ≡ faults old.disk → (honest old.disk → honest new.disk)
+        → (honest old.disk → (image : Image) (number : ℕ) → Keeps old (state old.disk) image number → AreChanges old.geometry.blocks (map change_of group.commands)
+        → Keeps new (state new.disk) (apply_all (map change_of group.commands) image) (number + length group.commands))
+        → (honest old.disk → (image : Image) (number : ℕ) → Keeps old (state old.disk) image number → AreChanges old.geometry.blocks (map change_of group.commands)
+        → LeavesOnly (state old.disk) (state new.disk) (λ content. StandsFor content image number
+        ⊎ StandsFor content (apply_all (map change_of group.commands) image) (number + length group.commands)))
+        → IsAppended world (append Fine world) Took order None old new (faults new.disk) (honest old.disk) (state old.disk) (state new.disk)
+    appended new failed fit same level stays_honest stored any =
+        goes_on_to world old (faults old.disk) kept order group of Fine
+        (λ next. IsAppended world next Took order None old new (faults new.disk) (honest old.disk) (state old.disk) (state new.disk)) failed fit
+        (record {
+          kept = subst (λ (k : KeeperState D). IsKept world (stored_more Fine world) Took order None k (faults new.disk)) (sym same)
+              (subst (λ (n : ℕ). IsKept world (stored_more Fine world) Took order None (grown_by old group new.disk) n) (sym level)
+              (kept_stored world old (faults old.disk) kept order group of new.disk));
+          disk = λ is_honest image disk.
+              let works = disk.keeps (sym kept.failed ∙ failed) in
+              let takes = group_takes (stage_of world) order group of within.sealed old (faults old.disk) kept in
+              let keeps = subst (λ (n : ℕ). Keeps new (state new.disk) (image_after world.order world.sealed image) n) (number_grows (stage_of world) order group of within.sealed)
+              (subst (λ (i : Image). Keeps new (state new.disk) i ((world.setting.opening + world.stored) + length group.commands)) (image_grows (stage_of world) order group of within.sealed image)
+              (stored is_honest (image_after world.order world.stored image) (world.setting.opening + world.stored) works takes)) in (
+                record {
+                  keeps = λ still. keeps;
+                  leaves = λ content left. record {
+                    count = world.sealed;
+                    reaches = omega arith;
+                    within = within.sealed;
+                    stands = kept_content new (state new.disk) (image_after world.order world.sealed image) (world.setting.opening + world.sealed) content keeps left;
+                  };
+                },
+                chain new of (any is_honest) failed image disk,
+              );
+        })
+
+    -- any refusal
+    pub appended_refused : (refusal : KeeperFault) (new : KeeperState D) → IsAppendFault refusal
+        → ((refusal ≡ fault.Failed) ↔ IsTrue old.failed)
+        → ((refusal ≡ fault.AreaFull) ↔ ((old.failed ≡ false) × (old.geometry.area < end_after old group)))
+        → ((refusal ≡ fault.OutOfOrder) ↔ ((old.failed ≡ false) × (end_after old group ≤ old.geometry.area) × (group.first ≢ old.count + 1)))
+        → new ≡ refused_by refusal old new.disk → faults new.disk ≡ faults_by refusal (faults old.disk) → (honest old.disk → honest new.disk)
+        → (honest old.disk → (image : Image) (number : ℕ) → Keeps old (state old.disk) image number → AreChanges old.geometry.blocks (map change_of group.commands)
+        → LeavesOnly (state old.disk) (state new.disk) (λ content. StandsFor content image number
+        ⊎ StandsFor content (apply_all (map change_of group.commands) image) (number + length group.commands)))
+        → (luck : Luck) × IsAppended world (append luck world) (event_of refusal) (order_after refusal order group) (hand_after refusal group) old new (faults new.disk) (honest old.disk) (state old.disk) (state new.disk)
+    appended_refused fault.NoMemory new only failed full out_of_order same level stays_honest any =
+        let works = not_true_is old.failed (λ is. memory_unlike_failed (failed.1 is)) in
+        (Starved, appended_starved new works (fit (cases_lt old.geometry.area (end_after old group)) works) same)
+      where
+        memory_unlike_failed : fault.NoMemory ≡ fault.Failed → ⊥
+        memory_unlike_failed is = cc
+
+        memory_unlike_full : fault.NoMemory ≡ fault.AreaFull → ⊥
+        memory_unlike_full is = cc
+
+        fit : (old.geometry.area < end_after old group) ⊎ (end_after old group ≤ old.geometry.area) → old.failed ≡ false → end_after old group ≤ old.geometry.area
+        fit (inl over) works = absurd (memory_unlike_full (full.1 (works, over)))
+        fit (inr within_area) works = within_area
+    appended_refused fault.DeviceFault new only failed full out_of_order same level stays_honest any =
+        let works = not_true_is old.failed (λ is. device_unlike_failed (failed.1 is)) in
+        (Faulted, appended_faulted new works (fit (cases_lt old.geometry.area (end_after old group)) works) same level stays_honest any)
+      where
+        device_unlike_failed : fault.DeviceFault ≡ fault.Failed → ⊥
+        device_unlike_failed is = cc
+
+        device_unlike_full : fault.DeviceFault ≡ fault.AreaFull → ⊥
+        device_unlike_full is = cc
+
+        fit : (old.geometry.area < end_after old group) ⊎ (end_after old group ≤ old.geometry.area) → old.failed ≡ false → end_after old group ≤ old.geometry.area
+        fit (inl over) works = absurd (device_unlike_full (full.1 (works, over)))
+        fit (inr within_area) works = within_area
+    appended_refused fault.BadMap new only failed full out_of_order same level stays_honest any = absurd only
+    appended_refused fault.NoHeader new only failed full out_of_order same level stays_honest any = absurd only
+    appended_refused fault.BadHeader new only failed full out_of_order same level stays_honest any = absurd only
+    appended_refused fault.AreaFull new only failed full out_of_order same level stays_honest any =
+        let is = full.0 refl in (Fine, appended_full new is.0 is.1 same)
+    appended_refused fault.OutOfOrder new only failed full out_of_order same level stays_honest any =
+        let is = out_of_order.0 refl in
+        let first = of.first in
+        let count = kept.count in
+        absurd (is.2 (omega (arith, first, count)))
+    appended_refused fault.DamagedGroup new only failed full out_of_order same level stays_honest any = absurd only
+    appended_refused fault.Failed new only failed full out_of_order same level stays_honest any =
+        (Fine, appended_failed new (failed.0 refl) same)

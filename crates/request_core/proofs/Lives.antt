@@ -1,0 +1,115 @@
+-- what the device of a world is after a step
+use Rattle.std.proofs.Common.{◌≡◌, ◌⊎◌, inl, inr, ℕ, ◌+◌, ◌≤◌, Some, List, [], ◌∷◌, ◌++◌, append_assoc, length, length-append, map, take, drop, sym, ◌∙◌, ap, subst, refl, arith}
+use Rattle.std.proofs.lemmas.List.{take-append-le, take_at, take-append-drop, length-take-le}
+use Rattle.std.specs.List.{AllByRecursion}
+use Rattle.checkpoint.specs.Keeper.{KeeperState}
+use Rattle.checkpoint.specs.Keeps.{Keeps}
+use Rattle.checkpoint.specs.Stands.{StandsFor}
+use Rattle.disk_model.specs.Disk.{State, LeavesOnly, MayLeave, IsSound}
+use Rattle.disk_model.proofs.Moments.{begins}
+use Rattle.image_model.specs.Change.{Change, AreChanges, change_of}
+use Rattle.image_model.specs.Image.{Image, apply, apply_all}
+use Rattle.image_model.specs.declared.geometry.Geometry.{Geometry}
+use Rattle.journal.specs.Group.{Numbered}
+use Rattle.order_book.specs.Order.{OrderState}
+use Rattle.request_core.specs.Life.{IsDiskOf, StandsAfter, image_after}
+use Rattle.request_core.specs.Parts.{Stage, IsKeeperOf, IsOrderOf}
+use Rattle.request_core.proofs.Orders.{commands_length}
+
+-- commands one after another
+pub apply_append : (xs ys : List Change) (image : Image) → apply_all (xs ++ ys) image ≡ apply_all ys (apply_all xs image)
+apply_append [] ys image = refl
+apply_append (x ∷ xs) ys image = apply_append xs ys (apply x image)
+
+-- what holds of each holds of those behind and of those in front
+pub all_behind : {X : Type 0} (P : X → Type 0) (xs ys : List X) → AllByRecursion P (xs ++ ys) → AllByRecursion P ys
+all_behind P [] ys all = all
+all_behind P (x ∷ xs) ys all = all_behind P xs ys all.1
+
+pub all_front : {X : Type 0} (P : X → Type 0) (xs ys : List X) → AllByRecursion P (xs ++ ys) → AllByRecursion P xs
+all_front P [] ys all = tt
+all_front P (x ∷ xs) ys all = (all.0, all_front P xs ys all.1)
+
+pub all_both : {X : Type 0} (P : X → Type 0) (xs ys : List X) → AllByRecursion P xs → AllByRecursion P ys → AllByRecursion P (xs ++ ys)
+all_both P [] ys one two = two
+all_both P (x ∷ xs) ys one two = (one.0, all_both P xs ys one.1 two)
+
+-- an order with commands more still begins as it did
+pub stands_more : (order more : List Change) (image : Image) (opening least : ℕ) (content : List ℕ) → StandsAfter order image opening least content
+    → StandsAfter (order ++ more) image opening least content
+stands_more order more image opening least content stands = record {
+  count = stands.count;
+  reaches = stands.reaches;
+  within = let within = stands.within in omega (arith, within, length-append order more);
+  stands = subst (λ (commands : List Change). StandsFor content (apply_all commands image) (opening + stands.count))
+      (sym (take-append-le stands.count order more stands.within)) stands.stands;
+}
+
+-- what reaches more reaches less
+pub stands_less : (order : List Change) (image : Image) (opening least less : ℕ) (content : List ℕ) → less ≤ least → StandsAfter order image opening least content
+    → StandsAfter order image opening less content
+stands_less order image opening least less content fewer stands = record {
+  count = stands.count;
+  reaches = let reaches = stands.reaches in omega (arith, reaches, fewer);
+  within = stands.within;
+  stands = stands.stands;
+}
+
+-- the device stays that of a world whose order grows
+pub disk_grows : {D : Type 0} (stage : Stage) (more : List Change) (sealed durable : ℕ) (image : Image) (keeper : KeeperState D) (state : State) → stage.stored ≤ length stage.order
+    → IsDiskOf stage image keeper state → IsDiskOf (record stage { order = stage.order ++ more; sealed = sealed; durable = durable }) image keeper state
+disk_grows stage more sealed durable image keeper state within disk = record {
+  keeps = λ works. subst (λ (commands : List Change). Keeps keeper state (apply_all commands image) (stage.setting.opening + stage.stored))
+      (sym (take-append-le stage.stored stage.order more within)) (disk.keeps works);
+  leaves = λ content left. stands_more stage.order more image stage.setting.opening stage.stored content (disk.leaves content left);
+}
+
+-- a device that no call was made of
+pub stays : {extent : ℕ} (stage : Stage) (image : Image) (state : State) → IsSound extent state
+    → ((content : List ℕ) → MayLeave state content → StandsAfter stage.order image stage.setting.opening stage.stored content)
+    → LeavesOnly state state (StandsAfter stage.order image stage.setting.opening stage.stored)
+stays stage image state sound leaves = begins sound leaves
+
+module _ (stage : Stage) (order : OrderState) (group : Numbered) (of : IsOrderOf stage order (Some group)) (within : stage.sealed ≤ length stage.order) where
+  -- the order up to the end of the group in hand
+  taken : take stage.sealed stage.order ≡ take stage.stored stage.order ++ map change_of group.commands
+  taken =
+      let hand = of.hand in
+      let count = length-take-le stage.stored stage.order (omega (arith, hand, within)) in
+      let whole = sym (take-append-drop stage.stored stage.order) ∙ (ap (λ (l : List Change). take stage.stored stage.order ++ l) of.behind
+      ∙ sym (append_assoc (take stage.stored stage.order) (map change_of group.commands) (map change_of order.pending))) in
+      ap (take stage.sealed) whole
+      ∙ take_at (take stage.stored stage.order ++ map change_of group.commands) (map change_of order.pending) stage.sealed
+      (omega (arith, length-append (take stage.stored stage.order) (map change_of group.commands), count, hand))
+
+  pub image_grows : (image : Image) → apply_all (map change_of group.commands) (image_after stage.order stage.stored image) ≡ image_after stage.order stage.sealed image
+  image_grows image = sym (apply_append (take stage.stored stage.order) (map change_of group.commands) image) ∙ ap (λ (l : List Change). apply_all l image) (sym taken)
+
+  pub number_grows : (stage.setting.opening + stage.stored) + length group.commands ≡ stage.setting.opening + stage.sealed
+  number_grows = let hand = of.hand in omega (arith, hand, commands_length group)
+
+  -- the commands of the group are ones that the image takes
+  pub group_takes : {D : Type 0} (keeper : KeeperState D) (failures : ℕ) → IsKeeperOf stage keeper failures → AreChanges keeper.geometry.blocks (map change_of group.commands)
+  group_takes keeper failures kept =
+      subst (λ (g : Geometry). AreChanges g.blocks (map change_of group.commands)) (sym kept.geometry)
+      (all_front _ (map change_of group.commands) (map change_of order.pending) (subst (AllByRecursion _) of.behind
+      (all_behind _ (take stage.stored stage.order) (drop stage.stored stage.order) (subst (AllByRecursion _) (sym (take-append-drop stage.stored stage.order)) kept.takes))))
+
+  -- what a crash leaves while the group is stored: the image without or with it
+  pub either_stands : (image : Image) (content : List ℕ)
+      → StandsFor content (image_after stage.order stage.stored image) (stage.setting.opening + stage.stored)
+      ⊎ StandsFor content (apply_all (map change_of group.commands) (image_after stage.order stage.stored image)) ((stage.setting.opening + stage.stored) + length group.commands)
+      → StandsAfter stage.order image stage.setting.opening stage.stored content
+  either_stands image content (inl without) = record {
+    count = stage.stored;
+    reaches = omega arith;
+    within = let hand = of.hand in omega (arith, hand, within);
+    stands = without;
+  }
+  either_stands image content (inr whole) = record {
+    count = stage.sealed;
+    reaches = let hand = of.hand in omega (arith, hand);
+    within = within;
+    stands = subst (λ (n : ℕ). StandsFor content (image_after stage.order stage.sealed image) n) number_grows
+        (subst (λ (i : Image). StandsFor content i ((stage.setting.opening + stage.stored) + length group.commands)) (image_grows image) whole);
+  }

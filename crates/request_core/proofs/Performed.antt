@@ -1,0 +1,105 @@
+-- what a step of each kind makes of all the parts
+use Rattle.std.proofs.Common.{◌≡◌, ℕ, ◌&&◌, ◌==◌, Bool, true, false, if◌then◌else◌, nat_lt, List, [], ◌∷◌, ◌++◌, length, sym, ◌∙◌, ap, subst, arith}
+use Rattle.checkpoint.specs.Keeper.{KeeperState}
+use Rattle.disk_model.specs.Disk.{State, IsSound}
+use Rattle.disk_model.proofs.Moments.{begins}
+use Rattle.image_model.specs.Change.{Change, AreChanges}
+use Rattle.image_model.specs.Image.{Image}
+use Rattle.order_book.specs.Order.{OrderState}
+use Rattle.request_core.specs.Bench.{BenchState}
+use Rattle.request_core.specs.Life.{IsAppended, IsDiskOf, IsPerformed}
+use Rattle.request_core.specs.Parts.{Stage, AreConnectionsOf, IsKeeperOf, IsOrderOf, stage_of}
+use Rattle.request_core.specs.Serving.{IsTalked, with_commands}
+use Rattle.request_core.specs.Storing.{IsKept}
+use Rattle.request_core.proofs.Lives.{all_both, disk_grows}
+use Rattle.world.specs.declared.connection.Connection.{Connection}
+use Rattle.world.specs.declared.event.Event.{Event}
+use Rattle.world.specs.Serve.{Luck, Fine, Starved, Faulted}
+use Rattle.world.specs.Step.{after_step, publish, seal, sealed_more}
+use Rattle.world.specs.declared.step.Step.{Step}
+use Rattle.world.specs.World.{World}
+use Rattle.world_law.specs.Law.{IsWithin}
+
+-- what holds of both sides of a choice holds of the choice
+of_either : {X : Type 0} (P : X → Type 0) (test : Bool) (x y : X) → P x → P y → P (if test then x else y)
+of_either P true x y here there = here
+of_either P false x y here there = there
+
+keeper_grows : {D : Type 0} (stage : Stage) (commands : List Change) (keeper : KeeperState D) (failures : ℕ) → AreChanges stage.setting.geometry.blocks commands
+    → IsKeeperOf stage keeper failures → IsKeeperOf (with_commands stage commands) keeper failures
+keeper_grows stage commands keeper failures takes of = record {
+  geometry = of.geometry;
+  count = of.count;
+  base = of.base;
+  used = of.used;
+  failed = of.failed;
+  faults = of.faults;
+  takes = all_both _ stage.order commands of.takes takes;
+}
+
+module _ {D : Type 0} (extent : ℕ) (honest : Type 0) (state : State) (sound : honest → IsSound extent state) (world : World) (keeper : KeeperState D) (failures : ℕ) (within : IsWithin world) where
+  -- a step that doesn't call the device
+  without_device : (next : World) (event : Event) (order : OrderState) (bench : BenchState) → AreConnectionsOf next bench.connections → next.log ≡ world.log ++ event ∷ []
+      → IsOrderOf (stage_of next) order bench.group → IsKeeperOf (stage_of next) keeper failures
+      → ((image : Image) → IsDiskOf (stage_of world) image keeper state → IsDiskOf (stage_of next) image keeper state)
+      → IsPerformed world next event order bench keeper keeper failures honest state state
+  without_device next event order bench connections log of_order of_keeper here = record {
+    of_connections = connections;
+    log = log;
+    of_order = of_order;
+    of_keeper = of_keeper;
+    disk = λ is_honest image disk. (here image disk, begins (sound is_honest) disk.leaves);
+  }
+
+  pub performed_talked : (next : World) (event : Event) (order : OrderState) (bench : BenchState) → IsKeeperOf (stage_of world) keeper failures
+      → IsTalked world next bench.connections event order bench.group → IsPerformed world next event order bench keeper keeper failures honest state state
+  performed_talked next event order bench of_keeper talked =
+      let grown = talked.grown in
+      without_device next event order bench talked.of_connections talked.log talked.of_order
+      (subst (λ (s : Stage). IsKeeperOf s keeper failures) (sym grown.is) (keeper_grows (stage_of world) grown.commands keeper failures grown.takes of_keeper))
+      (λ image disk. subst (λ (s : Stage). IsDiskOf s image keeper state) (sym grown.is)
+      (let stored = within.stored in let sealed = within.sealed in
+      disk_grows (stage_of world) grown.commands world.sealed world.durable image keeper state (omega (arith, stored, sealed)) disk))
+
+  kept_connections : (next : World) (connections : List Connection) → next.connections ≡ world.connections → AreConnectionsOf world connections → AreConnectionsOf next connections
+  kept_connections next connections same are = λ c. are c ∙ sym (ap (λ (f : ℕ → Connection). f c) same)
+
+  pub performed_kept : (next : World) (event : Event) (order : OrderState) (bench : BenchState) → AreConnectionsOf world bench.connections
+      → ((image : Image) → IsDiskOf (stage_of world) image keeper state → IsDiskOf (stage_of next) image keeper state)
+      → IsKept world next event order bench.group keeper failures → IsPerformed world next event order bench keeper keeper failures honest state state
+  performed_kept next event order bench are here kept =
+      without_device next event order bench (kept_connections next bench.connections kept.connections are) kept.log kept.of_order kept.of_keeper here
+
+  numbers_here : (sealed durable : ℕ) (image : Image) → IsDiskOf (stage_of world) image keeper state
+      → IsDiskOf (record (stage_of world) { sealed = sealed; durable = durable }) image keeper state
+  numbers_here sealed durable image disk = record { keeps = disk.keeps; leaves = disk.leaves }
+
+  pub disk_seals : (luck : Luck) (image : Image) → IsDiskOf (stage_of world) image keeper state → IsDiskOf (stage_of (seal luck world)) image keeper state
+  disk_seals luck image disk = of_either (λ next. IsDiskOf (stage_of next) image keeper state) (nat_lt world.sealed (length world.order) && (world.sealed == world.durable)) _ _ (by_luck luck) disk
+    where
+      by_luck : (luck : Luck) → IsDiskOf (stage_of (sealed_more luck world)) image keeper state
+      by_luck Starved = disk
+      by_luck Fine = numbers_here _ _ image disk
+      by_luck Faulted = numbers_here _ _ image disk
+
+  pub disk_publishes : (image : Image) → IsDiskOf (stage_of world) image keeper state → IsDiskOf (stage_of (publish world)) image keeper state
+  disk_publishes image disk = of_either (λ next. IsDiskOf (stage_of next) image keeper state) (nat_lt world.durable world.stored) _ _ (numbers_here _ _ image disk) disk
+
+-- a group that was appended, or wasn't
+pub performed_appended : {D : Type 0} (honest : Type 0) (before after : State) (world next : World) (event : Event) (order : OrderState) (bench : BenchState) (old new : KeeperState D) (failures : ℕ)
+    → AreConnectionsOf world bench.connections → IsAppended world next event order bench.group old new failures honest before after
+    → IsPerformed world next event order bench old new failures honest before after
+performed_appended honest before after world next event order bench old new failures are appended = record {
+  of_connections = λ c. are c ∙ sym (ap (λ (f : ℕ → Connection). f c) appended.kept.connections);
+  log = appended.kept.log;
+  of_order = appended.kept.of_order;
+  of_keeper = appended.kept.of_keeper;
+  disk = appended.disk;
+}
+
+-- the same of a step that is this one
+pub of_step : {D : Type 0} {world : World} {event : Event} {order : OrderState} {bench : BenchState} {old new : KeeperState D} {failures : ℕ} {honest : Type 0} {before after : State}
+    (luck : Luck) (step this : Step) → step ≡ this → IsPerformed world (after_step world this luck) event order bench old new failures honest before after
+    → IsPerformed world (after_step world step luck) event order bench old new failures honest before after
+of_step {world = world} {event = event} {order = order} {bench = bench} {old = old} {new = new} {failures = failures} {honest = honest} {before = before} {after = after} luck step this is performed =
+    subst (λ (s : Step). IsPerformed world (after_step world s luck) event order bench old new failures honest before after) (sym is) performed

@@ -1,0 +1,124 @@
+-- what serving a connection makes of the world
+use Rattle.std.proofs.Common.{◌≡◌, ◌⊎◌, inl, inr, ℕ, ◌+◌, ◌/◌, ◌<◌, ◌<◌, ◌==◌, ◌↔◌, Bool, true, false, if◌then◌else◌, Option, None, List, [], ◌∷◌, append-nil, length, bit_and, sym, ◌∙◌, ap, subst, refl, arith}
+use Rattle.std.proofs.lemmas.Bool.{cases_eq, cases_Bool, eq-eqb, ne_eqb}
+use Rattle.image_model.specs.declared.command.Command.{Command}
+use Rattle.image_model.specs.declared.geometry.Geometry.{Geometry}
+use Rattle.nbd_wire.specs.declared.head.RequestHead.{RequestHead}
+use Rattle.world.specs.declared.step.Mode.{Mode}
+use Rattle.world.specs.declared.step.Mode.TheVariants.{Writeback, Writethrough}
+use Rattle.world.specs.Verdict.{IsServedWrite}
+use Rattle.image_model.specs.Change.{Change, IsChange, change_of}
+use Rattle.journal.specs.Group.{Numbered}
+use Rattle.nbd_wire.specs.Request.{Message}
+use Rattle.nbd_wire.specs.declared.error.Errno.TheVariants.{NoSpace}
+use Rattle.order_book.specs.Order.{OrderState, with_command}
+use Rattle.order_book.specs.Order as book
+use Rattle.request_core.specs.Parts.{Stage, stage_of, IsOrderOf}
+use Rattle.request_core.specs.Serving.{IsGrown, IsServed, request_in}
+use Rattle.request_core.proofs.Orders.{order_accepts, room_of}
+use Rattle.world.specs.declared.connection.Connection.{Connection}
+use Rattle.world.specs.declared.connection.Connection.TheVariants.{Idle, Requested, Waiting, Ready, Closed}
+use Rattle.world.specs.declared.event.Event.{Event}
+use Rattle.world.specs.declared.event.Event.TheVariants.{Numbered as numbered, Held}
+use Rattle.world.specs.declared.event.Outcome.TheVariants.{Refused}
+use Rattle.world.specs.Log.{command_of, waits_for_store}
+use Rattle.world.specs.Serve.{Luck, Fine, logged, held, moved, ready, accepted, write_served, state_after}
+use Rattle.world.specs.World.{World, put, last_number, has_room}
+use Rattle.world_law.specs.Law.{IsWithin}
+
+-- a choice whose test is known
+pub if_true : {X : Type 0} (P : X → Type 0) (test : Bool) (x y : X) → test ≡ true → P x → P (if test then x else y)
+if_true P test x y is here = subst (λ (b : Bool). P (if b then x else y)) (sym is) here
+
+pub if_false : {X : Type 0} (P : X → Type 0) (test : Bool) (x y : X) → test ≡ false → P y → P (if test then x else y)
+if_false P test x y is here = subst (λ (b : Bool). P (if b then x else y)) (sym is) here
+
+-- a stage is itself with no command more
+pub grown_same : (stage : Stage) → IsGrown stage stage
+grown_same stage = record { commands = []; is = ap (λ (l : List Change). record stage { order = l }) (sym (append-nil stage.order)); takes = tt }
+
+pub put_as_is : (f : ℕ → Connection) (c : ℕ) (x : Connection) → f c ≡ x → (d : ℕ) → put f c x d ≡ f d
+put_as_is f c x is d = by_case (cases_eq d c)
+  where
+    by_case : (d ≡ c) ⊎ (d ≡ c → ⊥) → put f c x d ≡ f d
+    by_case (inl same) = ap (λ (b : Bool). if b then x else f d) (eq-eqb d c same) ∙ (sym is ∙ ap f (sym same))
+    by_case (inr other) = ap (λ (b : Bool). if b then x else f d) (ne_eqb d c other)
+
+module _ (world : World) (c : ℕ) (request : Message) (order : OrderState) (group : Option Numbered) (of : IsOrderOf (stage_of world) order group) where
+  pub served_moved : (state : Connection) (event : Event) → IsServed world (logged (moved world c state) event) c state event order group
+  served_moved state event = record { connections = λ d. refl; log = refl; grown = grown_same (stage_of world); of_order = of }
+
+  pub served_held : world.connections c ≡ Requested request → IsServed world (held world) c (Requested request) Held order group
+  served_held is = record { connections = put_as_is world.connections c (Requested request) is; log = refl; grown = grown_same (stage_of world); of_order = of }
+
+  -- a command that got its number
+  pub served_accepted : (command : Command) (number : ℕ) → IsWithin world → order.mark < 18446744073709551615 → change_of command ≡ command_of request
+      → IsChange world.setting.geometry.blocks (command_of request) → number ≡ order.mark + 1
+      → IsServed world (accepted Fine world c request) c (state_after (waits_for_store world.setting.mode request) number) (numbered c number) (with_command order command) group
+  served_accepted command number within left own change is = subst
+      (λ (n : ℕ). IsServed world (accepted Fine world c request) c (state_after (waits_for_store world.setting.mode request) n) (numbered c n) (with_command order command) group)
+      (sym (is ∙ ap (λ (n : ℕ). n + 1) of.mark))
+      (record {
+        connections = λ d. refl;
+        log = refl;
+        grown = record { commands = command_of request ∷ []; is = refl; takes = (change, tt) };
+        of_order = let durable = within.durable in let stored = within.stored in let sealed = within.sealed in
+            order_accepts (stage_of world) order group of command (command_of request) own (omega (arith, stored, sealed)) (omega (arith, durable, stored, sealed)) left;
+      })
+
+  room_same : (command : Command) → change_of command ≡ command_of request → has_room world (command_of request) ≡ book.has_room order command
+  room_same command own = ap (has_room world) (sym own) ∙ sym (room_of (stage_of world) order group of command)
+
+  -- which way a write command goes
+  pub write_full : (luck : Luck) (P : World → Type 0) → order.mark ≡ 18446744073709551615 → P (ready world c (Refused NoSpace)) → P (write_served luck world c request)
+  write_full luck P full here = let mark = of.mark in
+      if_true P (last_number world == 18446744073709551615) _ _ (eq-eqb (last_number world) 18446744073709551615 (omega (arith, mark, full))) here
+
+  pub write_held : (luck : Luck) (P : World → Type 0) (command : Command) → order.mark < 18446744073709551615 → change_of command ≡ command_of request
+      → book.has_room order command ≡ false → P (held world) → P (write_served luck world c request)
+  write_held luck P command left own none here = let mark = of.mark in
+      if_false P (last_number world == 18446744073709551615) _ _ (ne_eqb (last_number world) 18446744073709551615 (λ full. omega (arith, mark, full, left)))
+      (if_false P (has_room world (command_of request)) _ _ (room_same command own ∙ none) here)
+
+  pub write_accepted : (luck : Luck) (P : World → Type 0) (command : Command) → order.mark < 18446744073709551615 → change_of command ≡ command_of request
+      → book.has_room order command ≡ true → P (accepted luck world c request) → P (write_served luck world c request)
+  write_accepted luck P command left own room here = let mark = of.mark in
+      if_false P (last_number world == 18446744073709551615) _ _ (ne_eqb (last_number world) 18446744073709551615 (λ full. omega (arith, mark, full, left)))
+      (if_true P (has_room world (command_of request)) _ _ (room_same command own ∙ room) here)
+
+-- where neither numbers nor room are wanting
+pub some_left : {F N : Type 0} (order : OrderState) (command : Command) → (F ↔ ((order.stopped ≡ false) × (order.mark ≡ 18446744073709551615)))
+    → (N ↔ ((order.stopped ≡ false) × (order.mark < 18446744073709551615) × (book.has_room order command ≡ false))) → (F → ⊥) → (N → ⊥)
+    → order.stopped ≡ false → order.mark < 18446744073709551616 → (order.mark < 18446744073709551615) × (book.has_room order command ≡ true)
+some_left order command full none no_full no_none works below = (left, by_room (cases_Bool (book.has_room order command)))
+  where
+    left : order.mark < 18446744073709551615
+    left = by_mark (cases_eq order.mark 18446744073709551615)
+      where
+        by_mark : (order.mark ≡ 18446744073709551615) ⊎ (order.mark ≡ 18446744073709551615 → ⊥) → order.mark < 18446744073709551615
+        by_mark (inl is) = absurd (no_full (full.1 (works, is)))
+        by_mark (inr other) = omega (arith, other, below)
+
+    by_room : (book.has_room order command ≡ true) ⊎ (book.has_room order command ≡ false) → book.has_room order command ≡ true
+    by_room (inl room) = room
+    by_room (inr is) = absurd (no_none (none.1 (works, left, is)))
+
+-- whether an answer waits doesn't depend on the data
+pub waits_same : (mode : Mode) (head : RequestHead) (request : Message) → head ≡ request.head
+    → waits_for_store mode (record { head = head; bytes = [] }) ≡ waits_for_store mode request
+waits_same Writethrough head request is = refl
+waits_same Writeback head request is = ap (λ (h : RequestHead). bit_and h.flags 1 == 1) is
+
+-- the command of a WRITE that passes judgement is one that the image takes
+pub write_change : (request : Message) (geometry : Geometry) → IsServedWrite request.head geometry → length request.bytes ≡ request.head.length
+    → IsChange geometry.blocks (command_of request)
+write_change request geometry served whole =
+    let some = served.some in let most = served.most in let from_block = served.from_block in let whole_blocks = served.whole_blocks in let inside = served.inside in
+    (request.head.length / 4096, omega arith, omega arith, omega arith, omega arith)
+
+pub request_none : (state : Connection) → ((request : Message) → state ≡ Requested request → ⊥) → None ≡ request_in state
+request_none Idle other = refl
+request_none (Requested request) other = absurd (other request refl)
+request_none (Waiting number) other = refl
+request_none (Ready outcome) other = refl
+request_none Closed other = refl

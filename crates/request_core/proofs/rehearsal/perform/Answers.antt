@@ -1,0 +1,123 @@
+use Rattle.std.proofs.Common.{Option, sym, ◌∙◌, ap, subst}
+use Rattle.journal.specs.Group.{Numbered}
+use Rattle.nbd_wire.specs.Request.{message}
+use Rattle.request_core.specs.Bench.{BenchState}
+use Rattle.request_core.specs.Parts.{AreConnectionsOf, IsOrderOf, stage_of}
+use Rattle.request_core.specs.Serving.{AreTermsOf}
+use Rattle.request_core.proofs.Connections.{talked_answer, talked_send}
+use Rattle.request_core.proofs.Performed.{disk_publishes, disk_seals, of_step, performed_appended, performed_kept, performed_talked}
+use Rattle.request_core.proofs.Stored.{kept_publish_by, kept_seal_by}
+use Rattle.world.specs.Serve.{Fine, answer, serve}
+use Rattle.world.specs.Step.{append, publish, seal, send}
+use Rattle.world.specs.declared.step.Step.TheVariants as steps
+use Rattle.request_core.proofs.rehearsal.perform.Goals as goal
+
+pub returns-in-Send-clause-world : goal.returns-in-Send-clause-world
+returns-in-Send-clause-world g c = λ world within of kept are flags mode.
+    let inside = c.bench.inside in
+    let view = c.bench.view_is in
+    let order = c.args.order.now in
+    let keeper = c.args.keeper.now in
+    let faults = g.D.Disk.faults keeper.disk in
+    let items = inside.connections.items in
+    let here = subst (AreConnectionsOf world) (sym (ap (λ (b : BenchState). b.connections) view)) are in
+    let hand = subst (λ (group : Option Numbered). IsOrderOf (stage_of world) order group) (sym (ap (λ (b : BenchState). b.group) view)) of in
+    let bench : BenchState = record { flags = inside.flags; mode = inside.mode; connections = c.send.new.connections.items; group = c.bench.inside.group; log = inside.log.items } in
+    let talked = talked_send world items c.send.new.connections.items c.in-Send.connection c.send.result order inside.group hand here (message c.in-Send.request) c.send.ensures in (
+      talked.0,
+      of_step talked.0 c.args.step.now (steps.Send c.in-Send.connection c.in-Send.request) c.in-Send.is
+          (performed_talked (g.D.Disk.extent keeper.disk) (g.D.Disk.honest keeper.disk) (g.D.Disk.state keeper.disk) (g.met.D.Disk.sound keeper.disk) world keeper faults within
+          (send talked.0 world c.in-Send.connection (message c.in-Send.request) (world.connections c.in-Send.connection)) c.send.result order bench kept talked.1),
+    )
+
+pub returns-in-Serve-clause-world : goal.returns-in-Serve-clause-world
+returns-in-Serve-clause-world g c = λ world within of kept are flags mode.
+    let inside = c.bench.inside in
+    let view = c.bench.view_is in
+    let order = c.args.order.now in
+    let keeper = c.args.keeper.now in
+    let faults = g.D.Disk.faults keeper.disk in
+    let items = inside.connections.items in
+    let here = subst (AreConnectionsOf world) (sym (ap (λ (b : BenchState). b.connections) view)) are in
+    let hand = subst (λ (group : Option Numbered). IsOrderOf (stage_of world) order group) (sym (ap (λ (b : BenchState). b.group) view)) of in
+    let bench : BenchState = record { flags = inside.flags; mode = inside.mode; connections = c.serve.new.connections.items; group = c.bench.inside.group; log = inside.log.items } in
+    let terms : AreTermsOf world c.geometry.result inside.flags inside.mode = record {
+      geometry_is = c.geometry.ensures ∙ kept.geometry;
+      flags_is = ap (λ (b : BenchState). b.flags) view ∙ flags;
+      mode_is = ap (λ (b : BenchState). b.mode) view ∙ mode;
+    } in
+    let talked = c.serve.ensures.world world inside.group within hand terms here in (
+      talked.0,
+      of_step talked.0 c.args.step.now (steps.Serve c.in-Serve.connection) c.in-Serve.is
+          (performed_talked (g.D.Disk.extent keeper.disk) (g.D.Disk.honest keeper.disk) (g.D.Disk.state keeper.disk) (g.met.D.Disk.sound keeper.disk) world keeper faults within
+          (serve talked.0 world c.in-Serve.connection (world.connections c.in-Serve.connection)) c.serve.result c.serve.new.order bench kept talked.1),
+    )
+
+pub returns-in-Answer-clause-world : goal.returns-in-Answer-clause-world
+returns-in-Answer-clause-world g c = λ world within of kept are flags mode.
+    let inside = c.bench.inside in
+    let view = c.bench.view_is in
+    let order = c.args.order.now in
+    let keeper = c.args.keeper.now in
+    let faults = g.D.Disk.faults keeper.disk in
+    let items = inside.connections.items in
+    let here = subst (AreConnectionsOf world) (sym (ap (λ (b : BenchState). b.connections) view)) are in
+    let hand = subst (λ (group : Option Numbered). IsOrderOf (stage_of world) order group) (sym (ap (λ (b : BenchState). b.group) view)) of in
+    let bench : BenchState = record { flags = inside.flags; mode = inside.mode; connections = c.answer.new.connections.items; group = c.bench.inside.group; log = inside.log.items } in
+    let talked = talked_answer world items c.answer.new.connections.items c.in-Answer.connection c.answer.result order inside.group hand here c.answer.ensures in (
+      Fine,
+      of_step Fine c.args.step.now (steps.Answer c.in-Answer.connection) c.in-Answer.is
+          (performed_talked (g.D.Disk.extent keeper.disk) (g.D.Disk.honest keeper.disk) (g.D.Disk.state keeper.disk) (g.met.D.Disk.sound keeper.disk) world keeper faults within
+          (answer world c.in-Answer.connection (world.connections c.in-Answer.connection)) c.answer.result order bench kept talked),
+    )
+
+pub returns-in-Seal-clause-world : goal.returns-in-Seal-clause-world
+returns-in-Seal-clause-world g c = λ world within of kept are flags mode.
+    let inside = c.bench.inside in
+    let view = c.bench.view_is in
+    let order = c.args.order.now in
+    let keeper = c.args.keeper.now in
+    let faults = g.D.Disk.faults keeper.disk in
+    let items = inside.connections.items in
+    let here = subst (AreConnectionsOf world) (sym (ap (λ (b : BenchState). b.connections) view)) are in
+    let hand = subst (λ (group : Option Numbered). IsOrderOf (stage_of world) order group) (sym (ap (λ (b : BenchState). b.group) view)) of in
+    let bench : BenchState = record { flags = inside.flags; mode = inside.mode; connections = c.bench.inside.connections.items; group = c.seal.new.hand; log = inside.log.items } in
+    let sealed = kept_seal_by world keeper faults order c.seal.new.order inside.group c.seal.new.hand c.seal.result kept within hand c.seal.ensures.seals in (
+      sealed.0,
+      of_step sealed.0 c.args.step.now steps.Seal c.in-Seal.is
+          (performed_kept (g.D.Disk.extent keeper.disk) (g.D.Disk.honest keeper.disk) (g.D.Disk.state keeper.disk) (g.met.D.Disk.sound keeper.disk) world keeper faults within
+          (seal sealed.0 world) c.seal.result c.seal.new.order bench here
+          (disk_seals (g.D.Disk.extent keeper.disk) (g.D.Disk.honest keeper.disk) (g.D.Disk.state keeper.disk) (g.met.D.Disk.sound keeper.disk) world keeper faults within sealed.0) sealed.1),
+    )
+
+pub returns-in-Append-clause-world : goal.returns-in-Append-clause-world
+returns-in-Append-clause-world g c = λ world within of kept are flags mode.
+    let inside = c.bench.inside in
+    let view = c.bench.view_is in
+    let order = c.args.order.now in
+    let keeper = c.args.keeper.now in
+    let faults = g.D.Disk.faults keeper.disk in
+    let items = inside.connections.items in
+    let here = subst (AreConnectionsOf world) (sym (ap (λ (b : BenchState). b.connections) view)) are in
+    let hand = subst (λ (group : Option Numbered). IsOrderOf (stage_of world) order group) (sym (ap (λ (b : BenchState). b.group) view)) of in
+    let bench : BenchState = record { flags = inside.flags; mode = inside.mode; connections = c.bench.inside.connections.items; group = c.append.new.hand; log = inside.log.items } in
+    let stored = c.append.ensures.world world within hand kept in (
+      stored.0,
+      of_step stored.0 c.args.step.now steps.Append c.in-Append.is
+          (performed_appended (g.D.Disk.honest keeper.disk) (g.D.Disk.state keeper.disk) (g.D.Disk.state c.append.new.keeper.disk) world (append stored.0 world) c.append.result c.append.new.order bench
+          keeper c.append.new.keeper (g.D.Disk.faults c.append.new.keeper.disk) here stored.1),
+    )
+
+pub returns-in-Publish-clause-world : goal.returns-in-Publish-clause-world
+returns-in-Publish-clause-world g c = λ world within of kept are flags mode.
+    let order = c.args.order.now in
+    let keeper = c.args.keeper.now in
+    let faults = g.D.Disk.faults keeper.disk in
+    let bench = c.args.bench.now in
+    let published = kept_publish_by world keeper faults order c.publish.new.order bench.group c.publish.result kept within of c.publish.ensures.publishes in (
+      Fine,
+      of_step Fine c.args.step.now steps.Publish c.in-Publish.is
+          (performed_kept (g.D.Disk.extent keeper.disk) (g.D.Disk.honest keeper.disk) (g.D.Disk.state keeper.disk) (g.met.D.Disk.sound keeper.disk) world keeper faults within
+          (publish world) c.publish.result c.publish.new.order bench are
+          (disk_publishes (g.D.Disk.extent keeper.disk) (g.D.Disk.honest keeper.disk) (g.D.Disk.state keeper.disk) (g.met.D.Disk.sound keeper.disk) world keeper faults within) published),
+    )

@@ -1,0 +1,74 @@
+-- what sealing, storing and publishing do
+use Rattle.std.specs.Prelude.{ℕ, ◌≡◌, ◌⊎◌, ◌<◌, ◌≤◌, true, Option, Some, None, [], ◌∷◌, ◌++◌}
+use Rattle.checkpoint.specs.Keeper.{KeeperState}
+use Rattle.checkpoint.specs.declared.fault.KeeperFault.{KeeperFault}
+use Rattle.checkpoint.specs.declared.fault.KeeperFault.TheVariants as fault
+use Rattle.journal.specs.Group.{Numbered}
+use Rattle.order_book.specs.Order.{OrderState, Seals, with_durable, with_group}
+use Rattle.request_core.specs.Parts.{IsKeeperOf, IsOrderOf, stage_of}
+use Rattle.world.specs.declared.event.Event.{Event}
+use Rattle.world.specs.declared.event.Event.TheVariants.{Took, Held, Failed}
+use Rattle.world.specs.declared.event.StepFault.TheVariants.{NoMemory, DeviceFault, FailedBefore}
+use Rattle.world.specs.World.{World}
+
+-- the event of a group that the keeper refuses
+abbrev pub event_of : KeeperFault → Event
+event_of fault.NoMemory = Failed NoMemory
+event_of fault.DeviceFault = Failed DeviceFault
+event_of fault.BadMap = Held
+event_of fault.NoHeader = Held
+event_of fault.BadHeader = Held
+event_of fault.AreaFull = Held
+event_of fault.OutOfOrder = Held
+event_of fault.DamagedGroup = Held
+event_of fault.Failed = Failed FailedBefore
+
+-- the order after it: the group is pending again, but where memory was refused, and a device fault stops the order
+abbrev pub order_after : KeeperFault → OrderState → Numbered → OrderState
+order_after fault.NoMemory order group = order
+order_after fault.DeviceFault order group = record (with_group order group) { stopped = true }
+order_after fault.BadMap order group = with_group order group
+order_after fault.NoHeader order group = with_group order group
+order_after fault.BadHeader order group = with_group order group
+order_after fault.AreaFull order group = with_group order group
+order_after fault.OutOfOrder order group = with_group order group
+order_after fault.DamagedGroup order group = with_group order group
+order_after fault.Failed order group = with_group order group
+
+-- the group in hand after it
+abbrev pub hand_after : KeeperFault → Numbered → Option Numbered
+hand_after fault.NoMemory group = Some group
+hand_after fault.DeviceFault group = None
+hand_after fault.BadMap group = None
+hand_after fault.NoHeader group = None
+hand_after fault.BadHeader group = None
+hand_after fault.AreaFull group = None
+hand_after fault.OutOfOrder group = None
+hand_after fault.DamagedGroup group = None
+hand_after fault.Failed group = None
+
+-- something is pending, and all that was sealed is durable
+abbrev pub CanSeal : OrderState → Type 0
+CanSeal order = (order.pending ≡ [] → ⊥) × (order.durable < order.sealed → ⊥)
+
+-- sealing with these hands before and after: nothing with a group in hand or where there is nothing to seal, and else a
+-- group or no memory
+abbrev pub SealsBy : Option Numbered → OrderState → OrderState → Option Numbered → Event → Type 0
+SealsBy (Some group) old new after event = (new ≡ old) × (after ≡ Some group) × (event ≡ Held)
+SealsBy None old new after event =
+    (((old.pending ≡ []) ⊎ (old.durable < old.sealed)) × (new ≡ old) × (after ≡ None) × (event ≡ Held))
+    ⊎ ((CanSeal old × (new ≡ old) × (after ≡ None) × (event ≡ Failed NoMemory))
+    ⊎ ((group : Numbered) × CanSeal old × Seals old new group × (after ≡ Some group) × (event ≡ Took)))
+
+-- publishing what a keeper has stored up to a number
+abbrev pub PublishesBy : ℕ → OrderState → OrderState → Event → Type 0
+PublishesBy count old new event =
+    ((old.durable < count) × (new ≡ with_durable old count) × (event ≡ Took))
+    ⊎ ((count ≤ old.durable) × (new ≡ old) × (event ≡ Held))
+
+-- The order and the keeper are those of the next world, and the connections stay as they are.
+pub record IsKept {D : Type 0} (world next : World) (event : Event) (order : OrderState) (group : Option Numbered) (keeper : KeeperState D) (failures : ℕ) : Type 0 where
+  pub connections : next.connections ≡ world.connections
+  pub log : next.log ≡ world.log ++ event ∷ []
+  pub of_order : IsOrderOf (stage_of next) order group
+  pub of_keeper : IsKeeperOf (stage_of next) keeper failures
