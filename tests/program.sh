@@ -53,9 +53,6 @@ fresh() { "$NBDJ" format d.img --blocks "$1" --area "$2" >/dev/null; }
 # patch FILE OFFSET HEX: bytes in the middle of a file
 patch() { bytes "$3" | dd of="$1" bs=1 seek="$2" conv=notrunc 2>/dev/null; }
 
-# part FILE OFFSET COUNT: bytes of a file as hex
-part() { dd if="$1" bs=1 skip="$2" count="$3" 2>/dev/null | hex; }
-
 # unchanged NAME MESSAGE: recover refuses d.img with this message and leaves it as it is
 unchanged() {
     cp d.img before.img
@@ -225,6 +222,28 @@ if [ -w /dev/full ]; then
     : >input
     ends 'after the full output' 0 "$(text 'commands 1')" '' recover d.img
 fi
+
+# The scripts that docs/SCRIPTS.md teaches, and what it says that they print.
+block() { awk -v kind="$1" -v k="$2" '$0 == "```" kind { n++; on = n == k; next } /^```/ { on = 0 } on' "$here/docs/SCRIPTS.md"; }
+for k in 1 2 3; do
+    block script "$k" >input
+    ends "script $k of the page" 0 "$(block prints "$k" | hex)" '' rehearse
+done
+printf 'format 16 2097152 512\nrotate\n' >input
+ends 'a line that is no step' 2 "$(text 'done')" 'nbdj: line 2: not a step' rehearse
+: >input
+ends 'an empty script' 2 '' 'nbdj: line 1: not a step' rehearse
+
+# What a line prints comes before the next line is waited for.
+mkfifo lines told
+timeout 20 "$NBDJ" rehearse <lines >told &
+exec 3>lines 4<told
+echo 'format 16 2097152 512' >&3
+is 'a line in time' done "$(head -n 1 <&4)"
+exec 3>&-
+wait $!
+is 'the end of the script' 0 $?
+exec 4<&-
 
 echo "$passed passed, $failed failed"
 [ "$failed" -eq 0 ]

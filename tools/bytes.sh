@@ -20,3 +20,6 @@ request() {
 
 # reply COOKIE ERROR: a simple reply as hexadecimal digits, both numbers in decimal
 reply() { printf '67446698%08x%016x' "$2" "$1"; }
+
+# part FILE OFFSET COUNT: bytes of a file as hexadecimal digits
+part() { dd if="$1" bs=1 skip="$2" count="$3" 2>/dev/null | hex; }

@@ -8,7 +8,7 @@ mod files;
 use crate::files::{make, open};
 use disk_model::FileDisk;
 use nbdj_line::line;
-use nbdj_run::{Plan, perform};
+use nbdj_run::{Plan, perform, script};
 use std::process::ExitCode;
 use std::{env, io};
 
@@ -25,15 +25,16 @@ fn main(rt: HostRuntime) -> anyhow::Result<ExitCode> {
     }
 }
 
-// Carries out the plan on its file, and gives the exit status.
+// Carries out the plan, and gives the exit status.
 fn run(rt: &HostRuntime, plan: &Plan<'_>) -> u8 {
-    let opened = match *plan {
-        Plan::Format { path, geometry } => make(rt, path, geometry.device_bytes()),
-        Plan::Pipe { path, .. } | Plan::Recover { path } => open(rt, path),
+    let (path, opened) = match *plan {
+        Plan::Format { path, geometry } => (path, make(rt, path, geometry.device_bytes())),
+        Plan::Pipe { path, .. } | Plan::Recover { path } => (path, open(rt, path)),
+        Plan::Rehearse => return run_script(rt),
     };
     let Ok((file, size)) = opened else {
         // Where not even that can be written, the status alone tells.
-        let _ = eprintln!(rt; "nbdj: cannot open {}", plan.path());
+        let _ = eprintln!(rt; "nbdj: cannot open {path}");
         return 1;
     };
     let disk = FileDisk::new(file, size);
@@ -42,4 +43,11 @@ fn run(rt: &HostRuntime, plan: &Plan<'_>) -> u8 {
     let mut errors = rt.stderr();
     let (status, _disk) = perform(rt.alloc(), plan, disk, &mut input, &mut output, &mut errors);
     status
+}
+
+fn run_script(rt: &HostRuntime) -> u8 {
+    let mut input = rt.reader();
+    let mut output = io::writer(rt);
+    let mut errors = rt.stderr();
+    script(rt.alloc(), &mut input, &mut output, &mut errors)
 }

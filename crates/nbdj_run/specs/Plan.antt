@@ -1,16 +1,18 @@
 use Rattle.std.specs.Prelude.{ℕ, ◌≡◌}
 use Rattle.nbdj_run.specs.declared.plan.Plan.{Plan}
-use Rattle.nbdj_run.specs.declared.plan.Plan.TheVariants.{Format, Pipe, Recover}
+use Rattle.nbdj_run.specs.declared.plan.Plan.TheVariants.{Format, Pipe, Recover, Rehearse}
 use Rattle.image_model.specs.Geometry.{device_bytes_of}
 
--- a device of this size can be formatted as the plan says
+-- a device of this size can be worked on as the plan says; the plan of a script has no device
 abbrev pub Suits : Plan → ℕ → Type 0
 Suits (Format path geometry) extent = extent ≡ device_bytes_of geometry.blocks geometry.area
 Suits (Pipe path options) extent = Unit {0}
 Suits (Recover path) extent = Unit {0}
+Suits Rehearse extent = ⊥
 
 -- the plan serves a connection
 abbrev pub IsPipe : Plan → Type 0
 IsPipe (Format path geometry) = ⊥
 IsPipe (Pipe path options) = Unit {0}
 IsPipe (Recover path) = ⊥
+IsPipe Rehearse = ⊥

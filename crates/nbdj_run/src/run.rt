@@ -17,7 +17,7 @@ use std::io::{Read, Write};
 /// Carries out the plan on a device, and answers the exit status and the device: 0 where it is done, else 1 and a line
 /// `nbdj: TEXT (NUMBER)` on `errors`.
 ///
-/// The device of a `Format` has the full size of its geometry.
+/// The device of a `Format` has the full size of its geometry; a `Rehearse` has none, and is what `script` does.
 pub fn perform<D: Disk + Drop, R: Read, W: Write, E: Write>(
     alloc: Global,
     plan: &Plan<'_>,
@@ -35,6 +35,7 @@ pub fn perform<D: Disk + Drop, R: Read, W: Write, E: Write>(
         Plan::Format { path: _, geometry } => format(alloc, disk, geometry, output),
         Plan::Pipe { path: _, options } => pipe(alloc, disk, options, input, output),
         Plan::Recover { path: _ } => recover(alloc, disk, output),
+        Plan::Rehearse => unreachable!(),
     };
     (status(outcome, errors), disk)
 }

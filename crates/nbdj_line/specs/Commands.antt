@@ -1,0 +1,52 @@
+-- The command line of nbdj: its subcommands, and what each takes.
+use Rattle.std.specs.Prelude.{true, Some, [], ◌∷◌, codes}
+use Rattle.clap.specs.Words.{App, Rule, Text, new_app, new_rule, with_rule, with_subcommand}
+use Rattle.clap.specs.Simple.{on_top}
+use Rattle.clap.specs.declared.builder.value_parser.ValueParser.{ValueParser}
+use Rattle.clap.specs.declared.builder.value_parser.ValueParser.TheVariants as parser
+
+-- the one word that is no option: the device's file
+abbrev pub path_rule : Rule
+path_rule = record (new_rule (codes "path")) { value_names = 1; required = true }
+
+-- an option `--NAME VALUE`, which takes any value
+abbrev pub option_rule : Text → Rule
+option_rule name = record (new_rule name) { long = Some name; value_names = 1 }
+
+-- options whose value is a number of these bounds
+abbrev pub blocks_rule : Rule
+blocks_rule = record (option_rule (codes "blocks")) { parser = Some (parser.Unsigned 1 16777216); required = true }
+
+abbrev pub area_rule : Rule
+area_rule = record (option_rule (codes "area")) { parser = Some (parser.Unsigned 2097152 1073741824); required = true }
+
+abbrev pub frames_rule : Rule
+frames_rule = record (option_rule (codes "frames")) { parser = Some (parser.Unsigned 512 65536); defaults = codes "4096" ∷ [] }
+
+-- the option `--cache MODE`, whose values this parser takes
+abbrev pub cache_rule : ValueParser → Rule
+cache_rule modes = record (option_rule (codes "cache")) { parser = Some modes; defaults = codes "writeback" ∷ [] }
+
+abbrev pub format_app : App
+format_app = with_rule (with_rule (with_rule (new_app (codes "format")) path_rule) blocks_rule) area_rule
+
+abbrev pub pipe_app : ValueParser → App
+pipe_app modes = with_rule (with_rule (with_rule (new_app (codes "pipe")) path_rule) frames_rule) (cache_rule modes)
+
+abbrev pub recover_app : App
+recover_app = with_rule (new_app (codes "recover")) path_rule
+
+abbrev pub rehearse_app : App
+rehearse_app = new_app (codes "rehearse")
+
+-- the program without its subcommands: it has a version, wants a subcommand, and prints its help where no word is given
+abbrev pub bare_app : App
+bare_app =
+    on_top (λ shape. record shape { has_version = true; subcommand_required = true; arg_required_else_help = true })
+    (new_app (codes "nbdj"))
+
+-- the whole command line; the modes are the values that `--cache` takes
+abbrev pub nbdj_app : ValueParser → App
+nbdj_app modes =
+    with_subcommand (with_subcommand (with_subcommand (with_subcommand bare_app format_app.top) (pipe_app modes).top)
+    recover_app.top) rehearse_app.top

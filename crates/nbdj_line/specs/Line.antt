@@ -1,0 +1,34 @@
+-- Which plan a command line asks for. The values that a subcommand was given are clap's: the words', and for an option
+-- that is left out its default.
+use Rattle.std.specs.Prelude.{ℕ, ◌≡◌, Option, Some, None, List, codes}
+use Rattle.std.specs.Str.Parse.{IsNumeral, digits_value, without_leading_plus}
+use Rattle.clap.specs.Words.{Row, Text, first_of, one_of}
+use Rattle.nbdj_run.specs.declared.plan.CacheMode.{CacheMode}
+use Rattle.nbdj_run.specs.declared.plan.CacheMode.TheVariants.{Writeback, Writethrough}
+use Rattle.nbdj_run.specs.declared.plan.Plan.{Plan}
+use Rattle.nbdj_run.specs.declared.plan.Plan.TheVariants.{Format, Pipe, Recover, Rehearse}
+
+-- the option was given this number, in decimal digits
+pub record IsGiven (rows : List Row) (name : Text) (number : ℕ) : Type 0 where
+  pub text : Text
+  pub value : one_of name rows ≡ Some text
+  pub numeral : IsNumeral 10 (without_leading_plus text)
+  pub is : number ≡ digits_value 10 (without_leading_plus text)
+
+abbrev pub HasPath : List Row → Text → Type 0
+HasPath rows path = first_of (codes "path") rows ≡ Some path
+
+abbrev pub mode_name : CacheMode → Text
+mode_name Writeback = codes "writeback"
+mode_name Writethrough = codes "writethrough"
+
+-- the subcommand with its values, as clap reads them from the words, asks for this plan
+abbrev pub IsAsked : Option (Text × List Row) → Plan → Type 0
+IsAsked None plan = ⊥
+IsAsked (Some (name, rows)) (Format path geometry) =
+    (name ≡ codes "format") × HasPath rows path.now × IsGiven rows (codes "blocks") geometry.blocks × IsGiven rows (codes "area") geometry.area
+IsAsked (Some (name, rows)) (Pipe path options) =
+    (name ≡ codes "pipe") × HasPath rows path.now × IsGiven rows (codes "frames") options.frames
+    × (first_of (codes "cache") rows ≡ Some (mode_name options.cache))
+IsAsked (Some (name, rows)) (Recover path) = (name ≡ codes "recover") × HasPath rows path.now
+IsAsked (Some (name, rows)) Rehearse = name ≡ codes "rehearse"

@@ -1,0 +1,362 @@
+ghost use Rattle.std.specs.Prelude.{◌≡◌, IfOk};
+ghost use Rattle.world.specs.Step.{HasItsRequest};
+
+use crate::life::{BlockRun, Life, Told, flush, write};
+use crate::refusal::Refusal;
+use crate::script_line::{Line, Setup, StepLine, parse};
+use checkpoint::{Keeper, KeeperFault};
+use disk_model::{CrashChoice, SimDisk};
+use image_model::Kind;
+use request_core::{Outcome, Step, StepFault};
+use std::alloc::{AllocError, Global};
+use std::fmt::Display;
+use std::io::{BufRead, BufReader, ErrorKind, Read, Write};
+
+// How a script ends before its last line.
+enum End {
+    // A line, counted from 1, is no step.
+    NotAStep(u64),
+    // An opening was refused, and that is printed.
+    Printed,
+    // The script can't go on.
+    Refused(Refusal),
+}
+
+impl From<Refusal> for End {
+    fn from(refusal: Refusal) -> End {
+        End::Refused(refusal)
+    }
+}
+
+impl From<AllocError> for End {
+    fn from(error: AllocError) -> End {
+        End::Refused(Refusal::from(error))
+    }
+}
+
+/// Runs a script from `input` on a simulated device, by `docs/SCRIPTS.md`, and answers the exit status: 0 where it is
+/// done, 2 where a line is no step, 1 where an opening or something else is refused.
+///
+/// The lines come one by one, and what a line prints is written before the next is read.
+pub fn script<R: Read, W: Write, E: Write>(
+    alloc: Global,
+    input: &mut R,
+    output: &mut W,
+    errors: &mut E,
+) -> u8 {
+    match run(alloc, input, output) {
+        Ok(()) => 0,
+        // Where not even that can be written, the status alone tells.
+        Err(End::NotAStep(line)) => {
+            let _ = writeln!(errors, "nbdj: line {line}: not a step");
+            2
+        }
+        Err(End::Printed) => 1,
+        Err(End::Refused(refusal)) => {
+            let _ = writeln!(errors, "nbdj: {refusal} ({})", refusal.number());
+            1
+        }
+    }
+}
+
+fn run<R: Read, W: Write>(alloc: Global, input: &mut R, output: &mut W) -> Result<(), End> {
+    let mut lines = Lines {
+        reader: BufReader::new(alloc, input).map_err(stream_refusal)?,
+        text: Vec::new(alloc),
+        count: 0,
+    };
+    let Some(Line::Format(setup)) = lines.next(alloc)? else {
+        return Err(End::NotAStep(1));
+    };
+    let mut rehearsal = Rehearsal::format(alloc, setup, output)?;
+    for _ in 0..u64::MAX {
+        rehearsal = match lines.next(alloc) {
+            Ok(Some(line)) => rehearsal.carry_out(alloc, line, lines.count, output)?,
+            Ok(None) => {
+                rehearsal.end();
+                return Ok(());
+            }
+            Err(end) => {
+                rehearsal.end();
+                return Err(end);
+            }
+        };
+    }
+    rehearsal.end();
+    Err(End::Refused(Refusal::StreamFault))
+}
+
+// The lines of a script.
+#[derive(Drop)]
+struct Lines<R: Read + Drop> {
+    reader: BufReader<R>,
+    text: Vec<u8>,
+    // How many were read.
+    count: u64,
+}
+
+impl<R: Read + Drop> Lines<R> {
+    // The next line; none at the end of the input. The last may lack its line feed.
+    fn next(&mut self, alloc: Global) -> Result<Option<Line>, End> {
+        self.text.clear();
+        let read = self.reader.read_until(b'\n', &mut self.text);
+        if read.map_err(stream_refusal)? == 0 {
+            return Ok(None);
+        }
+        self.count = self.count.saturating_add(1);
+        let text = self.text.strip_suffix(b"\n").unwrap_or(&self.text);
+        match parse(alloc, text)? {
+            Some(line) => Ok(Some(line)),
+            None => Err(End::NotAStep(self.count)),
+        }
+    }
+}
+
+// Why a stream can't be read.
+fn stream_refusal(error: std::io::Error) -> Refusal {
+    match error.kind() {
+        ErrorKind::OutOfMemory => Refusal::NoMemory,
+        _ => Refusal::StreamFault,
+    }
+}
+
+// A script on its way.
+struct Rehearsal {
+    setup: Setup,
+    life: Life,
+    // What unsynced bytes become at an armed crash.
+    armed: CrashChoice,
+    // The cookie of the last request.
+    cookie: u64,
+}
+
+impl Rehearsal {
+    // A new device, formatted and opened.
+    fn format<W: Write>(alloc: Global, setup: Setup, output: &mut W) -> Result<Rehearsal, End> {
+        match begin(alloc, setup) {
+            Ok(life) => Rehearsal {
+                setup,
+                life,
+                armed: CrashChoice::Old,
+                cookie: 0,
+            }
+            .print(output, "done"),
+            Err(fault) => Err(failed(fault, output)),
+        }
+    }
+
+    // Carries out the line with this number, and prints what it comes to.
+    fn carry_out<W: Write>(
+        mut self,
+        alloc: Global,
+        line: Line,
+        number: u64,
+        output: &mut W,
+    ) -> Result<Rehearsal, End> {
+        match line {
+            Line::Format(_) => {
+                self.end();
+                Err(End::NotAStep(number))
+            }
+            Line::Step(step) => self.step(alloc, step, output),
+            Line::Fault(kind, k) => {
+                self.life.fail(kind, k);
+                self.print(output, "armed")
+            }
+            Line::Crash(choice) => self.crash(alloc, choice, output),
+            Line::CrashAt(k, choice) => {
+                self.life.stop_at(k);
+                self.armed = choice;
+                self.print(output, "armed")
+            }
+        }
+    }
+
+    fn step<W: Write>(
+        mut self,
+        alloc: Global,
+        line: StepLine,
+        output: &mut W,
+    ) -> Result<Rehearsal, End> {
+        self.cookie = self.cookie.wrapping_add(1);
+        let told = match step_of(alloc, line, self.cookie) {
+            Ok(step) => self.life.step(step),
+            Err(_) => Told::Failed(StepFault::NoMemory),
+        };
+        if self.life.stopped() {
+            let armed = self.armed;
+            return self.print(output, "stopped")?.crash(alloc, armed, output);
+        }
+        match (told, line) {
+            (Told::Done, _) => self.print(output, "done"),
+            (Told::Failed(fault), _) => {
+                self.print(output, format_args!("failed {}", number_of(fault)))
+            }
+            (Told::Answered(Outcome::Done), StepLine::Answer(connection)) => {
+                self.print(output, format_args!("answer {} ok", name_of(connection)))
+            }
+            (Told::Answered(Outcome::Refused(errno)), StepLine::Answer(connection)) => self.print(
+                output,
+                format_args!("answer {} error {}", name_of(connection), errno.number()),
+            ),
+            (Told::Held | Told::Answered(_), _) => self.print(output, "held"),
+        }
+    }
+
+    // The device crashes and is opened again.
+    fn crash<W: Write>(
+        self,
+        alloc: Global,
+        choice: CrashChoice,
+        output: &mut W,
+    ) -> Result<Rehearsal, End> {
+        let Rehearsal {
+            setup,
+            life,
+            armed,
+            cookie,
+        } = self;
+        let mut disk = life.end();
+        disk.crash(choice);
+        let life = open_again(alloc, disk, setup, armed, output)?;
+        Ok(Rehearsal {
+            setup,
+            life,
+            armed,
+            cookie,
+        })
+    }
+
+    // Lets it go.
+    fn end(self) {
+        let Rehearsal {
+            setup: _,
+            life,
+            armed: _,
+            cookie: _,
+        } = self;
+        let _disk = life.end();
+    }
+
+    fn print<W: Write, T: Display + Drop>(self, output: &mut W, line: T) -> Result<Rehearsal, End> {
+        match print(output, line) {
+            Ok(()) => Ok(self),
+            Err(refusal) => {
+                self.end();
+                Err(End::Refused(refusal))
+            }
+        }
+    }
+}
+
+// The first life of a new device.
+fn begin(alloc: Global, setup: Setup) -> Result<Life, KeeperFault> {
+    let mut disk = SimDisk::new(alloc, setup.geometry.device_bytes())?;
+    Keeper::format(alloc, &mut disk, setup.geometry)?;
+    Life::begin(alloc, disk, setup).map_err(|(fault, _disk)| fault)
+}
+
+// Prints that an opening or a format is refused.
+fn failed<W: Write>(fault: KeeperFault, output: &mut W) -> End {
+    let number = Refusal::from(fault).number();
+    match print(output, format_args!("failed {number}")) {
+        Ok(()) => End::Printed,
+        Err(refusal) => End::Refused(refusal),
+    }
+}
+
+// Opens a device after a crash. Where an armed crash falls into the opening, it crashes and is opened once more.
+fn open_again<W: Write>(
+    alloc: Global,
+    disk: SimDisk,
+    setup: Setup,
+    armed: CrashChoice,
+    output: &mut W,
+) -> Result<Life, End> {
+    match open(alloc, disk, setup) {
+        Err((_fault, mut disk)) if disk.stopped() => {
+            print(output, "stopped")?;
+            disk.crash(armed);
+            tell(open(alloc, disk, setup), output)
+        }
+        opened => tell(opened, output),
+    }
+}
+
+// An opened device, and the runs of its blocks.
+type Opening = Result<(Life, Vec<BlockRun>), (KeeperFault, SimDisk)>;
+
+// Opens a device and reads its blocks.
+fn open(alloc: Global, disk: SimDisk, setup: Setup) -> Opening {
+    let mut life = Life::begin(alloc, disk, setup)?;
+    match life.runs(alloc) {
+        Ok(runs) => Ok((life, runs)),
+        Err(fault) => Err((fault, life.end())),
+    }
+}
+
+// Prints what an opening found.
+fn tell<W: Write>(opened: Opening, output: &mut W) -> Result<Life, End> {
+    match opened {
+        Ok((life, runs)) => match print_opened(life.count(), &runs, output) {
+            Ok(()) => Ok(life),
+            Err(refusal) => {
+                let _disk = life.end();
+                Err(End::Refused(refusal))
+            }
+        },
+        Err((fault, _disk)) => Err(failed(fault, output)),
+    }
+}
+
+fn print_opened<W: Write>(count: u64, runs: &[BlockRun], output: &mut W) -> Result<(), Refusal> {
+    print(output, format_args!("opened {count}"))?;
+    for run in runs {
+        let state = match run.kind {
+            Kind::Data => 'd',
+            Kind::Zero => 'z',
+            Kind::Hole => 'h',
+        };
+        print(
+            output,
+            format_args!("run {} {} {state} {:02x}", run.first, run.blocks, run.byte),
+        )?;
+    }
+    Ok(())
+}
+
+// The step of a line.
+fn step_of(alloc: Global, line: StepLine, cookie: u64) -> Result<Step, AllocError>
+    ensures { IfOk result HasItsRequest }
+{
+    Ok(match line {
+        StepLine::Put(connection, put) => Step::Send(connection, write(alloc, cookie, put)?),
+        StepLine::Flush(connection) => Step::Send(connection, flush(alloc, cookie)),
+        StepLine::Serve(connection) => Step::Serve(connection),
+        StepLine::Answer(connection) => Step::Answer(connection),
+        StepLine::Seal => Step::Seal,
+        StepLine::Append => Step::Append,
+        StepLine::Publish => Step::Publish,
+    })
+}
+
+// How a script names a connection: from 1 on.
+fn name_of(connection: usize) -> usize {
+    connection.saturating_add(1)
+}
+
+// The number of a refusal of a step.
+fn number_of(fault: StepFault) -> u8 {
+    match fault {
+        StepFault::NoMemory => 0,
+        StepFault::DeviceFault => 1,
+        StepFault::FailedBefore => 16,
+    }
+}
+
+// Prints one line, at once.
+fn print<W: Write, T: Display + Drop>(output: &mut W, line: T) -> Result<(), Refusal> {
+    writeln!(output, "{line}")
+        .and_then(|()| output.flush())
+        .map_err(|_| Refusal::StreamFault)
+}

@@ -1,0 +1,195 @@
+#!/bin/sh
+# Runs the built program NBDJ again and again, and refuses it another call for memory each time, up to the first run that meets
+# none: over the table of scripts, and over format, pipe and recover on a file. Prints a line for each run that does anything but what a
+# refusal may do, and last 'N passed, M failed'.
+set -u
+here=$(cd "$(dirname "$0")/.." && pwd)
+. "$here/tools/bytes.sh"
+folder=$(mktemp -d)
+trap 'rm -rf "$folder"' EXIT
+cd "$folder" || exit 1
+${CC:-cc} -shared -fPIC -O2 -o refuse.so "$here/tools/refuse_memory.c" -ldl || exit 1
+passed=0
+failed=0
+
+# refusing N WORD..: runs the program on `input` with its N-th call for memory refused; false where it met none
+refusing() {
+    n=$1
+    shift
+    rm -f met
+    REFUSE_AT=$n REFUSE_MET=met LD_PRELOAD=./refuse.so timeout 20 "$NBDJ" "$@" <input >output 2>errors
+    status=$?
+    [ -e met ]
+}
+
+# tell NAME IS: counts a run; IS is empty where it did what it may
+tell() {
+    if [ -z "$2" ]; then
+        passed=$((passed + 1))
+    else
+        failed=$((failed + 1))
+        printf 'FAILED %s: %s\n' "$1" "$2"
+        paste -d '|' wanted output | head -n 40
+        cat errors
+    fi
+}
+
+# line K FILE
+line() { sed -n "$1p" "$2"; }
+
+# runs SCRIPT: what the program prints for a script when memory is there
+runs() { "$NBDJ" rehearse <"$1" 2>/dev/null; }
+
+# without K: `input` without the step of its K-th line, whose place is marked in what is printed
+without() {
+    sed "$1d" input >other
+    runs other | sed "$(($1 - 1))a\\
+failed 0" >candidate
+}
+
+# faulty KIND M K: `input` with the M-th call of this kind from its K-th line on failing
+faulty() {
+    sed "$3i\\
+fault $1 $2" input >other
+    runs other | awk -v k="$3" 'NR != k' >candidate
+}
+
+# unsent K: `input`, where the write whose connection is answered in line K isn't one that the image takes; its answer is ENOMEM
+unsent() {
+    connection=$(line "$1" input | cut -d ' ' -f 2)
+    sent=$(awk -v k="$1" -v c="$connection" 'NR < k && $1 == "send" && $2 == c { at = NR } END { print at }' input)
+    sed "${sent}s/.*/send $connection put 0 0 41/" input >other
+    runs other | sed "$1s/error 22/error 12/" >candidate
+}
+
+# fits: whether the output is the candidate
+fits() { cmp -s candidate output; }
+
+# Why a run of a script that met a refusal isn't one that may be; nothing where it is.
+judge() {
+    [ "$status" -lt 124 ] || { echo "ended with $status"; return; }
+    if cmp -s wanted output && [ "$status" -eq 0 ]; then
+        return
+    fi
+    first=$(cmp wanted output 2>/dev/null | awk '{ print $NF }')
+    count=$(wc -l <output)
+    [ -n "$first" ] || first=$((count + 1))
+    got=$(line "$first" output)
+    printed=$(grep -c . output)
+    # The end: the program tells that there is no memory, or that an opening was refused for it.
+    if [ "$status" -eq 1 ] && [ "$printed" -lt "$first" ] && [ "$(cat errors)" = 'nbdj: no memory (0)' ]; then
+        return
+    fi
+    if [ "$status" -eq 1 ] && [ "$printed" -eq "$first" ] && [ "$got" = 'failed 0' ] && [ ! -s errors ]; then
+        return
+    fi
+    step=$(step_of "$first")
+    case $got in
+    'failed 0')
+        without "$step"
+        fits && return
+        ;;
+    answer*'error 12')
+        unsent "$step"
+        fits && return
+        ;;
+    esac
+    # A record of the simulated device that can't grow is a fault of that call.
+    for kind in write sync; do
+        for m in 1 2; do
+            faulty "$kind" "$m" "$step"
+            fits && return
+        done
+    done
+    echo "line $first is '$got', status $status"
+}
+
+# The line of the script that printed this line of the wanted output: a crash prints several.
+step_of() {
+    awk -v k="$1" 'NR <= k && !/^(opened|run|stopped)/ { n++ } END { print n }' wanted
+}
+
+sed -n 's/^        "\(format .*\)",$/\1/p' "$here/crates/nbdj_tests/src/scripts.rt" >table
+while read -r script; do
+    printf '%b' "$script" >input
+    runs input >wanted
+    n=1
+    while refusing "$n" rehearse; do
+        tell "script '$(head -c 60 input | tr '\n' '/')', call $n" "$(judge)"
+        n=$((n + 1))
+    done
+    tell "script without a refusal" "$(cmp wanted output 2>&1)"
+done <table
+
+# On a file: an end for want of memory leaves an image that opens with a beginning of what was sent, or, while it is formatted, none.
+: >input
+"$NBDJ" format d.img --blocks 16 --area 2097152 >wanted
+n=1
+while refusing "$n" format d.img --blocks 16 --area 2097152; do
+    is="status $status, $(cat errors)"
+    if [ "$status" -eq 0 ] && cmp -s wanted output; then is=; fi
+    if [ "$status" -eq 1 ] && [ ! -s output ] && grep -q 'no memory\|cannot open' errors; then is=; fi
+    tell "format, call $n" "$is"
+    n=$((n + 1))
+done
+
+{
+    request 0000 1 1 0 4096; filled 4096 A
+    request 0000 3 2 0 0
+    request 0001 1 3 4096 4096; filled 4096 B
+    request 0000 1 4 8192 4096; filled 4096 C
+    request 0000 2 5 0 0
+} >input
+replies=5
+n=1
+"$NBDJ" format d.img --blocks 16 --area 2097152 >/dev/null
+"$NBDJ" pipe d.img <input >wanted
+while "$NBDJ" format d.img --blocks 16 --area 2097152 >/dev/null; refusing "$n" pipe d.img; do
+    is=
+    case $status in
+    0) ;;
+    1) [ "$(cat errors)" = 'nbdj: no memory (0)' ] || grep -q 'cannot open' errors || is="errors $(cat errors)" ;;
+    *) is="status $status" ;;
+    esac
+    # Each reply is that of the whole run, or says ENOMEM.
+    bytes=$(wc -c <output)
+    [ "$((bytes % 16))" -eq 0 ] || is="$bytes bytes of replies"
+    at=0
+    stored=0
+    while [ "$at" -lt "$bytes" ]; do
+        reply=$(part output "$at" 16)
+        good=$(part wanted "$at" 16)
+        if [ "$reply" = "$good" ]; then
+            # What the FLUSH and the FUA write say is stored: one write, and two.
+            case $at in 16) stored=1 ;; 32) stored=2 ;; esac
+        elif [ "$reply" != "$(echo "$good" | sed 's/^\(67446698\)00000000/\10000000c/')" ]; then
+            is="a reply $reply"
+        fi
+        at=$((at + 16))
+    done
+    found=$("$NBDJ" recover d.img 2>&1)
+    case $found in
+    'commands '[0-3]) [ "${found#commands }" -ge "$stored" ] || [ "$status" -eq 0 ] || is="found $found, stored $stored" ;;
+    *) is="found $found" ;;
+    esac
+    cp output told
+    tell "pipe, call $n" "$is"
+    n=$((n + 1))
+done
+
+: >input
+"$NBDJ" recover d.img >wanted
+n=1
+while refusing "$n" recover d.img; do
+    is="status $status, $(cat errors)"
+    if [ "$status" -eq 0 ] && cmp -s wanted output; then is=; fi
+    if [ "$status" -eq 1 ] && [ ! -s output ] && grep -q 'no memory\|cannot open' errors; then is=; fi
+    tell "recover, call $n" "$is"
+    n=$((n + 1))
+done
+is=
+[ "$("$NBDJ" recover d.img)" = "$(cat wanted)" ] || is='the image changed'
+tell 'recover leaves the image' "$is"
+
+echo "$passed passed, $failed failed"
+[ "$failed" -eq 0 ]
