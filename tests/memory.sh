@@ -37,33 +37,48 @@ tell() {
 # line K FILE
 line() { sed -n "$1p" "$2"; }
 
-# runs SCRIPT: what the program prints for a script when memory is there
-runs() { "$NBDJ" rehearse <"$1" 2>/dev/null; }
+# runs SCRIPT: what the program prints for a script when memory is there; the file `ended` has its status
+runs() {
+    "$NBDJ" rehearse <"$1" 2>/dev/null
+    echo $? >ended
+}
 
-# without K: `input` without the step of its K-th line, whose place is marked in what is printed
+# In what follows STEP is a line of the script, and AT the first that it prints.
+
+# without STEP AT: `input` without that step, whose place is marked in what is printed
 without() {
     sed "$1d" input >other
-    runs other | sed "$(($1 - 1))a\\
-failed 0" >candidate
+    runs other | awk -v at="$2" 'NR == at { print "failed 0" } { print } END { if (NR < at) print "failed 0" }' >candidate
 }
 
-# faulty KIND M K: `input` with the M-th call of this kind from its K-th line on failing
+# faulty STEP AT KIND M: `input` with the M-th call of this kind from that step on failing
 faulty() {
-    sed "$3i\\
-fault $1 $2" input >other
-    runs other | awk -v k="$3" 'NR != k' >candidate
+    sed "$1i\\
+fault $3 $4" input >other
+    runs other | awk -v at="$2" 'NR != at' >candidate
 }
 
-# unsent K: `input`, where the write whose connection is answered in line K isn't one that the image takes; its answer is ENOMEM
+# unsent STEP AT: `input`, where the write that this step answers isn't one that the image takes; the answer is ENOMEM
 unsent() {
     connection=$(line "$1" input | cut -d ' ' -f 2)
     sent=$(awk -v k="$1" -v c="$connection" 'NR < k && $1 == "send" && $2 == c { at = NR } END { print at }' input)
     sed "${sent}s/.*/send $connection put 0 0 41/" input >other
-    runs other | sed "$1s/error 22/error 12/" >candidate
+    runs other | sed "$2s/error 22/error 12/" >candidate
 }
 
-# fits: whether the output is the candidate
-fits() { cmp -s candidate output; }
+# unmarked: `input` with armed crashes that leave what the last good sync left
+unmarked() {
+    sed 's/^\(crash at [0-9]*\) .*/\1 old/' input >other
+    runs other >candidate
+}
+
+# fits: whether output and status are the candidate's
+fits() { cmp -s candidate output && [ "$status" -eq "$(cat ended)" ]; }
+
+# Which line of the script printed this line of the wanted output: a crash prints several.
+step_of() {
+    awk -v k="$1" 'NR <= k && !/^run/ && !(/^opened/ && last == "stopped") { n++ } { last = $0 } END { print n }' wanted
+}
 
 # Why a run of a script that met a refusal isn't one that may be; nothing where it is.
 judge() {
@@ -71,42 +86,36 @@ judge() {
     if cmp -s wanted output && [ "$status" -eq 0 ]; then
         return
     fi
-    first=$(cmp wanted output 2>/dev/null | awk '{ print $NF }')
-    count=$(wc -l <output)
-    [ -n "$first" ] || first=$((count + 1))
-    got=$(line "$first" output)
-    printed=$(grep -c . output)
-    # The end: the program tells that there is no memory, or that an opening was refused for it.
-    if [ "$status" -eq 1 ] && [ "$printed" -lt "$first" ] && [ "$(cat errors)" = 'nbdj: no memory (0)' ]; then
+    printed=$(wc -l <output)
+    at=$(awk 'NR == FNR { wanted[NR] = $0; next } !at && $0 != wanted[FNR] { at = FNR } END { print at ? at : FNR + 1 }' wanted output)
+    [ -s output ] || at=1
+    got=$(line "$at" output)
+    due=$(line "$at" wanted)
+    # The program tells that there is no memory.
+    if [ "$status" -eq 1 ] && [ "$printed" -lt "$at" ] && [ "$(cat errors)" = 'nbdj: no memory (0)' ]; then
         return
     fi
-    if [ "$status" -eq 1 ] && [ "$printed" -eq "$first" ] && [ "$got" = 'failed 0' ] && [ ! -s errors ]; then
-        return
+    # A format or an opening is refused, for want of memory, or since the device's record of its call can't grow.
+    if [ "$status" -eq 1 ] && [ "$printed" -eq "$at" ] && [ ! -s errors ]; then
+        case $at/$due/$got in 1/*/'failed '[01] | */opened*/'failed '[01]) return ;; esac
     fi
-    step=$(step_of "$first")
+    step=$(step_of "$at")
     case $got in
-    'failed 0')
-        without "$step"
-        fits && return
-        ;;
-    answer*'error 12')
-        unsent "$step"
-        fits && return
-        ;;
+    'failed 0') without "$step" "$at" ;;
+    answer*'error 12') unsent "$step" "$at" ;;
+    # A write that was stopped and isn't in the device's record leaves what was there.
+    opened*) unmarked ;;
+    *) : >candidate ;;
     esac
-    # A record of the simulated device that can't grow is a fault of that call.
+    fits && return
+    # A call that isn't in the device's record has failed.
     for kind in write sync; do
         for m in 1 2; do
-            faulty "$kind" "$m" "$step"
+            faulty "$step" "$at" "$kind" "$m"
             fits && return
         done
     done
-    echo "line $first is '$got', status $status"
-}
-
-# The line of the script that printed this line of the wanted output: a crash prints several.
-step_of() {
-    awk -v k="$1" 'NR <= k && !/^(opened|run|stopped)/ { n++ } END { print n }' wanted
+    echo "line $at is '$got', status $status"
 }
 
 sed -n 's/^        "\(format .*\)",$/\1/p' "$here/crates/nbdj_tests/src/scripts.rt" >table

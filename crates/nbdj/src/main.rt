@@ -6,23 +6,37 @@ ghost use Rattle.nbdj_run.specs.Plan.{Suits};
 mod files;
 
 use crate::files::{make, open};
+use clap::error::ErrorKind;
 use disk_model::FileDisk;
 use nbdj_line::line;
 use nbdj_run::{Plan, perform, script};
 use std::process::ExitCode;
 use std::{env, io};
 
-fn main(rt: HostRuntime) -> anyhow::Result<ExitCode> {
+fn main(rt: HostRuntime) -> ExitCode {
+    let status = start(&rt).unwrap_or_else(|_| no_memory(&rt));
+    ExitCode::from(status)
+}
+
+// Reads the command line and carries out its plan; the exit status.
+fn start(rt: &HostRuntime) -> anyhow::Result<u8> {
     let alloc = rt.alloc();
-    let arguments: Vec<String> = env::args(&rt)?.collect(alloc)?;
+    let arguments: Vec<String> = env::args(rt)?.collect(alloc)?;
     let words: Vec<&str> = arguments.iter().map(|word| word.as_str()).collect(alloc)?;
     match line(alloc, &words) {
-        Ok(plan) => Ok(ExitCode::from(run(&rt, &plan))),
+        Ok(plan) => Ok(run(rt, &plan)),
+        Err(fault) if fault.kind() == ErrorKind::OutOfMemory => Ok(no_memory(rt)),
         Err(fault) => {
-            fault.print(&rt)?;
-            Ok(ExitCode::from(if fault.use_stderr() { 2 } else { 0 }))
+            // Where not even that can be written, the status alone tells.
+            let _ = fault.print(rt);
+            Ok(if fault.use_stderr() { 2 } else { 0 })
         }
     }
+}
+
+fn no_memory(rt: &HostRuntime) -> u8 {
+    let _ = eprintln!(rt; "nbdj: no memory (0)");
+    1
 }
 
 // Carries out the plan, and gives the exit status.
