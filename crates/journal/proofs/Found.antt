@@ -1,5 +1,5 @@
 -- What the scan of an area finds: changes, groups and lists, or that there are none.
-use Rattle.std.proofs.Common.{◌≡◌, inl, inr, ⊎_elim, ◌⊎◌, ℕ, zero, suc, ◌+◌, ◌-◌, ◌*◌, ◌/◌, ◌%◌, ◌^◌, ◌≤◌, ◌<◌, List, [], ◌∷◌, ◌++◌, length, slice_index, get_or, take, drop, sym, ◌∙◌, ap, subst, refl, arith, append_assoc, length-append, length-drop}
+use Rattle.std.proofs.Common.{◌≡◌, inl, inr, ⊎_elim, ◌⊎◌, ℕ, zero, suc, ◌+◌, ◌*◌, ◌/◌, ◌^◌, ◌≤◌, ◌<◌, List, [], ◌∷◌, ◌++◌, length, get_or, take, drop, sym, ◌∙◌, ap, subst, refl, arith, append_assoc, length-append, length-drop}
 use Rattle.std.specs.List.{flat_map}
 use Rattle.std.proofs.lemmas.List.{get_or-take, get_or-drop, length-take, append-nil}
 use Rattle.std.proofs.lemmas.List.Concat.{flat_map-append}
@@ -11,11 +11,11 @@ use Rattle.journal.specs.declared.touch.Touch.TheVariants.{Put, Clear}
 use Rattle.journal.specs.declared.touch.Touch.{Touch}
 use Rattle.journal.specs.declared.touch.TouchedRange.{TouchedRange}
 use Rattle.journal.specs.Touches.{HasBytesWithin, EndsWithin, touched_by, touched_by_changes}
-use Rattle.journal.specs.Spelling.{StoredGroup, clear_byte, change_head, change_bytes, body_of_group, group_head, group_bytes}
-use Rattle.journal.specs.GroupList.{StandsAt, IsNextGroup}
+use Rattle.journal.specs.Spelling.{clear_byte, change_head, change_bytes}
+use Rattle.journal.specs.GroupList.{StandsAt}
 use Rattle.journal.specs.Scanning.{IsHead, touch_of_head, FoundChange, HasNoChange, StandBetween, FoundChanges, HasNoChanges, AreWithin}
 use Rattle.journal.proofs.Heads.{stands_append}
-use Rattle.journal.proofs.OneList.{front, back, same_bytes, same_heads, SameHeads}
+use Rattle.journal.proofs.OneList.{front, back, same_bytes, same_heads}
 use Rattle.journal.proofs.Spelled.{length-change_head}
 
 -- a change with its head

@@ -12,7 +12,7 @@ use Rattle.journal.specs.Spelling.{StoredGroup, clear_byte, change_head, change_
 use Rattle.journal.specs.GroupList.{StandsAt, IsOpen, size_of, sizes_of, number_behind, next_behind, IsNextGroup, Lead, Stand, IsList, IsDamaged, HoldsList}
 use Rattle.journal.specs.Area.{AreaState}
 use Rattle.disk_model.specs.Disk.{State, IsSyncedIn}
-use Rattle.journal.specs.Scanning.{FoundChanges, FoundDamage, FoundGroup, FoundList, HasNoChanges, HasNoGroup, IsNextHead, StandBetween}
+use Rattle.journal.specs.Scanning.{FoundChanges, FoundDamage, FoundGroup, FoundList, HasNoChanges, HasNoGroup, IsNextHead}
 use Rattle.journal.proofs.Heads.{stands_append}
 use Rattle.journal.proofs.OneList.{front, back, same_bytes, body_read}
 use Rattle.journal.proofs.Spelled.{length-change_head, length-group_head, sizes-push, next-push}

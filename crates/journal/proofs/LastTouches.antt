@@ -1,18 +1,18 @@
 -- What a list's commands make of an image, by the last touch of each block.
-use Rattle.std.proofs.Common.{◌≡◌, ⊎_elim, ℕ, ◌+◌, ◌-◌, ◌*◌, ◌/◌, ◌≤◌, ◌<◌, Bool, true, false, if◌then◌else◌, nat_le, nat_lt, ◌&&◌, Option, Some, None, List, [], ◌∷◌, ◌++◌, length, slice_index, sym, ◌∙◌, ap, subst, refl, arith, length-append}
+use Rattle.std.proofs.Common.{◌≡◌, ⊎_elim, ℕ, ◌+◌, ◌-◌, ◌*◌, ◌/◌, ◌≤◌, ◌<◌, Bool, true, false, if◌then◌else◌, nat_le, nat_lt, ◌&&◌, Option, Some, None, List, [], ◌∷◌, ◌++◌, length, slice_index, sym, ◌∙◌, ap, subst, refl, arith}
 use Rattle.std.specs.List.{flat_map}
 use Rattle.std.proofs.lemmas.Bool.{cases_lt}
 use Rattle.std.proofs.lemmas.Bool.Decides.{nat_tests}
 use Rattle.image_model.specs.declared.command.Kind.{Kind}
 use Rattle.image_model.specs.declared.command.Kind.TheVariants.{Data}
 use Rattle.image_model.specs.Change.{Change, Written, Cleared, IsChange, AreChanges}
-use Rattle.image_model.specs.Image.{Image, apply, apply_all, covers, first_of, blocks_of, kind_given, byte_after}
+use Rattle.image_model.specs.Image.{Image, apply, apply_all, covers}
 use Rattle.journal.specs.declared.touch.Touch.{Touch}
 use Rattle.journal.specs.declared.touch.Touch.TheVariants.{Put, Clear}
 use Rattle.journal.specs.declared.touch.TouchedRange.{TouchedRange}
 use Rattle.journal.specs.Spelling.{StoredGroup, change_head, change_bytes, body_of_group, group_head, group_bytes}
 use Rattle.journal.specs.GroupList.{StandsAt, size_of, number_behind, changes_of, Stand}
-use Rattle.journal.specs.Touches.{byte_after_touch, kind_after, last_touch, later, touch_in, touch_within, touched_by, touched_by_changes, touched_by_groups}
+use Rattle.journal.specs.Touches.{byte_after_touch, kind_after, last_touch, later, touch_in, touched_by, touched_by_changes, touched_by_groups}
 use Rattle.journal.proofs.OneList.{front, back}
 use Rattle.journal.proofs.Spelled.{length-change_head, length-group_head}
 
@@ -35,7 +35,7 @@ later_none : (touch : Option Touch) → later None touch ≡ touch
 later_none None = refl
 later_none (Some touch) = refl
 
-last_touch-append : (block : ℕ) (xs ys : List TouchedRange) → last_touch block (xs ++ ys) ≡ later (last_touch block xs) (last_touch block ys)
+pub last_touch-append : (block : ℕ) (xs ys : List TouchedRange) → last_touch block (xs ++ ys) ≡ later (last_touch block xs) (last_touch block ys)
 last_touch-append block [] ys = sym (later_none (last_touch block ys))
 last_touch-append block (x ∷ xs) ys =
     ap (λ (t : Option Touch). later (touch_in block x) t) (last_touch-append block xs ys) ∙ later_later (touch_in block x) (last_touch block xs) (last_touch block ys)

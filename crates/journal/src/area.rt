@@ -8,12 +8,12 @@ ghost use Rattle.journal.specs.GroupList.{HoldsList, IsDamaged, IsHeld, IsList, 
 ghost use Rattle.journal.specs.Reading.{IsOnlyRead};
 ghost use Rattle.journal.specs.Scanning.{IsScanFault};
 ghost use Rattle.journal.specs.Spelling.{StoredGroup, stored_of};
-ghost use Rattle.journal.specs.Touches.{HasBytesWithin, last_touch};
+ghost use Rattle.journal.specs.Touches.{HasBytesWithin, IsNextTouched, last_touch};
 
 use crate::fault::JournalFault;
 use crate::group::Group;
 use crate::scan::Place;
-use crate::touch::{Touch, TouchedRange};
+use crate::touch::{Touch, TouchedRange, next_touched};
 use disk_model::{DeviceFault, Disk, write_synced};
 use std::alloc::Global;
 use std::marker::Model;
@@ -258,6 +258,13 @@ impl Area {
             }
         }
         None
+    }
+
+    /// The first block from `from` on that a command of the area's list touches; none where there is none.
+    pub fn next_touched(&self, from: u64) -> Option<u64>
+        ensures { IsNextTouched from self.now.touched result }
+    {
+        next_touched(&self.touched, from)
     }
 
     // What the command at this index made of the block, where no later one touches it.

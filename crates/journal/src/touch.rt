@@ -1,5 +1,5 @@
 ghost use Rattle.std.specs.Prelude.{◌≡◌, ℕ, IfSome, ◌+◌, ◌*◌, ◌<◌, ◌^◌, [], ◌∷◌, ◌++◌, OnOk, OnErr};
-ghost use Rattle.journal.specs.Touches.{EndsWithin, HasBytesWithin, touch_in};
+ghost use Rattle.journal.specs.Touches.{EndsWithin, HasBytesWithin, IsNextTouched, earlier, touch_in};
 
 use image_model::{BLOCK_BYTES, Kind};
 use std::alloc::AllocError;
@@ -36,6 +36,42 @@ impl TouchedRange {
             Touch::Clear(kind) => Some(Touch::Clear(kind)),
         }
     }
+}
+
+impl TouchedRange {
+    // The first of its blocks from `from` on.
+    pub fn first_from(self, from: u64) -> Option<u64>
+        ensures { IsNextTouched from (self ∷ []) result }
+    {
+        let first = self.first.max(from);
+        if first - self.first < self.blocks as u64 {
+            Some(first)
+        } else {
+            None
+        }
+    }
+}
+
+// The smaller of two blocks, where there are any.
+fn earlier(a: Option<u64>, b: Option<u64>) -> Option<u64>
+    ensures { result ≡ earlier a b }
+{
+    match (a, b) {
+        (Some(a), Some(b)) => Some(a.min(b)),
+        (Some(a), None) => Some(a),
+        (None, b) => b,
+    }
+}
+
+// The first block from `from` on that is in a range.
+pub fn next_touched(touched: &[TouchedRange], from: u64) -> Option<u64>
+    ensures { IsNextTouched from touched.now result }
+{
+    let mut next = None;
+    for range in touched {
+        next = earlier(next, range.first_from(from));
+    }
+    next
 }
 
 // One more range at the end.

@@ -1,5 +1,4 @@
 use Rattle.std.proofs.Common.{ap, arith}
-use Rattle.image_model.specs.declared.command.Command.{Command}
 use Rattle.image_model.specs.Command.{body_of}
 use Rattle.journal.proofs.group.touched_by.Goals as goal
 

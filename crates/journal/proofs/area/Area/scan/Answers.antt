@@ -1,4 +1,4 @@
-use Rattle.std.proofs.Common.{ℕ, ◌+◌, ◌≤◌, ◌<◌, ◌^◌, List, ap, sym, subst, arith}
+use Rattle.std.proofs.Common.{◌+◌, ◌≤◌, subst, arith}
 use Rattle.disk_model.specs.Disk.{IsSyncedIn}
 use Rattle.journal.specs.Area.{AreaState}
 use Rattle.journal.specs.GroupList.{HoldsList, IsDamaged}

@@ -2,7 +2,7 @@ use Rattle.std.proofs.Common.{◌+◌, ◌∙◌, ◌∷◌, [], List, sym, subs
 use Rattle.journal.specs.declared.touch.TouchedRange.{TouchedRange}
 use Rattle.journal.specs.Scanning.{AreWithin}
 use Rattle.journal.proofs.Chained.{none_read, reads_on}
-use Rattle.journal.proofs.Found.{found_none, left_none, found_more, left_more, none_next, none_end, within_append, range_within}
+use Rattle.journal.proofs.Found.{found_none, left_none, found_more, left_more, none_next, within_append, range_within}
 use Rattle.journal.proofs.Noted.{passed_on}
 use Rattle.journal.proofs.scan.Place.commands.Goals as goal
 

@@ -1,4 +1,4 @@
-use Rattle.std.proofs.Common.{◌+◌, ◌∙◌, ◌<◌, List, sym, subst, refl, arith}
+use Rattle.std.proofs.Common.{◌+◌, ◌∙◌, List, sym, subst, refl, arith}
 use Rattle.journal.specs.declared.touch.TouchedRange.{TouchedRange}
 use Rattle.journal.specs.Scanning.{AreWithin, FoundList}
 use Rattle.journal.proofs.Chained.{none_read, reads_on}
@@ -61,5 +61,5 @@ returns-clause-found g c honest content known =
     let read = c.in_ok-behind.ensures in
     let closed = rw c.in_default.is at (read.closed (loop.honest.1 honest) content (loop.read_as honest content known)) in
     let same = rw c.in_default.is at read.same in
-    subst (λ (touched : List TouchedRange). FoundList area.blocks content area.from c.args.next c.loop-window.end.gate c.loop-window.end.next touched) (sym same)
+    subst (λ (touched : List TouchedRange). FoundList area.blocks content area.from c.args.next c.loop-window.end.gate c.loop-window.end.next touched) (sym {A = List TouchedRange} same)
     (lead_ends area.blocks content area.from c.args.next _ _ _ (loop.found honest content known) closed)
