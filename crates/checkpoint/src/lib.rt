@@ -8,6 +8,8 @@ mod laws;
 mod opening;
 mod simulated;
 mod stored;
+#[cfg(test)]
+mod tests;
 
 pub use fault::KeeperFault;
 pub use keeper::Keeper;

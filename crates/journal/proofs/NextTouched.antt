@@ -1,13 +1,12 @@
 -- The first block from a number on that ranges touch.
 use Rattle.std.proofs.Common.{◌≡◌, ⊎_elim, ℕ, ◌+◌, ◌≤◌, ◌<◌, min, Bool, true, false, if◌then◌else◌, Option, Some, None, List, [], ◌∷◌, ◌++◌, length, get_or, take, sym, ◌∙◌, ap, subst, refl, arith}
-use Rattle.std.specs.Prelude.{IfSome}
 use Rattle.std.proofs.lemmas.Bool.{cases_lt}
 use Rattle.std.proofs.lemmas.List.{take_more}
 use Rattle.std.proofs.lemmas.Bool.Decides.{nat_tests}
 use Rattle.image_model.specs.Image.{covers}
 use Rattle.journal.specs.declared.touch.Touch.{Touch}
 use Rattle.journal.specs.declared.touch.TouchedRange.{TouchedRange}
-use Rattle.journal.specs.Touches.{IsBefore, IsNextTouched, earlier, last_touch, later, touch_in, touch_within}
+use Rattle.journal.specs.Touches.{IsNextTouched, earlier, last_touch, later}
 use Rattle.journal.proofs.LastTouches.{last_touch-append}
 
 -- one range has the blocks that it covers

@@ -1,8 +1,12 @@
-//! Tests of the program's plans from bytes to bytes, over simulated devices.
+//! Tests over simulated devices: of the program's plans from bytes to bytes, and of schedules.
 #![tactic(auto)]
 
 #[cfg(test)]
 mod runs;
+#[cfg(test)]
+mod schedule_tests;
+#[cfg(test)]
+mod schedules;
 #[cfg(test)]
 mod scripts;
 #[cfg(test)]

@@ -1,5 +1,6 @@
 pub mod Appended
 pub mod Connections
+pub mod Fresh
 pub mod Lives
 pub mod Orders
 pub mod Performed

@@ -1,8 +1,9 @@
 -- benches as callers see them
-use Rattle.std.specs.Prelude.{Option, List}
+use Rattle.std.specs.Prelude.{ℕ, Option, None, List, [], replicate}
 use Rattle.journal.specs.Group.{Numbered}
 use Rattle.nbd_wire.specs.declared.message.SessionFlags.{SessionFlags}
 use Rattle.world.specs.declared.connection.Connection.{Connection}
+use Rattle.world.specs.declared.connection.Connection.TheVariants.{Idle}
 use Rattle.world.specs.declared.event.Event.{Event}
 use Rattle.world.specs.declared.step.Mode.{Mode}
 
@@ -15,3 +16,7 @@ pub record BenchState : Type 0 where
   pub group : Option Numbered
   -- what each step did
   pub log : List Event
+
+-- a bench of so many connections, none of which has sent a request
+abbrev pub new_bench : ℕ → SessionFlags → Mode → BenchState
+new_bench count given kept = record { flags = given; mode = kept; connections = replicate count Idle; group = None; log = [] }

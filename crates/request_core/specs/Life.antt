@@ -8,16 +8,31 @@ use Rattle.disk_model.specs.Disk.{State, LeavesOnly, MayLeave}
 use Rattle.image_model.specs.Change.{Change}
 use Rattle.image_model.specs.Image.{Image, apply_all}
 use Rattle.journal.specs.Group.{Numbered}
+use Rattle.nbd_wire.specs.declared.message.SessionFlags.{SessionFlags}
 use Rattle.order_book.specs.Order.{OrderState}
 use Rattle.request_core.specs.Bench.{BenchState}
 use Rattle.request_core.specs.Parts.{Stage, AreConnectionsOf, IsKeeperOf, IsOrderOf, IsWorldOf, stage_of}
 use Rattle.request_core.specs.Storing.{IsKept}
 use Rattle.world.specs.declared.event.Event.{Event}
+use Rattle.world.specs.declared.step.Mode.{Mode}
 use Rattle.world.specs.declared.step.Step.{Step}
 use Rattle.world.specs.Covered.{Covers}
 use Rattle.world.specs.Log.{IsLegal}
 use Rattle.world.specs.Run.{IsRun}
-use Rattle.world.specs.World.{World}
+use Rattle.world.specs.World.{World, fresh}
+
+-- the world in which a life begins, with a keeper whose device counts so many faults
+abbrev pub first_world : {D : Type 0} → KeeperState D → ℕ → ℕ → ℕ → SessionFlags → Mode → World
+first_world keeper failures most count given kept =
+    fresh (record {
+      geometry = keeper.geometry;
+      flags = given;
+      mode = kept;
+      connections = count;
+      frames = most;
+      opening = keeper.count;
+      base = keeper.base;
+    }) keeper.used failures
 
 -- the image after the first commands of an order
 abbrev pub image_after : List Change → ℕ → Image → Image

@@ -1,5 +1,6 @@
-ghost use Rattle.std.specs.Prelude.{◌≡◌, [], None, IfOk, IfSome, MatchOption, replicate};
+ghost use Rattle.std.specs.Prelude.{◌≡◌, IfOk, IfSome, MatchOption, replicate};
 ghost use Rattle.order_book.specs.Order.{IsInHand, with_group};
+ghost use Rattle.request_core.specs.Bench.{new_bench};
 ghost use Rattle.world.specs.declared.connection.Connection.TheVariants as Connection;
 
 use journal::Group;
@@ -54,13 +55,7 @@ impl Bench {
         flags: SessionFlags,
         mode: Mode,
     ) -> Result<Bench, AllocError>
-        ensures { IfOk result (λ bench. bench ≡ record {
-          flags = flags;
-          mode = mode;
-          connections = replicate connections Connection.Idle;
-          group = None;
-          log = [];
-        }) }
+        ensures { IfOk result (λ bench. bench ≡ new_bench connections flags mode) }
     {
         Ok(Bench {
             alloc,
