@@ -1,5 +1,6 @@
 use nbdj_run::script;
 use std::alloc::{AllocError, Global};
+use std::io::{self, ErrorKind, Read, Write};
 use std::test::Fail;
 
 // Scripts, and what each prints.
@@ -132,6 +133,51 @@ const NO_FORMATS: [&str; 10] = [
     "format 16 2097152 512 writeback\n",
 ];
 
+// A reader that gives one byte at a time, and then its end or an error.
+#[derive(Drop)]
+struct Slow<'a> {
+    rest: &'a [u8],
+    fails: bool,
+}
+
+impl<'a> Read for Slow<'a> {
+    fn read(&mut self, buf: &mut [u8]) -> io::Result<usize> {
+        match (self.rest.split_first(), buf.first_mut()) {
+            (Some((byte, rest)), Some(place)) => {
+                *place = *byte;
+                self.rest = rest;
+                Ok(1)
+            }
+            (None, _) if self.fails => Err(io::Error::from(ErrorKind::Other)),
+            _ => Ok(0),
+        }
+    }
+}
+
+// A writer that takes one byte at a time, and after so many no more.
+#[derive(Drop)]
+struct Narrow {
+    taken: Vec<u8>,
+    room: usize,
+}
+
+impl Write for Narrow {
+    fn write(&mut self, buf: &[u8]) -> io::Result<usize> {
+        if self.taken.len() >= self.room {
+            return Err(io::Error::from(ErrorKind::Other));
+        }
+        match buf.first() {
+            Some(byte) if self.taken.push(*byte).is_ok() => Ok(1),
+            Some(_) => Err(io::Error::from(ErrorKind::OutOfMemory)),
+            None => Ok(0),
+        }
+    }
+
+    fn flush(&mut self) -> io::Result<()> {
+        Ok(())
+    }
+}
+
 // What a script came to.
 #[derive(Drop)]
 struct Told {
@@ -171,13 +217,67 @@ fn other_lines_are_no_steps(rt: HostRuntime) -> Result<(), Fail> {
         let told = run(alloc, text.as_bytes());
         assert_eq!(rt; told.status, 2);
         assert_eq!(rt; told.output.as_slice(), b"done\n".as_slice());
-        assert_eq!(rt; told.errors.as_slice(), b"nbdj: line 2: not a step\n".as_slice());
+        assert_eq!(rt;
+            told.errors.as_slice(),
+            b"nbdj: line 2: not a step\n".as_slice()
+        );
     }
     for text in NO_FORMATS {
         let told = run(alloc, text.as_bytes());
         assert_eq!(rt; told.status, 2);
         assert!(rt; told.output.is_empty());
-        assert_eq!(rt; told.errors.as_slice(), b"nbdj: line 1: not a step\n".as_slice());
+        assert_eq!(rt;
+            told.errors.as_slice(),
+            b"nbdj: line 1: not a step\n".as_slice()
+        );
     }
+    Ok(())
+}
+
+#[test]
+fn one_byte_at_a_time(rt: HostRuntime) -> Result<(), Fail> {
+    let alloc = rt.alloc();
+    for (text, expected) in SCRIPTS {
+        let mut input = Slow {
+            rest: text.as_bytes(),
+            fails: false,
+        };
+        let mut output = Narrow {
+            taken: Vec::new(alloc),
+            room: 1_000_000,
+        };
+        let mut errors = Vec::new(alloc);
+        assert_eq!(rt; script(alloc, &mut input, &mut output, &mut errors), 0);
+        assert_eq!(rt; output.taken.as_slice(), expected.as_bytes());
+        assert!(rt; errors.is_empty());
+    }
+    Ok(())
+}
+
+// The lines before the fault ran, and what they printed was written.
+#[test]
+fn a_stream_fails(rt: HostRuntime) -> Result<(), Fail> {
+    let alloc = rt.alloc();
+    let (text, expected) = SCRIPTS[1];
+    for room in [0, 1, 4, 5, 30, expected.len() - 1] {
+        let mut input = text.as_bytes();
+        let mut output = Narrow {
+            taken: Vec::new(alloc),
+            room,
+        };
+        let mut errors = Vec::new(alloc);
+        assert_eq!(rt; script(alloc, &mut input, &mut output, &mut errors), 1);
+        assert_eq!(rt; output.taken.as_slice(), &expected.as_bytes()[..room]);
+        assert_eq!(rt; errors.as_slice(), b"nbdj: stream fault (21)\n".as_slice());
+    }
+    let mut input = Slow {
+        rest: b"format 16 2097152 512\nsend 1 flush\nserve",
+        fails: true,
+    };
+    let mut output = Vec::new(alloc);
+    let mut errors = Vec::new(alloc);
+    assert_eq!(rt; script(alloc, &mut input, &mut output, &mut errors), 1);
+    assert_eq!(rt; output.as_slice(), b"done\ndone\n".as_slice());
+    assert_eq!(rt; errors.as_slice(), b"nbdj: stream fault (21)\n".as_slice());
     Ok(())
 }
