@@ -46,6 +46,7 @@ pub fn decode_request(bytes: &[u8; 28]) -> Result<RequestHead, BadMagic>
 }
 
 /// Writes a request's head.
+#[tactic(auto, unfolding(crate::specs::Head::head_bytes))]
 pub fn encode_request(head: &RequestHead) -> [u8; 28]
     ensures { result ≡ head_bytes head.now }
 {

@@ -2,6 +2,8 @@
 #![tactic(auto)]
 
 #[cfg(test)]
+mod layout;
+#[cfg(test)]
 mod runs;
 #[cfg(test)]
 mod schedule_tests;

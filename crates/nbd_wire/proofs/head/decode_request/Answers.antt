@@ -10,6 +10,4 @@ returns-then-read_u32-ne-REQUEST_MAGIC-clause-none c =
     λ head same. wrong (ap (take 4) same)
 
 pub returns-clause-found : goal.returns-clause-found
-returns-clause-found c =
-    head_bytes_of c.args.bytes.now _ (search rules) (λ i. search rules) (search rules)
-    c.read_u16.ensures c.read_u16-2.ensures c.read_u64.ensures c.read_u64-2.ensures c.read_u32-2.ensures
+returns-clause-found c = search (rules, head_bytes_of)

@@ -7,7 +7,7 @@ use Rattle.std.proofs.lemmas.Result.{IfOk-weaker}
 use Rattle.nbd_wire.specs.Request.{Message, messages, HasItsData}
 use Rattle.nbd_wire.proofs.Handed.{Advances-data}
 use Rattle.nbd_wire.specs.Stream.{Kept, failed, Reads, ReadsOn, missing_len}
-use Rattle.nbd_wire.specs.State.{kept, Advances}
+use Rattle.nbd_wire.specs.State.{kept, Advances, IsGoing}
 use Rattle.nbd_wire.proofs.Streams.{Reads-then, Advances-failed, state_failed, held_bound}
 use Rattle.nbd_wire.proofs.stream.StreamReader.feed.Goals as goal
 
@@ -21,10 +21,12 @@ returns-in-Failed-clause-stream c =
 pub returns : goal.returns
 returns c =
     let old : kept c.replace-state.result ≡ c.args.self.now = ap kept c.replace-state.ensures.value ∙ c.self.view_is in
+    let read : Advances (kept c.replace-state.result) c.args.piece.now (messages c.read_all-state.result.1.items) (kept c.read_all-state.result.0) =
+    λ text keeps. search rules in
     let advances : Advances c.args.self.now c.args.piece.now (messages c.read_all-state.result.1.items) (kept c.read_all-state.result.0) =
-    subst (λ (k : Kept). Advances k c.args.piece.now (messages c.read_all-state.result.1.items) (kept c.read_all-state.result.0)) old c.read_all-state.ensures.reads in
+    subst (λ (k : Kept). Advances k c.args.piece.now (messages c.read_all-state.result.1.items) (kept c.read_all-state.result.0)) old read in
     let each : All HasItsData c.read_all-state.result.1.items =
-    Advances-data c.replace-state.result c.args.piece.now c.read_all-state.result.1.items _ (search rules) (λ fault was. c.in_default.not-Failed fault (sym c.replace-state.ensures.value ∙ was)) c.read_all-state.ensures.reads in
+    Advances-data c.replace-state.result c.args.piece.now c.read_all-state.result.1.items _ (search rules) (λ fault was. c.in_default.not-Failed fault (sym c.replace-state.ensures.value ∙ was)) read in
     record {
       stream = λ stream before reads.
           subst (λ (ms : List Message). Reads (stream ++ c.args.piece.now) (before ++ ms) (kept c.read_all-state.result.0)) (sym c.answer.ensures.answered)
@@ -35,7 +37,7 @@ returns c =
       first = c.answer.ensures.first;
       part = λ part.
           let part' : length c.args.piece.now < missing_len (kept c.replace-state.result) = rw old part in
-          let quiet = c.read_all-state.ensures.part part' in
+          let quiet : (c.read_all-state.result.1.items ≡ []) × IsGoing (kept c.read_all-state.result.0) = search rules in
           subst (λ (r : Result (Vec Request) WireFault). IsOkAnd r (λ requests. requests.items ≡ [])) (sym (c.answer.ensures.going quiet.1)) quiet.0;
       held = held_bound c.read_all-state.result.0 c.read_all-state.ensures.sound;
     }
