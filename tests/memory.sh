@@ -1,7 +1,7 @@
 #!/bin/sh
 # Runs the built program NBDJ again and again, and refuses it another call for memory each time, up to the first run that meets
-# none: over the table of scripts, and over format, pipe and recover on a file. Prints a line for each run that does anything but what a
-# refusal may do, and last 'N passed, M failed'.
+# none: over the table of scripts, and over format, pipe and recover on a file; and so the built tests of journal, keeper and schedules.
+# Prints a line for each run that does anything but what a refusal may do, and last 'N passed, M failed'.
 set -u
 here=$(cd "$(dirname "$0")/.." && pwd)
 . "$here/tools/bytes.sh"
@@ -199,6 +199,22 @@ done
 is=
 [ "$("$NBDJ" recover d.img)" = "$(cat wanted)" ] || is='the image changed'
 tell 'recover leaves the image' "$is"
+
+# A test that memory is refused ends by itself: it passes, or it says where it stopped.
+for tests in journal checkpoint nbdj_tests; do
+    built=$here/crates/$tests/out/${tests}_tests
+    [ -x "$built" ] || { tell "the tests of $tests" 'not built'; continue; }
+    for test in $("$built" --list | sed -n 's/: test$//p' | grep -v '^scripts::\|cut_at_every_place'); do
+        n=1
+        is=
+        while rm -f met; REFUSE_AT=$n REFUSE_MET=met LD_PRELOAD=./refuse.so timeout 20 "$built" "$test" >output 2>&1; status=$?; [ -e met ]; do
+            grep -q '^test result: ok\|^test stopped at\|^the test failed' output || is="$is call $n: status $status;"
+            n=$((n + 1))
+        done
+        [ "$status" -eq 0 ] || is="$is without a refusal: status $status"
+        tell "$tests, $test" "$is"
+    done
+done
 
 echo "$passed passed, $failed failed"
 [ "$failed" -eq 0 ]

@@ -1,4 +1,4 @@
--- What a pipe writes for what it reads, by docs/FORMATS.md, "Stream" and "Pipe".
+-- What a pipe writes for what it reads, by docs/FORMATS.md, "Stream" and "When a reply is made".
 use Rattle.std.specs.Prelude.{ℕ, ◌≡◌, ◌≢◌, ◌⊎◌, ◌==◌, if◌then◌else◌, List, [], ◌∷◌, ◌++◌, Option, Result, Ok, Err, OnOk, IsErrOf}
 use Rattle.std.specs.Io.KnownBytes.{Appends, Consumes, IsAtEnd}
 use Rattle.std.specs.List.{AllByRecursion}

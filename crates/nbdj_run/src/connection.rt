@@ -28,8 +28,8 @@ const PLAIN: SessionFlags = SessionFlags {
 
 /// Serves one connection without a handshake, with simple replies: requests from `input`, replies to `output`.
 ///
-/// At each end of the input what is pending is stored. It ends with Ok after a DISC; refusals as `docs/FORMATS.md`, "Pipe",
-/// lists them.
+/// At each end of the input what is pending is stored. It ends with Ok after a DISC; `docs/FORMATS.md`, "Refusals", has
+/// the numbers of the other ends.
 pub fn pipe<D: Disk, R: Read, W: Write>(
     alloc: Global,
     disk: D,
