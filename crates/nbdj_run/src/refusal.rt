@@ -1,6 +1,7 @@
 ghost use Rattle.std.specs.Prelude.{◌≡◌};
 ghost use Rattle.nbdj_run.specs.Session.{IsNoEnd};
 ghost use Rattle.nbdj_run.specs.Wire.{refusal_of};
+ghost use Rattle.nbdj_run.specs.declared.refusal.Refusal.TheVariants as Refusal;
 
 use checkpoint::KeeperFault;
 use disk_model::DeviceFault;
@@ -68,7 +69,7 @@ impl Refusal {
 }
 
 impl From<AllocError> for Refusal {
-    ghost from_gives = { λ _ refusal. IsNoEnd refusal };
+    ghost from_gives = { λ _ refusal. refusal ≡ Refusal.NoMemory };
 
     fn from(_error: AllocError) -> Refusal {
         Refusal::NoMemory
@@ -76,7 +77,7 @@ impl From<AllocError> for Refusal {
 }
 
 impl From<DeviceFault> for Refusal {
-    ghost from_gives = { λ _ refusal. IsNoEnd refusal };
+    ghost from_gives = { λ _ refusal. refusal ≡ Refusal.DeviceFault };
 
     fn from(_fault: DeviceFault) -> Refusal {
         Refusal::DeviceFault

@@ -1,7 +1,7 @@
 use Rattle.std.proofs.Common.{subst, sym, ap, ◌∙◌, take, arith, List, ℕ, Ok, Err}
 use Rattle.std.specs.Io.KnownBytes.{Consumes}
 use Rattle.nbdj_run.specs.Session.{Takes}
-use Rattle.nbdj_run.specs.declared.refusal.Refusal.TheVariants.{StreamFault}
+use Rattle.nbdj_run.specs.declared.refusal.Refusal.TheVariants.{NoMemory, StreamFault}
 use Rattle.nbdj_run.proofs.Sessions.{going_first, goes_on, stopped, closed, cut, ended, refused, keeps_same, err_no_end}
 use Rattle.nbdj_run.proofs.connection.Session.run.Goals as goal
 
@@ -9,7 +9,8 @@ pub returns-in_err-piece : goal.returns-in_err-piece
 returns-in_err-piece g c =
     let input = g.R.Read.remaining c.args.input.now in
     let output = g.W.Write.contents c.args.output.now in
-    stopped input input output output _ (going_first input output) input c.from_residual.result (keeps_same input) c.from_residual.ensures.1
+    stopped input input output output _ (going_first input output) input c.from_residual.result (keeps_same input)
+    (err_no_end c.from_residual.result NoMemory c.from_residual.ensures.1 ((λ e. cc), (λ e. cc)))
 
 pub returns-in_err-count : goal.returns-in_err-count
 returns-in_err-count g c =
