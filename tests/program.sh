@@ -84,6 +84,12 @@ run --version
 is 'version' "0|$(text 'nbdj 0.1.0')|" "$status|$output|$errors"
 run pipe --help
 is 'help' '0|yes|' "$status|$(grep -q FLUSH output && echo yes)|$errors"
+for command in format pipe recover rehearse; do
+    run "$command" --version
+    is "version of $command" '0|yes|' "$status|$(grep -q '0\.1\.0$' output && echo yes)|$errors"
+    run "$command" --help
+    is "help of $command" '0|yes|' "$status|$(grep -q "^Usage: nbdj $command" output && echo yes)|$errors"
+done
 
 # Files.
 ends 'a missing file' 1 '' 'nbdj: cannot open none.img' recover none.img

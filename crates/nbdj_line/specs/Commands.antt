@@ -39,10 +39,16 @@ recover_app = with_rule (new_app (codes "recover")) path_rule
 abbrev pub rehearse_app : App
 rehearse_app = new_app (codes "rehearse")
 
--- the program without its subcommands: it has a version, wants a subcommand, and prints its help where no word is given
+-- the program without its subcommands: it has a version, as each of them has, wants a subcommand, and prints its help where
+-- no word is given
 abbrev pub bare_app : App
 bare_app =
-    on_top (λ shape. record shape { has_version = true; subcommand_required = true; arg_required_else_help = true })
+    on_top (λ shape. record shape {
+      has_version = true;
+      propagate_version = true;
+      subcommand_required = true;
+      arg_required_else_help = true;
+    })
     (new_app (codes "nbdj"))
 
 -- the whole command line; the modes are the values that `--cache` takes

@@ -30,6 +30,7 @@ fn bare<'a>(alloc: Global) -> Command<'a>
 {
     Command::new(alloc, "nbdj")
         .version("0.1.0")
+        .propagate_version(true)
         .about("Network Block Device export server over a journalled image")
         .subcommand_required(true)
         .arg_required_else_help(true)

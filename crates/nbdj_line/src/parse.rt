@@ -51,7 +51,7 @@ fn format<'a>(alloc: Global, matches: &ArgMatches<'a>) -> Result<Plan<'a>, Error
     };
     match geometry {
         Some(geometry) => Ok(Plan::Format { path, geometry }),
-        None => Err(fault(alloc, "the bytes of an area are a multiple of 8192")),
+        None => Err(fault(alloc, "--area: the bytes of an area are a multiple of 8192")),
     }
 }
 
@@ -63,7 +63,7 @@ fn pipe<'a>(alloc: Global, matches: &ArgMatches<'a>) -> Result<Plan<'a>, Error>
     let cache = cache(alloc, matches)?;
     match PipeOptions::new(frames, cache) {
         Some(options) => Ok(Plan::Pipe { path, options }),
-        None => Err(fault(alloc, "the frames are 512 to 65536")),
+        None => Err(fault(alloc, "--frames: the frames are 512 to 65536")),
     }
 }
 
@@ -73,7 +73,7 @@ fn cache(alloc: Global, matches: &ArgMatches<'_>) -> Result<CacheMode, Error>
     match text(matches, "cache") {
         Some("writeback") => Ok(CacheMode::Writeback),
         Some("writethrough") => Ok(CacheMode::Writethrough),
-        _ => Err(fault(alloc, "the cache is writeback or writethrough")),
+        _ => Err(fault(alloc, "--cache: the mode is writeback or writethrough")),
     }
 }
 
