@@ -34,6 +34,23 @@ tell() {
     fi
 }
 
+# What is wrong where the first run has met no call already: then nothing was refused.
+some_met() { [ "$n" -gt 1 ] || echo 'no call for memory was met'; }
+
+# whole WORD..: runs the program with each call refused in turn; it prints what it prints with memory, or ends for want of it
+whole() {
+    "$NBDJ" "$@" <input >wanted
+    n=1
+    while refusing "$n" "$@"; do
+        is="status $status, $(cat errors)"
+        if [ "$status" -eq 0 ] && cmp -s wanted output; then is=; fi
+        if [ "$status" -eq 1 ] && [ ! -s output ] && grep -q 'no memory\|cannot open' errors; then is=; fi
+        tell "$1, call $n" "$is"
+        n=$((n + 1))
+    done
+    tell "$1 asks for memory" "$(some_met)"
+}
+
 # line K FILE
 line() { sed -n "$1p" "$2"; }
 
@@ -127,20 +144,12 @@ while read -r script; do
         tell "script '$(head -c 60 input | tr '\n' '/')', call $n" "$(judge)"
         n=$((n + 1))
     done
-    tell "script without a refusal" "$(cmp wanted output 2>&1)"
+    tell "script without a refusal" "$(some_met; cmp wanted output 2>&1)"
 done <table
 
 # On a file: an end for want of memory leaves an image that opens with a beginning of what was sent, or, while it is formatted, none.
 : >input
-"$NBDJ" format d.img --blocks 16 --area 2097152 >wanted
-n=1
-while refusing "$n" format d.img --blocks 16 --area 2097152; do
-    is="status $status, $(cat errors)"
-    if [ "$status" -eq 0 ] && cmp -s wanted output; then is=; fi
-    if [ "$status" -eq 1 ] && [ ! -s output ] && grep -q 'no memory\|cannot open' errors; then is=; fi
-    tell "format, call $n" "$is"
-    n=$((n + 1))
-done
+whole format d.img --blocks 16 --area 2097152
 
 {
     request 0000 1 1 0 4096; filled 4096 A
@@ -149,7 +158,6 @@ done
     request 0000 1 4 8192 4096; filled 4096 C
     request 0000 2 5 0 0
 } >input
-replies=5
 n=1
 "$NBDJ" format d.img --blocks 16 --area 2097152 >/dev/null
 "$NBDJ" pipe d.img <input >wanted
@@ -181,21 +189,13 @@ while "$NBDJ" format d.img --blocks 16 --area 2097152 >/dev/null; refusing "$n" 
     'commands '[0-3]) [ "${found#commands }" -ge "$stored" ] || [ "$status" -eq 0 ] || is="found $found, stored $stored" ;;
     *) is="found $found" ;;
     esac
-    cp output told
     tell "pipe, call $n" "$is"
     n=$((n + 1))
 done
+tell 'pipe asks for memory' "$(some_met)"
 
 : >input
-"$NBDJ" recover d.img >wanted
-n=1
-while refusing "$n" recover d.img; do
-    is="status $status, $(cat errors)"
-    if [ "$status" -eq 0 ] && cmp -s wanted output; then is=; fi
-    if [ "$status" -eq 1 ] && [ ! -s output ] && grep -q 'no memory\|cannot open' errors; then is=; fi
-    tell "recover, call $n" "$is"
-    n=$((n + 1))
-done
+whole recover d.img
 is=
 [ "$("$NBDJ" recover d.img)" = "$(cat wanted)" ] || is='the image changed'
 tell 'recover leaves the image' "$is"
@@ -212,6 +212,7 @@ for tests in journal checkpoint nbdj_tests; do
             n=$((n + 1))
         done
         [ "$status" -eq 0 ] || is="$is without a refusal: status $status"
+        is=$is$(some_met)
         tell "$tests, $test" "$is"
     done
 done
