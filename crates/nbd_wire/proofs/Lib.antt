@@ -2,4 +2,3 @@ pub mod Heads
 pub mod Requests
 pub mod Streams
 pub mod Parts
-pub mod Handed

@@ -3,3 +3,4 @@ pub mod Request
 pub mod Stream
 pub mod State
 pub mod Errno
+pub mod Answer

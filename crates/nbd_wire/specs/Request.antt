@@ -1,7 +1,6 @@
 -- Requests with their data, as they follow one another on a stream ("Transmission" of NBD's proto.md).
-use Rattle.std.specs.Prelude.{◌≡◌, ℕ, ◌≤◌, ◌==◌, nat_le, if◌then◌else◌, List, [], ◌++◌, length, map}
+use Rattle.std.specs.Prelude.{◌≡◌, ℕ, ◌≤◌, ◌==◌, nat_le, if◌then◌else◌, List, [], ◌++◌, length}
 use Rattle.nbd_wire.specs.declared.head.RequestHead.{RequestHead}
-use Rattle.nbd_wire.specs.declared.message.Request.{Request}
 use Rattle.nbd_wire.specs.Head.{head_bytes, IsHead}
 
 -- the type of a WRITE, the most bytes of data that are kept, and the most that are read
@@ -14,16 +13,10 @@ payload_limit = 1048576
 abbrev pub stream_limit : ℕ
 stream_limit = 33554432
 
--- a request without where its data lie in memory
+-- a request, with the data that are handed on
 pub record Message : Type 0 where
   pub head : RequestHead
   pub bytes : List ℕ
-
-abbrev pub message : Request → Message
-message request = record { head = request.head; bytes = request.bytes.items }
-
-abbrev pub messages : List Request → List Message
-messages requests = map message requests
 
 -- how many bytes of data follow a head: a WRITE's length, and none behind any other
 abbrev pub data_len : RequestHead → ℕ
@@ -36,10 +29,6 @@ handed_on sent = if nat_le (length sent) payload_limit then sent else []
 -- how many bytes that is
 abbrev pub handed_len : RequestHead → ℕ
 handed_len head = if nat_le (data_len head) payload_limit then data_len head else 0
-
--- the data of a request are as many bytes as the stream gives it
-abbrev pub HasItsData : Request → Type 0
-HasItsData request = length request.bytes.items ≡ handed_len request.head
 
 -- These bytes are the request: its head, and the data that follow it. Data that are thrown away may be any.
 pub record IsRequest (text : List ℕ) (request : Message) : Type 0 where

@@ -1,16 +1,20 @@
 -- The fields of a reader, and what they mean.
 use Rattle.std.specs.Prelude.{◌≡◌, ℕ, ◌-◌, ◌^◌, ◌<◌, ◌≤◌, Option, Some, None, List, [], ◌∷◌, ◌++◌, length, take, vec_capacity}
-use Rattle.nbd_wire.specs.declared.message.Request.{Request}
 use Rattle.nbd_wire.specs.declared.stream.State.{State}
 use Rattle.nbd_wire.specs.declared.stream.State.TheVariants.{Head, Data, Discard, Failed}
-use Rattle.nbd_wire.specs.Request.{Message, message}
-use Rattle.nbd_wire.specs.Stream.{Kept, in_head, in_data, in_discard, failed, IsKeptWrite, IsDiscardedWrite, Keeps, Reads}
+use Rattle.nbd_wire.specs.Request.{Message}
+use Rattle.nbd_wire.specs.Stream.{Kept, in_head, in_data, in_discard, failed, Reader, reading, starved, IsKeptWrite, IsDiscardedWrite, Keeps, Reads}
 
 abbrev pub kept : State → Kept
 kept (Head bytes count) = in_head (take count bytes)
 kept (Data head bytes) = in_data head bytes.items
 kept (Discard head missing) = in_discard head missing
 kept (Failed fault) = failed fault
+
+-- none is left where memory ran out
+abbrev pub reader_of : Option State → Reader
+reader_of (Some state) = reading (kept state)
+reader_of None = starved
 
 -- Something is always missing, and the data that are kept have their room.
 abbrev pub IsState : State → Type 0
@@ -19,6 +23,10 @@ IsState (Data head bytes) = IsKeptWrite head × (length bytes.items < head.lengt
 IsState (Discard head missing) = IsDiscardedWrite head × (0 < missing) × (missing ≤ head.length)
 IsState (Failed fault) = Unit {0}
 
+abbrev pub IsReader : Option State → Type 0
+IsReader (Some state) = IsState state
+IsReader None = Unit {0}
+
 -- how many bytes are taken at once, at most: up to the end of a head or of the data
 abbrev pub wanted_of : State → ℕ
 wanted_of (Head bytes count) = 28 - count
@@ -26,20 +34,27 @@ wanted_of (Data head bytes) = head.length - length bytes.items
 wanted_of (Discard head missing) = missing
 wanted_of (Failed fault) = 2 ^ 64 - 1
 
-abbrev pub found : Option Request → List Message
+abbrev pub found : Option Message → List Message
 found None = []
-found (Some request) = message request ∷ []
+found (Some request) = request ∷ []
 
 -- what was kept, and these bytes behind it, is these requests, and then what is kept
 abbrev pub Advances : Kept → List ℕ → List Message → Kept → Type 0
 Advances old bytes requests new = (text : List ℕ) → Keeps old text → Reads (text ++ bytes) requests new
 
-abbrev pub IsGoing : Kept → Type 0
-IsGoing (in_head bytes) = Unit {0}
-IsGoing (in_data head bytes) = Unit {0}
-IsGoing (in_discard head count) = Unit {0}
-IsGoing (failed fault) = ⊥
+-- where memory runs out, some first part of the bytes was read
+abbrev pub AdvancesTo : Kept → List ℕ → List Message → Reader → Type 0
+AdvancesTo old bytes requests (reading new) = Advances old bytes requests new
+AdvancesTo old bytes requests starved =
+    (first rest : List ℕ) × (between : Kept) × (bytes ≡ first ++ rest) × Advances old first requests between
+
+abbrev pub IsGoing : Reader → Type 0
+IsGoing (reading (in_head bytes)) = Unit {0}
+IsGoing (reading (in_data head bytes)) = Unit {0}
+IsGoing (reading (in_discard head missing)) = Unit {0}
+IsGoing (reading (failed fault)) = ⊥
+IsGoing starved = ⊥
 
 -- no request came, and no fault
-abbrev pub IsQuiet : State × Option Request → Type 0
-IsQuiet step = (step.1 ≡ None) × IsGoing (kept step.0)
+abbrev pub IsQuiet : State × Option Message → Type 0
+IsQuiet step = (step.1 ≡ None) × IsGoing (reading (kept step.0))

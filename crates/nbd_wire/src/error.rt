@@ -8,18 +8,26 @@ use thiserror::Error;
 #[error("bad magic")]
 pub struct BadMagic;
 
-/// Why no further request can be read from a stream.
+/// Why no request can be read from a stream any more.
 #[derive(Clone, Copy, Debug, PartialEq, Eq, Error)]
-pub enum WireFault {
-    /// Refusal 0: memory ran out.
-    #[error("no memory")]
-    NoMemory,
+pub enum RequestFault {
     /// Refusal 3: where a request should begin stands another magic number.
     #[error("bad magic")]
     BadMagic,
     /// Refusal 4: a WRITE announces more data than a server reads.
     #[error("too long")]
     TooLong,
+}
+
+/// Why no further request is handed out.
+#[derive(Clone, Copy, Debug, PartialEq, Eq, Error)]
+pub enum WireFault {
+    /// Refusal 0: memory ran out.
+    #[error("no memory")]
+    NoMemory,
+    /// Refusals 3 and 4: what stands in the stream is no request.
+    #[error(transparent)]
+    Malformed(RequestFault),
 }
 
 /// An error that a reply carries ("Error values" of NBD's `proto.md`).

@@ -1,7 +1,7 @@
 //! What holds of requests and of streams, whoever reads them.
 ghost use Rattle.nbd_wire.specs.Head.{OneHead};
 ghost use Rattle.nbd_wire.specs.Request.{OneRequest};
-ghost use Rattle.nbd_wire.specs.Stream.{AnyPieces, NoRequest, OneReading, WholeStream};
+ghost use Rattle.nbd_wire.specs.Stream.{AnyPieces, FirstOfStream, FirstRequests, NoRequest, OneReading, WholeStream};
 
 /// No head's bytes begin another's, so what was encoded is decoded again, whatever follows it.
 pub fn one_head()
@@ -13,16 +13,19 @@ pub fn one_request()
     ensures { OneRequest }
 {}
 
-/// Two readings of one stream are one: however it is cut, its requests are the same, and so is what a reader
-/// keeps, but for one that memory ran out for. What is kept begins with no whole request.
+/// Two readings of one stream are one: however it is cut, its requests are the same, and so is what is left
+/// behind them, which begins with no whole request. The first requests of a stream begin all of them.
 pub fn one_reading()
     ensures one { OneReading }
     ensures rest { NoRequest }
+    ensures first { FirstRequests }
 {}
 
 /// In whatever pieces a stream was fed, the requests that a new reader handed out are those of the whole
-/// stream, and another reader of the same stream handed out the same, unless memory ran out.
+/// stream, and another reader of the same stream handed out the same. Where memory ran out they are the first
+/// requests of the stream.
 pub fn any_pieces()
     ensures whole { WholeStream }
+    ensures first { FirstOfStream }
     ensures same { AnyPieces }
 {}

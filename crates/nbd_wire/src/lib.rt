@@ -9,10 +9,10 @@ mod message;
 mod stream;
 
 pub use command::{BLOCK_STATUS, CommandFlags, DISCONNECT, FLUSH, READ, TRIM, WRITE, WRITE_ZEROES};
-pub use error::{BadMagic, Errno, WireFault};
+pub use error::{BadMagic, Errno, RequestFault, WireFault};
 pub use head::{RequestHead, decode_request, encode_request, encode_simple};
 pub use laws::{any_pieces, one_head, one_reading, one_request};
-pub use message::{Answer, Reply, Request, Run, SessionFlags};
+pub use message::{Answer, ReadBytes, Reply, Request, Run, SessionFlags, States};
 pub use stream::{MAX_PAYLOAD, MAX_THROWN_AWAY, StreamReader};
 
 #[cfg(test)]

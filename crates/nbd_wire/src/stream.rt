@@ -1,16 +1,15 @@
-ghost use Rattle.std.specs.Prelude.{◌≡◌, ◌+◌, ◌-◌, ◌<◌, ◌≤◌, ℕ, List, [], ◌∷◌, ◌++◌, length, take, All, IfOk, IfErr, IsOkAnd, vec_len, vec_capacity};
+ghost use Rattle.std.specs.Prelude.{◌≡◌, ◌+◌, ◌-◌, ◌<◌, ◌≤◌, ℕ, List, [], ◌∷◌, ◌++◌, Some, length, take, IfOk, IfErr, IsOkAnd, vec_len, vec_capacity};
 ghost use Rattle.nbd_wire.specs.Head.{head_bytes};
-ghost use Rattle.nbd_wire.specs.Request.{Message, message, messages, HasItsData};
-ghost use Rattle.nbd_wire.specs.Stream.{Kept, in_head, failed, IsKeptWrite, IsDiscardedWrite, Reads, ReadsOn, answered, held, missing_len};
-ghost use Rattle.nbd_wire.specs.State.{kept, IsState, wanted_of, found, Advances, IsGoing, IsQuiet};
+ghost use Rattle.nbd_wire.specs.Request.{handed_len};
+ghost use Rattle.nbd_wire.specs.Stream.{in_head, failed, reading, fresh, IsKeptWrite, IsDiscardedWrite, Reads, Feeds, answered, end_of, held, missing_len};
+ghost use Rattle.nbd_wire.specs.State.{kept, reader_of, IsState, IsReader, wanted_of, found, Advances, AdvancesTo, IsGoing, IsQuiet};
 
 use crate::command::WRITE;
-use crate::error::WireFault;
+use crate::error::{RequestFault, WireFault};
 use crate::head::{RequestHead, decode_request};
 use crate::message::Request;
-use std::alloc::Global;
+use std::alloc::{AllocError, Global};
 use std::marker::Model;
-use std::mem;
 
 /// The most bytes of data that a WRITE is handed on with: 1 MiB.
 pub const MAX_PAYLOAD: u32 = 1_048_576;
@@ -24,19 +23,20 @@ const HEAD_LEN: usize = 28;
 #[derive(Drop)]
 pub struct StreamReader {
     alloc: Global,
-    state: State,
+    // None is left where memory ran out.
+    state: Option<State>,
 }
 
 impl Model for StreamReader {
-    ghost use Rattle.nbd_wire.specs.Stream.{Kept};
+    ghost use Rattle.nbd_wire.specs.Stream.{Reader};
 
-    ghost Value = { Kept };
+    ghost Value = { Reader };
 
-    ghost use Rattle.nbd_wire.specs.State.{kept, IsState};
+    ghost use Rattle.nbd_wire.specs.State.{reader_of, IsReader};
 
-    ghost view = { λ reader. kept reader.state };
+    ghost view = { λ reader. reader_of reader.state };
 
-    ghost invariant = { λ reader. IsState reader.state };
+    ghost invariant = { λ reader. IsReader reader.state };
 }
 
 // What was read of the request at hand.
@@ -49,17 +49,17 @@ enum State {
     // The head of a WRITE whose data aren't kept, and how many of them are still to come.
     Discard { head: RequestHead, missing: u32 },
     // Nothing is read any more.
-    Failed(WireFault),
+    Failed(RequestFault),
 }
 
 impl StreamReader {
     /// A reader at the beginning of a stream.
     pub fn new(alloc: Global) -> StreamReader
-        ensures { result ≡ in_head [] }
+        ensures { result ≡ fresh }
     {
         StreamReader {
             alloc,
-            state: at_start(),
+            state: Some(at_start()),
         }
     }
 
@@ -71,13 +71,12 @@ impl StreamReader {
     /// stands behind the requests that came before it, and then for good: what memory ran out for is lost.
     pub fn feed(&mut self, piece: &[u8]) -> Result<Vec<Request>, WireFault>
         // However the stream was cut, these are its next requests, up to its first fault.
-        ensures stream { ReadsOn self.old piece.now (answered result) self.new }
-        ensures each { IfOk result (λ requests. All HasItsData requests.items) }
+        ensures stream { Feeds self.old piece.now (answered result) self.new }
 
         // A fault comes where there is no request before it, and then always.
-        ensures fault { IfErr result (λ fault. self.new ≡ failed fault) }
-        ensures again { (fault : WireFault) → self.old ≡ failed fault → result ≡ Err fault }
-        ensures first { (fault : WireFault) → self.new ≡ failed fault → IfOk result (λ requests. 0 < vec_len requests) }
+        ensures fault { IfErr result (λ fault. end_of self.new ≡ Some fault) }
+        ensures again { (fault : WireFault) → end_of self.old ≡ Some fault → result ≡ Err fault }
+        ensures first { (fault : WireFault) → end_of self.new ≡ Some fault → IfOk result (λ requests. 0 < vec_len requests) }
 
         // A piece that ends neither a head nor data is taken with no memory.
         ensures part { length piece.now < missing_len self.old → IsOkAnd result (λ requests. requests.items ≡ []) }
@@ -85,11 +84,10 @@ impl StreamReader {
         // Whatever is announced, no more than this is held.
         ensures held { held self.new < 28 + MAX_PAYLOAD }
     {
-        if let State::Failed(fault) = self.state {
-            return Err(fault);
-        }
-        // The state is moved out and comes back; what stands in its place is never seen.
-        let state = mem::replace(&mut self.state, State::Failed(WireFault::NoMemory));
+        // The state is moved out, and comes back but where memory runs out.
+        let Some(state) = self.state.take() else {
+            return Err(WireFault::NoMemory);
+        };
         let (state, requests) = read_all(self.alloc, state, piece);
         self.state = state;
         answer(&self.state, requests)
@@ -107,42 +105,53 @@ fn at_start() -> State
     }
 }
 
-// The requests, or the fault that no request stands before.
-fn answer(state: &State, requests: Vec<Request>) -> Result<Vec<Request>, WireFault>
-    ensures answered { answered result ≡ messages requests.items }
-    ensures fault { IfErr result (λ fault. kept state.now ≡ failed fault) }
-    ensures first { (fault : WireFault) → kept state.now ≡ failed fault → IfOk result (λ handed. 0 < vec_len handed) }
-    ensures handed { IfOk result (λ handed. handed.items ≡ requests.items) }
-    ensures going { IsGoing (kept state.now) → result ≡ Ok requests }
+// The requests, or why none is handed out.
+fn answer(state: &Option<State>, requests: Vec<Request>) -> Result<Vec<Request>, WireFault>
+    ensures answered { answered result ≡ requests.items }
+    ensures fault { IfErr result (λ fault. end_of (reader_of state.now) ≡ Some fault) }
+    ensures first { (fault : WireFault) → end_of (reader_of state.now) ≡ Some fault
+        → IfOk result (λ handed. 0 < vec_len handed) }
+    ensures none { (fault : WireFault) → end_of (reader_of state.now) ≡ Some fault → requests.items ≡ []
+        → result ≡ Err fault }
+    ensures going { IsGoing (reader_of state.now) → result ≡ Ok requests }
 {
     match state {
-        State::Failed(fault) if requests.is_empty() => Err(*fault),
+        Some(State::Failed(fault)) if requests.is_empty() => Err(WireFault::Malformed(*fault)),
+        None if requests.is_empty() => Err(WireFault::NoMemory),
         _ => Ok(requests),
     }
 }
 
-// Reads all of the piece. Behind a fault the requests are those before it.
-fn read_all(alloc: Global, state: State, piece: &[u8]) -> (State, Vec<Request>)
+// Reads all of the piece, but where memory runs out. Behind a fault the requests are those before it.
+fn read_all(alloc: Global, state: State, piece: &[u8]) -> (Option<State>, Vec<Request>)
     requires { IsState state }
-    ensures sound { IsState result.0 }
-    ensures reads { Advances (kept state) piece.now (messages result.1.items) (kept result.0) }
-    ensures part { length piece.now < missing_len (kept state) → (result.1.items ≡ []) × IsGoing (kept result.0) }
+    ensures sound { IsReader result.0 }
+    ensures reads { AdvancesTo (kept state) piece.now result.1.items (reader_of result.0) }
+    ensures part { length piece.now < missing_len (reading (kept state))
+        → (result.1.items ≡ []) × IsGoing (reader_of result.0) }
+    ensures ended { (fault : RequestFault) → kept state ≡ failed fault
+        → (result.1.items ≡ []) × (reader_of result.0 ≡ reading (failed fault)) }
 {
     let mut requests = Vec::new(alloc);
+    if let State::Failed(_) = state {
+        return (Some(state), requests);
+    }
     let mut state = state;
     let mut rest = piece;
     while !rest.is_empty() {
         let (front, behind) = rest.split_at(rest.len().min(wanted(&state)));
-        rest = behind;
-        let (next, request) = advance(alloc, state, front);
+        let Ok((next, request)) = advance(alloc, state, front) else {
+            return (None, requests);
+        };
         state = next;
         if let Some(request) = request {
             if requests.push(request).is_err() {
-                return (State::Failed(WireFault::NoMemory), requests);
+                return (None, requests);
             }
         }
+        rest = behind;
     }
-    (state, requests)
+    (Some(state), requests)
 }
 
 // How many bytes end what is being read.
@@ -160,18 +169,18 @@ fn wanted(state: &State) -> usize
 }
 
 // Takes the next bytes, and answers the request that is whole now.
-fn advance(alloc: Global, state: State, more: &[u8]) -> (State, Option<Request>)
+fn advance(alloc: Global, state: State, more: &[u8]) -> Result<(State, Option<Request>), AllocError>
     requires sound { IsState state }
     requires wanted { length more.now ≤ wanted_of state }
-    ensures sound { IsState result.0 }
-    ensures reads { Advances (kept state) more.now (found result.1) (kept result.0) }
-    ensures part { length more.now < missing_len (kept state) → IsQuiet result }
+    ensures sound { IfOk result (λ step. IsState step.0) }
+    ensures reads { IfOk result (λ step. Advances (kept state) more.now (found step.1) (kept step.0)) }
+    ensures part { length more.now < missing_len (reading (kept state)) → IsOkAnd result IsQuiet }
 {
     match state {
         State::Head { bytes, count } => take_head(alloc, bytes, count, more),
-        State::Data { head, bytes } => take_data(head, bytes, more),
-        State::Discard { head, missing } => discard(alloc, head, missing, more.len() as u32),
-        State::Failed(fault) => (State::Failed(fault), None),
+        State::Data { head, bytes } => Ok(take_data(head, bytes, more)),
+        State::Discard { head, missing } => { Ok(discard(alloc, head, missing, more.len() as u32)) }
+        State::Failed(fault) => Ok((State::Failed(fault), None)),
     }
 }
 
@@ -180,60 +189,49 @@ fn take_head(
     mut bytes: [u8; 28],
     count: usize,
     more: &[u8],
-) -> (State, Option<Request>)
+) -> Result<(State, Option<Request>), AllocError>
     requires wanted { count + length more.now ≤ 28 }
-    ensures sound { IsState result.0 }
-    ensures reads { Reads (take count bytes ++ more.now) (found result.1) (kept result.0) }
-    ensures part { count + length more.now < 28 → IsQuiet result }
+    ensures sound { IfOk result (λ step. IsState step.0) }
+    ensures reads { IfOk result (λ step. Reads (take count bytes ++ more.now) (found step.1) (kept step.0)) }
+    ensures part { count + length more.now < 28 → IsOkAnd result IsQuiet }
 {
     let end = count + more.len();
     bytes[count..end].copy_from_slice(more);
     if end < HEAD_LEN {
         let count = end;
-        return (State::Head { bytes, count }, None);
+        return Ok((State::Head { bytes, count }, None));
     }
     begin(alloc, &bytes)
 }
 
 // Decides by a head what follows it; a request with no data is whole.
-fn begin(alloc: Global, bytes: &[u8; 28]) -> (State, Option<Request>)
-    ensures sound { IsState result.0 }
-    ensures reads { Reads bytes.now (found result.1) (kept result.0) }
+fn begin(alloc: Global, bytes: &[u8; 28]) -> Result<(State, Option<Request>), AllocError>
+    ensures sound { IfOk result (λ step. IsState step.0) }
+    ensures reads { IfOk result (λ step. Reads bytes.now (found step.1) (kept step.0)) }
 {
     let Ok(head) = decode_request(bytes) else {
-        return (State::Failed(WireFault::BadMagic), None);
+        return Ok((State::Failed(RequestFault::BadMagic), None));
     };
     if head.kind != WRITE || head.length == 0 {
-        return (at_start(), Some(without_data(alloc, head)));
+        return Ok((at_start(), Some(without_data(alloc, head))));
     }
     if head.length <= MAX_PAYLOAD {
-        return (with_room(alloc, head), None);
+        // The room for all of the data.
+        let bytes = Vec::with_capacity(alloc, head.length as usize)?;
+        return Ok((State::Data { head, bytes }, None));
     }
     if head.length <= MAX_THROWN_AWAY {
         let missing = head.length;
-        return (State::Discard { head, missing }, None);
+        return Ok((State::Discard { head, missing }, None));
     }
-    (State::Failed(WireFault::TooLong), None)
+    Ok((State::Failed(RequestFault::TooLong), None))
 }
 
 fn without_data(alloc: Global, head: RequestHead) -> Request
-    ensures { message result ≡ record { head = head; bytes = [] } }
+    requires { handed_len head ≡ 0 }
+    ensures { result ≡ record { head = head; bytes = [] } }
 {
-    let bytes = Vec::new(alloc);
-    Request { head, bytes }
-}
-
-// Reserves the room for all of a WRITE's data.
-fn with_room(alloc: Global, head: RequestHead) -> State
-    requires write { IsKeptWrite head }
-    requires some { 0 < head.length }
-    ensures sound { IsState result }
-    ensures reads { Reads (head_bytes head) [] (kept result) }
-{
-    match Vec::with_capacity(alloc, head.length as usize) {
-        Ok(bytes) => State::Data { head, bytes },
-        Err(_) => State::Failed(WireFault::NoMemory),
-    }
+    Request::new(head, Vec::new(alloc))
 }
 
 fn take_data(head: RequestHead, mut bytes: Vec<u8>, more: &[u8]) -> (State, Option<Request>)
@@ -249,7 +247,7 @@ fn take_data(head: RequestHead, mut bytes: Vec<u8>, more: &[u8]) -> (State, Opti
     if bytes.len() < head.length as usize {
         return (State::Data { head, bytes }, None);
     }
-    (at_start(), Some(Request { head, bytes }))
+    (at_start(), Some(Request::new(head, bytes)))
 }
 
 // Passes over `count` bytes of data that aren't kept.

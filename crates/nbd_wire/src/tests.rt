@@ -1,7 +1,7 @@
 use crate::{
-    BLOCK_STATUS, BadMagic, CommandFlags, DISCONNECT, Errno, FLUSH, READ, Request, RequestHead,
-    StreamReader, TRIM, WRITE, WRITE_ZEROES, WireFault, decode_request, encode_request,
-    encode_simple,
+    BLOCK_STATUS, BadMagic, CommandFlags, DISCONNECT, Errno, FLUSH, READ, Request, RequestFault,
+    RequestHead, StreamReader, TRIM, WRITE, WRITE_ZEROES, WireFault, decode_request,
+    encode_request, encode_simple,
 };
 use bitflags::Flags;
 use std::alloc::{AllocError, Global};
@@ -47,10 +47,17 @@ fn feed_to(reader: &mut StreamReader, piece: &[u8], out: &mut Vec<Request>) -> R
     Ok(())
 }
 
-fn same(found: &[Request], wanted: &[Request]) -> bool {
+// A request that should be found.
+#[derive(Drop)]
+struct Wanted {
+    head: RequestHead,
+    bytes: Vec<u8>,
+}
+
+fn same(found: &[Request], wanted: &[Wanted]) -> bool {
     found.len() == wanted.len()
-        && found.iter().zip(wanted.iter()).all(|(a, b)| a.head == b.head
-            && a.bytes.as_slice() == b.bytes.as_slice())
+        && found.iter().zip(wanted.iter()).all(|(a, b)| a.head() == b.head
+            && a.bytes() == b.bytes.as_slice())
 }
 
 #[test]
@@ -120,8 +127,8 @@ fn heads_and_simple_replies(rt: HostRuntime) -> Result<(), Fail> {
     let texts = format!(in rt.alloc();
         "{}, {}, {}, {}",
         WireFault::NoMemory,
-        WireFault::BadMagic,
-        WireFault::TooLong,
+        WireFault::Malformed(RequestFault::BadMagic),
+        WireFault::Malformed(RequestFault::TooLong),
         BadMagic
     )?;
     assert_eq!(rt; texts.as_str(), "no memory, bad magic, too long, bad magic");
@@ -129,7 +136,7 @@ fn heads_and_simple_replies(rt: HostRuntime) -> Result<(), Fail> {
 }
 
 // Twelve requests, and their bytes.
-fn twelve(alloc: Global) -> Result<(Vec<Request>, Vec<u8>), AllocError> {
+fn twelve(alloc: Global) -> Result<(Vec<Wanted>, Vec<u8>), AllocError> {
     let rows: [(u16, u32, usize); 12] = [
         (WRITE, 5, 5),
         (READ, 4096, 0),
@@ -158,7 +165,7 @@ fn twelve(alloc: Global) -> Result<(Vec<Request>, Vec<u8>), AllocError> {
         };
         let bytes = vec![in alloc; (cookie % 251) as u8; sent]?;
         put(&mut stream, &head, bytes.as_slice())?;
-        requests.push(Request { head, bytes })?;
+        requests.push(Wanted { head, bytes })?;
     }
     Ok((requests, stream))
 }
@@ -238,11 +245,11 @@ fn long_data(rt: HostRuntime) -> Result<(), Fail> {
             let (end, found) = feed_long(rt.alloc(), length, cut, piece.as_slice())?;
             end?;
             let mut wanted = Vec::new(rt.alloc());
-            wanted.push(Request {
+            wanted.push(Wanted {
                 head: head(WRITE, length),
                 bytes: vec![in rt.alloc(); 7u8; kept]?,
             })?;
-            wanted.push(Request {
+            wanted.push(Wanted {
                 head: head(FLUSH, 0),
                 bytes: Vec::new(rt.alloc()),
             })?;
@@ -250,7 +257,7 @@ fn long_data(rt: HostRuntime) -> Result<(), Fail> {
         }
     }
     let (end, found) = feed_long(rt.alloc(), 33_554_433, 3, piece.as_slice())?;
-    assert_eq!(rt; end, Err(WireFault::TooLong));
+    assert_eq!(rt; end, Err(WireFault::Malformed(RequestFault::TooLong)));
     assert!(rt; found.is_empty());
     Ok(())
 }
@@ -263,13 +270,14 @@ fn requests_before_a_fault(rt: HostRuntime) -> Result<(), Fail> {
     let mut reader = StreamReader::new(rt.alloc());
     let mut found = Vec::new(rt.alloc());
     for request in reader.feed(stream.as_slice())? {
-        found.push(request)?;
+        let (head, bytes) = request.try_clone(rt.alloc())?.into_parts();
+        found.push(Request::new(head, bytes))?;
     }
     for piece in [b"".as_slice(), b"".as_slice(), stream.as_slice()] {
         match reader.feed(piece) {
             Ok(_) => assert!(rt; false),
             Err(WireFault::NoMemory) => return Err(Fail::from(WireFault::NoMemory)),
-            Err(fault) => assert_eq!(rt; fault, WireFault::BadMagic),
+            Err(fault) => { assert_eq!(rt; fault, WireFault::Malformed(RequestFault::BadMagic)) }
         }
     }
     assert!(rt; same(found.as_slice(), wanted.as_slice()));

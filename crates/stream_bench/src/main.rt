@@ -55,7 +55,7 @@ fn read(alloc: Global, stream: &[u8], piece: usize) -> Result<Totals> {
     for part in stream.chunks(piece.max(1)) {
         for request in reader.feed(part)? {
             totals.requests = totals.requests.wrapping_add(1);
-            totals.bytes = totals.bytes.wrapping_add(request.bytes.len() as u64);
+            totals.bytes = totals.bytes.wrapping_add(request.bytes().len() as u64);
         }
     }
     Ok(totals)
