@@ -14,8 +14,8 @@ use Rattle.image_model.specs.Change.{AreChanges, change_of}
 use Rattle.image_model.specs.Image.{Image, apply_all}
 use Rattle.journal.specs.Group.{Numbered}
 use Rattle.order_book.specs.Order.{OrderState, with_group}
-use Rattle.request_core.specs.Life.{IsAppended, IsDiskOf, StandsAfter, image_after}
-use Rattle.request_core.specs.Parts.{IsKeeperOf, IsOrderOf, stage_of}
+use Rattle.request_core.specs.Steps.{IsAppended}
+use Rattle.request_core.specs.Parts.{IsDiskOf, IsKeeperOf, IsOrderOf, StandsAfter, image_after}
 use Rattle.request_core.specs.Storing.{IsKept, event_of, hand_after, order_after}
 use Rattle.request_core.proofs.Lives.{either_stands, group_takes, image_grows, number_grows}
 use Rattle.request_core.proofs.Stored.{goes_failed, goes_full, goes_none, goes_on_to, kept_back, kept_faulted, kept_held, kept_starved, kept_stored, not_true_is}
@@ -30,23 +30,23 @@ use Rattle.world_law.specs.Law.{IsWithin}
 module _ {D : Type 0} (state : D → State) (faults extent : D → ℕ) (honest : D → Type 0) (sound : (disk : D) → honest disk → IsSound (extent disk) (state disk)) where
   -- nothing was asked of the device
   same_disk : (world next : World) (event : Event) (order : OrderState) (group : Option Numbered) (old new : KeeperState D) → new ≡ old
-      → ((image : Image) → IsDiskOf (stage_of world) image old (state old.disk) → IsDiskOf (stage_of next) image old (state old.disk))
+      → (IsDiskOf world.stage old (state old.disk) → IsDiskOf next.stage old (state old.disk))
       → IsKept world next event order group old (faults old.disk)
       → IsAppended world next event order group old new (faults new.disk) (honest old.disk) (state old.disk) (state new.disk)
   same_disk world next event order group old new same here kept =
       subst (λ (k : KeeperState D). IsAppended world next event order group old k (faults k.disk) (honest old.disk) (state old.disk) (state k.disk)) (sym same)
-      (record { kept = kept; disk = λ is_honest image disk. (here image disk, begins (sound old.disk is_honest) disk.leaves) })
+      (record { kept = kept; disk = λ is_honest disk. (here disk, begins (sound old.disk is_honest) disk.leaves) })
 
-  pub appended_none : (world : World) (order : OrderState) (old : KeeperState D) → IsOrderOf (stage_of world) order None → IsKeeperOf (stage_of world) old (faults old.disk)
+  pub appended_none : (world : World) (order : OrderState) (old : KeeperState D) → IsOrderOf world.stage order None → IsKeeperOf world.stage old (faults old.disk)
       → IsAppended world (append Fine world) Held order None old old (faults old.disk) (honest old.disk) (state old.disk) (state old.disk)
   appended_none world order old of kept =
       goes_none world old (faults old.disk) kept order (λ next. IsAppended world next Held order None old old (faults old.disk) (honest old.disk) (state old.disk) (state old.disk)) of
-      (same_disk world (held world) Held order None old old refl (λ image disk. disk) (kept_held world old (faults old.disk) kept order None of))
+      (same_disk world (held world) Held order None old old refl (λ disk. disk) (kept_held world old (faults old.disk) kept order None of))
 
   module _ (world : World) (order : OrderState) (group : Numbered) (old : KeeperState D) (within : IsWithin world)
-      (of : IsOrderOf (stage_of world) order (Some group)) (kept : IsKeeperOf (stage_of world) old (faults old.disk)) where
-    put_back_here : (event : Event) (image : Image) → IsDiskOf (stage_of world) image old (state old.disk) → IsDiskOf (stage_of (logged (put_back world) event)) image old (state old.disk)
-    put_back_here event image disk = record { keeps = disk.keeps; leaves = disk.leaves }
+      (of : IsOrderOf world.stage order (Some group)) (kept : IsKeeperOf world.stage old (faults old.disk)) where
+    put_back_here : (event : Event) → IsDiskOf world.stage old (state old.disk) → IsDiskOf (logged (put_back world) event).stage old (state old.disk)
+    put_back_here event disk = record { keeps = disk.keeps; leaves = disk.leaves }
 
     pub appended_failed : (new : KeeperState D) → old.failed ≡ true → new ≡ old
         → IsAppended world (append Fine world) (Failed FailedBefore) (with_group order group) None old new (faults new.disk) (honest old.disk) (state old.disk) (state new.disk)
@@ -69,19 +69,19 @@ module _ {D : Type 0} (state : D → State) (faults extent : D → ℕ) (honest 
     appended_starved new failed fit same =
         goes_on_to world old (faults old.disk) kept order group of Starved
         (λ next. IsAppended world next (Failed NoMemory) order (Some group) old new (faults new.disk) (honest old.disk) (state old.disk) (state new.disk)) failed fit
-        (same_disk world (starved world) (Failed NoMemory) order (Some group) old new same (λ image disk. disk)
+        (same_disk world (starved world) (Failed NoMemory) order (Some group) old new same (λ disk. disk)
         (kept_starved world old (faults old.disk) kept order (Some group) of))
 
     -- every crash while the group was stored leaves what reaches all that was stored before
-    chain : (new : KeeperState D) → IsOrderOf (stage_of world) order (Some group)
+    chain : (new : KeeperState D) → IsOrderOf world.stage order (Some group)
         → ((image : Image) (number : ℕ) → Keeps old (state old.disk) image number → AreChanges old.geometry.blocks (map change_of group.commands)
         → LeavesOnly (state old.disk) (state new.disk) (λ content. StandsFor content image number
         ⊎ StandsFor content (apply_all (map change_of group.commands) image) (number + length group.commands)))
-        → old.failed ≡ false → (image : Image) → IsDiskOf (stage_of world) image old (state old.disk)
-        → LeavesOnly (state old.disk) (state new.disk) (StandsAfter world.order image world.setting.opening world.stored)
-    chain new of any failed image disk =
-        weakens (any (image_after world.order world.stored image) (world.setting.opening + world.stored) (disk.keeps (sym kept.failed ∙ failed)) (group_takes (stage_of world) order group of within.sealed old (faults old.disk) kept))
-        (either_stands (stage_of world) order group of within.sealed image)
+        → old.failed ≡ false → IsDiskOf world.stage old (state old.disk)
+        → LeavesOnly (state old.disk) (state new.disk) (StandsAfter world.stage.order world.stage.setting.image world.stage.setting.opening world.stage.stored)
+    chain new of any failed disk =
+        weakens (any (image_after world.stage.order world.stage.stored world.stage.setting.image) (world.stage.setting.opening + world.stage.stored) (disk.keeps (sym kept.failed ∙ failed)) (group_takes world.stage order group of within.sealed old (faults old.disk) kept))
+        (either_stands world.stage order group of within.sealed)
 
     pub appended_faulted : (new : KeeperState D) → old.failed ≡ false → end_after old group ≤ old.geometry.area → new ≡ record old { disk = new.disk; failed = true }
         → faults new.disk ≡ counted (faults old.disk) → (honest old.disk → honest new.disk)
@@ -96,8 +96,8 @@ module _ {D : Type 0} (state : D → State) (faults extent : D → ℕ) (honest 
           kept = subst (λ (k : KeeperState D). IsKept world (logged (faulted world) (Failed DeviceFault)) (Failed DeviceFault) (record (with_group order group) { stopped = true }) None k (faults new.disk)) (sym same)
               (subst (λ (n : ℕ). IsKept world (logged (faulted world) (Failed DeviceFault)) (Failed DeviceFault) (record (with_group order group) { stopped = true }) None (record old { disk = new.disk; failed = true }) n) (sym level)
               (kept_faulted world old (faults old.disk) kept order group of new.disk));
-          disk = λ is_honest image disk.
-              let leaves = chain new of (any is_honest) failed image disk in
+          disk = λ is_honest disk.
+              let leaves = chain new of (any is_honest) failed disk in
               (record { keeps = λ works. absurd (works_unlike works); leaves = λ content left. ends leaves (sound new.disk (stays_honest is_honest)) content left }, leaves);
         })
       where
@@ -119,22 +119,22 @@ module _ {D : Type 0} (state : D → State) (faults extent : D → ℕ) (honest 
           kept = subst (λ (k : KeeperState D). IsKept world (stored_more Fine world) Took order None k (faults new.disk)) (sym same)
               (subst (λ (n : ℕ). IsKept world (stored_more Fine world) Took order None (grown_by old group new.disk) n) (sym level)
               (kept_stored world old (faults old.disk) kept order group of new.disk));
-          disk = λ is_honest image disk.
+          disk = λ is_honest disk.
               let works = disk.keeps (sym kept.failed ∙ failed) in
-              let takes = group_takes (stage_of world) order group of within.sealed old (faults old.disk) kept in
-              let keeps = subst (λ (n : ℕ). Keeps new (state new.disk) (image_after world.order world.sealed image) n) (number_grows (stage_of world) order group of within.sealed)
-              (subst (λ (i : Image). Keeps new (state new.disk) i ((world.setting.opening + world.stored) + length group.commands)) (image_grows (stage_of world) order group of within.sealed image)
-              (stored is_honest (image_after world.order world.stored image) (world.setting.opening + world.stored) works takes)) in (
+              let takes = group_takes world.stage order group of within.sealed old (faults old.disk) kept in
+              let keeps = subst (λ (n : ℕ). Keeps new (state new.disk) (image_after world.stage.order world.stage.sealed world.stage.setting.image) n) (number_grows world.stage order group of within.sealed)
+              (subst (λ (i : Image). Keeps new (state new.disk) i ((world.stage.setting.opening + world.stage.stored) + length group.commands)) (image_grows world.stage order group of within.sealed world.stage.setting.image)
+              (stored is_honest (image_after world.stage.order world.stage.stored world.stage.setting.image) (world.stage.setting.opening + world.stage.stored) works takes)) in (
                 record {
                   keeps = λ still. keeps;
                   leaves = λ content left. record {
-                    count = world.sealed;
+                    count = world.stage.sealed;
                     reaches = omega arith;
                     within = within.sealed;
-                    stands = kept_content new (state new.disk) (image_after world.order world.sealed image) (world.setting.opening + world.sealed) content keeps left;
+                    stands = kept_content new (state new.disk) (image_after world.stage.order world.stage.sealed world.stage.setting.image) (world.stage.setting.opening + world.stage.sealed) content keeps left;
                   };
                 },
-                chain new of (any is_honest) failed image disk,
+                chain new of (any is_honest) failed disk,
               );
         })
 

@@ -10,9 +10,9 @@ use Rattle.disk_model.specs.Disk.{State}
 use Rattle.image_model.specs.Image.{Image}
 use Rattle.nbd_wire.specs.declared.message.SessionFlags.{SessionFlags}
 use Rattle.order_book.specs.Order.{new_order}
-use Rattle.request_core.specs.Bench.{new_bench}
-use Rattle.request_core.specs.Life.{IsDiskOf, first_world}
-use Rattle.request_core.specs.Parts.{IsWorldOf, stage_of}
+use Rattle.request_core.specs.Bench.{new_connections}
+use Rattle.request_core.specs.Life.{first_world}
+use Rattle.request_core.specs.Parts.{IsExportOf}
 use Rattle.world.specs.declared.connection.Connection.TheVariants.{Idle, Closed}
 use Rattle.world.specs.declared.step.Mode.{Mode}
 use Rattle.world.specs.Run.{Fresh}
@@ -27,9 +27,10 @@ idle_here count connection = by_case (cases_lt connection count)
         let long = length-replicate count Idle in
         get_or-eq_default (replicate count Idle) Closed (omega (arith, long, outside)) ∙ sym (ap (λ (b : Bool). if b then Idle else Closed) (le-ltb connection count outside))
 
-pub fresh_parts : {D : Type 0} (keeper : KeeperState D) (failures frames connections : ℕ) (flags : SessionFlags) (mode : Mode) → keeper.failed ≡ false → keeper.count < 18446744073709551616
-    → IsWorldOf (first_world keeper failures frames connections flags mode) (new_order keeper.count frames keeper.geometry.area) keeper failures (new_bench connections flags mode)
-fresh_parts keeper failures frames connections flags mode works fits = record {
+pub fresh_parts : {D : Type 0} (keeper : KeeperState D) (found : Image) (failures frames connections : ℕ) (flags : SessionFlags) (mode : Mode) (honest : Type 0) (state : State)
+    → keeper.failed ≡ false → keeper.count < 18446744073709551616 → (honest → Keeps keeper state found keeper.count)
+    → IsExportOf (first_world keeper found failures frames connections flags mode) (new_order keeper.count frames keeper.geometry.area) keeper failures (new_connections connections flags mode) honest state
+fresh_parts keeper found failures frames connections flags mode honest state works fits keeps = record {
   of_order = record {
     opening = refl;
     durable = omega arith;
@@ -55,21 +56,20 @@ fresh_parts keeper failures frames connections flags mode works fits = record {
     faults = refl;
     takes = tt;
   };
-  of_bench = record { flags = refl; mode = refl; connections = idle_here connections; log = refl };
-  reached = Fresh _ _ _;
-}
-
-pub fresh_disk : {D : Type 0} (keeper : KeeperState D) (state : State) (failures frames connections : ℕ) (flags : SessionFlags) (mode : Mode) (image : Image) → Keeps keeper state image keeper.count
-    → IsDiskOf (stage_of (first_world keeper failures frames connections flags mode)) image keeper state
-fresh_disk keeper state failures frames connections flags mode image keeps = record {
-  keeps = λ works. here;
-  leaves = λ content left. record {
-    count = 0;
-    reaches = omega arith;
-    within = omega arith;
-    stands = kept_content keeper state image (keeper.count + 0) content here left;
+  of_states = idle_here connections;
+  flags = refl;
+  mode = refl;
+  reached = Fresh _ _;
+  disk = λ is_honest. record {
+    keeps = λ going. here (keeps is_honest);
+    leaves = λ content left. record {
+      count = 0;
+      reaches = omega arith;
+      within = omega arith;
+      stands = kept_content keeper state found (keeper.count + 0) content (here (keeps is_honest)) left;
+    };
   };
 }
   where
-    here : Keeps keeper state image (keeper.count + 0)
-    here = subst (λ (n : ℕ). Keeps keeper state image n) (omega arith) keeps
+    here : Keeps keeper state found keeper.count → Keeps keeper state found (keeper.count + 0)
+    here keeps = subst (λ (n : ℕ). Keeps keeper state found n) (omega arith) keeps

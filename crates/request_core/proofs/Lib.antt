@@ -1,9 +1,9 @@
 pub mod Appended
-pub mod Connections
 pub mod Fresh
 pub mod Lives
 pub mod Orders
 pub mod Performed
 pub mod Runs
-pub mod Served
+pub mod Serves
 pub mod Stored
+pub mod Talks

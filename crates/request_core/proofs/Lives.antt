@@ -12,8 +12,8 @@ use Rattle.image_model.specs.Image.{Image, apply, apply_all}
 use Rattle.image_model.specs.declared.geometry.Geometry.{Geometry}
 use Rattle.journal.specs.Group.{Numbered}
 use Rattle.order_book.specs.Order.{OrderState}
-use Rattle.request_core.specs.Life.{IsDiskOf, StandsAfter, image_after}
-use Rattle.request_core.specs.Parts.{Stage, IsKeeperOf, IsOrderOf}
+use Rattle.request_core.specs.Parts.{IsDiskOf, IsKeeperOf, IsOrderOf, StandsAfter, image_after}
+use Rattle.world.specs.World.{Stage}
 use Rattle.request_core.proofs.Orders.{commands_length}
 
 -- commands one after another
@@ -56,19 +56,13 @@ stands_less order image opening least less content fewer stands = record {
 }
 
 -- the device stays that of a world whose order grows
-pub disk_grows : {D : Type 0} (stage : Stage) (more : List Change) (sealed durable : ℕ) (image : Image) (keeper : KeeperState D) (state : State) → stage.stored ≤ length stage.order
-    → IsDiskOf stage image keeper state → IsDiskOf (record stage { order = stage.order ++ more; sealed = sealed; durable = durable }) image keeper state
-disk_grows stage more sealed durable image keeper state within disk = record {
-  keeps = λ works. subst (λ (commands : List Change). Keeps keeper state (apply_all commands image) (stage.setting.opening + stage.stored))
+pub disk_grows : {D : Type 0} (stage : Stage) (more : List Change) (sealed durable : ℕ) (keeper : KeeperState D) (state : State) → stage.stored ≤ length stage.order
+    → IsDiskOf stage keeper state → IsDiskOf (record stage { order = stage.order ++ more; sealed = sealed; durable = durable }) keeper state
+disk_grows stage more sealed durable keeper state within disk = record {
+  keeps = λ works. subst (λ (commands : List Change). Keeps keeper state (apply_all commands stage.setting.image) (stage.setting.opening + stage.stored))
       (sym (take-append-le stage.stored stage.order more within)) (disk.keeps works);
-  leaves = λ content left. stands_more stage.order more image stage.setting.opening stage.stored content (disk.leaves content left);
+  leaves = λ content left. stands_more stage.order more stage.setting.image stage.setting.opening stage.stored content (disk.leaves content left);
 }
-
--- a device that no call was made of
-pub stays : {extent : ℕ} (stage : Stage) (image : Image) (state : State) → IsSound extent state
-    → ((content : List ℕ) → MayLeave state content → StandsAfter stage.order image stage.setting.opening stage.stored content)
-    → LeavesOnly state state (StandsAfter stage.order image stage.setting.opening stage.stored)
-stays stage image state sound leaves = begins sound leaves
 
 module _ (stage : Stage) (order : OrderState) (group : Numbered) (of : IsOrderOf stage order (Some group)) (within : stage.sealed ≤ length stage.order) where
   -- the order up to the end of the group in hand
@@ -96,20 +90,20 @@ module _ (stage : Stage) (order : OrderState) (group : Numbered) (of : IsOrderOf
       (all_behind _ (take stage.stored stage.order) (drop stage.stored stage.order) (subst (AllByRecursion _) (sym (take-append-drop stage.stored stage.order)) kept.takes))))
 
   -- what a crash leaves while the group is stored: the image without or with it
-  pub either_stands : (image : Image) (content : List ℕ)
-      → StandsFor content (image_after stage.order stage.stored image) (stage.setting.opening + stage.stored)
-      ⊎ StandsFor content (apply_all (map change_of group.commands) (image_after stage.order stage.stored image)) ((stage.setting.opening + stage.stored) + length group.commands)
-      → StandsAfter stage.order image stage.setting.opening stage.stored content
-  either_stands image content (inl without) = record {
+  pub either_stands : (content : List ℕ)
+      → StandsFor content (image_after stage.order stage.stored stage.setting.image) (stage.setting.opening + stage.stored)
+      ⊎ StandsFor content (apply_all (map change_of group.commands) (image_after stage.order stage.stored stage.setting.image)) ((stage.setting.opening + stage.stored) + length group.commands)
+      → StandsAfter stage.order stage.setting.image stage.setting.opening stage.stored content
+  either_stands content (inl without) = record {
     count = stage.stored;
     reaches = omega arith;
     within = let hand = of.hand in omega (arith, hand, within);
     stands = without;
   }
-  either_stands image content (inr whole) = record {
+  either_stands content (inr whole) = record {
     count = stage.sealed;
     reaches = let hand = of.hand in omega (arith, hand);
     within = within;
-    stands = subst (λ (n : ℕ). StandsFor content (image_after stage.order stage.sealed image) n) number_grows
-        (subst (λ (i : Image). StandsFor content i ((stage.setting.opening + stage.stored) + length group.commands)) (image_grows image) whole);
+    stands = subst (λ (n : ℕ). StandsFor content (image_after stage.order stage.sealed stage.setting.image) n) number_grows
+        (subst (λ (i : Image). StandsFor content i ((stage.setting.opening + stage.stored) + length group.commands)) (image_grows stage.setting.image) whole);
   }

@@ -14,7 +14,8 @@ use Rattle.journal.specs.Group.{Numbered}
 use Rattle.order_book.specs.Blocks.{blocks_from, dirty_after, has_frames}
 use Rattle.order_book.specs.Order.{OrderState, Seals, body_limit, with_command, with_durable, with_group}
 use Rattle.order_book.specs.Order as book
-use Rattle.request_core.specs.Parts.{Stage, IsOrderOf, commands_in}
+use Rattle.world.specs.World.{Stage}
+use Rattle.request_core.specs.Parts.{IsOrderOf, commands_in}
 use Rattle.world.specs.Room.{body_bytes, bodies_bytes, dirty_blocks, frames_suffice, longest, touched}
 
 -- a command and its change take as many bytes, touch the same blocks and want the same frames

@@ -4,11 +4,10 @@ use Rattle.checkpoint.specs.Keeper.{KeeperState}
 use Rattle.disk_model.specs.Disk.{State, IsSound}
 use Rattle.disk_model.proofs.Moments.{begins}
 use Rattle.image_model.specs.Change.{Change, AreChanges}
-use Rattle.image_model.specs.Image.{Image}
 use Rattle.order_book.specs.Order.{OrderState}
-use Rattle.request_core.specs.Bench.{BenchState}
-use Rattle.request_core.specs.Life.{IsAppended, IsDiskOf, IsPerformed}
-use Rattle.request_core.specs.Parts.{Stage, AreConnectionsOf, IsKeeperOf, IsOrderOf, stage_of}
+use Rattle.request_core.specs.Bench.{ConnectionsState}
+use Rattle.request_core.specs.Steps.{IsAppended, IsPerformed}
+use Rattle.request_core.specs.Parts.{AreConnectionsOf, IsDiskOf, IsKeeperOf, IsOrderOf}
 use Rattle.request_core.specs.Serving.{IsTalked, with_commands}
 use Rattle.request_core.specs.Storing.{IsKept}
 use Rattle.request_core.proofs.Lives.{all_both, disk_grows}
@@ -17,7 +16,7 @@ use Rattle.world.specs.declared.event.Event.{Event}
 use Rattle.world.specs.Serve.{Luck, Fine, Starved, Faulted}
 use Rattle.world.specs.Step.{after_step, publish, seal, sealed_more}
 use Rattle.world.specs.declared.step.Step.{Step}
-use Rattle.world.specs.World.{World}
+use Rattle.world.specs.World.{World, Stage}
 use Rattle.world_law.specs.Law.{IsWithin}
 
 -- what holds of both sides of a choice holds of the choice
@@ -39,58 +38,58 @@ keeper_grows stage commands keeper failures takes of = record {
 
 module _ {D : Type 0} (extent : ℕ) (honest : Type 0) (state : State) (sound : honest → IsSound extent state) (world : World) (keeper : KeeperState D) (failures : ℕ) (within : IsWithin world) where
   -- a step that doesn't call the device
-  without_device : (next : World) (event : Event) (order : OrderState) (bench : BenchState) → AreConnectionsOf next bench.connections → next.log ≡ world.log ++ event ∷ []
-      → IsOrderOf (stage_of next) order bench.group → IsKeeperOf (stage_of next) keeper failures
-      → ((image : Image) → IsDiskOf (stage_of world) image keeper state → IsDiskOf (stage_of next) image keeper state)
-      → IsPerformed world next event order bench keeper keeper failures honest state state
-  without_device next event order bench connections log of_order of_keeper here = record {
-    of_connections = connections;
+  without_device : (next : World) (event : Event) (order : OrderState) (connections : ConnectionsState) → AreConnectionsOf next connections.states → next.log ≡ world.log ++ event ∷ []
+      → IsOrderOf next.stage order connections.group → IsKeeperOf next.stage keeper failures
+      → (IsDiskOf world.stage keeper state → IsDiskOf next.stage keeper state)
+      → IsPerformed world next event order connections keeper keeper failures honest state state
+  without_device next event order connections states log of_order of_keeper here = record {
+    of_states = states;
     log = log;
     of_order = of_order;
     of_keeper = of_keeper;
-    disk = λ is_honest image disk. (here image disk, begins (sound is_honest) disk.leaves);
+    disk = λ is_honest disk. (here disk, begins (sound is_honest) disk.leaves);
   }
 
-  pub performed_talked : (next : World) (event : Event) (order : OrderState) (bench : BenchState) → IsKeeperOf (stage_of world) keeper failures
-      → IsTalked world next bench.connections event order bench.group → IsPerformed world next event order bench keeper keeper failures honest state state
-  performed_talked next event order bench of_keeper talked =
+  pub performed_talked : (next : World) (event : Event) (order : OrderState) (connections : ConnectionsState) → IsKeeperOf world.stage keeper failures
+      → IsTalked world next connections.states event order connections.group → IsPerformed world next event order connections keeper keeper failures honest state state
+  performed_talked next event order connections of_keeper talked =
       let grown = talked.grown in
-      without_device next event order bench talked.of_connections talked.log talked.of_order
-      (subst (λ (s : Stage). IsKeeperOf s keeper failures) (sym grown.is) (keeper_grows (stage_of world) grown.commands keeper failures grown.takes of_keeper))
-      (λ image disk. subst (λ (s : Stage). IsDiskOf s image keeper state) (sym grown.is)
+      without_device next event order connections talked.of_connections talked.log talked.of_order
+      (subst (λ (s : Stage). IsKeeperOf s keeper failures) (sym grown.is) (keeper_grows world.stage grown.commands keeper failures grown.takes of_keeper))
+      (λ disk. subst (λ (s : Stage). IsDiskOf s keeper state) (sym grown.is)
       (let stored = within.stored in let sealed = within.sealed in
-      disk_grows (stage_of world) grown.commands world.sealed world.durable image keeper state (omega (arith, stored, sealed)) disk))
+      disk_grows world.stage grown.commands world.stage.sealed world.stage.durable keeper state (omega (arith, stored, sealed)) disk))
 
   kept_connections : (next : World) (connections : List Connection) → next.connections ≡ world.connections → AreConnectionsOf world connections → AreConnectionsOf next connections
   kept_connections next connections same are = λ c. are c ∙ sym (ap (λ (f : ℕ → Connection). f c) same)
 
-  pub performed_kept : (next : World) (event : Event) (order : OrderState) (bench : BenchState) → AreConnectionsOf world bench.connections
-      → ((image : Image) → IsDiskOf (stage_of world) image keeper state → IsDiskOf (stage_of next) image keeper state)
-      → IsKept world next event order bench.group keeper failures → IsPerformed world next event order bench keeper keeper failures honest state state
-  performed_kept next event order bench are here kept =
-      without_device next event order bench (kept_connections next bench.connections kept.connections are) kept.log kept.of_order kept.of_keeper here
+  pub performed_kept : (next : World) (event : Event) (order : OrderState) (connections : ConnectionsState) → AreConnectionsOf world connections.states
+      → (IsDiskOf world.stage keeper state → IsDiskOf next.stage keeper state)
+      → IsKept world next event order connections.group keeper failures → IsPerformed world next event order connections keeper keeper failures honest state state
+  performed_kept next event order connections are here kept =
+      without_device next event order connections (kept_connections next connections.states kept.connections are) kept.log kept.of_order kept.of_keeper here
 
-  numbers_here : (sealed durable : ℕ) (image : Image) → IsDiskOf (stage_of world) image keeper state
-      → IsDiskOf (record (stage_of world) { sealed = sealed; durable = durable }) image keeper state
-  numbers_here sealed durable image disk = record { keeps = disk.keeps; leaves = disk.leaves }
+  numbers_here : (sealed durable : ℕ) → IsDiskOf world.stage keeper state
+      → IsDiskOf (record world.stage { sealed = sealed; durable = durable }) keeper state
+  numbers_here sealed durable disk = record { keeps = disk.keeps; leaves = disk.leaves }
 
-  pub disk_seals : (luck : Luck) (image : Image) → IsDiskOf (stage_of world) image keeper state → IsDiskOf (stage_of (seal luck world)) image keeper state
-  disk_seals luck image disk = of_either (λ next. IsDiskOf (stage_of next) image keeper state) (nat_lt world.sealed (length world.order) && (world.sealed == world.durable)) _ _ (by_luck luck) disk
+  pub disk_seals : (luck : Luck) → IsDiskOf world.stage keeper state → IsDiskOf (seal luck world).stage keeper state
+  disk_seals luck disk = of_either (λ (next : World). IsDiskOf next.stage keeper state) (nat_lt world.stage.sealed (length world.stage.order) && (world.stage.sealed == world.stage.durable)) _ _ (by_luck luck) disk
     where
-      by_luck : (luck : Luck) → IsDiskOf (stage_of (sealed_more luck world)) image keeper state
+      by_luck : (luck : Luck) → IsDiskOf (sealed_more luck world).stage keeper state
       by_luck Starved = disk
-      by_luck Fine = numbers_here _ _ image disk
-      by_luck Faulted = numbers_here _ _ image disk
+      by_luck Fine = numbers_here _ _ disk
+      by_luck Faulted = numbers_here _ _ disk
 
-  pub disk_publishes : (image : Image) → IsDiskOf (stage_of world) image keeper state → IsDiskOf (stage_of (publish world)) image keeper state
-  disk_publishes image disk = of_either (λ next. IsDiskOf (stage_of next) image keeper state) (nat_lt world.durable world.stored) _ _ (numbers_here _ _ image disk) disk
+  pub disk_publishes : IsDiskOf world.stage keeper state → IsDiskOf (publish world).stage keeper state
+  disk_publishes disk = of_either (λ (next : World). IsDiskOf next.stage keeper state) (nat_lt world.stage.durable world.stage.stored) _ _ (numbers_here _ _ disk) disk
 
 -- a group that was appended, or wasn't
-pub performed_appended : {D : Type 0} (honest : Type 0) (before after : State) (world next : World) (event : Event) (order : OrderState) (bench : BenchState) (old new : KeeperState D) (failures : ℕ)
-    → AreConnectionsOf world bench.connections → IsAppended world next event order bench.group old new failures honest before after
-    → IsPerformed world next event order bench old new failures honest before after
-performed_appended honest before after world next event order bench old new failures are appended = record {
-  of_connections = λ c. are c ∙ sym (ap (λ (f : ℕ → Connection). f c) appended.kept.connections);
+pub performed_appended : {D : Type 0} (honest : Type 0) (before after : State) (world next : World) (event : Event) (order : OrderState) (connections : ConnectionsState) (old new : KeeperState D) (failures : ℕ)
+    → AreConnectionsOf world connections.states → IsAppended world next event order connections.group old new failures honest before after
+    → IsPerformed world next event order connections old new failures honest before after
+performed_appended honest before after world next event order connections old new failures are appended = record {
+  of_states = λ c. are c ∙ sym (ap (λ (f : ℕ → Connection). f c) appended.kept.connections);
   log = appended.kept.log;
   of_order = appended.kept.of_order;
   of_keeper = appended.kept.of_keeper;
@@ -98,8 +97,8 @@ performed_appended honest before after world next event order bench old new fail
 }
 
 -- the same of a step that is this one
-pub of_step : {D : Type 0} {world : World} {event : Event} {order : OrderState} {bench : BenchState} {old new : KeeperState D} {failures : ℕ} {honest : Type 0} {before after : State}
-    (luck : Luck) (step this : Step) → step ≡ this → IsPerformed world (after_step world this luck) event order bench old new failures honest before after
-    → IsPerformed world (after_step world step luck) event order bench old new failures honest before after
-of_step {world = world} {event = event} {order = order} {bench = bench} {old = old} {new = new} {failures = failures} {honest = honest} {before = before} {after = after} luck step this is performed =
-    subst (λ (s : Step). IsPerformed world (after_step world s luck) event order bench old new failures honest before after) (sym is) performed
+pub of_step : {D : Type 0} {world : World} {event : Event} {order : OrderState} {connections : ConnectionsState} {old new : KeeperState D} {failures : ℕ} {honest : Type 0} {before after : State}
+    (luck : Luck) (step this : Step) → step ≡ this → IsPerformed world (after_step world this luck) event order connections old new failures honest before after
+    → IsPerformed world (after_step world step luck) event order connections old new failures honest before after
+of_step {world = world} {event = event} {order = order} {connections = connections} {old = old} {new = new} {failures = failures} {honest = honest} {before = before} {after = after} luck step this is performed =
+    subst (λ (s : Step). IsPerformed world (after_step world s luck) event order connections old new failures honest before after) (sym is) performed

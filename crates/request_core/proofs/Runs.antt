@@ -1,121 +1,149 @@
 -- steps one after another
-use Rattle.std.proofs.Common.{◌≡◌, ℕ, Option, List, [], ◌∷◌, ◌++◌, sym, ◌∙◌, ap, subst, refl, arith}
+use Rattle.std.proofs.Common.{◌≡◌, ℕ, ◌+◌, ◌<◌, ◌≤◌, List, [], ◌∷◌, ◌++◌, append_assoc, length, sym, ◌∙◌, ap, subst, refl, arith}
 use Rattle.checkpoint.specs.Keeper.{KeeperState}
-use Rattle.disk_model.specs.Disk.{State, LeavesOnly, IsSound}
+use Rattle.disk_model.specs.Disk.{State, LeavesOnly, MayLeave, IsSound}
 use Rattle.disk_model.proofs.Moments.{begins, goes_on, weakens}
 use Rattle.image_model.specs.Change.{Change}
 use Rattle.image_model.specs.Image.{Image}
-use Rattle.journal.specs.Group.{Numbered}
 use Rattle.order_book.specs.Order.{OrderState}
-use Rattle.request_core.specs.Bench.{BenchState}
-use Rattle.request_core.specs.Life.{IsCarriedOut, IsDiskOf, IsDurable, IsPerformed, IsRehearsed, IsSoFar, StandsAfter}
-use Rattle.request_core.specs.Parts.{AreConnectionsOf, IsOrderOf, IsWorldOf, stage_of}
+use Rattle.request_core.specs.Bench.{BenchState, ConnectionsState}
+use Rattle.request_core.specs.Life.{IsDurable, IsRehearsed, IsStepped, KeepsCovered, Leads}
+use Rattle.request_core.specs.Parts.{AreConnectionsOf, IsExportOf, IsWorldOf, StandsAfter}
+use Rattle.request_core.specs.Serving.{sent_state}
+use Rattle.request_core.specs.Steps.{IsPerformed}
 use Rattle.request_core.proofs.Lives.{stands_less, stands_more}
+use Rattle.request_core.proofs.Talks.{sent_states}
 use Rattle.world.specs.declared.event.Event.{Event}
+use Rattle.nbd_wire.specs.Request.{Message}
+use Rattle.world.specs.declared.connection.Connection.TheVariants.{Idle}
 use Rattle.world.specs.declared.step.Step.{Step}
+use Rattle.world.specs.declared.step.Step.TheVariants.{Send}
 use Rattle.world.specs.Covered.{Covers}
 use Rattle.world.specs.Log.{IsLegal}
-use Rattle.world.specs.Run.{IsRun, After}
-use Rattle.world.specs.Serve.{Luck}
-use Rattle.world.specs.Step.{after_step}
+use Rattle.world.specs.Run.{IsReached, IsRun, After}
+use Rattle.world.specs.Serve.{Luck, Fine}
+use Rattle.world.specs.Step.{after_step, send, sent}
 use Rattle.world.specs.World.{World, Setting}
 use Rattle.world_law.specs.Law.{Grows, IsWithin}
 
--- a step that was carried out stands in the log
-pub carried_out : {D : Type 0} (world : World) (step : Step) (luck : Luck) (event : Event) (order order' : OrderState) (bench held bench' : BenchState) (old new : KeeperState D) (before_failures failures : ℕ)
-    (honest : Type 0) (before after : State) → IsWorldOf world order old before_failures bench
-    → IsPerformed world (after_step world step luck) event order' held old new failures honest before after → Grows world (after_step world step luck)
-    → bench'.flags ≡ bench.flags → bench'.mode ≡ bench.mode → bench'.connections ≡ held.connections → bench'.group ≡ held.group → bench'.log ≡ bench.log ++ event ∷ []
-    → IsCarriedOut world (after_step world step luck) order' old new failures bench' honest before after
-carried_out world step luck event order order' bench held bench' old new before_failures failures honest before after of performed grows flags mode connections group log = record {
-  of_world = record {
-    of_order = subst (λ (g : Option Numbered). IsOrderOf (stage_of (after_step world step luck)) order' g) (sym group) performed.of_order;
+-- a step that was performed
+pub stepped : {D : Type 0} (world : World) (step : Step) (luck : Luck) (event : Event) (order order' : OrderState) (connections connections' : ConnectionsState) (old new : KeeperState D)
+    (before_failures failures : ℕ) (old_honest honest : Type 0) (before after : State) → (honest → old_honest)
+    → IsExportOf world order old before_failures connections old_honest before
+    → IsPerformed world (after_step world step luck) event order' connections' old new failures old_honest before after → Grows world (after_step world step luck)
+    → connections'.flags ≡ connections.flags → connections'.mode ≡ connections.mode
+    → IsStepped world (after_step world step luck) event order' new failures connections' honest before after
+stepped world step luck event order order' connections connections' old new before_failures failures old_honest honest before after was of performed grows flags mode = record {
+  of_export = record {
+    of_order = performed.of_order;
     of_keeper = performed.of_keeper;
-    of_bench = record {
-      flags = flags ∙ (of.of_bench.flags ∙ ap (λ (s : Setting). s.flags) (sym grows.setting));
-      mode = mode ∙ (of.of_bench.mode ∙ ap (λ (s : Setting). s.mode) (sym grows.setting));
-      connections = subst (AreConnectionsOf (after_step world step luck)) (sym connections) performed.of_connections;
-      log = log ∙ (ap (λ (l : List Event). l ++ event ∷ []) of.of_bench.log ∙ sym performed.log);
-    };
+    of_states = performed.of_states;
+    flags = flags ∙ (of.flags ∙ ap (λ (s : Setting). s.flags) (sym grows.setting));
+    mode = mode ∙ (of.mode ∙ ap (λ (s : Setting). s.mode) (sym grows.setting));
     reached = After step luck of.reached;
+    disk = λ is_honest. (performed.disk (was is_honest) (of.disk (was is_honest))).0;
   };
-  disk = performed.disk;
+  log = performed.log;
+  crash = λ is_honest. (performed.disk (was is_honest) (of.disk (was is_honest))).1;
 }
+
+-- what stands after some commands of an order stands after some of the order that has grown
+grown : (world next : World) (image : Image) (opening least : ℕ) (content : List ℕ) → Grows world next → StandsAfter world.stage.order image opening least content
+    → StandsAfter next.stage.order image opening least content
+grown world next image opening least content grows stands = subst (λ (l : List Change). StandsAfter l image opening least content) (sym grows.order.1)
+    (stands_more world.stage.order grows.order.0 image opening least content stands)
 
 -- before the first step
-pub so_far_none : {D : Type 0} (world : World) (order : OrderState) (keeper : KeeperState D) (failures : ℕ) (bench : BenchState) (extent : ℕ) (honest : Type 0) (state : State)
-    → (honest → IsSound extent state) → IsWithin world → IsWorldOf world order keeper failures bench → IsSoFar world world [] order keeper keeper failures bench honest state state
-so_far_none world order keeper failures bench extent honest state sound within of = record {
+pub leads_none : {D : Type 0} (world : World) (order : OrderState) (keeper : KeeperState D) (failures : ℕ) (connections : ConnectionsState) (extent : ℕ) (honest : Type 0) (state : State)
+    → (honest → IsSound extent state) → IsWithin world → IsExportOf world order keeper failures connections honest state
+    → Leads world world [] order keeper failures connections honest state state
+leads_none world order keeper failures connections extent honest state sound within of = record {
   run = refl;
-  of_world = of;
-  disk = λ is_honest image disk. (disk, begins (sound is_honest) (λ content left. stands_less world.order image world.setting.opening world.stored world.durable content within.durable (disk.leaves content left)));
+  of_export = of;
+  crash = λ is_honest. let disk = of.disk is_honest in
+      begins (sound is_honest) (λ content left. stands_less world.stage.order world.stage.setting.image world.stage.setting.opening world.stage.stored world.stage.durable content within.durable (disk.leaves content left));
 }
 
--- a run goes on by a step
-run_more : (world next : World) (steps : List Step) (step : Step) (luck : Luck) → IsRun world steps next → IsRun world (steps ++ step ∷ []) (after_step next step luck)
-run_more world next [] step luck is = (luck, ap (λ (w : World). after_step w step luck) is)
-run_more world next (first ∷ steps) step luck run = (run.0, run_more (after_step world first run.0) next steps step luck run.1)
+-- one step
+pub leads_step : {D : Type 0} (world : World) (step : Step) (luck : Luck) (event : Event) (order : OrderState) (keeper : KeeperState D) (failures : ℕ) (connections : ConnectionsState) (honest : Type 0) (before after : State)
+    → IsStepped world (after_step world step luck) event order keeper failures connections honest before after → Grows world (after_step world step luck) → IsWithin world
+    → Leads world (after_step world step luck) (step ∷ []) order keeper failures connections honest before after
+leads_step world step luck event order keeper failures connections honest before after is grows within = record {
+  run = (luck, refl);
+  of_export = is.of_export;
+  crash = λ is_honest. weakens (is.crash is_honest) (λ content stands.
+      grown world (after_step world step luck) world.stage.setting.image world.stage.setting.opening world.stage.durable content grows
+      (stands_less world.stage.order world.stage.setting.image world.stage.setting.opening world.stage.stored world.stage.durable content within.durable stands));
+}
 
--- one step more
-pub so_far_more : {D : Type 0} (world next : World) (done : List Step) (step : Step) (luck : Luck) (order order' : OrderState) (old now new : KeeperState D) (now_failures failures : ℕ) (bench bench' : BenchState)
-    (honest now_honest : Type 0) (before mid after : State) → IsSoFar world next done order old now now_failures bench honest before mid → (honest → now_honest)
-    → IsCarriedOut next (after_step next step luck) order' now new failures bench' now_honest mid after
-    → Grows world next → Grows next (after_step next step luck) → IsWithin next
-    → IsSoFar world (after_step next step luck) (done ++ step ∷ []) order' old new failures bench' honest before after
-so_far_more world next done step luck order order' old now new now_failures failures bench bench' honest now_honest before mid after so_far stays carried grows grows_on within = record {
-  run = run_more world next done step luck so_far.run;
-  of_world = carried.of_world;
-  disk = λ is_honest image disk. further image (so_far.disk is_honest image disk) (carried.disk (stays is_honest) image);
+-- a connection that had no request open has sent one
+pub leads_sent : {D : Type 0} (world : World) (c : ℕ) (request : Message) (order : OrderState) (keeper : KeeperState D) (failures : ℕ) (connections : ConnectionsState) (extent : ℕ) (honest : Type 0) (state : State)
+    → (honest → IsSound extent state) → IsWithin world → world.connections c ≡ Idle → IsExportOf world order keeper failures connections honest state
+    → Leads world (sent Fine world c request) (Send c request ∷ []) order keeper failures (record connections { states = sent_state connections.states c request }) honest state state
+leads_sent world c request order keeper failures connections extent honest state sound within idle of = record {
+  run = (Fine, run_is);
+  of_export = record {
+    of_order = of.of_order;
+    of_keeper = of.of_keeper;
+    of_states = sent_states world connections.states c request idle of.of_states;
+    flags = of.flags;
+    mode = of.mode;
+    reached = subst IsReached (sym run_is) (After (Send c request) Fine of.reached);
+    disk = λ is_honest. let disk = of.disk is_honest in record { keeps = disk.keeps; leaves = disk.leaves };
+  };
+  crash = λ is_honest. let disk = of.disk is_honest in
+      begins (sound is_honest) (λ content left. stands_less world.stage.order world.stage.setting.image world.stage.setting.opening world.stage.stored world.stage.durable content within.durable (disk.leaves content left));
 }
   where
-    opening_is : next.setting.opening ≡ world.setting.opening
-    opening_is = ap (λ (s : Setting). s.opening) grows.setting
+    run_is : sent Fine world c request ≡ after_step world (Send c request) Fine
+    run_is = ap (send Fine world c request) (sym idle)
 
-    -- what stands after some commands of the order before stands after some of the order that has grown
-    grown : (image : Image) (least : ℕ) (content : List ℕ) → StandsAfter next.order image world.setting.opening least content
-        → StandsAfter (after_step next step luck).order image world.setting.opening least content
-    grown image least content stands = subst (λ (l : List Change). StandsAfter l image world.setting.opening least content) (sym grows_on.order.1)
-        (stands_more next.order grows_on.order.0 image world.setting.opening least content stands)
+-- a run goes on by another
+pub run_on : (world mid next : World) (first more : List Step) → IsRun world first mid → IsRun mid more next → IsRun world (first ++ more) next
+run_on world mid next [] more is run = subst (λ (w : World). IsRun w more next) is run
+run_on world mid next (step ∷ first) more run on = (run.0, run_on (after_step world step run.0) mid next first more run.1 on)
 
-    further : (image : Image) → IsDiskOf (stage_of next) image now mid × LeavesOnly before mid (StandsAfter next.order image world.setting.opening world.durable)
-        → (IsDiskOf (stage_of next) image now mid → IsDiskOf (stage_of (after_step next step luck)) image new after × LeavesOnly mid after (StandsAfter next.order image next.setting.opening next.stored))
-        → IsDiskOf (stage_of (after_step next step luck)) image new after × LeavesOnly before after (StandsAfter (after_step next step luck).order image world.setting.opening world.durable)
-    further image here on =
-        let there = on here.0 in (
-          there.0,
-          goes_on (weakens here.1 (grown image world.durable)) there.1 (λ content stands. grown image world.durable content
-              (let durable = grows.durable in let stored = within.durable in
-              stands_less next.order image world.setting.opening next.stored world.durable content (omega (arith, durable, stored))
-              (subst (λ (n : ℕ). StandsAfter next.order image n next.stored content) opening_is stands))),
-        )
+-- steps, and further steps
+pub leads_on : {D : Type 0} (world mid next : World) (first more : List Step) (order order' : OrderState) (keeper keeper' : KeeperState D) (failures failures' : ℕ) (connections connections' : ConnectionsState)
+    (honest honest' : Type 0) (before between after : State) → (honest' → honest)
+    → Leads world mid first order keeper failures connections honest before between → Leads mid next more order' keeper' failures' connections' honest' between after
+    → Grows world mid → Grows mid next → Leads world next (first ++ more) order' keeper' failures' connections' honest' before after
+leads_on world mid next first more order order' keeper keeper' failures failures' connections connections' honest honest' before between after was here on grows grows_on = record {
+  run = run_on world mid next first more here.run on.run;
+  of_export = on.of_export;
+  crash = λ is_honest. goes_on (weakens (here.crash (was is_honest)) (λ content stands.
+      grown mid next world.stage.setting.image world.stage.setting.opening world.stage.durable content grows_on stands)) (on.crash is_honest) (λ content stands.
+      stands_less next.stage.order world.stage.setting.image world.stage.setting.opening mid.stage.durable world.stage.durable content grows.durable
+      (subst (λ (s : Setting). StandsAfter next.stage.order s.image s.opening mid.stage.durable content) grows.setting stands));
+}
 
 -- all that a log covers is durable, and so kept
-pub durable_at_end : {D : Type 0} (world next : World) (done : List Step) (order : OrderState) (old new : KeeperState D) (failures : ℕ) (bench : BenchState) (extent : ℕ) (honest : Type 0) (before after : State) (image : Image)
-    → IsSoFar world next done order old new failures bench honest before after → honest → IsSound extent after → Grows world next → IsWithin next → Covers world world.durable → Covers next next.durable
-    → IsDiskOf (stage_of world) image old before → IsDurable world next image new before after
-durable_at_end world next done order old new failures bench extent honest before after image so_far is_honest sound grows within covers covers_now disk =
-    let here = so_far.disk is_honest image disk in
-    record {
-      of_disk = here.0;
-      any_moment = weakens here.1 (λ content stands. record {
-        count = stands.count;
-        within = stands.within;
-        stands = stands.stands;
-        covers = λ place covered. let found = covers place covered in (found.0, let below = found.1 in let reaches = stands.reaches in omega (arith, below, reaches), found.2);
-      });
-      at_end = λ content left. let stands = here.0.leaves content left in record {
-        count = stands.count;
-        within = stands.within;
-        stands = stands.stands;
-        covers = λ place covered. let found = covers_now place covered in (found.0, let below = found.1 in let reaches = stands.reaches in let durable = within.durable in omega (arith, below, reaches, durable), found.2);
-      };
-    }
+pub durable_at_end : {D : Type 0} (world next : World) (done : List Step) (order : OrderState) (keeper : KeeperState D) (failures : ℕ) (connections : ConnectionsState) (extent : ℕ) (honest : Type 0) (before after : State)
+    → Leads world next done order keeper failures connections honest before after → honest → IsSound extent after → Grows world next → IsWithin next
+    → Covers world world.stage.durable → Covers next next.stage.durable → IsDurable world next before after
+durable_at_end world next done order keeper failures connections extent honest before after leads is_honest sound grows within covers covers_now = record {
+  any_moment = weakens (leads.crash is_honest) (λ content stands. record {
+    count = stands.count;
+    within = stands.within;
+    stands = stands.stands;
+    covers = λ place covered. let found = covers place covered in (found.0, let below = found.1 in let reaches = stands.reaches in omega (arith, below, reaches), found.2);
+  });
+  at_end = λ content left. let disk = leads.of_export.disk is_honest in let stands = disk.leaves content left in record {
+    count = stands.count;
+    within = stands.within;
+    stands = stands.stands;
+    covers = λ place covered. let found = covers_now place covered in (found.0, let below = found.1 in let reaches = stands.reaches in let durable = within.durable in omega (arith, below, reaches, durable), found.2);
+  };
+}
 
 -- what the steps so far leave
-pub rehearsed : {D : Type 0} (world next : World) (done : List Step) (order : OrderState) (old new : KeeperState D) (failures : ℕ) (bench : BenchState) (honest : Type 0) (before after : State)
-    → IsSoFar world next done order old new failures bench honest before after → IsLegal next.log next.order next.paired → IsRehearsed world next done order new failures bench
-rehearsed world next done order old new failures bench honest before after so_far legal = record {
-  run = so_far.run;
-  of_world = so_far.of_world;
-  legal = subst (λ (l : List Event). IsLegal l next.order next.paired) (sym so_far.of_world.of_bench.log) legal;
+pub rehearsed : {D : Type 0} (world next : World) (done : List Step) (order : OrderState) (keeper : KeeperState D) (failures : ℕ) (bench : BenchState) (extent : ℕ) (honest : Type 0) (before after : State)
+    → Leads world next done order keeper failures bench.connections honest before after → bench.log ≡ next.log → (honest → IsSound extent after) → Grows world next → IsWithin next
+    → Covers world world.stage.durable → Covers next next.stage.durable → IsLegal next.log next.stage.order next.paired
+    → IsRehearsed world next done order keeper failures bench honest before after
+rehearsed world next done order keeper failures bench extent honest before after leads log sound grows within covers covers_now legal = record {
+  run = leads.run;
+  of_world = record { of_export = leads.of_export; log = log };
+  legal = subst (λ (l : List Event). IsLegal l next.stage.order next.paired) (sym log) legal;
+  durable = λ is_honest. durable_at_end world next done order keeper failures bench.connections extent honest before after leads is_honest (sound is_honest) grows within covers covers_now;
 }

@@ -9,17 +9,17 @@ use Rattle.image_model.specs.Command.{bodies_of}
 use Rattle.image_model.specs.declared.geometry.Geometry.{Geometry}
 use Rattle.journal.specs.Group.{Numbered}
 use Rattle.order_book.specs.Order.{OrderState, Seals, with_durable, with_group}
-use Rattle.request_core.specs.Parts.{Stage, IsKeeperOf, IsOrderOf, stage_of}
+use Rattle.request_core.specs.Parts.{IsKeeperOf, IsOrderOf}
 use Rattle.request_core.specs.Storing.{IsKept, PublishesBy, SealsBy}
 use Rattle.request_core.proofs.Orders.{bodies_same, commands_length, hand_is, order_publishes, order_puts_back, order_seals, order_stops, order_stores}
-use Rattle.request_core.proofs.Served.{if_false, if_true}
+use Rattle.request_core.proofs.Serves.{if_false, if_true}
 use Rattle.world.specs.declared.event.Event.{Event}
 use Rattle.world.specs.declared.event.Event.TheVariants.{Took, Held, Failed}
 use Rattle.world.specs.declared.event.StepFault.TheVariants.{NoMemory, DeviceFault, FailedBefore}
 use Rattle.world.specs.Room.{bodies_bytes}
 use Rattle.world.specs.Serve.{Luck, Fine, Starved, held, logged}
 use Rattle.world.specs.Step.{append, faulted, publish, put_back, seal, starved, stored_more}
-use Rattle.world.specs.World.{World, fits, in_hand}
+use Rattle.world.specs.World.{World, fits, in_hand, Stage}
 use Rattle.world_law.specs.Law.{IsWithin}
 
 pub not_true_is : (b : Bool) → (IsTrue b → ⊥) → b ≡ false
@@ -51,130 +51,130 @@ empty_is : {X : Type 0} (xs : List X) → length xs ≡ 0 → xs ≡ []
 empty_is [] none = refl
 empty_is (x ∷ xs) none = absurd (omega (arith, none))
 
-module _ {D : Type 0} (world : World) (keeper : KeeperState D) (failures : ℕ) (of_keeper : IsKeeperOf (stage_of world) keeper failures) where
-  pub kept_held : (order : OrderState) (group : Option Numbered) → IsOrderOf (stage_of world) order group → IsKept world (held world) Held order group keeper failures
+module _ {D : Type 0} (world : World) (keeper : KeeperState D) (failures : ℕ) (of_keeper : IsKeeperOf world.stage keeper failures) where
+  pub kept_held : (order : OrderState) (group : Option Numbered) → IsOrderOf world.stage order group → IsKept world (held world) Held order group keeper failures
   kept_held order group of = record { connections = refl; log = refl; of_order = of; of_keeper = of_keeper }
 
-  pub kept_starved : (order : OrderState) (group : Option Numbered) → IsOrderOf (stage_of world) order group → IsKept world (starved world) (Failed NoMemory) order group keeper failures
+  pub kept_starved : (order : OrderState) (group : Option Numbered) → IsOrderOf world.stage order group → IsKept world (starved world) (Failed NoMemory) order group keeper failures
   kept_starved order group of = record { connections = refl; log = refl; of_order = of; of_keeper = of_keeper }
 
   -- sealing with a group in hand
-  pub kept_seal_in_hand : (order : OrderState) (group : Numbered) → IsWithin world → IsOrderOf (stage_of world) order (Some group) → IsKept world (seal Fine world) Held order (Some group) keeper failures
+  pub kept_seal_in_hand : (order : OrderState) (group : Numbered) → IsWithin world → IsOrderOf world.stage order (Some group) → IsKept world (seal Fine world) Held order (Some group) keeper failures
   kept_seal_in_hand order group within of =
       let hand = of.hand in let some = of.some in let durable = within.durable in
-      if_false (λ next. IsKept world next Held order (Some group) keeper failures) (nat_lt world.sealed (length world.order) && (world.sealed == world.durable)) _ _
-      (and_right (nat_lt world.sealed (length world.order)) (world.sealed == world.durable) (ne_eqb world.sealed world.durable (λ same. omega (arith, same, hand, some, durable, commands_length group))))
+      if_false (λ next. IsKept world next Held order (Some group) keeper failures) (nat_lt world.stage.sealed (length world.stage.order) && (world.stage.sealed == world.stage.durable)) _ _
+      (and_right (nat_lt world.stage.sealed (length world.stage.order)) (world.stage.sealed == world.stage.durable) (ne_eqb world.stage.sealed world.stage.durable (λ same. omega (arith, same, hand, some, durable, commands_length group))))
       (kept_held order (Some group) of)
 
-  module _ (order : OrderState) (within : IsWithin world) (of : IsOrderOf (stage_of world) order None) where
-    left_length : length world.order - world.stored ≡ length order.pending
-    left_length = sym (length-drop world.stored world.order) ∙ (ap length of.behind ∙ length-map order.pending change_of)
+  module _ (order : OrderState) (within : IsWithin world) (of : IsOrderOf world.stage order None) where
+    left_length : length world.stage.order - world.stage.stored ≡ length order.pending
+    left_length = sym (length-drop world.stage.stored world.stage.order) ∙ (ap length of.behind ∙ length-map order.pending change_of)
 
     -- sealing where nothing is pending, or what was sealed isn't durable
     pub kept_seal_none : (order.pending ≡ []) ⊎ (order.durable < order.sealed) → IsKept world (seal Fine world) Held order None keeper failures
-    kept_seal_none why = if_false (λ next. IsKept world next Held order None keeper failures) (nat_lt world.sealed (length world.order) && (world.sealed == world.durable)) _ _ (test why) (kept_held order None of)
+    kept_seal_none why = if_false (λ next. IsKept world next Held order None keeper failures) (nat_lt world.stage.sealed (length world.stage.order) && (world.stage.sealed == world.stage.durable)) _ _ (test why) (kept_held order None of)
       where
-        test : (order.pending ≡ []) ⊎ (order.durable < order.sealed) → (nat_lt world.sealed (length world.order) && (world.sealed == world.durable)) ≡ false
+        test : (order.pending ≡ []) ⊎ (order.durable < order.sealed) → (nat_lt world.stage.sealed (length world.stage.order) && (world.stage.sealed == world.stage.durable)) ≡ false
         test (inl none) = let hand = of.hand in let empty = ap length none in
-            and_left (nat_lt world.sealed (length world.order)) (world.sealed == world.durable) (le-ltb world.sealed (length world.order) (omega (arith, hand, left_length, empty)))
+            and_left (nat_lt world.stage.sealed (length world.stage.order)) (world.stage.sealed == world.stage.durable) (le-ltb world.stage.sealed (length world.stage.order) (omega (arith, hand, left_length, empty)))
         test (inr behind) = let durable = of.durable in let sealed = of.sealed in
-            and_right (nat_lt world.sealed (length world.order)) (world.sealed == world.durable) (ne_eqb world.sealed world.durable (λ same. omega (arith, same, durable, sealed, behind)))
+            and_right (nat_lt world.stage.sealed (length world.stage.order)) (world.stage.sealed == world.stage.durable) (ne_eqb world.stage.sealed world.stage.durable (λ same. omega (arith, same, durable, sealed, behind)))
 
     -- the test, where the order seals or memory is wanting
-    seals_test : (order.pending ≡ [] → ⊥) → (order.durable < order.sealed → ⊥) → (nat_lt world.sealed (length world.order) && (world.sealed == world.durable)) ≡ true
+    seals_test : (order.pending ≡ [] → ⊥) → (order.durable < order.sealed → ⊥) → (nat_lt world.stage.sealed (length world.stage.order) && (world.stage.sealed == world.stage.durable)) ≡ true
     seals_test pending level =
         let hand = of.hand in let durable = of.durable in let sealed = of.sealed in let first = within.durable in let second = within.stored in
-        and_from (nat_lt world.sealed (length world.order)) (world.sealed == world.durable)
-        (lt-ltb world.sealed (length world.order) (some_left (cases_lt world.sealed (length world.order))))
-        (eq-eqb world.sealed world.durable (same (cases_lt order.durable order.sealed)))
+        and_from (nat_lt world.stage.sealed (length world.stage.order)) (world.stage.sealed == world.stage.durable)
+        (lt-ltb world.stage.sealed (length world.stage.order) (some_left (cases_lt world.stage.sealed (length world.stage.order))))
+        (eq-eqb world.stage.sealed world.stage.durable (same (cases_lt order.durable order.sealed)))
       where
-        some_left : (world.sealed < length world.order) ⊎ (length world.order ≤ world.sealed) → world.sealed < length world.order
+        some_left : (world.stage.sealed < length world.stage.order) ⊎ (length world.stage.order ≤ world.stage.sealed) → world.stage.sealed < length world.stage.order
         some_left (inl below) = below
         some_left (inr above) = let hand = of.hand in absurd (pending (empty_is order.pending (omega (arith, above, hand, left_length))))
 
-        same : (order.durable < order.sealed) ⊎ (order.sealed ≤ order.durable) → world.sealed ≡ world.durable
+        same : (order.durable < order.sealed) ⊎ (order.sealed ≤ order.durable) → world.stage.sealed ≡ world.stage.durable
         same (inl behind) = absurd (level behind)
         same (inr above) = let durable = of.durable in let sealed = of.sealed in let first = within.durable in let second = within.stored in
             omega (arith, above, durable, sealed, first, second)
 
     pub kept_seal_starved : (order.pending ≡ [] → ⊥) → (order.durable < order.sealed → ⊥) → IsKept world (seal Starved world) (Failed NoMemory) order None keeper failures
     kept_seal_starved pending level =
-        if_true (λ next. IsKept world next (Failed NoMemory) order None keeper failures) (nat_lt world.sealed (length world.order) && (world.sealed == world.durable)) _ _ (seals_test pending level) (kept_starved order None of)
+        if_true (λ next. IsKept world next (Failed NoMemory) order None keeper failures) (nat_lt world.stage.sealed (length world.stage.order) && (world.stage.sealed == world.stage.durable)) _ _ (seals_test pending level) (kept_starved order None of)
 
     pub kept_seal : (new : OrderState) (group : Numbered) → (order.pending ≡ [] → ⊥) → (order.durable < order.sealed → ⊥) → Seals order new group
         → IsKept world (seal Fine world) Took new (Some group) keeper failures
     kept_seal new group pending level seals =
         let stored = within.stored in let sealed = within.sealed in
-        if_true (λ next. IsKept world next Took new (Some group) keeper failures) (nat_lt world.sealed (length world.order) && (world.sealed == world.durable)) _ _ (seals_test pending level)
+        if_true (λ next. IsKept world next Took new (Some group) keeper failures) (nat_lt world.stage.sealed (length world.stage.order) && (world.stage.sealed == world.stage.durable)) _ _ (seals_test pending level)
         (record {
           connections = refl;
           log = refl;
-          of_order = order_seals (stage_of world) order new group of (omega (arith, stored, sealed)) seals;
-          of_keeper = keeper_same (stage_of world) keeper failures _ _ of_keeper;
+          of_order = order_seals world.stage order new group of (omega (arith, stored, sealed)) seals;
+          of_keeper = keeper_same world.stage keeper failures _ _ of_keeper;
         })
 
   -- publishing
-  pub kept_publish : (order : OrderState) (group : Option Numbered) → IsWithin world → IsOrderOf (stage_of world) order group → order.durable < keeper.count
+  pub kept_publish : (order : OrderState) (group : Option Numbered) → IsWithin world → IsOrderOf world.stage order group → order.durable < keeper.count
       → IsKept world (publish world) Took (with_durable order keeper.count) group keeper failures
   kept_publish order group within of behind =
       let durable = of.durable in let count = of_keeper.count in let stored = within.stored in let sealed = within.sealed in
-      if_true (λ next. IsKept world next Took (with_durable order keeper.count) group keeper failures) (nat_lt world.durable world.stored) _ _
-      (lt-ltb world.durable world.stored (omega (arith, durable, count, behind)))
+      if_true (λ next. IsKept world next Took (with_durable order keeper.count) group keeper failures) (nat_lt world.stage.durable world.stage.stored) _ _
+      (lt-ltb world.stage.durable world.stage.stored (omega (arith, durable, count, behind)))
       (record {
         connections = refl;
         log = refl;
-        of_order = order_publishes (stage_of world) order group keeper.count of within.durable (omega (arith, stored, sealed)) count;
-        of_keeper = keeper_same (stage_of world) keeper failures _ _ of_keeper;
+        of_order = order_publishes world.stage order group keeper.count of within.durable (omega (arith, stored, sealed)) count;
+        of_keeper = keeper_same world.stage keeper failures _ _ of_keeper;
       })
 
-  pub kept_publish_none : (order : OrderState) (group : Option Numbered) → IsOrderOf (stage_of world) order group → keeper.count ≤ order.durable
+  pub kept_publish_none : (order : OrderState) (group : Option Numbered) → IsOrderOf world.stage order group → keeper.count ≤ order.durable
       → IsKept world (publish world) Held order group keeper failures
   kept_publish_none order group of level =
       let durable = of.durable in let count = of_keeper.count in
-      if_false (λ next. IsKept world next Held order group keeper failures) (nat_lt world.durable world.stored) _ _
-      (le-ltb world.durable world.stored (omega (arith, durable, count, level))) (kept_held order group of)
+      if_false (λ next. IsKept world next Held order group keeper failures) (nat_lt world.stage.durable world.stage.stored) _ _
+      (le-ltb world.stage.durable world.stage.stored (omega (arith, durable, count, level))) (kept_held order group of)
 
   -- storing with no group in hand
-  pub goes_none : (order : OrderState) (P : World → Type 0) → IsOrderOf (stage_of world) order None → P (held world) → P (append Fine world)
+  pub goes_none : (order : OrderState) (P : World → Type 0) → IsOrderOf world.stage order None → P (held world) → P (append Fine world)
   goes_none order P of here =
       let hand = of.hand in
-      if_false P (nat_lt world.stored world.sealed) _ _ (le-ltb world.stored world.sealed (omega (arith, hand))) here
+      if_false P (nat_lt world.stage.stored world.stage.sealed) _ _ (le-ltb world.stage.stored world.stage.sealed (omega (arith, hand))) here
 
-  module _ (order : OrderState) (group : Numbered) (of : IsOrderOf (stage_of world) order (Some group)) where
-    has_hand : nat_lt world.stored world.sealed ≡ true
-    has_hand = let hand = of.hand in let some = of.some in lt-ltb world.stored world.sealed (omega (arith, hand, some, commands_length group))
+  module _ (order : OrderState) (group : Numbered) (of : IsOrderOf world.stage order (Some group)) where
+    has_hand : nat_lt world.stage.stored world.stage.sealed ≡ true
+    has_hand = let hand = of.hand in let some = of.some in lt-ltb world.stage.stored world.stage.sealed (omega (arith, hand, some, commands_length group))
 
     hand_bodies : bodies_bytes (in_hand world) ≡ bodies_of group.commands
-    hand_bodies = ap bodies_bytes (hand_is (stage_of world) order group of) ∙ sym (bodies_same group.commands)
+    hand_bodies = ap bodies_bytes (hand_is world.stage order group of) ∙ sym (bodies_same group.commands)
 
-    works : keeper.failed ≡ false → world.stopped ≡ false
+    works : keeper.failed ≡ false → world.stage.stopped ≡ false
     works is = sym of_keeper.failed ∙ is
 
     fits_is : end_after keeper group ≤ keeper.geometry.area → fits world ≡ true
     fits_is fit = let used = of_keeper.used in let area = ap (λ (g : Geometry). g.area) of_keeper.geometry in
-        le-leb (world.at + 17 + bodies_bytes (in_hand world) + 1) world.setting.geometry.area (omega (arith, fit, used, area, hand_bodies))
+        le-leb (world.stage.at + 17 + bodies_bytes (in_hand world) + 1) world.stage.setting.geometry.area (omega (arith, fit, used, area, hand_bodies))
 
     full_is : keeper.geometry.area < end_after keeper group → fits world ≡ false
     full_is full = let used = of_keeper.used in let area = ap (λ (g : Geometry). g.area) of_keeper.geometry in
-        lt-leb (world.at + 17 + bodies_bytes (in_hand world) + 1) world.setting.geometry.area (omega (arith, full, used, area, hand_bodies))
+        lt-leb (world.stage.at + 17 + bodies_bytes (in_hand world) + 1) world.stage.setting.geometry.area (omega (arith, full, used, area, hand_bodies))
 
     -- where storing the group in hand leads: the device failed before, the group doesn't fit, or it is tried
     pub goes_failed : (P : World → Type 0) → keeper.failed ≡ true → P (logged (put_back world) (Failed FailedBefore)) → P (append Fine world)
-    goes_failed P failed here = if_true P (nat_lt world.stored world.sealed) _ _ has_hand (if_true P world.stopped _ _ (sym of_keeper.failed ∙ failed) here)
+    goes_failed P failed here = if_true P (nat_lt world.stage.stored world.stage.sealed) _ _ has_hand (if_true P world.stage.stopped _ _ (sym of_keeper.failed ∙ failed) here)
 
     pub goes_full : (P : World → Type 0) → keeper.failed ≡ false → keeper.geometry.area < end_after keeper group → P (held (put_back world)) → P (append Fine world)
-    goes_full P failed full here = if_true P (nat_lt world.stored world.sealed) _ _ has_hand (if_false P world.stopped _ _ (works failed) (if_false P (fits world) _ _ (full_is full) here))
+    goes_full P failed full here = if_true P (nat_lt world.stage.stored world.stage.sealed) _ _ has_hand (if_false P world.stage.stopped _ _ (works failed) (if_false P (fits world) _ _ (full_is full) here))
 
     pub goes_on_to : (luck : Luck) (P : World → Type 0) → keeper.failed ≡ false → end_after keeper group ≤ keeper.geometry.area → P (stored_more luck world) → P (append luck world)
-    goes_on_to luck P failed fit here = if_true P (nat_lt world.stored world.sealed) _ _ has_hand (if_false P world.stopped _ _ (works failed) (if_true P (fits world) _ _ (fits_is fit) here))
+    goes_on_to luck P failed fit here = if_true P (nat_lt world.stage.stored world.stage.sealed) _ _ has_hand (if_false P world.stage.stopped _ _ (works failed) (if_true P (fits world) _ _ (fits_is fit) here))
 
     -- the group is pending again
     pub kept_back : (event : Event) → IsKept world (logged (put_back world) event) event (with_group order group) None keeper failures
     kept_back event = record {
       connections = refl;
       log = refl;
-      of_order = order_puts_back (stage_of world) order group of;
-      of_keeper = keeper_same (stage_of world) keeper failures world.stored world.durable of_keeper;
+      of_order = order_puts_back world.stage order group of;
+      of_keeper = keeper_same world.stage keeper failures world.stage.stored world.stage.durable of_keeper;
     }
 
     -- the device fails
@@ -183,7 +183,7 @@ module _ {D : Type 0} (world : World) (keeper : KeeperState D) (failures : ℕ) 
     kept_faulted disk = record {
       connections = refl;
       log = refl;
-      of_order = order_stops (record (stage_of world) { sealed = world.stored }) (with_group order group) None (counted world.faults) (order_puts_back (stage_of world) order group of);
+      of_order = order_stops (record world.stage { sealed = world.stage.stored }) (with_group order group) None (counted world.stage.faults) (order_puts_back world.stage order group of);
       of_keeper = record {
         geometry = of_keeper.geometry;
         count = of_keeper.count;
@@ -200,7 +200,7 @@ module _ {D : Type 0} (world : World) (keeper : KeeperState D) (failures : ℕ) 
     kept_stored disk = record {
       connections = refl;
       log = refl;
-      of_order = order_stores (stage_of world) order group of (world.at + 17 + bodies_bytes (in_hand world));
+      of_order = order_stores world.stage order group of (world.stage.at + 17 + bodies_bytes (in_hand world));
       of_keeper = record {
         geometry = of_keeper.geometry;
         count = let count = of_keeper.count in let hand = of.hand in omega (arith, count, hand, commands_length group);
@@ -214,7 +214,7 @@ module _ {D : Type 0} (world : World) (keeper : KeeperState D) (failures : ℕ) 
 
 -- what an order did when it was asked to seal is a step of the world
 pub kept_seal_by : {D : Type 0} (world : World) (keeper : KeeperState D) (failures : ℕ) (old new : OrderState) (before after : Option Numbered) (event : Event)
-    → IsKeeperOf (stage_of world) keeper failures → IsWithin world → IsOrderOf (stage_of world) old before → SealsBy before old new after event
+    → IsKeeperOf world.stage keeper failures → IsWithin world → IsOrderOf world.stage old before → SealsBy before old new after event
     → (luck : Luck) × IsKept world (seal luck world) event new after keeper failures
 kept_seal_by world keeper failures old new (Some group) after event of_keeper within of seals = (
   Fine,
@@ -238,7 +238,7 @@ kept_seal_by world keeper failures old new None after event of_keeper within of 
 )
 
 pub kept_publish_by : {D : Type 0} (world : World) (keeper : KeeperState D) (failures : ℕ) (old new : OrderState) (group : Option Numbered) (event : Event)
-    → IsKeeperOf (stage_of world) keeper failures → IsWithin world → IsOrderOf (stage_of world) old group → PublishesBy keeper.count old new event
+    → IsKeeperOf world.stage keeper failures → IsWithin world → IsOrderOf world.stage old group → PublishesBy keeper.count old new event
     → IsKept world (publish world) event new group keeper failures
 kept_publish_by world keeper failures old new group event of_keeper within of (inl publishes) =
     kept_as world (publish world) keeper failures (with_durable old keeper.count) new group group Took event (sym publishes.1) refl (sym publishes.2)

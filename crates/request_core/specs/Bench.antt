@@ -7,16 +7,24 @@ use Rattle.world.specs.declared.connection.Connection.TheVariants.{Idle}
 use Rattle.world.specs.declared.event.Event.{Event}
 use Rattle.world.specs.declared.step.Mode.{Mode}
 
-pub record BenchState : Type 0 where
+-- the connections of an export, what they agreed on, and the group in hand
+pub record ConnectionsState : Type 0 where
   pub flags : SessionFlags
   pub mode : Mode
   -- what each connection is at
-  pub connections : List Connection
+  pub states : List Connection
   -- the group in hand, that was sealed and isn't stored
   pub group : Option Numbered
+
+pub record BenchState : Type 0 where
+  pub connections : ConnectionsState
   -- what each step did
   pub log : List Event
 
--- a bench of so many connections, none of which has sent a request
+-- so many connections, none of which has sent a request
+abbrev pub new_connections : ℕ → SessionFlags → Mode → ConnectionsState
+new_connections count given kept = record { flags = given; mode = kept; states = replicate count Idle; group = None }
+
+-- a bench of so many connections
 abbrev pub new_bench : ℕ → SessionFlags → Mode → BenchState
-new_bench count given kept = record { flags = given; mode = kept; connections = replicate count Idle; group = None; log = [] }
+new_bench count given kept = record { connections = new_connections count given kept; log = [] }

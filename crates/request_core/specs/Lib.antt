@@ -2,4 +2,5 @@ pub mod Bench
 pub mod Life
 pub mod Parts
 pub mod Serving
+pub mod Steps
 pub mod Storing

@@ -1,38 +1,31 @@
--- when the parts of a rehearsal are of a world
-use Rattle.std.specs.Prelude.{ℕ, ◌≡◌, ◌+◌, ◌≤◌, ◌<◌, Bool, Option, Some, None, IfSome, List, [], ◌++◌, length, map, drop, slice_index_or}
+-- when the parts of an export are of a world
+use Rattle.std.specs.Prelude.{ℕ, ◌≡◌, ◌+◌, ◌≤◌, ◌<◌, Bool, false, Option, Some, None, IfSome, List, [], ◌++◌, length, map, drop, take, slice_index_or}
 use Rattle.checkpoint.specs.Keeper.{KeeperState}
+use Rattle.checkpoint.specs.Keeps.{Keeps}
+use Rattle.checkpoint.specs.Stands.{StandsFor}
+use Rattle.disk_model.specs.Disk.{State, MayLeave}
 use Rattle.image_model.specs.Change.{Change, AreChanges, change_of}
+use Rattle.image_model.specs.Image.{Image, apply_all}
 use Rattle.journal.specs.Group.{Numbered}
 use Rattle.order_book.specs.Order.{OrderState}
-use Rattle.request_core.specs.Bench.{BenchState}
+use Rattle.request_core.specs.Bench.{BenchState, ConnectionsState}
 use Rattle.world.specs.declared.connection.Connection.{Connection}
 use Rattle.world.specs.declared.connection.Connection.TheVariants.{Closed}
 use Rattle.world.specs.Room.{body_bytes, dirty_blocks}
 use Rattle.world.specs.Run.{IsReached}
-use Rattle.world.specs.World.{World, Setting}
+use Rattle.world.specs.World.{World, Stage}
 
--- what an order and a keeper show of a world
-pub record Stage : Type 0 where
-  pub setting : Setting
-  pub order : List Change
-  pub sealed : ℕ
-  pub stored : ℕ
-  pub durable : ℕ
-  pub at : ℕ
-  pub stopped : Bool
-  pub faults : ℕ
+-- the image after the first commands of an order
+abbrev pub image_after : List Change → ℕ → Image → Image
+image_after order count image = apply_all (take count order) image
 
-abbrev pub stage_of : World → Stage
-stage_of world = record {
-  setting = world.setting;
-  order = world.order;
-  sealed = world.sealed;
-  stored = world.stored;
-  durable = world.durable;
-  at = world.at;
-  stopped = world.stopped;
-  faults = world.faults;
-}
+-- The content stands for the image after some first commands of the order, `least` of them or more, and for the number
+-- of the last of these.
+pub record StandsAfter (order : List Change) (image : Image) (opening least : ℕ) (content : List ℕ) : Type 0 where
+  pub count : ℕ
+  pub reaches : least ≤ count
+  pub within : count ≤ length order
+  pub stands : StandsFor content (image_after order count image) (opening + count)
 
 -- the commands of a group in hand
 abbrev pub commands_in : Option Numbered → List Change
@@ -72,16 +65,26 @@ pub record IsKeeperOf {D : Type 0} (stage : Stage) (keeper : KeeperState D) (fai
 abbrev pub AreConnectionsOf : World → List Connection → Type 0
 AreConnectionsOf world connections = (connection : ℕ) → slice_index_or connections connection Closed ≡ world.connections connection
 
--- the bench is a world's
-pub record IsBenchOf (world : World) (bench : BenchState) : Type 0 where
-  pub flags : bench.flags ≡ world.setting.flags
-  pub mode : bench.mode ≡ world.setting.mode
-  pub connections : AreConnectionsOf world bench.connections
-  pub log : bench.log ≡ world.log
+-- The keeper, whose device is in this state, is that of a world: as long as the device hasn't failed the keeper keeps
+-- what is stored, and whatever a crash may leave reaches it.
+pub record IsDiskOf {D : Type 0} (stage : Stage) (keeper : KeeperState D) (state : State) : Type 0 where
+  pub keeps : stage.stopped ≡ false → Keeps keeper state (image_after stage.order stage.stored stage.setting.image) (stage.setting.opening + stage.stored)
+  pub leaves : (content : List ℕ) → MayLeave state content → StandsAfter stage.order stage.setting.image stage.setting.opening stage.stored content
 
--- the parts are of a world that a schedule leads to
-pub record IsWorldOf {D : Type 0} (world : World) (order : OrderState) (keeper : KeeperState D) (failures : ℕ) (bench : BenchState) : Type 0 where
-  pub of_order : IsOrderOf (stage_of world) order bench.group
-  pub of_keeper : IsKeeperOf (stage_of world) keeper failures
-  pub of_bench : IsBenchOf world bench
+-- Order, keeper and connections are of a world that a schedule leads to. Where the keeper's device is honest, it is of
+-- that world too, with the world's opening image.
+pub record IsExportOf {D : Type 0} (world : World) (order : OrderState) (keeper : KeeperState D) (failures : ℕ) (connections : ConnectionsState)
+    (honest : Type 0) (state : State) : Type 0 where
+  pub of_order : IsOrderOf world.stage order connections.group
+  pub of_keeper : IsKeeperOf world.stage keeper failures
+  pub of_states : AreConnectionsOf world connections.states
+  pub flags : connections.flags ≡ world.stage.setting.flags
+  pub mode : connections.mode ≡ world.stage.setting.mode
   pub reached : IsReached world
+  pub disk : honest → IsDiskOf world.stage keeper state
+
+-- the same, and the log of the bench is the world's
+pub record IsWorldOf {D : Type 0} (world : World) (order : OrderState) (keeper : KeeperState D) (failures : ℕ) (bench : BenchState)
+    (honest : Type 0) (state : State) : Type 0 where
+  pub of_export : IsExportOf world order keeper failures bench.connections honest state
+  pub log : bench.log ≡ world.log

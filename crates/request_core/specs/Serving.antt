@@ -1,5 +1,5 @@
 -- what serving and answering a connection do
-use Rattle.std.specs.Prelude.{ℕ, ◌≡◌, ◌⊎◌, MatchBool, MatchOption, slice_index_or, slice_set, Bool, true, false, nat_le, if◌then◌else◌, Option, Some, None, List, [], ◌∷◌, ◌++◌, vec_len}
+use Rattle.std.specs.Prelude.{ℕ, ◌≡◌, ◌⊎◌, MatchBool, MatchOption, slice_index_or, slice_set, Bool, true, false, nat_le, nat_lt, Result, Ok, Err, if◌then◌else◌, Option, Some, None, List, [], ◌∷◌, ◌++◌, vec_len}
 use Rattle.image_model.specs.Change.{Change, AreChanges}
 use Rattle.image_model.specs.declared.command.Command.{Command}
 use Rattle.image_model.specs.declared.command.Command.TheVariants.{Put, Clear}
@@ -10,16 +10,18 @@ use Rattle.nbd_wire.specs.declared.error.Errno.TheVariants.{Io}
 use Rattle.nbd_wire.specs.declared.head.RequestHead.{RequestHead}
 use Rattle.nbd_wire.specs.declared.message.SessionFlags.{SessionFlags}
 use Rattle.order_book.specs.Order.{OrderState}
-use Rattle.request_core.specs.Parts.{Stage, stage_of, AreConnectionsOf, IsOrderOf}
+use Rattle.request_core.specs.declared.serving.Served.{Served}
+use Rattle.request_core.specs.declared.serving.Served.TheVariants as served
+use Rattle.request_core.specs.Parts.{AreConnectionsOf, IsOrderOf}
 use Rattle.world.specs.declared.connection.Connection.{Connection}
 use Rattle.world.specs.declared.connection.Connection.TheVariants.{Idle, Requested, Waiting, Ready, Closed}
 use Rattle.world.specs.declared.event.Event.{Event}
-use Rattle.world.specs.declared.event.Event.TheVariants.{Sent, Answered, Held, Failed}
+use Rattle.world.specs.declared.event.Event.TheVariants.{Sent, Answered, Numbered as numbered, Took, Held, Failed}
 use Rattle.world.specs.declared.event.StepFault.TheVariants.{NoMemory}
-use Rattle.world.specs.declared.event.Outcome.{Outcome}
-use Rattle.world.specs.declared.event.Outcome.TheVariants.{Done, Refused}
+use Rattle.nbd_wire.specs.declared.message.Answer.{Answer}
+use Rattle.nbd_wire.specs.declared.message.Answer.TheVariants.{Done, Refused}
 use Rattle.world.specs.declared.step.Mode.{Mode}
-use Rattle.world.specs.World.{World, put}
+use Rattle.world.specs.World.{World, put, Stage}
 
 -- the command is a Put of a request's own data
 abbrev pub IsHandedBack : RequestHead → Command → Type 0
@@ -27,9 +29,39 @@ IsHandedBack head (Put first bytes) = vec_len bytes ≡ handed_len head
 IsHandedBack head (Clear first blocks kind) = ⊥
 
 -- the request again, of which the command is a Put
-abbrev pub request_again : RequestHead → Command → Connection
-request_again head (Put first bytes) = Requested (record { head = head; bytes = bytes.items })
-request_again head (Clear first blocks kind) = Closed
+abbrev pub request_again : RequestHead → Command → Served
+request_again head (Put first bytes) = served.NoRoom (record { head = head; bytes = bytes.items })
+request_again head (Clear first blocks kind) = served.Wait 0
+
+-- an answer to the request with this cookie
+abbrev pub ready_for : ℕ → Answer → Served
+ready_for number given = served.Ready (record { cookie = number; answer = given })
+
+-- what a write command comes to that has got a number
+abbrev pub served_after : Bool → ℕ → ℕ → Served
+served_after true cookie number = served.Wait number
+served_after false cookie number = ready_for cookie Done
+
+-- an answer has the request's cookie
+abbrev pub CarriesCookie : ℕ → Served → Type 0
+CarriesCookie cookie (served.Ready reply) = reply.cookie ≡ cookie
+CarriesCookie cookie (served.Wait number) = Unit {0}
+CarriesCookie cookie (served.NoRoom request) = Unit {0}
+
+-- what a connection comes to whose request was served
+abbrev pub state_of : Served → Connection
+state_of (served.Ready reply) = Ready reply.answer
+state_of (served.Wait number) = Waiting number
+state_of (served.NoRoom request) = Requested request
+
+abbrev pub quiet_event : Served → Event
+quiet_event (served.Ready reply) = Took
+quiet_event (served.Wait number) = Took
+quiet_event (served.NoRoom request) = Held
+
+-- the event of a request that was served, where the last number of the order went from one to another
+abbrev pub event_for : ℕ → ℕ → ℕ → Served → Event
+event_for connection before after result = if nat_lt before after then numbered connection after else quiet_event result
 
 -- the group that was sealed last stays as it is
 pub record IsSameHand (old new : OrderState) : Type 0 where
@@ -53,12 +85,20 @@ request_in (Ready outcome) = None
 request_in Closed = None
 
 -- the answer that is due, once all up to a number is durable, before or after a device fault
-abbrev pub due_of : ℕ → Bool → Connection → Option Outcome
+abbrev pub due_of : ℕ → Bool → Connection → Option Answer
 due_of durable stopped Idle = None
 due_of durable stopped (Requested request) = None
 due_of durable stopped (Waiting number) = if nat_le number durable then Some Done else (if stopped then Some (Refused Io) else None)
 due_of durable stopped (Ready outcome) = Some outcome
 due_of durable stopped Closed = None
+
+-- the answer that is due, or else the state
+abbrev pub answer_due : ℕ → Bool → Connection → Result Answer Connection
+answer_due durable stopped Idle = Err Idle
+answer_due durable stopped (Requested request) = Err (Requested request)
+answer_due durable stopped (Waiting number) = if nat_le number durable then Ok Done else (if stopped then Ok (Refused Io) else Err (Waiting number))
+answer_due durable stopped (Ready outcome) = Ok outcome
+answer_due durable stopped Closed = Err Closed
 
 -- A connection to which an answer is due gets it, and another one stays as it is.
 abbrev pub IsAnsweredBy : ℕ → Bool → List Connection → ℕ → List Connection → Event → Type 0
@@ -66,6 +106,11 @@ IsAnsweredBy durable stopped old connection new event =
     MatchOption (due_of durable stopped (slice_index_or old connection Closed))
     ((new ≡ old) × (event ≡ Held))
     (λ outcome. (new ≡ slice_set old connection Idle) × (event ≡ Answered connection outcome))
+
+-- the connections once one of them has sent a request, where it had none open
+abbrev pub sent_state : List Connection → ℕ → Message → List Connection
+sent_state old connection request =
+    if is_idle (slice_index_or old connection Closed) then slice_set old connection (Requested request) else old
 
 -- A connection that has no request open sends one, or memory is refused; another one sends nothing.
 abbrev pub IsSentBy : List Connection → ℕ → Message → List Connection → Event → Type 0
@@ -76,9 +121,9 @@ IsSentBy old connection request new event =
 
 -- what every request is judged by is the world's
 pub record AreTermsOf (world : World) (geometry : Geometry) (flags : SessionFlags) (mode : Mode) : Type 0 where
-  pub geometry_is : geometry ≡ world.setting.geometry
-  pub flags_is : flags ≡ world.setting.flags
-  pub mode_is : mode ≡ world.setting.mode
+  pub geometry_is : geometry ≡ world.stage.setting.geometry
+  pub flags_is : flags ≡ world.stage.setting.flags
+  pub mode_is : mode ≡ world.stage.setting.mode
 
 -- the stage with commands more
 abbrev pub with_commands : Stage → List Change → Stage
@@ -94,12 +139,12 @@ pub record IsGrown (old new : Stage) : Type 0 where
 pub record IsServed (world next : World) (connection : ℕ) (state : Connection) (event : Event) (order : OrderState) (group : Option Numbered) : Type 0 where
   pub connections : (other : ℕ) → put world.connections connection state other ≡ next.connections other
   pub log : next.log ≡ world.log ++ event ∷ []
-  pub grown : IsGrown (stage_of world) (stage_of next)
-  pub of_order : IsOrderOf (stage_of next) order group
+  pub grown : IsGrown world.stage next.stage
+  pub of_order : IsOrderOf next.stage order group
 
 -- The connections and the order are those of the next world.
 pub record IsTalked (world next : World) (connections : List Connection) (event : Event) (order : OrderState) (group : Option Numbered) : Type 0 where
   pub of_connections : AreConnectionsOf next connections
   pub log : next.log ≡ world.log ++ event ∷ []
-  pub grown : IsGrown (stage_of world) (stage_of next)
-  pub of_order : IsOrderOf (stage_of next) order group
+  pub grown : IsGrown world.stage next.stage
+  pub of_order : IsOrderOf next.stage order group

@@ -5,7 +5,7 @@ use Rattle.checkpoint.specs.declared.fault.KeeperFault.{KeeperFault}
 use Rattle.checkpoint.specs.declared.fault.KeeperFault.TheVariants as fault
 use Rattle.journal.specs.Group.{Numbered}
 use Rattle.order_book.specs.Order.{OrderState, Seals, with_durable, with_group}
-use Rattle.request_core.specs.Parts.{IsKeeperOf, IsOrderOf, stage_of}
+use Rattle.request_core.specs.Parts.{IsKeeperOf, IsOrderOf}
 use Rattle.world.specs.declared.event.Event.{Event}
 use Rattle.world.specs.declared.event.Event.TheVariants.{Took, Held, Failed}
 use Rattle.world.specs.declared.event.StepFault.TheVariants.{NoMemory, DeviceFault, FailedBefore}
@@ -70,5 +70,5 @@ PublishesBy count old new event =
 pub record IsKept {D : Type 0} (world next : World) (event : Event) (order : OrderState) (group : Option Numbered) (keeper : KeeperState D) (failures : ℕ) : Type 0 where
   pub connections : next.connections ≡ world.connections
   pub log : next.log ≡ world.log ++ event ∷ []
-  pub of_order : IsOrderOf (stage_of next) order group
-  pub of_keeper : IsKeeperOf (stage_of next) keeper failures
+  pub of_order : IsOrderOf next.stage order group
+  pub of_keeper : IsKeeperOf next.stage keeper failures

@@ -12,6 +12,7 @@ use world::Action;
 /// Judges a request by the rules of `docs/FORMATS.md`, "Judgement": the first that applies decides.
 pub fn judge(head: &RequestHead, geometry: &Geometry, flags: &SessionFlags) -> Result<Action, Errno>
     ensures verdict { result ≡ verdict head.now geometry.now flags.now }
+    ensures end { result ≡ Ok Action.End → head.now.kind ≡ 2 }
     ensures write { result ≡ Ok Action.Serve → head.now.kind ≢ 3 → IsServedWrite head.now geometry.now }
 {
     if head.kind == DISCONNECT {

@@ -2,14 +2,17 @@
 #![tactic(auto)]
 
 mod bench;
+mod engine;
 mod judgement;
 mod laws;
 mod rehearsal;
 mod serving;
 mod storing;
 
-pub use bench::Bench;
+pub use bench::{Bench, Connections};
+pub use engine::take_step;
 pub use judgement::judge;
-pub use laws::fresh_parts_law;
+pub use laws::{fresh_parts_law, leads_law};
 pub use rehearsal::rehearse;
-pub use world::{Action, Connection, Event, Mode, Outcome, SentRequest, Step, StepFault};
+pub use serving::{Served, Terms, serve_held};
+pub use world::{Action, Connection, Event, Mode, Step, StepFault};

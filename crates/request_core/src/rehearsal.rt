@@ -1,17 +1,14 @@
-ghost use Rattle.std.specs.Prelude.{◌≡◌, ◌≤◌, ◌↔◌, ℕ, All, IfSome, OnErr, OnOk, length, take};
-ghost use Rattle.image_model.specs.Image.{Image};
+ghost use Rattle.std.specs.Prelude.{◌≡◌, ◌≤◌, ◌↔◌, ℕ, IfSome, OnErr, OnOk, length, take};
 ghost use Rattle.order_book.specs.Order.{IsInHand};
-ghost use Rattle.request_core.specs.Life.{IsCarriedOut, IsDiskOf, IsDurable, IsPerformed, IsRehearsed};
-ghost use Rattle.request_core.specs.Parts.{AreConnectionsOf, IsKeeperOf, IsOrderOf, IsWorldOf, stage_of};
-ghost use Rattle.world.specs.Run.{IsRun};
+ghost use Rattle.request_core.specs.Life.{IsRehearsed, IsStepped};
+ghost use Rattle.request_core.specs.Parts.{IsWorldOf};
 ghost use Rattle.world.specs.Serve.{Luck};
-ghost use Rattle.world.specs.Step.{HasItsRequest, after_step};
+ghost use Rattle.world.specs.Step.{after_step};
 ghost use Rattle.world.specs.World.{World};
-ghost use Rattle.world_law.specs.Law.{IsWithin};
+ghost use Rattle.world.specs.declared.event.Event.{Event};
 
 use crate::bench::Bench;
-use crate::serving::{Terms, answer, send, serve};
-use crate::storing::{append, publish, seal};
+use crate::engine::take_step;
 use checkpoint::Keeper;
 use disk_model::Disk;
 use order_book::Order;
@@ -30,19 +27,18 @@ pub fn rehearse<D: Disk>(
     keeper: &mut Keeper<D>,
     bench: &mut Bench,
 ) -> Result<(), AllocError>
-    requires requests { All HasItsRequest steps.now }
-    requires group { IfSome bench.old.group (IsInHand order.old) }
-    ensures group { IfSome bench.new.group (IsInHand order.new) }
+    requires group { IfSome bench.old.connections.group (IsInHand order.old) }
+    ensures group { IfSome bench.new.connections.group (IsInHand order.new) }
+    ensures extent { D.extent keeper.new.disk ≡ D.extent keeper.old.disk }
     ensures honest { D.honest keeper.new.disk ↔ D.honest keeper.old.disk }
 
     // For each world that the parts are of: some first steps, at `Ok` all of them, lead to a next world that they are
-    // then of, and the log is legal. On an honest device that is the world's, with whatever opening image, all that is
-    // covered is kept by every crash: what was covered at the start since then, and what is covered at the end from then on.
-    ensures world { (world : World) → IsWorldOf world order.old keeper.old (D.faults keeper.old.disk) bench.old
+    // then of, and the log is legal. On an honest device all that is covered is kept by every crash: what was covered at
+    // the start since then, and what is covered at the end from then on.
+    ensures world { (world : World) → IsWorldOf world order.old keeper.old (D.faults keeper.old.disk) bench.old (D.honest keeper.old.disk) (D.state keeper.old.disk)
         → (next : World) × (done : ℕ) × (done ≤ length steps.now) × OnOk result (done ≡ length steps.now)
         × IsRehearsed world next (take done steps.now) order.new keeper.new (D.faults keeper.new.disk) bench.new
-        × (D.honest keeper.old.disk → (image : Image) → IsDiskOf (stage_of world) image keeper.old (D.state keeper.old.disk)
-        → IsDurable world next image keeper.new (D.state keeper.old.disk) (D.state keeper.new.disk)) }
+        (D.honest keeper.new.disk) (D.state keeper.old.disk) (D.state keeper.new.disk) }
 {
     schedule_law();
     for step in steps {
@@ -58,57 +54,19 @@ fn carry_out<D: Disk>(
     keeper: &mut Keeper<D>,
     bench: &mut Bench,
 ) -> Result<(), AllocError>
-    requires request { HasItsRequest step.now }
-    requires group { IfSome bench.old.group (IsInHand order.old) }
-    ensures group { IfSome bench.new.group (IsInHand order.new) }
+    requires group { IfSome bench.old.connections.group (IsInHand order.old) }
+    ensures group { IfSome bench.new.connections.group (IsInHand order.new) }
     ensures err { OnErr result ((order.new ≡ order.old) × (keeper.new ≡ keeper.old) × (bench.new ≡ bench.old)) }
+    ensures extent { D.extent keeper.new.disk ≡ D.extent keeper.old.disk }
     ensures honest { D.honest keeper.new.disk ↔ D.honest keeper.old.disk }
-    ensures world { (world : World) → IsWorldOf world order.old keeper.old (D.faults keeper.old.disk) bench.old
-        → OnOk result ((luck : Luck) × IsCarriedOut world (after_step world step.now luck) order.new keeper.old keeper.new (D.faults keeper.new.disk) bench.new
-        (D.honest keeper.old.disk) (D.state keeper.old.disk) (D.state keeper.new.disk)) }
+    ensures world { (world : World) → IsWorldOf world order.old keeper.old (D.faults keeper.old.disk) bench.old (D.honest keeper.old.disk) (D.state keeper.old.disk)
+        → OnOk result ((luck : Luck) × (event : Event) × (bench.new.log ≡ (after_step world step.now luck).log)
+        × IsStepped world (after_step world step.now luck) event order.new keeper.new (D.faults keeper.new.disk) bench.new.connections
+        (D.honest keeper.new.disk) (D.state keeper.old.disk) (D.state keeper.new.disk)) }
 {
-    schedule_law();
     let place = bench.log.len();
     bench.log.push(Event::Held)?;
-    let event = perform(step, order, keeper, bench);
+    let event = take_step(bench.alloc, step, order, keeper, &mut bench.connections);
     bench.log[place] = event;
     Ok(())
-}
-
-// Carries out one step, and gives its event; the log stays as it is.
-fn perform<D: Disk>(
-    step: &Step,
-    order: &mut Order,
-    keeper: &mut Keeper<D>,
-    bench: &mut Bench,
-) -> Event
-    requires request { HasItsRequest step.now }
-    requires group { IfSome bench.old.group (IsInHand order.old) }
-    ensures group { IfSome bench.new.group (IsInHand order.new) }
-    ensures bench { (bench.new.flags ≡ bench.old.flags) × (bench.new.mode ≡ bench.old.mode) × (bench.new.log ≡ bench.old.log) }
-    ensures honest { D.honest keeper.new.disk ↔ D.honest keeper.old.disk }
-    ensures world { (world : World) → IsWithin world → IsOrderOf (stage_of world) order.old bench.old.group
-        → IsKeeperOf (stage_of world) keeper.old (D.faults keeper.old.disk) → AreConnectionsOf world bench.old.connections
-        → bench.old.flags ≡ world.setting.flags → bench.old.mode ≡ world.setting.mode
-        → (luck : Luck) × IsPerformed world (after_step world step.now luck) result order.new bench.new keeper.old keeper.new (D.faults keeper.new.disk)
-        (D.honest keeper.old.disk) (D.state keeper.old.disk) (D.state keeper.new.disk) }
-{
-    let terms = Terms {
-        geometry: keeper.geometry(),
-        flags: bench.flags,
-        mode: bench.mode,
-    };
-    match step {
-        Step::Send(connection, request) => send(
-            bench.alloc,
-            &mut bench.connections,
-            *connection,
-            request,
-        ),
-        Step::Serve(connection) => serve(&mut bench.connections, *connection, order, terms),
-        Step::Answer(connection) => answer(&mut bench.connections, *connection, order),
-        Step::Seal => seal(&mut bench.group, order),
-        Step::Append => append(&mut bench.group, order, keeper),
-        Step::Publish => publish(order, keeper),
-    }
 }

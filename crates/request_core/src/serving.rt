@@ -1,10 +1,10 @@
-ghost use Rattle.std.specs.Prelude.{◌≡◌, ◌<◌, false, [], Some, IfSome, MatchOption, IfNone, Option, slice_index_or, slice_set, vec_len};
+ghost use Rattle.std.specs.Prelude.{◌≡◌, ◌≢◌, ◌<◌, ℕ, false, [], Some, IfSome, MatchOption, IfNone, Option, slice_index_or, slice_set, vec_len};
 ghost use Rattle.journal.specs.Group.{Numbered};
-ghost use Rattle.nbd_wire.specs.Request.{HasItsData, message};
-ghost use Rattle.request_core.specs.Parts.{AreConnectionsOf, IsOrderOf, stage_of};
-ghost use Rattle.request_core.specs.Serving.{AreTermsOf, IsAnsweredBy, IsHandedBack, IsSameHand, IsSentBy, IsServed, IsTalked, due_of, is_idle, request_again, request_in};
+ghost use Rattle.nbd_wire.specs.Request.{Message};
+ghost use Rattle.request_core.specs.Parts.{AreConnectionsOf, IsOrderOf};
+ghost use Rattle.request_core.specs.Serving.{AreTermsOf, CarriesCookie, IsAnsweredBy, IsHandedBack, IsSameHand, IsSentBy, IsServed, IsTalked, answer_due, event_for, is_idle, ready_for, request_again, request_in, sent_state, served_after, state_of};
 ghost use Rattle.world.specs.Log.{waits_for_store};
-ghost use Rattle.world.specs.Serve.{Luck, answer as answer_of, serve as serve_of, state_after, write_served};
+ghost use Rattle.world.specs.Serve.{Luck, answer as answer_of, serve as serve_of, write_served};
 ghost use Rattle.world.specs.Step.{send as send_of};
 ghost use Rattle.world.specs.Verdict.{IsServedWrite};
 ghost use Rattle.world.specs.World.{World};
@@ -14,28 +14,39 @@ ghost use Rattle.world_law.specs.Law.{IsWithin};
 use crate::judgement::judge;
 use bitflags::Flags;
 use image_model::{BLOCK_BYTES, Command, Geometry};
-use nbd_wire::{CommandFlags, Errno, FLUSH, Request, RequestHead, SessionFlags};
+use nbd_wire::{Answer, CommandFlags, DISCONNECT, Errno, FLUSH, Reply, Request, RequestHead, SessionFlags};
 use order_book::{Order, OrderFault};
 use std::alloc::Global;
 use std::mem;
-use world::{Action, Connection, Event, Mode, Outcome, SentRequest, StepFault};
+use world::{Action, Connection, Event, Mode, StepFault};
 
-// What every request is judged by, and how long a write waits.
-#[derive(Clone, Copy)]
-pub(crate) struct Terms {
+/// What every request is judged by, and how long a write waits.
+#[derive(Clone, Copy, Debug, PartialEq, Eq)]
+pub struct Terms {
     pub geometry: Geometry,
     pub flags: SessionFlags,
     pub mode: Mode,
 }
 
+/// What a request comes to when it is served.
+#[derive(Debug, Drop)]
+pub enum Served {
+    /// It is answered.
+    Ready(Reply),
+    /// It is answered once the command with this number and all before it are durable.
+    Wait(u64),
+    /// There is no room for its command; it may be served again.
+    NoRoom(Request),
+}
+
 // Whether a connection has no request open.
-fn is_idle(connections: &[Connection], connection: usize) -> bool
-    ensures { result ≡ is_idle (slice_index_or connections.now connection Connection.Closed) }
+fn is_idle(states: &[Connection], connection: usize) -> bool
+    ensures { result ≡ is_idle (slice_index_or states.now connection Connection.Closed) }
 {
-    if connection >= connections.len() {
+    if connection >= states.len() {
         return false;
     }
-    match &connections[connection] {
+    match &states[connection] {
         Connection::Idle => true,
         Connection::Requested(_)
         | Connection::Waiting(_)
@@ -44,63 +55,71 @@ fn is_idle(connections: &[Connection], connection: usize) -> bool
     }
 }
 
-// A connection sends a request, where it has none open.
+// A connection sends a request, where it has none open; else the request is let go.
+pub(crate) fn send_owned(states: &mut Vec<Connection>, connection: usize, request: Request) -> bool
+    ensures sent { result ≡ is_idle (slice_index_or states.old.items connection Connection.Closed) }
+    ensures states { states.new.items ≡ sent_state states.old.items connection request }
+{
+    if !is_idle(states, connection) {
+        return false;
+    }
+    states[connection] = Connection::Requested(request);
+    true
+}
+
+// A connection sends a copy of a request, and another goes into the event.
 pub(crate) fn send(
     alloc: Global,
-    connections: &mut Vec<Connection>,
+    states: &mut Vec<Connection>,
     connection: usize,
     request: &Request,
 ) -> Event
-    requires { HasItsData request.now }
-    ensures { IsSentBy connections.old.items connection (message request.now) connections.new.items result }
+    ensures { IsSentBy states.old.items connection request.now states.new.items result }
 {
-    if !is_idle(connections, connection) {
+    if !is_idle(states, connection) {
         return Event::Held;
     }
-    let (Ok(sent), Ok(copy)) = (
-        SentRequest::of(alloc, request),
-        SentRequest::of(alloc, request),
-    ) else {
+    let (Ok(sent), Ok(copy)) = (request.try_clone(alloc), request.try_clone(alloc)) else {
         return Event::Failed(StepFault::NoMemory);
     };
-    connections[connection] = Connection::Requested(sent);
+    states[connection] = Connection::Requested(sent);
     Event::Sent(connection, copy)
 }
 
 // Serves the request of a connection, where it has sent one that wasn't served yet.
 pub(crate) fn serve(
-    connections: &mut Vec<Connection>,
+    states: &mut Vec<Connection>,
     connection: usize,
     order: &mut Order,
     terms: Terms,
 ) -> Event
     ensures hand { IsSameHand order.old order.new }
-    ensures world { (world : World) (group : Option Numbered) → IsWithin world → IsOrderOf (stage_of world) order.old group
-        → AreTermsOf world terms.geometry terms.flags terms.mode → AreConnectionsOf world connections.old.items
-        → (luck : Luck) × IsTalked world (serve_of luck world connection (world.connections connection)) connections.new.items result order.new group }
+    ensures world { (world : World) (group : Option Numbered) → IsWithin world → IsOrderOf world.stage order.old group
+        → AreTermsOf world terms.geometry terms.flags terms.mode → AreConnectionsOf world states.old.items
+        → (luck : Luck) × IsTalked world (serve_of luck world connection (world.connections connection)) states.new.items result order.new group }
 {
-    let Some(request) = take_request(connections, connection) else {
+    let Some(request) = take_request(states, connection) else {
         return Event::Held;
     };
     let (state, event) = serve_request(connection, request, order, terms);
-    connections[connection] = state;
+    states[connection] = state;
     event
 }
 
 // Takes a request that a connection has sent and that wasn't served yet.
-fn take_request(connections: &mut Vec<Connection>, connection: usize) -> Option<SentRequest>
-    ensures request { result ≡ request_in (slice_index_or connections.old.items connection Connection.Closed) }
-    ensures within { IfSome result (λ request. connection < vec_len connections.new) }
-    ensures taken { IfSome result (λ request. connections.new.items ≡ slice_set connections.old.items connection Connection.Idle) }
-    ensures none { IfNone result (connections.new.items ≡ connections.old.items) }
+fn take_request(states: &mut Vec<Connection>, connection: usize) -> Option<Request>
+    ensures request { result ≡ request_in (slice_index_or states.old.items connection Connection.Closed) }
+    ensures within { IfSome result (λ request. connection < vec_len states.new) }
+    ensures taken { IfSome result (λ request. states.new.items ≡ slice_set states.old.items connection Connection.Idle) }
+    ensures none { IfNone result (states.new.items ≡ states.old.items) }
 {
-    if connection >= connections.len() {
+    if connection >= states.len() {
         return None;
     }
-    match mem::replace(&mut connections[connection], Connection::Idle) {
+    match mem::replace(&mut states[connection], Connection::Idle) {
         Connection::Requested(request) => Some(request),
         other => {
-            connections[connection] = other;
+            states[connection] = other;
             None
         }
     }
@@ -109,44 +128,91 @@ fn take_request(connections: &mut Vec<Connection>, connection: usize) -> Option<
 // What a connection comes to when its request is served, and the event.
 fn serve_request(
     connection: usize,
-    request: SentRequest,
+    request: Request,
     order: &mut Order,
     terms: Terms,
 ) -> (Connection, Event)
     ensures hand { IsSameHand order.old order.new }
-    ensures world { (world : World) (group : Option Numbered) → IsWithin world → IsOrderOf (stage_of world) order.old group
+    ensures world { (world : World) (group : Option Numbered) → IsWithin world → IsOrderOf world.stage order.old group
         → AreTermsOf world terms.geometry terms.flags terms.mode → world.connections connection ≡ Connection.Requested request
         → (luck : Luck) × IsServed world (serve_of luck world connection (Connection.Requested request)) connection result.0 result.1 order.new group }
 {
-    let head = request.head();
-    match judge(&head, &terms.geometry, &terms.flags) {
-        Ok(Action::End) => (Connection::Closed, Event::Took),
-        Err(errno) => refused(errno),
-        Ok(Action::Serve) if order.stopped() => refused(Errno::Io),
-        Ok(Action::Serve) if head.kind == FLUSH => (Connection::Waiting(order.mark()), Event::Took),
-        Ok(Action::Serve) => serve_write(connection, request, order, terms),
+    if request.head().kind == DISCONNECT {
+        return (Connection::Closed, Event::Took);
+    }
+    let before = order.mark();
+    let served = serve_held(request, order, terms);
+    let event = event_of(connection, before, order.mark(), &served);
+    (state_of(served), event)
+}
+
+// The event of a request that was served, where the last number of the order went from `before` to `after`.
+fn event_of(connection: usize, before: u64, after: u64, served: &Served) -> Event
+    ensures { result ≡ event_for connection before after served.now }
+{
+    if before < after {
+        return Event::Numbered(connection, after);
+    }
+    match served {
+        Served::NoRoom(_) => Event::Held,
+        Served::Ready(_) | Served::Wait(_) => Event::Took,
     }
 }
 
-fn refused(errno: Errno) -> (Connection, Event)
-    ensures state { result.0 ≡ Connection.Ready (Outcome.Refused errno) }
-    ensures event { result.1 ≡ Event.Took }
+// What a connection comes to whose request was served.
+fn state_of(served: Served) -> Connection
+    ensures { result ≡ state_of served }
 {
-    (Connection::Ready(Outcome::Refused(errno)), Event::Took)
+    match served {
+        Served::Ready(reply) => Connection::Ready(reply.answer),
+        Served::Wait(number) => Connection::Waiting(number),
+        Served::NoRoom(request) => Connection::Requested(request),
+    }
+}
+
+/// Serves a request that isn't a DISC: it is judged, and a command gets its place in the order.
+///
+/// A WRITE for which there is no room comes back; the order is then as it was, and so it is after every answer but those
+/// that say or wait for it that a command was taken. No request needs the device so far.
+pub fn serve_held(request: Request, order: &mut Order, terms: Terms) -> Served
+    requires { request.head.kind ≢ 2 }
+    ensures hand { IsSameHand order.old order.new }
+    ensures cookie { CarriesCookie request.head.cookie result }
+
+    // In each world that order and request are of this is the step that serves the connection.
+    ensures world { (world : World) (group : Option Numbered) (connection : ℕ) → IsWithin world → IsOrderOf world.stage order.old group
+        → AreTermsOf world terms.geometry terms.flags terms.mode → world.connections connection ≡ Connection.Requested request
+        → (luck : Luck) × IsServed world (serve_of luck world connection (Connection.Requested request)) connection (state_of result)
+        (event_for connection order.old.mark order.new.mark result) order.new group }
+{
+    let head = request.head();
+    match judge(&head, &terms.geometry, &terms.flags) {
+        Ok(Action::End) => unreachable!(),
+        Err(errno) => refused(head.cookie, errno),
+        Ok(Action::Serve) if order.stopped() => refused(head.cookie, Errno::Io),
+        Ok(Action::Serve) if head.kind == FLUSH => Served::Wait(order.mark()),
+        Ok(Action::Serve) => serve_write(request, order, terms),
+    }
+}
+
+fn refused(cookie: u64, errno: Errno) -> Served
+    ensures { result ≡ ready_for cookie (Answer.Refused errno) }
+{
+    Served::Ready(Reply {
+        cookie,
+        answer: Answer::Refused(errno),
+    })
 }
 
 // Gives a WRITE that passes judgement its place in the order.
-fn serve_write(
-    connection: usize,
-    request: SentRequest,
-    order: &mut Order,
-    terms: Terms,
-) -> (Connection, Event)
+fn serve_write(request: Request, order: &mut Order, terms: Terms) -> Served
     requires { IsServedWrite request.head terms.geometry }
     ensures hand { IsSameHand order.old order.new }
-    ensures world { (world : World) (group : Option Numbered) → IsWithin world → IsOrderOf (stage_of world) order.old group
+    ensures cookie { CarriesCookie request.head.cookie result }
+    ensures world { (world : World) (group : Option Numbered) (connection : ℕ) → IsWithin world → IsOrderOf world.stage order.old group
         → AreTermsOf world terms.geometry terms.flags terms.mode → order.old.stopped ≡ false → world.connections connection ≡ Connection.Requested request
-        → (luck : Luck) × IsServed world (write_served luck world connection request) connection result.0 result.1 order.new group }
+        → (luck : Luck) × IsServed world (write_served luck world connection request) connection (state_of result)
+        (event_for connection order.old.mark order.new.mark result) order.new group }
 {
     let (head, bytes) = request.into_parts();
     let command = Command::Put {
@@ -154,14 +220,11 @@ fn serve_write(
         bytes,
     };
     match order.accept(command) {
-        Ok(number) => (
-            accepted_state(&head, terms.mode, number),
-            Event::Numbered(connection, number),
-        ),
-        Err((OrderFault::NoRoom, command)) => (returned(head, command), Event::Held),
-        Err((OrderFault::NoMemory, _)) => refused(Errno::NoMemory),
-        Err((OrderFault::NumbersFull, _)) => refused(Errno::NoSpace),
-        Err((OrderFault::Stopped, _)) => refused(Errno::Io),
+        Ok(number) => accepted(&head, terms.mode, number),
+        Err((OrderFault::NoRoom, command)) => returned(head, command),
+        Err((OrderFault::NoMemory, _)) => refused(head.cookie, Errno::NoMemory),
+        Err((OrderFault::NumbersFull, _)) => refused(head.cookie, Errno::NoSpace),
+        Err((OrderFault::Stopped, _)) => refused(head.cookie, Errno::Io),
     }
 }
 
@@ -176,59 +239,62 @@ fn waits(head: &RequestHead, mode: Mode) -> bool
     }
 }
 
-// What a connection comes to when its command has got a number.
-fn accepted_state(head: &RequestHead, mode: Mode, number: u64) -> Connection
-    ensures { result ≡ state_after (waits_for_store mode (record { head = head.now; bytes = [] })) number }
+// What a write command comes to that has got this number.
+fn accepted(head: &RequestHead, mode: Mode, number: u64) -> Served
+    ensures { result ≡ served_after (waits_for_store mode (record { head = head.now; bytes = [] })) head.now.cookie number }
 {
     if waits(head, mode) {
-        Connection::Waiting(number)
+        Served::Wait(number)
     } else {
-        Connection::Ready(Outcome::Done)
+        Served::Ready(Reply {
+            cookie: head.cookie,
+            answer: Answer::Done,
+        })
     }
 }
 
-// What a connection stays at whose command was handed back.
-fn returned(head: RequestHead, command: Command) -> Connection
+// The request whose command was handed back.
+fn returned(head: RequestHead, command: Command) -> Served
     requires { IsHandedBack head command }
     ensures { result ≡ request_again head command }
 {
     match command {
-        Command::Put { first: _, bytes } => {
-            Connection::Requested(SentRequest::from_parts(head, bytes))
-        }
+        Command::Put { first: _, bytes } => Served::NoRoom(Request::new(head, bytes)),
         Command::Clear { .. } => unreachable!(),
     }
 }
 
 // Answers a connection to which an answer is due.
-pub(crate) fn answer(connections: &mut Vec<Connection>, connection: usize, order: &Order) -> Event
-    ensures { IsAnsweredBy order.now.durable order.now.stopped connections.old.items connection connections.new.items result }
+pub(crate) fn answer(states: &mut Vec<Connection>, connection: usize, order: &Order) -> Event
+    ensures { IsAnsweredBy order.now.durable order.now.stopped states.old.items connection states.new.items result }
 {
-    if connection >= connections.len() {
+    if connection >= states.len() {
         return Event::Held;
     }
-    let Some(outcome) = due(&connections[connection], order) else {
-        return Event::Held;
-    };
-    connections[connection] = Connection::Idle;
-    Event::Answered(connection, outcome)
+    match due(mem::replace(&mut states[connection], Connection::Idle), order) {
+        Ok(answer) => Event::Answered(connection, answer),
+        Err(state) => {
+            states[connection] = state;
+            Event::Held
+        }
+    }
 }
 
-// The answer that is due to a connection, if one is.
-fn due(connection: &Connection, order: &Order) -> Option<Outcome>
-    ensures { result ≡ due_of order.now.durable order.now.stopped connection.now }
+// The answer that is due to a connection, or where none is its state again.
+fn due(state: Connection, order: &Order) -> Result<Answer, Connection>
+    ensures { result ≡ answer_due order.now.durable order.now.stopped state }
 {
-    match connection {
-        Connection::Idle | Connection::Requested(_) | Connection::Closed => None,
-        Connection::Ready(outcome) => Some(*outcome),
+    match state {
+        Connection::Ready(answer) => Ok(answer),
         Connection::Waiting(number) => {
-            if *number <= order.durable() {
-                Some(Outcome::Done)
+            if number <= order.durable() {
+                Ok(Answer::Done)
             } else if order.stopped() {
-                Some(Outcome::Refused(Errno::Io))
+                Ok(Answer::Refused(Errno::Io))
             } else {
-                None
+                Err(Connection::Waiting(number))
             }
         }
+        other => Err(other),
     }
 }

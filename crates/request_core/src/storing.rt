@@ -1,6 +1,6 @@
 ghost use Rattle.std.specs.Prelude.{◌≡◌, ◌↔◌, None, Some, IfSome};
-ghost use Rattle.request_core.specs.Life.{IsAppended};
-ghost use Rattle.request_core.specs.Parts.{IsKeeperOf, IsOrderOf, stage_of};
+ghost use Rattle.request_core.specs.Steps.{IsAppended};
+ghost use Rattle.request_core.specs.Parts.{IsKeeperOf, IsOrderOf};
 ghost use Rattle.request_core.specs.Storing.{PublishesBy, SealsBy, event_of, hand_after, order_after};
 ghost use Rattle.world.specs.Serve.{Luck};
 ghost use Rattle.world.specs.Step.{append as append_of};
@@ -53,9 +53,10 @@ pub(crate) fn append<D: Disk>(
 ) -> Event
     requires { IfSome hand.old (IsInHand order.old) }
     ensures hand { IfSome hand.new (IsInHand order.new) }
+    ensures extent { D.extent keeper.new.disk ≡ D.extent keeper.old.disk }
     ensures honest { D.honest keeper.new.disk ↔ D.honest keeper.old.disk }
-    ensures world { (world : World) → IsWithin world → IsOrderOf (stage_of world) order.old hand.old
-        → IsKeeperOf (stage_of world) keeper.old (D.faults keeper.old.disk)
+    ensures world { (world : World) → IsWithin world → IsOrderOf world.stage order.old hand.old
+        → IsKeeperOf world.stage keeper.old (D.faults keeper.old.disk)
         → (luck : Luck) × IsAppended world (append_of luck world) result order.new hand.new keeper.old keeper.new (D.faults keeper.new.disk)
         (D.honest keeper.old.disk) (D.state keeper.old.disk) (D.state keeper.new.disk) }
 {

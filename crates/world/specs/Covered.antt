@@ -2,7 +2,7 @@
 use Rattle.std.specs.Prelude.{◌≡◌, ◌⊎◌, ℕ, ◌<◌, true, List}
 use Rattle.nbd_wire.specs.Request.{Message}
 use Rattle.world.specs.declared.event.Event.{Event}
-use Rattle.world.specs.declared.event.Outcome.TheVariants.{Done}
+use Rattle.nbd_wire.specs.declared.message.Answer.TheVariants.{Done}
 use Rattle.world.specs.declared.step.Mode.{Mode}
 use Rattle.world.specs.Log.{IsAnswered, is_write, is_flush, waits_for_store}
 use Rattle.world.specs.World.{World}
@@ -37,4 +37,4 @@ IsCovered mode log place = IsFlushed log place ⊎ IsForced mode log place
 -- each covered command is among the first `count` of the order
 abbrev pub Covers : World → ℕ → Type 0
 Covers world count =
-    (place : ℕ) → IsCovered world.setting.mode world.log place → (k : ℕ) × (k < count) × (world.paired k ≡ place)
+    (place : ℕ) → IsCovered world.stage.setting.mode world.log place → (k : ℕ) × (k < count) × (world.paired k ≡ place)

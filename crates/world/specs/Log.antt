@@ -7,8 +7,8 @@ use Rattle.nbd_wire.specs.declared.error.Errno.{Errno}
 use Rattle.nbd_wire.specs.declared.error.Errno.TheVariants.{Io}
 use Rattle.world.specs.declared.event.Event.{Event}
 use Rattle.world.specs.declared.event.Event.TheVariants.{Sent, Answered}
-use Rattle.world.specs.declared.event.Outcome.{Outcome}
-use Rattle.world.specs.declared.event.Outcome.TheVariants.{Done, Refused}
+use Rattle.nbd_wire.specs.declared.message.Answer.{Answer}
+use Rattle.nbd_wire.specs.declared.message.Answer.TheVariants.{Done, Refused}
 use Rattle.world.specs.declared.step.Mode.{Mode}
 use Rattle.world.specs.declared.step.Mode.TheVariants.{Writeback, Writethrough}
 
@@ -17,11 +17,11 @@ abbrev pub StandsAt : List Event → ℕ → Event → Type 0
 StandsAt log place event = slice_get log place ≡ Some event
 
 -- the request that the connection sent at `place` is answered at `answer`: the first answer to the connection from there on
-pub record IsAnswered (log : List Event) (connection place : ℕ) (request : Message) (answer : ℕ) (outcome : Outcome) : Type 0 where
+pub record IsAnswered (log : List Event) (connection place : ℕ) (request : Message) (answer : ℕ) (outcome : Answer) : Type 0 where
   pub sent : StandsAt log place (Sent connection request)
   pub later : place < answer
   pub answered : StandsAt log answer (Answered connection outcome)
-  pub first : (between : ℕ) (other : Outcome) → place < between → between < answer → StandsAt log between (Answered connection other) → ⊥
+  pub first : (between : ℕ) (other : Answer) → place < between → between < answer → StandsAt log between (Answered connection other) → ⊥
 
 -- a request that asks for a write command, and that command ("Request types" of NBD's proto.md)
 abbrev pub is_write : Message → Bool
@@ -57,9 +57,9 @@ pub record IsLegal (log : List Event) (order : List Change) (paired : ℕ → �
   pub refused : (connection place answer k : ℕ) (request : Message) (errno : Errno) → IsAnswered log connection place request answer (Refused errno)
       → errno ≢ Io → k < length order → paired k ≢ place
   -- a command that is answered before another one is sent stands before it
-  pub in_order : (connection answer k m : ℕ) (request : Message) (outcome : Outcome) → k < length order → m < length order
+  pub in_order : (connection answer k m : ℕ) (request : Message) (outcome : Answer) → k < length order → m < length order
       → IsAnswered log connection (paired k) request answer outcome → answer < paired m → k < m
   -- a connection sends no request before its last one is answered
   pub one_open : (connection place next : ℕ) (request other : Message) → place < next
       → StandsAt log place (Sent connection request) → StandsAt log next (Sent connection other)
-      → (answer : ℕ) × (outcome : Outcome) × (place < answer) × (answer < next) × StandsAt log answer (Answered connection outcome)
+      → (answer : ℕ) × (outcome : Answer) × (place < answer) × (answer < next) × StandsAt log answer (Answered connection outcome)

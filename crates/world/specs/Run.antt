@@ -7,7 +7,7 @@ use Rattle.world.specs.World.{World, Setting, fresh}
 
 -- the worlds that schedules lead to: fresh ones, and those that a step leaves of another
 pub data IsReached : World → Type 0 where
-  Fresh : (setting : Setting) (end failures : ℕ) → IsReached (fresh setting end failures)
+  Fresh : (setting : Setting) (end : ℕ) → IsReached (fresh setting end)
   After : {world : World} (step : Step) (luck : Luck) → IsReached world → IsReached (after_step world step luck)
 
 -- the steps, each with some luck, lead from one world to another

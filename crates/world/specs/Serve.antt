@@ -9,8 +9,8 @@ use Rattle.world.specs.declared.connection.Connection.{Connection}
 use Rattle.world.specs.declared.connection.Connection.TheVariants.{Idle, Requested, Waiting, Ready, Closed}
 use Rattle.world.specs.declared.event.Event.{Event}
 use Rattle.world.specs.declared.event.Event.TheVariants.{Answered, Numbered, Took, Held}
-use Rattle.world.specs.declared.event.Outcome.{Outcome}
-use Rattle.world.specs.declared.event.Outcome.TheVariants.{Done, Refused}
+use Rattle.nbd_wire.specs.declared.message.Answer.{Answer}
+use Rattle.nbd_wire.specs.declared.message.Answer.TheVariants.{Done, Refused}
 use Rattle.world.specs.Log.{command_of, is_flush, waits_for_store}
 use Rattle.world.specs.Verdict.{verdict}
 use Rattle.world.specs.World.{World, put, last_number, has_room}
@@ -32,14 +32,14 @@ held world = logged world Held
 abbrev pub moved : World → ℕ → Connection → World
 moved world connection state = record world { connections = put world.connections connection state }
 
-abbrev pub ready : World → ℕ → Outcome → World
+abbrev pub ready : World → ℕ → Answer → World
 ready world connection outcome = logged (moved world connection (Ready outcome)) Took
 
 -- the command of a request goes to the end of the order, paired with the request
 abbrev pub ordered : World → ℕ → Message → World
 ordered world connection request = record world {
-  order = world.order ++ command_of request ∷ [];
-  paired = put world.paired (length world.order) (world.places connection);
+  stage = record world.stage { order = world.stage.order ++ command_of request ∷ [] };
+  paired = put world.paired (length world.stage.order) (world.places connection);
 }
 
 -- what a write command waits for, once it has this number
@@ -52,7 +52,7 @@ abbrev pub accepted : Luck → World → ℕ → Message → World
 accepted Starved world connection request = ready world connection (Refused NoMemory)
 accepted _ world connection request =
     let number = last_number world + 1 in
-    logged (moved (ordered world connection request) connection (state_after (waits_for_store world.setting.mode request) number))
+    logged (moved (ordered world connection request) connection (state_after (waits_for_store world.stage.setting.mode request) number))
     (Numbered connection number)
 
 -- a write command: refused where no number is left, held where there is no room
@@ -64,7 +64,7 @@ write_served luck world connection request =
 -- a request that passes judgement: EIO after a device fault, a FLUSH waits for the last number
 abbrev pub passed : Luck → World → ℕ → Message → World
 passed luck world connection request =
-    if world.stopped then ready world connection (Refused Io)
+    if world.stage.stopped then ready world connection (Refused Io)
     else (if is_flush request then logged (moved world connection (Waiting (last_number world))) Took
     else write_served luck world connection request)
 
@@ -77,21 +77,21 @@ judged (Err errno) luck world connection request = ready world connection (Refus
 -- serving a connection in this state
 abbrev pub serve : Luck → World → ℕ → Connection → World
 serve luck world connection (Requested request) =
-    judged (verdict request.head world.setting.geometry world.setting.flags) luck world connection request
+    judged (verdict request.head world.stage.setting.geometry world.stage.setting.flags) luck world connection request
 serve luck world connection Idle = held world
 serve luck world connection (Waiting number) = held world
 serve luck world connection (Ready outcome) = held world
 serve luck world connection Closed = held world
 
-abbrev pub answered : World → ℕ → Outcome → World
+abbrev pub answered : World → ℕ → Answer → World
 answered world connection outcome = logged (moved world connection Idle) (Answered connection outcome)
 
 -- answering a connection in this state: who waits is answered once its number is durable, or EIO after a device fault
 abbrev pub answer : World → ℕ → Connection → World
 answer world connection (Ready outcome) = answered world connection outcome
 answer world connection (Waiting number) =
-    if nat_le number (world.setting.opening + world.durable) then answered world connection Done
-    else (if world.stopped then answered world connection (Refused Io) else held world)
+    if nat_le number (world.stage.setting.opening + world.stage.durable) then answered world connection Done
+    else (if world.stage.stopped then answered world connection (Refused Io) else held world)
 answer world connection Idle = held world
 answer world connection (Requested request) = held world
 answer world connection Closed = held world

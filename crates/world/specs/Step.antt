@@ -1,7 +1,7 @@
 -- how each step changes the world
 use Rattle.std.specs.Prelude.{ℕ, ◌+◌, true, ◌&&◌, ◌==◌, nat_lt, if◌then◌else◌, length, drop}
 use Rattle.disk_model.specs.Faults.{counted}
-use Rattle.nbd_wire.specs.Request.{HasItsData, Message, message}
+use Rattle.nbd_wire.specs.Request.{Message}
 use Rattle.order_book.specs.Order.{body_limit}
 use Rattle.world.specs.declared.connection.Connection.{Connection}
 use Rattle.world.specs.declared.connection.Connection.TheVariants.{Idle, Requested, Waiting, Ready, Closed}
@@ -11,7 +11,11 @@ use Rattle.world.specs.declared.step.Step.{Step}
 use Rattle.world.specs.declared.step.Step.TheVariants.{Send, Serve, Answer, Seal, Append, Publish}
 use Rattle.world.specs.Room.{bodies_bytes, longest}
 use Rattle.world.specs.Serve.{Luck, Fine, Starved, Faulted, logged, held, moved, serve, answer}
-use Rattle.world.specs.World.{World, put, in_hand, fits}
+use Rattle.world.specs.World.{World, Stage, put, in_hand, fits}
+
+-- the world in which order and keeper come to this
+abbrev pub staged : World → Stage → World
+staged world stage = record world { stage = stage }
 
 -- a growth of memory was refused, and nothing else has changed
 abbrev pub starved : World → World
@@ -36,51 +40,46 @@ send luck world connection request Closed = held world
 abbrev pub sealed_more : Luck → World → World
 sealed_more Starved world = starved world
 sealed_more _ world =
-    let count = longest (body_limit world.setting.geometry.area) (drop world.sealed world.order) in
-    logged (record world { sealed = world.sealed + count }) Took
+    let count = longest (body_limit world.stage.setting.geometry.area) (drop world.stage.sealed world.stage.order) in
+    logged (staged world (record world.stage { sealed = world.stage.sealed + count })) Took
 
 -- sealing, where something is pending and all that was sealed is durable
 abbrev pub seal : Luck → World → World
 seal luck world =
-    if nat_lt world.sealed (length world.order) && (world.sealed == world.durable) then sealed_more luck world else held world
+    if nat_lt world.stage.sealed (length world.stage.order) && (world.stage.sealed == world.stage.durable) then sealed_more luck world else held world
 
 -- the group in hand is pending again
 abbrev pub put_back : World → World
-put_back world = record world { sealed = world.stored }
+put_back world = staged world (record world.stage { sealed = world.stage.stored })
 
 -- what a call of the device that fails leaves: no command is accepted any more, and the group in hand is pending again
 abbrev pub faulted : World → World
-faulted world = record (put_back world) { stopped = true; faults = counted world.faults }
+faulted world = staged world (record world.stage { sealed = world.stage.stored; stopped = true; faults = counted world.stage.faults })
 
 -- the group in hand is stored
 abbrev pub stored_more : Luck → World → World
 stored_more Fine world =
-    logged (record world { stored = world.sealed; at = world.at + 17 + bodies_bytes (in_hand world) }) Took
+    logged (staged world (record world.stage { stored = world.stage.sealed; at = world.stage.at + 17 + bodies_bytes (in_hand world) })) Took
 stored_more Starved world = starved world
 stored_more Faulted world = logged (faulted world) (Failed DeviceFault)
 
 -- appending the group in hand: pending again where the device has failed before, or where it doesn't fit
 abbrev pub append_in_hand : Luck → World → World
 append_in_hand luck world =
-    if world.stopped then logged (put_back world) (Failed FailedBefore)
+    if world.stage.stopped then logged (put_back world) (Failed FailedBefore)
     else (if fits world then stored_more luck world else held (put_back world))
 
 abbrev pub append : Luck → World → World
-append luck world = if nat_lt world.stored world.sealed then append_in_hand luck world else held world
+append luck world = if nat_lt world.stage.stored world.stage.sealed then append_in_hand luck world else held world
 
 -- what is stored counts as durable
 abbrev pub publish : World → World
-publish world = if nat_lt world.durable world.stored then logged (record world { durable = world.stored }) Took else held world
+publish world = if nat_lt world.stage.durable world.stage.stored then logged (staged world (record world.stage { durable = world.stage.stored })) Took else held world
 
 abbrev pub after_step : World → Step → Luck → World
-after_step world (Send connection request) luck = send luck world connection (message request) (world.connections connection)
+after_step world (Send connection request) luck = send luck world connection request (world.connections connection)
 after_step world (Serve connection) luck = serve luck world connection (world.connections connection)
 after_step world (Answer connection) luck = answer world connection (world.connections connection)
 after_step world Seal luck = seal luck world
 after_step world Append luck = append luck world
 after_step world Publish luck = publish world
-
--- a request that is sent has the data that the stream gives it
-abbrev pub HasItsRequest : Step → Type 0
-HasItsRequest (Send connection request) = HasItsData request
-HasItsRequest _ = Unit {0}

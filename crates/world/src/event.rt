@@ -1,14 +1,13 @@
-use crate::connection::SentRequest;
-use nbd_wire::Errno;
+use nbd_wire::{Answer, Request};
 use thiserror::Error;
 
 /// What a step did.
 #[derive(Debug, Drop)]
 pub enum Event {
     /// The connection sent the request.
-    Sent(usize, SentRequest),
+    Sent(usize, Request),
     /// The connection was answered.
-    Answered(usize, Outcome),
+    Answered(usize, Answer),
     /// The connection's command got this number.
     Numbered(usize, u64),
     /// Another step took place.
@@ -17,15 +16,6 @@ pub enum Event {
     Held,
     /// The step failed.
     Failed(StepFault),
-}
-
-/// What a request is answered.
-#[derive(Clone, Copy, Debug, PartialEq, Eq)]
-pub enum Outcome {
-    /// It is done.
-    Done,
-    /// It is refused.
-    Refused(Errno),
 }
 
 /// Why a step failed; `docs/FORMATS.md`, "Refusals", has the numbers.

@@ -11,6 +11,6 @@ mod event;
 mod step;
 
 pub use action::Action;
-pub use connection::{Connection, SentRequest};
-pub use event::{Event, Outcome, StepFault};
+pub use connection::Connection;
+pub use event::{Event, StepFault};
 pub use step::{Mode, Step};

@@ -5,7 +5,7 @@ use Rattle.std.proofs.lemmas.Option.{slice_get_within}
 use Rattle.nbd_wire.specs.Request.{Message}
 use Rattle.world.specs.declared.event.Event.{Event}
 use Rattle.world.specs.declared.event.Event.TheVariants.{Sent, Answered}
-use Rattle.world.specs.declared.event.Outcome.{Outcome}
+use Rattle.nbd_wire.specs.declared.message.Answer.{Answer}
 use Rattle.world.specs.Log.{StandsAt, IsAnswered}
 
 -- an element of a list is one of a longer list
@@ -37,13 +37,13 @@ get_before xs y k x below is = before (get_split xs y k x is)
     before (inr last) = absurd (omega (arith, last.0, below))
 
 -- the event more is the answer to this request
-pub record IsLast (log : List Event) (event : Event) (connection place : ℕ) (request : Message) (answer : ℕ) (outcome : Outcome) : Type 0 where
+pub record IsLast (log : List Event) (event : Event) (connection place : ℕ) (request : Message) (answer : ℕ) (outcome : Answer) : Type 0 where
   pub sent : StandsAt log place (Sent connection request)
   pub is : event ≡ Answered connection outcome
   pub at : answer ≡ length log
-  pub first : (k : ℕ) (other : Outcome) → place < k → StandsAt log k (Answered connection other) → ⊥
+  pub first : (k : ℕ) (other : Answer) → place < k → StandsAt log k (Answered connection other) → ⊥
 
-module _ (log : List Event) (event : Event) (connection place : ℕ) (request : Message) (answer : ℕ) (outcome : Outcome) where
+module _ (log : List Event) (event : Event) (connection place : ℕ) (request : Message) (answer : ℕ) (outcome : Answer) where
   -- an answer stays one
   pub answered_more : IsAnswered log connection place request answer outcome → IsAnswered (log ++ event ∷ []) connection place request answer outcome
   answered_more old =

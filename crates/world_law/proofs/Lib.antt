@@ -5,3 +5,4 @@ pub mod Reached
 pub mod Sound
 pub mod Steps
 pub mod Talk
+pub mod Truthful

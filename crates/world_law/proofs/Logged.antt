@@ -10,8 +10,8 @@ use Rattle.nbd_wire.specs.declared.error.Errno.TheVariants.{Io}
 use Rattle.world.specs.declared.connection.Connection.{Connection}
 use Rattle.world.specs.declared.event.Event.{Event}
 use Rattle.world.specs.declared.event.Event.TheVariants.{Sent, Answered}
-use Rattle.world.specs.declared.event.Outcome.{Outcome}
-use Rattle.world.specs.declared.event.Outcome.TheVariants.{Done, Refused}
+use Rattle.nbd_wire.specs.declared.message.Answer.{Answer}
+use Rattle.nbd_wire.specs.declared.message.Answer.TheVariants.{Done, Refused}
 use Rattle.world.specs.Covered.{IsCovered}
 use Rattle.world.specs.Log.{StandsAt, IsAnswered, IsLegal, IsPaired, is_write}
 use Rattle.world.specs.Serve.{logged, moved}
@@ -32,7 +32,7 @@ some_at [] k below = absurd (omega (arith, below))
 some_at (x ∷ xs) zero below = (x, refl)
 some_at (x ∷ xs) (suc k) below = some_at xs k (omega (arith, below))
 
-module _ (world : World) (event : Event) (allowed : (connection place answer : ℕ) (request : Message) (outcome : Outcome)
+module _ (world : World) (event : Event) (allowed : (connection place answer : ℕ) (request : Message) (outcome : Answer)
     → IsLast world.log event connection place request answer outcome → IsAllowed world place request outcome)
     (idle : (connection : ℕ) (request : Message) → event ≡ Sent connection request → IsAllAnswered world.log connection) where
   paired_more : (command : Change) (place : ℕ) → IsPaired world.log command place → IsPaired (world.log ++ event ∷ []) command place
@@ -44,7 +44,7 @@ module _ (world : World) (event : Event) (allowed : (connection place answer : �
     own = is.own;
   }
 
-  pub legal_more : IsLegal world.log world.order world.paired → IsLegal (world.log ++ event ∷ []) world.order world.paired
+  pub legal_more : IsLegal world.log world.stage.order world.paired → IsLegal (world.log ++ event ∷ []) world.stage.order world.paired
   legal_more legal = record {
     own = λ k command at. paired_more command (world.paired k) (legal.own k command at);
     apart = legal.apart;
@@ -57,21 +57,21 @@ module _ (world : World) (event : Event) (allowed : (connection place answer : �
   }
     where
       done : (c place answer : ℕ) (request : Message) → is_write request ≡ true
-          → IsAnswered world.log c place request answer Done ⊎ IsLast world.log event c place request answer Done → HasPlace world.order world.paired place
+          → IsAnswered world.log c place request answer Done ⊎ IsLast world.log event c place request answer Done → HasPlace world.stage.order world.paired place
       done c place answer request write (inl is) = legal.done c place answer request is write
       done c place answer request write (inr last) = (allowed c place answer request Done last).done refl write
 
-      refused : (c place answer k : ℕ) (request : Message) (errno : Errno) → errno ≢ Io → k < length world.order
+      refused : (c place answer k : ℕ) (request : Message) (errno : Errno) → errno ≢ Io → k < length world.stage.order
           → IsAnswered world.log c place request answer (Refused errno) ⊎ IsLast world.log event c place request answer (Refused errno) → world.paired k ≢ place
       refused c place answer k request errno other below (inl is) = legal.refused c place answer k request errno is other below
       refused c place answer k request errno other below (inr last) = (allowed c place answer request (Refused errno) last).refused errno refl other k below
 
-      within : (m : ℕ) → m < length world.order → world.paired m < length world.log
+      within : (m : ℕ) → m < length world.stage.order → world.paired m < length world.log
       within m below =
-          let is = legal.own m (some_at world.order m below).0 (some_at world.order m below).1 in
+          let is = legal.own m (some_at world.stage.order m below).0 (some_at world.stage.order m below).1 in
           slice_get_within world.log (world.paired m) (Sent is.connection is.request) is.sent
 
-      in_order : (c answer k m : ℕ) (request : Message) (outcome : Outcome) → k < length world.order → m < length world.order → answer < world.paired m
+      in_order : (c answer k m : ℕ) (request : Message) (outcome : Answer) → k < length world.stage.order → m < length world.stage.order → answer < world.paired m
           → IsAnswered world.log c (world.paired k) request answer outcome ⊎ IsLast world.log event c (world.paired k) request answer outcome → k < m
       in_order c answer k m request outcome k_below m_below before (inl is) = legal.in_order c answer k m request outcome k_below m_below is before
       in_order c answer k m request outcome k_below m_below before (inr last) =
@@ -81,7 +81,7 @@ module _ (world : World) (event : Event) (allowed : (connection place answer : �
       one_open : (c place next : ℕ) (request other : Message) → place < next
           → (slice_get world.log place ≡ Some (Sent c request)) ⊎ ((place ≡ length world.log) × (Sent c request ≡ event))
           → (slice_get world.log next ≡ Some (Sent c other)) ⊎ ((next ≡ length world.log) × (Sent c other ≡ event))
-          → (answer : ℕ) × (outcome : Outcome) × (place < answer) × (answer < next) × StandsAt (world.log ++ event ∷ []) answer (Answered c outcome)
+          → (answer : ℕ) × (outcome : Answer) × (place < answer) × (answer < next) × StandsAt (world.log ++ event ∷ []) answer (Answered c outcome)
       one_open c place next request other before (inl at) (inl also) =
           let found = legal.one_open c place next request other before at also in
           (found.0, found.1, found.2, found.3, get_more world.log (event ∷ []) found.0 (Answered c found.1) found.4)
@@ -95,9 +95,9 @@ module _ (world : World) (event : Event) (allowed : (connection place answer : �
       one_open c place next request other before (inr at) (inr also) = absurd (omega (arith, at.0, also.0, before))
 
   -- what is covered is durable still
-  pub durable_more : IsLegal world.log world.order world.paired
-      → ((k : ℕ) → k < length world.order → IsCovered world.setting.mode world.log (world.paired k) → k < world.durable)
-      → (k : ℕ) → k < length world.order → IsCovered world.setting.mode (world.log ++ event ∷ []) (world.paired k) → k < world.durable
+  pub durable_more : IsLegal world.log world.stage.order world.paired
+      → ((k : ℕ) → k < length world.stage.order → IsCovered world.stage.setting.mode world.log (world.paired k) → k < world.stage.durable)
+      → (k : ℕ) → k < length world.stage.order → IsCovered world.stage.setting.mode (world.log ++ event ∷ []) (world.paired k) → k < world.stage.durable
   durable_more legal durable k below (inl flushed) =
       let confirmed = flushed.confirmed in
       old (answered_split world.log event confirmed.connection (world.paired k) confirmed.request confirmed.answer Done confirmed.answered)
@@ -114,7 +114,7 @@ module _ (world : World) (event : Event) (allowed : (connection place answer : �
 
       old : IsAnswered world.log flushed.confirmed.connection (world.paired k) flushed.confirmed.request flushed.confirmed.answer Done ⊎ IsLast world.log event flushed.confirmed.connection (world.paired k) flushed.confirmed.request flushed.confirmed.answer Done
           → IsAnswered world.log flushed.connection flushed.from flushed.request flushed.answer Done ⊎ IsLast world.log event flushed.connection flushed.from flushed.request flushed.answer Done
-          → k < world.durable
+          → k < world.stage.durable
       old (inl confirmed) (inl answered) = durable k below (inl (record {
         confirmed = record { connection = flushed.confirmed.connection; request = flushed.confirmed.request; answer = flushed.confirmed.answer; write = flushed.confirmed.write; answered = confirmed };
         connection = flushed.connection;
@@ -134,7 +134,7 @@ module _ (world : World) (event : Event) (allowed : (connection place answer : �
       old (answered_split world.log event confirmed.connection (world.paired k) confirmed.request confirmed.answer Done confirmed.answered)
     where
       old : IsAnswered world.log forced.confirmed.connection (world.paired k) forced.confirmed.request forced.confirmed.answer Done ⊎ IsLast world.log event forced.confirmed.connection (world.paired k) forced.confirmed.request forced.confirmed.answer Done
-          → k < world.durable
+          → k < world.stage.durable
       old (inl confirmed) = durable k below (inr (record {
         confirmed = record { connection = forced.confirmed.connection; request = forced.confirmed.request; answer = forced.confirmed.answer; write = forced.confirmed.write; answered = confirmed };
         waits = forced.waits;
@@ -144,7 +144,7 @@ module _ (world : World) (event : Event) (allowed : (connection place answer : �
 -- an event that is neither a request nor an answer
 pub record IsQuiet (event : Event) : Type 0 where
   pub unsent : (connection : ℕ) (request : Message) → event ≡ Sent connection request → ⊥
-  pub unanswered : (connection : ℕ) (outcome : Outcome) → event ≡ Answered connection outcome → ⊥
+  pub unanswered : (connection : ℕ) (outcome : Answer) → event ≡ Answered connection outcome → ⊥
 
 -- an event that is quiet leaves the world sound
 pub sound_quiet : (world : World) (event : Event) → IsQuiet event → IsSound world → IsSound (logged world event)
@@ -155,7 +155,7 @@ sound_quiet world event quiet sound = record {
   right = λ connection. right_more (facts_of world) event connection (world.places connection) (world.connections connection) (quiet.unanswered connection) (quiet.unsent connection) (sound.right connection);
 }
   where
-    allowed : (connection place answer : ℕ) (request : Message) (outcome : Outcome)
+    allowed : (connection place answer : ℕ) (request : Message) (outcome : Answer)
         → IsLast world.log event connection place request answer outcome → IsAllowed world place request outcome
     allowed connection place answer request outcome last = absurd (quiet.unanswered connection outcome last.is)
 

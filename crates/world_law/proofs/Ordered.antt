@@ -11,8 +11,8 @@ use Rattle.world.specs.declared.connection.Connection.{Connection}
 use Rattle.world.specs.declared.connection.Connection.TheVariants.{Idle, Requested, Waiting, Ready, Closed}
 use Rattle.world.specs.declared.event.Event.{Event}
 use Rattle.world.specs.declared.event.Event.TheVariants.{Sent, Answered}
-use Rattle.world.specs.declared.event.Outcome.{Outcome}
-use Rattle.world.specs.declared.event.Outcome.TheVariants.{Done, Refused}
+use Rattle.nbd_wire.specs.declared.message.Answer.{Answer}
+use Rattle.nbd_wire.specs.declared.message.Answer.TheVariants.{Done, Refused, Bytes, States}
 use Rattle.world.specs.Covered.{IsCovered}
 use Rattle.world.specs.Log.{StandsAt, IsAnswered, IsLegal, IsPaired, command_of, is_write}
 use Rattle.world.specs.Serve.{moved, ordered}
@@ -26,41 +26,41 @@ pub one_sender : (log : List Event) (place c d : ℕ) (request other : Message) 
 one_sender log place c d request other at is = let same = one_event log place (Sent c request) (Sent d other) at is in cc
 
 -- a request that is open has no answer
-pub no_answer : (log : List Event) (c place d answer : ℕ) (request other : Message) (outcome : Outcome)
+pub no_answer : (log : List Event) (c place d answer : ℕ) (request other : Message) (outcome : Answer)
     → IsOpen log c place request → IsAnswered log d place other answer outcome → ⊥
 no_answer log c place d answer request other outcome is_open is =
     let same = one_sender log place d c other request is.sent is_open.sent in
     is_open.unanswered answer outcome is.later (subst (λ (e : ℕ). StandsAt log answer (Answered e outcome)) same is.answered)
 
 module _ (world : World) (c : ℕ) (request : Message) (sound : IsSound world) (is_open : IsOpen world.log c (world.places c) request)
-    (unpaired : IsUnpaired world.order world.paired (world.places c)) (write : is_write request ≡ true) where
+    (unpaired : IsUnpaired world.stage.order world.paired (world.places c)) (write : is_write request ≡ true) where
   -- the number of commands before, and which one of those after a command is
-  below_more : (k : ℕ) → k < length (world.order ++ command_of request ∷ []) → (k < length world.order) ⊎ (k ≡ length world.order)
-  below_more k below = by_case (cases_eq k (length world.order))
+  below_more : (k : ℕ) → k < length (world.stage.order ++ command_of request ∷ []) → (k < length world.stage.order) ⊎ (k ≡ length world.stage.order)
+  below_more k below = by_case (cases_eq k (length world.stage.order))
     where
-      by_case : (k ≡ length world.order) ⊎ (k ≡ length world.order → ⊥) → (k < length world.order) ⊎ (k ≡ length world.order)
+      by_case : (k ≡ length world.stage.order) ⊎ (k ≡ length world.stage.order → ⊥) → (k < length world.stage.order) ⊎ (k ≡ length world.stage.order)
       by_case (inl is) = inr is
-      by_case (inr other) = inl (omega (arith, length-append world.order (command_of request ∷ []), below, other))
+      by_case (inr other) = inl (omega (arith, length-append world.stage.order (command_of request ∷ []), below, other))
 
-  more_below : (k : ℕ) → k < length world.order → k < length (world.order ++ command_of request ∷ [])
-  more_below k below = omega (arith, length-append world.order (command_of request ∷ []), below)
+  more_below : (k : ℕ) → k < length world.stage.order → k < length (world.stage.order ++ command_of request ∷ [])
+  more_below k below = omega (arith, length-append world.stage.order (command_of request ∷ []), below)
 
-  old_pair : (k : ℕ) → k < length world.order → put world.paired (length world.order) (world.places c) k ≡ world.paired k
-  old_pair k below = put_other world.paired (length world.order) (world.places c) k (λ is. omega (arith, is, below))
+  old_pair : (k : ℕ) → k < length world.stage.order → put world.paired (length world.stage.order) (world.places c) k ≡ world.paired k
+  old_pair k below = put_other world.paired (length world.stage.order) (world.places c) k (λ is. omega (arith, is, below))
 
-  new_pair : (k : ℕ) → k ≡ length world.order → put world.paired (length world.order) (world.places c) k ≡ world.places c
-  new_pair k is = ap (put world.paired (length world.order) (world.places c)) is ∙ put_same world.paired (length world.order) (world.places c)
+  new_pair : (k : ℕ) → k ≡ length world.stage.order → put world.paired (length world.stage.order) (world.places c) k ≡ world.places c
+  new_pair k is = ap (put world.paired (length world.stage.order) (world.places c)) is ∙ put_same world.paired (length world.stage.order) (world.places c)
 
   -- the new command's request has no answer
-  new_unanswered : (k d answer : ℕ) (other : Message) (outcome : Outcome) → k ≡ length world.order
-      → IsAnswered world.log d (put world.paired (length world.order) (world.places c) k) other answer outcome → ⊥
+  new_unanswered : (k d answer : ℕ) (other : Message) (outcome : Answer) → k ≡ length world.stage.order
+      → IsAnswered world.log d (put world.paired (length world.stage.order) (world.places c) k) other answer outcome → ⊥
   new_unanswered k d answer other outcome is answered =
       no_answer world.log c (world.places c) d answer request other outcome is_open
       (subst (λ (place : ℕ). IsAnswered world.log d place other answer outcome) (new_pair k is) answered)
 
-  pub legal_ordered : IsLegal world.log (world.order ++ command_of request ∷ []) (put world.paired (length world.order) (world.places c))
+  pub legal_ordered : IsLegal world.log (world.stage.order ++ command_of request ∷ []) (put world.paired (length world.stage.order) (world.places c))
   legal_ordered = record {
-    own = λ k command at. own k command (get_split world.order (command_of request) k command at);
+    own = λ k command at. own k command (get_split world.stage.order (command_of request) k command at);
     apart = λ k m before below. apart k m before (below_more m below);
     done = λ d place answer other is other_write. let found = sound.legal.done d place answer other is other_write in
         (found.0, more_below found.0 found.1, old_pair found.0 found.1 ∙ found.2);
@@ -69,29 +69,29 @@ module _ (world : World) (c : ℕ) (request : Message) (sound : IsSound world) (
     one_open = sound.legal.one_open;
   }
     where
-      own : (k : ℕ) (command : Change) → (slice_get world.order k ≡ Some command) ⊎ ((k ≡ length world.order) × (command ≡ command_of request))
-          → IsPaired world.log command (put world.paired (length world.order) (world.places c) k)
-      own k command (inl at) = subst (IsPaired world.log command) (sym (old_pair k (slice_get_within world.order k command at))) (sound.legal.own k command at)
+      own : (k : ℕ) (command : Change) → (slice_get world.stage.order k ≡ Some command) ⊎ ((k ≡ length world.stage.order) × (command ≡ command_of request))
+          → IsPaired world.log command (put world.paired (length world.stage.order) (world.places c) k)
+      own k command (inl at) = subst (IsPaired world.log command) (sym (old_pair k (slice_get_within world.stage.order k command at))) (sound.legal.own k command at)
       own k command (inr last) = subst (IsPaired world.log command) (sym (new_pair k last.0))
           (record { connection = c; request = request; sent = is_open.sent; write = write; own = sym last.1 })
 
-      apart : (k m : ℕ) → k < m → (m < length world.order) ⊎ (m ≡ length world.order)
-          → put world.paired (length world.order) (world.places c) k ≢ put world.paired (length world.order) (world.places c) m
+      apart : (k m : ℕ) → k < m → (m < length world.stage.order) ⊎ (m ≡ length world.stage.order)
+          → put world.paired (length world.stage.order) (world.places c) k ≢ put world.paired (length world.stage.order) (world.places c) m
       apart k m before (inl below) same = sound.legal.apart k m before below (sym (old_pair k (omega (arith, before, below))) ∙ (same ∙ old_pair m below))
       apart k m before (inr is) same =
-          let below : k < length world.order = omega (arith, before, is) in
+          let below : k < length world.stage.order = omega (arith, before, is) in
           unpaired k below (sym (old_pair k below) ∙ (same ∙ new_pair m is))
 
       refused : (d place answer k : ℕ) (other : Message) (errno : Errno) → IsAnswered world.log d place other answer (Refused errno)
-          → errno ≢ Io → (k < length world.order) ⊎ (k ≡ length world.order) → put world.paired (length world.order) (world.places c) k ≢ place
+          → errno ≢ Io → (k < length world.stage.order) ⊎ (k ≡ length world.stage.order) → put world.paired (length world.stage.order) (world.places c) k ≢ place
       refused d place answer k other errno is unlike (inl below) same = sound.legal.refused d place answer k other errno is unlike below (sym (old_pair k below) ∙ same)
       refused d place answer k other errno is unlike (inr last) same =
           new_unanswered k d answer other (Refused errno) last (subst (λ (p : ℕ). IsAnswered world.log d p other answer (Refused errno)) (sym same) is)
 
-      in_order : (d answer k m : ℕ) (other : Message) (outcome : Outcome)
-          → IsAnswered world.log d (put world.paired (length world.order) (world.places c) k) other answer outcome
-          → answer < put world.paired (length world.order) (world.places c) m
-          → (k < length world.order) ⊎ (k ≡ length world.order) → (m < length world.order) ⊎ (m ≡ length world.order) → k < m
+      in_order : (d answer k m : ℕ) (other : Message) (outcome : Answer)
+          → IsAnswered world.log d (put world.paired (length world.stage.order) (world.places c) k) other answer outcome
+          → answer < put world.paired (length world.stage.order) (world.places c) m
+          → (k < length world.stage.order) ⊎ (k ≡ length world.stage.order) → (m < length world.stage.order) ⊎ (m ≡ length world.stage.order) → k < m
       in_order d answer k m other outcome is before (inl k_below) (inl m_below) =
           sound.legal.in_order d answer k m other outcome k_below m_below
           (subst (λ (p : ℕ). IsAnswered world.log d p other answer outcome) (old_pair k k_below) is)
@@ -99,24 +99,24 @@ module _ (world : World) (c : ℕ) (request : Message) (sound : IsSound world) (
       in_order d answer k m other outcome is before (inl k_below) (inr m_is) = omega (arith, k_below, m_is)
       in_order d answer k m other outcome is before (inr k_is) m_case = absurd (new_unanswered k d answer other outcome k_is is)
 
-  pub durable_ordered : (k : ℕ) → k < length (world.order ++ command_of request ∷ [])
-      → IsCovered world.setting.mode world.log (put world.paired (length world.order) (world.places c) k) → k < world.durable
+  pub durable_ordered : (k : ℕ) → k < length (world.stage.order ++ command_of request ∷ [])
+      → IsCovered world.stage.setting.mode world.log (put world.paired (length world.stage.order) (world.places c) k) → k < world.stage.durable
   durable_ordered k below covered = by_case (below_more k below) covered
     where
-      by_case : (k < length world.order) ⊎ (k ≡ length world.order)
-          → IsCovered world.setting.mode world.log (put world.paired (length world.order) (world.places c) k) → k < world.durable
-      by_case (inl old) is = sound.durable k old (subst (IsCovered world.setting.mode world.log) (old_pair k old) is)
+      by_case : (k < length world.stage.order) ⊎ (k ≡ length world.stage.order)
+          → IsCovered world.stage.setting.mode world.log (put world.paired (length world.stage.order) (world.places c) k) → k < world.stage.durable
+      by_case (inl old) is = sound.durable k old (subst (IsCovered world.stage.setting.mode world.log) (old_pair k old) is)
       by_case (inr last) (inl flushed) =
           absurd (new_unanswered k flushed.confirmed.connection flushed.confirmed.answer flushed.confirmed.request Done last flushed.confirmed.answered)
       by_case (inr last) (inr forced) =
           absurd (new_unanswered k forced.confirmed.connection forced.confirmed.answer forced.confirmed.request Done last forced.confirmed.answered)
 
   -- another connection's open request isn't paired with the new command
-  unpaired_more : (d place : ℕ) (other : Message) → (d ≡ c → ⊥) → IsOpen world.log d place other → IsUnpaired world.order world.paired place
-      → IsUnpaired (world.order ++ command_of request ∷ []) (put world.paired (length world.order) (world.places c)) place
+  unpaired_more : (d place : ℕ) (other : Message) → (d ≡ c → ⊥) → IsOpen world.log d place other → IsUnpaired world.stage.order world.paired place
+      → IsUnpaired (world.stage.order ++ command_of request ∷ []) (put world.paired (length world.stage.order) (world.places c)) place
   unpaired_more d place other unlike their_open theirs k below = by_case (below_more k below)
     where
-      by_case : (k < length world.order) ⊎ (k ≡ length world.order) → put world.paired (length world.order) (world.places c) k ≢ place
+      by_case : (k < length world.stage.order) ⊎ (k ≡ length world.stage.order) → put world.paired (length world.stage.order) (world.places c) k ≢ place
       by_case (inl old) same = theirs k old (sym (old_pair k old) ∙ same)
       by_case (inr last) same = unlike (one_sender world.log place d c other request their_open.sent
           (subst (λ (p : ℕ). StandsAt world.log p (Sent c request)) (sym (new_pair k last) ∙ same) is_open.sent))
@@ -142,13 +142,15 @@ module _ (world : World) (c : ℕ) (request : Message) (sound : IsSound world) (
         reached = λ from k answer other below answered before. reached from k answer other (below_more k below) answered before;
       })
         where
-          reached : (from k answer : ℕ) (other : Message) → (k < length world.order) ⊎ (k ≡ length world.order)
-              → IsAnswered world.log from (put world.paired (length world.order) (world.places c) k) other answer Done → answer < place → world.setting.opening + k < number
+          reached : (from k answer : ℕ) (other : Message) → (k < length world.stage.order) ⊎ (k ≡ length world.stage.order)
+              → IsAnswered world.log from (put world.paired (length world.stage.order) (world.places c) k) other answer Done → answer < place → world.stage.setting.opening + k < number
           reached from k answer other (inl below) answered before =
               others.reached from k answer other below (subst (λ (p : ℕ). IsAnswered world.log from p other answer Done) (old_pair k below) answered) before
           reached from k answer other (inr last) answered before = absurd (new_unanswered k from answer other Done last answered)
   right_ordered d place (Ready Done) unlike is = (is.0, is.1, is.2, is.3, (is.4.0, more_below is.4.0 is.4.1, old_pair is.4.0 is.4.1 ∙ is.4.2))
   right_ordered d place (Ready (Refused errno)) unlike is = (is.0, is.1, unpaired_more d place is.0 unlike is.1 is.2)
+  right_ordered d place (Ready (Bytes read)) unlike is = is
+  right_ordered d place (Ready (States runs)) unlike is = is
   right_ordered d place Closed unlike is = tt
 
   pub sound_ordered : (state : Connection) → IsRight (facts_of (ordered world c request)) c (world.places c) state
@@ -156,7 +158,7 @@ module _ (world : World) (c : ℕ) (request : Message) (sound : IsSound world) (
   sound_ordered state right = record {
     legal = legal_ordered;
     durable = durable_ordered;
-    within = record { durable = sound.within.durable; stored = sound.within.stored; sealed = let sealed = sound.within.sealed in omega (arith, length-append world.order (command_of request ∷ []), sealed) };
+    within = record { durable = sound.within.durable; stored = sound.within.stored; sealed = let sealed = sound.within.sealed in omega (arith, length-append world.stage.order (command_of request ∷ []), sealed) };
     right = λ d. by_place d (cases_eq d c);
   }
     where

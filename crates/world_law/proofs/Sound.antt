@@ -10,8 +10,8 @@ use Rattle.world.specs.declared.connection.Connection.{Connection}
 use Rattle.world.specs.declared.connection.Connection.TheVariants.{Idle, Requested, Waiting, Ready, Closed}
 use Rattle.world.specs.declared.event.Event.{Event}
 use Rattle.world.specs.declared.event.Event.TheVariants.{Sent, Answered}
-use Rattle.world.specs.declared.event.Outcome.{Outcome}
-use Rattle.world.specs.declared.event.Outcome.TheVariants.{Done, Refused}
+use Rattle.nbd_wire.specs.declared.message.Answer.{Answer}
+use Rattle.nbd_wire.specs.declared.message.Answer.TheVariants.{Done, Refused, Bytes, States}
 use Rattle.world.specs.declared.step.Mode.{Mode}
 use Rattle.world.specs.Covered.{IsConfirmed, IsCovered}
 use Rattle.world.specs.Log.{StandsAt, IsAnswered, IsLegal, is_write, is_flush, waits_for_store}
@@ -22,14 +22,14 @@ use Rattle.world_law.proofs.Events.{IsLast, answered_split, get_more, get_split}
 -- the connection's request that was sent at the place is its last, and is not answered
 pub record IsOpen (log : List Event) (connection place : ℕ) (request : Message) : Type 0 where
   pub sent : StandsAt log place (Sent connection request)
-  pub unanswered : (k : ℕ) (outcome : Outcome) → place < k → StandsAt log k (Answered connection outcome) → ⊥
+  pub unanswered : (k : ℕ) (outcome : Answer) → place < k → StandsAt log k (Answered connection outcome) → ⊥
   pub last : (k : ℕ) (other : Message) → StandsAt log k (Sent connection other) → k ≤ place
 
 -- each request of the connection is answered
 abbrev pub IsAllAnswered : List Event → ℕ → Type 0
 IsAllAnswered log connection =
     (place : ℕ) (request : Message) → StandsAt log place (Sent connection request)
-    → (answer : ℕ) × (outcome : Outcome) × (place < answer) × StandsAt log answer (Answered connection outcome)
+    → (answer : ℕ) × (outcome : Answer) × (place < answer) × StandsAt log answer (Answered connection outcome)
 
 -- a command is paired with the place, or none is
 abbrev pub HasPlace : List Change → (ℕ → ℕ) → ℕ → Type 0
@@ -47,7 +47,7 @@ pub record Facts : Type 0 where
   pub paired : ℕ → ℕ
 
 abbrev pub facts_of : World → Facts
-facts_of world = record { mode = world.setting.mode; opening = world.setting.opening; log = world.log; order = world.order; paired = world.paired }
+facts_of world = record { mode = world.stage.setting.mode; opening = world.stage.setting.opening; log = world.log; order = world.stage.order; paired = world.paired }
 
 abbrev pub with_event : Facts → Event → Facts
 with_event facts event = record facts { log = facts.log ++ event ∷ [] }
@@ -77,22 +77,25 @@ IsRight facts connection place (Ready Done) =
     × (waits_for_store facts.mode request ≡ false) × HasPlace facts.order facts.paired place
 IsRight facts connection place (Ready (Refused errno)) =
     (request : Message) × IsOpen facts.log connection place request × IsUnpaired facts.order facts.paired place
+-- nothing is answered bytes or states
+IsRight facts connection place (Ready (Bytes read)) = ⊥
+IsRight facts connection place (Ready (States runs)) = ⊥
 IsRight facts connection place Closed = Unit {0}
 
 pub record IsSound (world : World) : Type 0 where
-  pub legal : IsLegal world.log world.order world.paired
-  pub durable : (k : ℕ) → k < length world.order → IsCovered world.setting.mode world.log (world.paired k) → k < world.durable
+  pub legal : IsLegal world.log world.stage.order world.paired
+  pub durable : (k : ℕ) → k < length world.stage.order → IsCovered world.stage.setting.mode world.log (world.paired k) → k < world.stage.durable
   pub within : IsWithin world
   pub right : (connection : ℕ) → IsRight (facts_of world) connection (world.places connection) (world.connections connection)
 
 -- what the answer of a request has to be
-pub record IsAllowed (world : World) (place : ℕ) (request : Message) (outcome : Outcome) : Type 0 where
-  pub done : outcome ≡ Done → is_write request ≡ true → HasPlace world.order world.paired place
-  pub refused : (errno : Errno) → outcome ≡ Refused errno → errno ≢ Io → IsUnpaired world.order world.paired place
-  pub forced : outcome ≡ Done → is_write request ≡ true → waits_for_store world.setting.mode request ≡ true
-      → (k : ℕ) → k < length world.order → world.paired k ≡ place → k < world.durable
-  pub flushed : outcome ≡ Done → is_flush request ≡ true → (k : ℕ) → k < length world.order
-      → (confirmed : IsConfirmed world.log (world.paired k)) → confirmed.answer < place → k < world.durable
+pub record IsAllowed (world : World) (place : ℕ) (request : Message) (outcome : Answer) : Type 0 where
+  pub done : outcome ≡ Done → is_write request ≡ true → HasPlace world.stage.order world.paired place
+  pub refused : (errno : Errno) → outcome ≡ Refused errno → errno ≢ Io → IsUnpaired world.stage.order world.paired place
+  pub forced : outcome ≡ Done → is_write request ≡ true → waits_for_store world.stage.setting.mode request ≡ true
+      → (k : ℕ) → k < length world.stage.order → world.paired k ≡ place → k < world.stage.durable
+  pub flushed : outcome ≡ Done → is_flush request ≡ true → (k : ℕ) → k < length world.stage.order
+      → (confirmed : IsConfirmed world.log (world.paired k)) → confirmed.answer < place → k < world.stage.durable
 
 -- two events at one place are one
 pub one_event : (log : List Event) (place : ℕ) (this other : Event) → StandsAt log place this → StandsAt log place other → this ≡ other
@@ -101,7 +104,7 @@ one_event log place this other at is = cc
 module _ (facts : Facts) (event : Event) where
   -- the state of a connection stays right, where the event isn't about it
   pub right_more : (connection place : ℕ) (state : Connection)
-      → ((outcome : Outcome) → event ≡ Answered connection outcome → ⊥) → ((request : Message) → event ≡ Sent connection request → ⊥)
+      → ((outcome : Answer) → event ≡ Answered connection outcome → ⊥) → ((request : Message) → event ≡ Sent connection request → ⊥)
       → IsRight facts connection place state → IsRight (with_event facts event) connection place state
   right_more connection place state unanswered unsent right = by_state state right
     where
@@ -109,7 +112,7 @@ module _ (facts : Facts) (event : Event) where
       all_more all k request at = old (get_split facts.log event k (Sent connection request) at)
         where
           old : (slice_get facts.log k ≡ Some (Sent connection request)) ⊎ ((k ≡ length facts.log) × (Sent connection request ≡ event))
-              → (answer : ℕ) × (outcome : Outcome) × (k < answer) × StandsAt (facts.log ++ event ∷ []) answer (Answered connection outcome)
+              → (answer : ℕ) × (outcome : Answer) × (k < answer) × StandsAt (facts.log ++ event ∷ []) answer (Answered connection outcome)
           old (inl before) = let found = all k request before in
               (found.0, found.1, found.2, get_more facts.log (event ∷ []) found.0 (Answered connection found.1) found.3)
           old (inr last) = absurd (unsent request (sym last.1))
@@ -121,7 +124,7 @@ module _ (facts : Facts) (event : Event) where
         last = λ k other at. below k other (get_split facts.log event k (Sent connection other) at);
       }
         where
-          none : (k : ℕ) (outcome : Outcome) → place < k
+          none : (k : ℕ) (outcome : Answer) → place < k
               → (slice_get facts.log k ≡ Some (Answered connection outcome)) ⊎ ((k ≡ length facts.log) × (Answered connection outcome ≡ event)) → ⊥
           none k outcome after (inl at) = is_open.unanswered k outcome after at
           none k outcome after (inr last) = unanswered outcome (sym last.1)
@@ -160,4 +163,6 @@ module _ (facts : Facts) (event : Event) where
       by_state (Waiting number) is = (is.0, open_more is.0 is.1, awaits_more number is.0 is.1 is.2)
       by_state (Ready Done) is = (is.0, open_more is.0 is.1, is.2, is.3, is.4)
       by_state (Ready (Refused errno)) is = (is.0, open_more is.0 is.1, is.2)
+      by_state (Ready (Bytes read)) is = is
+      by_state (Ready (States runs)) is = is
       by_state Closed is = tt

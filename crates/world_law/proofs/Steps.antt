@@ -2,7 +2,7 @@
 use Rattle.std.proofs.Common.{◌≡◌, ◌⊎◌, inl, inr, ℕ, suc, ◌+◌, ◌-◌, ◌<◌, ◌≤◌, ◌==◌, ◌&&◌, ◌||◌, ◌*◌, Bool, true, false, if◌then◌else◌, nat_le, nat_lt, not, Result, Ok, Err, List, [], ◌∷◌, ◌++◌, length, length-append, length-drop, drop, refl, arith, bit_and}
 use Rattle.std.proofs.lemmas.Bool.{and_parts, both_ways, cases_Bool, ltb-true, leb-true, not-false}
 use Rattle.image_model.specs.Change.{Change}
-use Rattle.nbd_wire.specs.Request.{Message, message}
+use Rattle.nbd_wire.specs.Request.{Message}
 use Rattle.nbd_wire.specs.declared.error.Errno.{Errno}
 use Rattle.nbd_wire.specs.declared.error.Errno.TheVariants.{Io, NoMemory, NoSpace, Invalid}
 use Rattle.nbd_wire.specs.declared.head.RequestHead.{RequestHead}
@@ -16,8 +16,8 @@ use Rattle.world.specs.declared.event.Event.{Event}
 use Rattle.world.specs.declared.event.Event.TheVariants.{Numbered, Took, Held, Failed}
 use Rattle.world.specs.declared.event.StepFault.{StepFault}
 use Rattle.world.specs.declared.event.StepFault.TheVariants as fault
-use Rattle.world.specs.declared.event.Outcome.{Outcome}
-use Rattle.world.specs.declared.event.Outcome.TheVariants.{Done, Refused}
+use Rattle.nbd_wire.specs.declared.message.Answer.{Answer}
+use Rattle.nbd_wire.specs.declared.message.Answer.TheVariants.{Done, Refused, Bytes, States}
 use Rattle.world.specs.declared.step.Step.{Step}
 use Rattle.world.specs.declared.step.Step.TheVariants as steps
 use Rattle.disk_model.specs.Faults.{counted}
@@ -25,7 +25,7 @@ use Rattle.order_book.specs.Order.{body_limit}
 use Rattle.world.specs.Log.{command_of, is_write, is_flush, waits_for_store, IsAnswered}
 use Rattle.world.specs.Room.{body_bytes, bodies_bytes, longest}
 use Rattle.world.specs.Serve.{Luck, Fine, Starved, Faulted, logged, held, moved, ready, ordered, state_after, accepted, write_served, passed, judged, serve, answer}
-use Rattle.world.specs.Step.{send, sealed_more, seal, put_back, stored_more, append, publish, after_step}
+use Rattle.world.specs.Step.{staged, send, sealed_more, seal, put_back, stored_more, append, publish, after_step}
 use Rattle.world.specs.Verdict.{verdict, first_of_rules, is_known, allowed_flags, is_unaligned, past_end}
 use Rattle.world.specs.World.{World, Setting, fresh, last_number, has_room, fits, in_hand}
 use Rattle.world_law.proofs.Logged.{IsQuiet, put_same, sound_quiet, sound_moved}
@@ -97,28 +97,28 @@ module _ (world : World) (c : ℕ) (sound : IsSound world) where
     sound_ready : (errno : Errno) → IsSound (ready world c (Refused errno))
     sound_ready errno = sound_quiet (moved world c (Ready (Refused errno))) Took quiet_took (sound_moved world c (Ready (Refused errno)) sound (request, right.0, right.1))
 
-    new_below : length world.order < length (world.order ++ command_of request ∷ [])
-    new_below = omega (arith, length-append world.order (command_of request ∷ []))
+    new_below : length world.stage.order < length (world.stage.order ++ command_of request ∷ [])
+    new_below = omega (arith, length-append world.stage.order (command_of request ∷ []))
 
-    right_after : (waits : Bool) → waits_for_store world.setting.mode request ≡ waits → is_write request ≡ true
+    right_after : (waits : Bool) → waits_for_store world.stage.setting.mode request ≡ waits → is_write request ≡ true
         → IsRight (facts_of (ordered world c request)) c (world.places c) (state_after waits (last_number world + 1))
     right_after true waits write = (
       request,
       right.0,
       inl (record {
         write = write;
-        k = length world.order;
+        k = length world.stage.order;
         below = new_below;
-        own = put_same world.paired (length world.order) (world.places c);
+        own = put_same world.paired (length world.stage.order) (world.places c);
         reached = omega arith;
       }),
     )
-    right_after false waits write = (request, right.0, write, waits, (length world.order, new_below, put_same world.paired (length world.order) (world.places c)))
+    right_after false waits write = (request, right.0, write, waits, (length world.stage.order, new_below, put_same world.paired (length world.stage.order) (world.places c)))
 
-    sound_numbered : is_write request ≡ true → IsSound (logged (moved (ordered world c request) c (state_after (waits_for_store world.setting.mode request) (last_number world + 1))) (Numbered c (last_number world + 1)))
+    sound_numbered : is_write request ≡ true → IsSound (logged (moved (ordered world c request) c (state_after (waits_for_store world.stage.setting.mode request) (last_number world + 1))) (Numbered c (last_number world + 1)))
     sound_numbered write = sound_quiet _ (Numbered c (last_number world + 1)) (quiet_numbered c (last_number world + 1))
-        (sound_ordered world c request sound right.0 right.1 write (state_after (waits_for_store world.setting.mode request) (last_number world + 1))
-        (right_after (waits_for_store world.setting.mode request) refl write))
+        (sound_ordered world c request sound right.0 right.1 write (state_after (waits_for_store world.stage.setting.mode request) (last_number world + 1))
+        (right_after (waits_for_store world.stage.setting.mode request) refl write))
 
     sound_accepted : (luck : Luck) → is_write request ≡ true → IsSound (accepted luck world c request)
     sound_accepted Starved write = sound_ready NoMemory
@@ -141,7 +141,7 @@ module _ (world : World) (c : ℕ) (sound : IsSound world) where
         no_write (inr is) = is
 
     sound_passed : (luck : Luck) → (is_flush request ≡ false → is_write request ≡ true) → IsSound (passed luck world c request)
-    sound_passed luck writes = of_either IsSound world.stopped _ _
+    sound_passed luck writes = of_either IsSound world.stage.stopped _ _
         (λ stopped. sound_ready Io)
         (λ works. of_either IsSound (is_flush request) _ _
         (λ flush. sound_quiet (moved world c (Waiting (last_number world))) Took quiet_took
@@ -155,7 +155,7 @@ module _ (world : World) (c : ℕ) (sound : IsSound world) where
 
   sound_serve : (luck : Luck) (state : Connection) → IsRight (facts_of world) c (world.places c) state → IsSound (serve luck world c state)
   sound_serve luck (Requested request) right =
-      sound_judged request right (verdict request.head world.setting.geometry world.setting.flags) (passes_write request.head world.setting.geometry world.setting.flags) luck
+      sound_judged request right (verdict request.head world.stage.setting.geometry world.stage.setting.flags) (passes_write request.head world.stage.setting.geometry world.stage.setting.flags) luck
   sound_serve luck Idle right = sound_held world sound
   sound_serve luck (Waiting number) right = sound_held world sound
   sound_serve luck (Ready outcome) right = sound_held world sound
@@ -164,10 +164,12 @@ module _ (world : World) (c : ℕ) (sound : IsSound world) where
   sound_answer : (state : Connection) → IsRight (facts_of world) c (world.places c) state → IsSound (answer world c state)
   sound_answer (Ready Done) right = sound_answered world c right.0 Done sound right.1 (allowed_ready_done world c right)
   sound_answer (Ready (Refused errno)) right = sound_answered world c right.0 (Refused errno) sound right.1 (allowed_refused world c right.0 errno right.2)
-  sound_answer (Waiting number) right = of_either IsSound (nat_le number (world.setting.opening + world.durable)) _ _
+  sound_answer (Ready (Bytes read)) right = absurd right
+  sound_answer (Ready (States runs)) right = absurd right
+  sound_answer (Waiting number) right = of_either IsSound (nat_le number (world.stage.setting.opening + world.stage.durable)) _ _
       (λ reached. sound_answered world c right.0 Done sound right.1
-      (allowed_waiting world c number right.0 sound (leb-true number (world.setting.opening + world.durable) reached) right.2))
-      (λ above. of_either IsSound world.stopped _ _
+      (allowed_waiting world c number right.0 sound (leb-true number (world.stage.setting.opening + world.stage.durable) reached) right.2))
+      (λ above. of_either IsSound world.stage.stopped _ _
       (λ stopped. sound_answered world c right.0 (Refused Io) sound right.1 (allowed_fault world c right.0))
       (λ works. sound_held world sound))
   sound_answer Idle right = sound_held world sound
@@ -184,8 +186,8 @@ module _ (world : World) (c : ℕ) (sound : IsSound world) where
   sound_send luck request Closed right = sound_held world sound
 
 -- the numbers come to others that are in order, and no fewer commands are durable
-sound_counts : (world : World) (sealed stored durable at faults : ℕ) (stopped : Bool) → IsSound world → world.durable ≤ durable → durable ≤ stored → stored ≤ sealed
-    → sealed ≤ length world.order → IsSound (record world { sealed = sealed; stored = stored; durable = durable; at = at; faults = faults; stopped = stopped })
+sound_counts : (world : World) (sealed stored durable at faults : ℕ) (stopped : Bool) → IsSound world → world.stage.durable ≤ durable → durable ≤ stored → stored ≤ sealed
+    → sealed ≤ length world.stage.order → IsSound (staged world (record world.stage { sealed = sealed; stored = stored; durable = durable; at = at; faults = faults; stopped = stopped }))
 sound_counts world sealed stored durable at faults stopped sound more first second third = record {
   legal = sound.legal;
   durable = λ k below covered. let before = sound.durable k below covered in omega (arith, before, more);
@@ -202,19 +204,19 @@ longest-le limit (command ∷ commands) =
     (λ none. omega arith)
 
 module _ (world : World) (sound : IsSound world) where
-  sound_took : (sealed stored durable at faults : ℕ) (stopped : Bool) (event : Event) → IsQuiet event → world.durable ≤ durable → durable ≤ stored → stored ≤ sealed
-      → sealed ≤ length world.order → IsSound (logged (record world { sealed = sealed; stored = stored; durable = durable; at = at; faults = faults; stopped = stopped }) event)
+  sound_took : (sealed stored durable at faults : ℕ) (stopped : Bool) (event : Event) → IsQuiet event → world.stage.durable ≤ durable → durable ≤ stored → stored ≤ sealed
+      → sealed ≤ length world.stage.order → IsSound (logged (staged world (record world.stage { sealed = sealed; stored = stored; durable = durable; at = at; faults = faults; stopped = stopped })) event)
   sound_took sealed stored durable at faults stopped event quiet more first second third =
-      sound_quiet (record world { sealed = sealed; stored = stored; durable = durable; at = at; faults = faults; stopped = stopped }) event quiet
+      sound_quiet (staged world (record world.stage { sealed = sealed; stored = stored; durable = durable; at = at; faults = faults; stopped = stopped })) event quiet
       (sound_counts world sealed stored durable at faults stopped sound more first second third)
 
   sound_grouped : IsSound (sealed_more Fine world)
   sound_grouped =
-      let count = longest (body_limit world.setting.geometry.area) (drop world.sealed world.order) in
-      let most = longest-le (body_limit world.setting.geometry.area) (drop world.sealed world.order) in
-      let rest = length-drop world.sealed world.order in
+      let count = longest (body_limit world.stage.setting.geometry.area) (drop world.stage.sealed world.stage.order) in
+      let most = longest-le (body_limit world.stage.setting.geometry.area) (drop world.stage.sealed world.stage.order) in
+      let rest = length-drop world.stage.sealed world.stage.order in
       let durable = sound.within.durable in let stored = sound.within.stored in let sealed = sound.within.sealed in
-      sound_took (world.sealed + count) world.stored world.durable world.at world.faults world.stopped Took quiet_took
+      sound_took (world.stage.sealed + count) world.stage.stored world.stage.durable world.stage.at world.stage.faults world.stage.stopped Took quiet_took
       (omega arith) durable (omega (arith, stored)) (omega (arith, most, rest, sealed))
 
   sound_sealed_more : (luck : Luck) → IsSound (sealed_more luck world)
@@ -223,42 +225,42 @@ module _ (world : World) (sound : IsSound world) where
   sound_sealed_more Faulted = sound_grouped
 
   sound_seal : (luck : Luck) → IsSound (seal luck world)
-  sound_seal luck = of_either IsSound (nat_lt world.sealed (length world.order) && (world.sealed == world.durable)) _ _
+  sound_seal luck = of_either IsSound (nat_lt world.stage.sealed (length world.stage.order) && (world.stage.sealed == world.stage.durable)) _ _
       (λ pending. sound_sealed_more luck) (λ none. sound_held world sound)
 
   sound_put_back : (event : Event) → IsQuiet event → IsSound (logged (put_back world) event)
   sound_put_back event quiet =
       let durable = sound.within.durable in let stored = sound.within.stored in let sealed = sound.within.sealed in
-      sound_took world.stored world.stored world.durable world.at world.faults world.stopped event quiet (omega arith) durable (omega arith) (omega (arith, stored, sealed))
+      sound_took world.stage.stored world.stage.stored world.stage.durable world.stage.at world.stage.faults world.stage.stopped event quiet (omega arith) durable (omega arith) (omega (arith, stored, sealed))
 
   sound_stored_more : (luck : Luck) → IsSound (stored_more luck world)
   sound_stored_more Fine =
       let durable = sound.within.durable in let stored = sound.within.stored in let sealed = sound.within.sealed in
-      sound_took world.sealed world.sealed world.durable (world.at + 17 + bodies_bytes (in_hand world)) world.faults world.stopped Took quiet_took
+      sound_took world.stage.sealed world.stage.sealed world.stage.durable (world.stage.at + 17 + bodies_bytes (in_hand world)) world.stage.faults world.stage.stopped Took quiet_took
       (omega arith) (omega (arith, durable, stored)) (omega arith) sealed
   sound_stored_more Starved = sound_quiet world (Failed fault.NoMemory) (quiet_failed fault.NoMemory) sound
   sound_stored_more Faulted =
       let durable = sound.within.durable in let stored = sound.within.stored in let sealed = sound.within.sealed in
-      sound_took world.stored world.stored world.durable world.at (counted world.faults) true (Failed fault.DeviceFault) (quiet_failed fault.DeviceFault)
+      sound_took world.stage.stored world.stage.stored world.stage.durable world.stage.at (counted world.stage.faults) true (Failed fault.DeviceFault) (quiet_failed fault.DeviceFault)
       (omega arith) durable (omega arith) (omega (arith, stored, sealed))
 
   sound_append : (luck : Luck) → IsSound (append luck world)
-  sound_append luck = of_either IsSound (nat_lt world.stored world.sealed) _ _
-      (λ hand. of_either IsSound world.stopped _ _
+  sound_append luck = of_either IsSound (nat_lt world.stage.stored world.stage.sealed) _ _
+      (λ hand. of_either IsSound world.stage.stopped _ _
       (λ stopped. sound_put_back (Failed fault.FailedBefore) (quiet_failed fault.FailedBefore))
       (λ works. of_either IsSound (fits world) _ _ (λ fit. sound_stored_more luck) (λ full. sound_put_back Held quiet_held)))
       (λ none. sound_held world sound)
 
   sound_publish : IsSound (publish world)
-  sound_publish = of_either IsSound (nat_lt world.durable world.stored) _ _
+  sound_publish = of_either IsSound (nat_lt world.stage.durable world.stage.stored) _ _
       (λ more. let stored = sound.within.stored in let sealed = sound.within.sealed in
-      sound_took world.sealed world.stored world.stored world.at world.faults world.stopped Took quiet_took
-      (let above = ltb-true world.durable world.stored more in omega (arith, above)) (omega arith) stored sealed)
+      sound_took world.stage.sealed world.stage.stored world.stage.stored world.stage.at world.stage.faults world.stage.stopped Took quiet_took
+      (let above = ltb-true world.stage.durable world.stage.stored more in omega (arith, above)) (omega arith) stored sealed)
       (λ none. sound_held world sound)
 
   -- each step leaves the world sound
   pub sound_step : (step : Step) (luck : Luck) → IsSound (after_step world step luck)
-  sound_step (steps.Send c request) luck = sound_send world c sound luck (message request) (world.connections c) (sound.right c)
+  sound_step (steps.Send c request) luck = sound_send world c sound luck request (world.connections c) (sound.right c)
   sound_step (steps.Serve c) luck = sound_serve world c sound luck (world.connections c) (sound.right c)
   sound_step (steps.Answer c) luck = sound_answer world c sound (world.connections c) (sound.right c)
   sound_step steps.Seal luck = sound_seal luck
@@ -266,8 +268,8 @@ module _ (world : World) (sound : IsSound world) where
   sound_step steps.Publish luck = sound_publish
 
 -- a fresh world is sound
-pub sound_fresh : (setting : Setting) (end failures : ℕ) → IsSound (fresh setting end failures)
-sound_fresh setting end failures = record {
+pub sound_fresh : (setting : Setting) (end : ℕ) → IsSound (fresh setting end)
+sound_fresh setting end = record {
   legal = record {
     own = λ k command at. cc;
     apart = λ k m before below. absurd (omega (arith, below));
@@ -278,10 +280,10 @@ sound_fresh setting end failures = record {
   };
   durable = λ k below covered. absurd (omega (arith, below));
   within = record { durable = omega arith; stored = omega arith; sealed = omega arith };
-  right = λ c. of_either (λ (s : Connection). IsRight (facts_of (fresh setting end failures)) c 0 s) (nat_lt c setting.connections) Idle Closed
+  right = λ c. of_either (λ (s : Connection). IsRight (facts_of (fresh setting end)) c 0 s) (nat_lt c setting.connections) Idle Closed
       (λ inside place request at. cc) (λ outside. tt);
 }
   where
-    none : (c place answer : ℕ) (request : Message) (outcome : Outcome) → IsAnswered [] c place request answer outcome
+    none : (c place answer : ℕ) (request : Message) (outcome : Answer) → IsAnswered [] c place request answer outcome
         → (k : ℕ) × (k < 0) × (0 ≡ place)
     none c place answer request outcome is = let at = is.sent in cc

@@ -9,8 +9,8 @@ use Rattle.nbd_wire.specs.declared.error.Errno.TheVariants.{Io}
 use Rattle.world.specs.declared.connection.Connection.{Connection}
 use Rattle.world.specs.declared.connection.Connection.TheVariants.{Idle, Requested, Ready}
 use Rattle.world.specs.declared.event.Event.TheVariants.{Sent, Answered}
-use Rattle.world.specs.declared.event.Outcome.{Outcome}
-use Rattle.world.specs.declared.event.Outcome.TheVariants.{Done, Refused}
+use Rattle.nbd_wire.specs.declared.message.Answer.{Answer}
+use Rattle.nbd_wire.specs.declared.message.Answer.TheVariants.{Done, Refused}
 use Rattle.world.specs.Log.{StandsAt, is_write, is_flush, waits_for_store}
 use Rattle.world.specs.Serve.{logged, moved, answered}
 use Rattle.world.specs.World.{World, put}
@@ -24,9 +24,9 @@ sent_by world c request =
     logged (record (moved world c (Requested request)) { places = put world.places c (length world.log) }) (Sent c request)
 
 -- the pairs of a legal log are of places in it
-pub pair_within : (world : World) → IsSound world → (k : ℕ) → k < length world.order → world.paired k < length world.log
+pub pair_within : (world : World) → IsSound world → (k : ℕ) → k < length world.stage.order → world.paired k < length world.log
 pair_within world sound k below =
-    let found = some_at world.order k below in
+    let found = some_at world.stage.order k below in
     let is = sound.legal.own k found.0 found.1 in
     slice_get_within world.log (world.paired k) (Sent is.connection is.request) is.sent
 
@@ -38,7 +38,7 @@ sound_sent world c request sound all = record {
   right = λ d. by_place d (cases_eq d c);
 }
   where
-    allowed : (connection place answer : ℕ) (other : Message) (outcome : Outcome)
+    allowed : (connection place answer : ℕ) (other : Message) (outcome : Answer)
         → IsLast world.log (Sent c request) connection place other answer outcome → IsAllowed world place other outcome
     allowed connection place answer other outcome last = let is = last.is in absurd (cc)
 
@@ -55,7 +55,7 @@ sound_sent world c request sound all = record {
       λ k below same. let within = pair_within world sound k below in omega (arith, within, same),
     )
       where
-        beyond : (k : ℕ) (outcome : Outcome) → length world.log < k
+        beyond : (k : ℕ) (outcome : Answer) → length world.log < k
             → (slice_get world.log k ≡ Some (Answered c outcome)) ⊎ ((k ≡ length world.log) × (Answered c outcome ≡ Sent c request)) → ⊥
         beyond k outcome after (inl at) = let within = slice_get_within world.log k (Answered c outcome) at in omega (arith, within, after)
         beyond k outcome after (inr last) = omega (arith, last.0, after)
@@ -75,7 +75,7 @@ sound_sent world c request sound all = record {
         (right_more (facts_of world) (Sent c request) d (world.places d) (world.connections d) (λ outcome is. cc) (λ r is. other (cc)) (sound.right d)))
 
 -- An answer to a connection whose request is open, where it is one that the request may have.
-pub sound_answered : (world : World) (c : ℕ) (request : Message) (outcome : Outcome) → IsSound world → IsOpen world.log c (world.places c) request
+pub sound_answered : (world : World) (c : ℕ) (request : Message) (outcome : Answer) → IsSound world → IsOpen world.log c (world.places c) request
     → IsAllowed world (world.places c) request outcome → IsSound (answered world c outcome)
 sound_answered world c request outcome sound is_open is_allowed = record {
   legal = legal_more world (Answered c outcome) allowed idle sound.legal;
@@ -85,7 +85,7 @@ sound_answered world c request outcome sound is_open is_allowed = record {
 }
   where
     -- the request that the event answers is the open one
-    own_place : (place answer : ℕ) (other : Message) (given : Outcome) → IsLast world.log (Answered c outcome) c place other answer given → place ≡ world.places c
+    own_place : (place answer : ℕ) (other : Message) (given : Answer) → IsLast world.log (Answered c outcome) c place other answer given → place ≡ world.places c
     own_place place answer other given last = by_case (cases_eq place (world.places c))
       where
         by_case : (place ≡ world.places c) ⊎ (place ≡ world.places c → ⊥) → place ≡ world.places c
@@ -95,7 +95,7 @@ sound_answered world c request outcome sound is_open is_allowed = record {
             let found = sound.legal.one_open c place (world.places c) other request (omega (arith, at_most, unlike)) last.sent is_open.sent in
             absurd (last.first found.0 found.1 found.2 found.4)
 
-    allowed : (connection place answer : ℕ) (other : Message) (given : Outcome)
+    allowed : (connection place answer : ℕ) (other : Message) (given : Answer)
         → IsLast world.log (Answered c outcome) connection place other answer given → IsAllowed world place other given
     allowed connection place answer other given last =
         let is = last.is in
@@ -105,7 +105,7 @@ sound_answered world c request outcome sound is_open is_allowed = record {
         let place_is = own_place place answer other given mine in
         let same = one_event world.log place (Sent c other) (Sent c request) mine.sent (subst (λ (p : ℕ). StandsAt world.log p (Sent c request)) (sym place_is) is_open.sent) in
         let other_is : other ≡ request = cc in
-        subst (λ (o : Outcome). IsAllowed world place other o) given_is
+        subst (λ (o : Answer). IsAllowed world place other o) given_is
         (subst (λ (m : Message). IsAllowed world place m outcome) (sym other_is)
         (subst (λ (p : ℕ). IsAllowed world p request outcome) (sym place_is) is_allowed))
 
@@ -116,7 +116,7 @@ sound_answered world c request outcome sound is_open is_allowed = record {
     right_here place other at = by_case (get_split world.log (Answered c outcome) place (Sent c other) at)
       where
         by_case : (slice_get world.log place ≡ Some (Sent c other)) ⊎ ((place ≡ length world.log) × (Sent c other ≡ Answered c outcome))
-            → (answer : ℕ) × (given : Outcome) × (place < answer) × StandsAt (world.log ++ Answered c outcome ∷ []) answer (Answered c given)
+            → (answer : ℕ) × (given : Answer) × (place < answer) × StandsAt (world.log ++ Answered c outcome ∷ []) answer (Answered c given)
         by_case (inl old) = (length world.log, outcome, slice_get_within world.log place (Sent c other) old, get_last world.log (Answered c outcome))
         by_case (inr last) = let is = last.1 in absurd (cc)
 
@@ -145,11 +145,11 @@ pub allowed_ready_done : (world : World) (c : ℕ) → (right : IsRight (facts_o
 allowed_ready_done world c right = record {
   done = λ is write. right.4;
   refused = λ errno is unlike. absurd (cc);
-  forced = λ is write waits k below own. absurd (both_ways (waits_for_store world.setting.mode right.0) right.3 waits);
+  forced = λ is write waits k below own. absurd (both_ways (waits_for_store world.stage.setting.mode right.0) right.3 waits);
   flushed = λ is flush k below confirmed before. absurd (flush_no_write right.0 flush right.2);
 }
 
-pub allowed_refused : (world : World) (c : ℕ) (request : Message) (errno : Errno) → IsUnpaired world.order world.paired (world.places c)
+pub allowed_refused : (world : World) (c : ℕ) (request : Message) (errno : Errno) → IsUnpaired world.stage.order world.paired (world.places c)
     → IsAllowed world (world.places c) request (Refused errno)
 allowed_refused world c request errno unpaired = record {
   done = λ is write. absurd (cc);
@@ -166,7 +166,7 @@ allowed_fault world c request = record {
   flushed = λ is flush k below confirmed before. absurd (cc);
 }
 
-pub allowed_waiting : (world : World) (c number : ℕ) (request : Message) → IsSound world → number ≤ world.setting.opening + world.durable
+pub allowed_waiting : (world : World) (c number : ℕ) (request : Message) → IsSound world → number ≤ world.stage.setting.opening + world.stage.durable
     → AwaitsItself (facts_of world) (world.places c) number request ⊎ AwaitsOthers (facts_of world) (world.places c) number request
     → IsAllowed world (world.places c) request Done
 allowed_waiting world c number request sound reached (inl itself) = record {
@@ -176,10 +176,10 @@ allowed_waiting world c number request sound reached (inl itself) = record {
   flushed = λ is flush k below confirmed before. absurd (flush_no_write request flush itself.write);
 }
   where
-    forced : (k : ℕ) → k < length world.order → world.paired k ≡ world.places c → k < world.durable
+    forced : (k : ℕ) → k < length world.stage.order → world.paired k ≡ world.places c → k < world.stage.durable
     forced k below own = by_order (cases_eq k itself.k)
       where
-        by_order : (k ≡ itself.k) ⊎ (k ≡ itself.k → ⊥) → k < world.durable
+        by_order : (k ≡ itself.k) ⊎ (k ≡ itself.k → ⊥) → k < world.stage.durable
         by_order (inl is) = let number_is = itself.reached in omega (arith, is, reached, number_is)
         by_order (inr unlike) = absurd (by_side (cases_side k itself.k unlike))
           where

@@ -1,21 +1,47 @@
--- what schedules leave as it is
+-- what schedules leave as it is, and what the log tells of the device
 use Rattle.std.specs.Prelude.{ℕ, ◌≡◌, ◌<◌, ◌≤◌, true, List, ◌++◌, length}
+use Rattle.disk_model.specs.Faults.{HasRisen}
 use Rattle.image_model.specs.Change.{Change}
+use Rattle.nbd_wire.specs.declared.error.Errno.TheVariants.{Io}
 use Rattle.world.specs.declared.event.Event.{Event}
-use Rattle.world.specs.World.{World}
+use Rattle.world.specs.declared.event.Event.TheVariants.{Sent, Answered, Numbered, Took, Held, Failed}
+use Rattle.nbd_wire.specs.declared.message.Answer.TheVariants.{Done, Refused}
+use Rattle.world.specs.declared.event.StepFault.TheVariants as fault
+use Rattle.world.specs.Log.{StandsAt}
+use Rattle.world.specs.World.{World, Stage}
 
 -- what is durable is stored, what is stored is in groups, and what is in groups is ordered
 pub record IsWithin (world : World) : Type 0 where
-  pub durable : world.durable ≤ world.stored
-  pub stored : world.stored ≤ world.sealed
-  pub sealed : world.sealed ≤ length world.order
+  pub durable : world.stage.durable ≤ world.stage.stored
+  pub stored : world.stage.stored ≤ world.stage.sealed
+  pub sealed : world.stage.sealed ≤ length world.stage.order
 
 -- log, order and numbers only grow, and after a device fault nothing else is forgotten
 pub record Grows (old new : World) : Type 0 where
-  pub setting : new.setting ≡ old.setting
+  pub setting : new.stage.setting ≡ old.stage.setting
   pub log : (events : List Event) × (new.log ≡ old.log ++ events)
-  pub order : (commands : List Change) × (new.order ≡ old.order ++ commands)
-  pub paired : (k : ℕ) → k < length old.order → new.paired k ≡ old.paired k
-  pub stored : old.stored ≤ new.stored
-  pub durable : old.durable ≤ new.durable
-  pub stopped : old.stopped ≡ true → new.stopped ≡ true
+  pub order : (commands : List Change) × (new.stage.order ≡ old.stage.order ++ commands)
+  pub paired : (k : ℕ) → k < length old.stage.order → new.paired k ≡ old.paired k
+  pub stored : old.stage.stored ≤ new.stage.stored
+  pub durable : old.stage.durable ≤ new.stage.durable
+  pub stopped : old.stage.stopped ≡ true → new.stage.stopped ≡ true
+
+-- the device has counted a fault since the life began
+abbrev pub HasFailed : Stage → Type 0
+HasFailed stage = HasRisen stage.setting.failures stage.faults
+
+-- an event that tells of a fault of the device: an answer EIO, and a step that failed for it
+abbrev pub TellsFault : Event → Type 0
+TellsFault (Answered connection outcome) = outcome ≡ Refused Io
+TellsFault (Failed fault.DeviceFault) = Unit {0}
+TellsFault (Failed fault.FailedBefore) = Unit {0}
+TellsFault (Failed fault.NoMemory) = ⊥
+TellsFault (Sent connection request) = ⊥
+TellsFault (Numbered connection number) = ⊥
+TellsFault Took = ⊥
+TellsFault Held = ⊥
+
+-- a fault of the device is told, or stops the export, only where the device has counted one since the life began
+pub record TellsTruth (world : World) : Type 0 where
+  pub told : (place : ℕ) (event : Event) → StandsAt world.log place event → TellsFault event → HasFailed world.stage
+  pub stopped : world.stage.stopped ≡ true → HasFailed world.stage

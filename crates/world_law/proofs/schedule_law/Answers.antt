@@ -1,4 +1,5 @@
 use Rattle.world_law.proofs.Reached.{sound_reached, covers_durable, grows_run, reached_run}
+use Rattle.world_law.proofs.Truthful.{truth_reached}
 use Rattle.world_law.proofs.schedule_law.Goals as goal
 
 pub returns : goal.returns
@@ -6,6 +7,7 @@ returns c = record {
   legal = λ world reached. (sound_reached world reached).legal;
   covered = λ world reached. covers_durable world (sound_reached world reached);
   within = λ world reached. (sound_reached world reached).within;
+  truth = truth_reached;
   grows = grows_run;
   reached = reached_run;
 }

@@ -3,4 +3,4 @@ use Rattle.world.specs.declared.connection.Connection.TheVariants.{Idle}
 use Rattle.request_core.proofs.bench.idle.Given as goal
 
 abbrev pub invariant-loop-place : goal.invariant-loop-place
-invariant-loop-place l = l.connections.items ≡ replicate l.place Idle
+invariant-loop-place l = l.states.items ≡ replicate l.place Idle

@@ -1,7 +1,7 @@
 use Rattle.std.proofs.Common.{◌≡◌, List, get_or, sym, ◌∙◌, subst}
 use Rattle.std.proofs.Math.ListN.{set}
 use Rattle.request_core.specs.Serving.{IsTalked}
-use Rattle.request_core.proofs.Connections.{open_unlike, request_found, talked_served, within_list}
+use Rattle.request_core.proofs.Talks.{open_unlike, request_found, talked_served, within_list}
 use Rattle.world.specs.Serve.{serve}
 use Rattle.world.specs.declared.connection.Connection.{Connection}
 use Rattle.world.specs.declared.connection.Connection.TheVariants.{Closed, Idle, Requested}
@@ -9,7 +9,7 @@ use Rattle.request_core.proofs.serving.serve.Goals as goal
 
 pub returns-clause-world : goal.returns-clause-world
 returns-clause-world c = λ world group within of terms same.
-    let items = c.args.connections.now.items in
+    let items = c.args.states.now.items in
     let place = c.args.connection in
     let here : world.connections place ≡ Requested c.in-Some.request = sym (same place) ∙ request_found (get_or items place Closed) c.in-Some.request c.in-Some.ensures.request in
     let served = c.serve_request-state.ensures.world world group within of terms here in

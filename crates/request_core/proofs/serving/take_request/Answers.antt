@@ -2,13 +2,13 @@ use Rattle.std.proofs.Common.{◌≡◌, get_or, sym, ◌∙◌, ap, arith, ◌<
 use Rattle.std.proofs.lemmas.List.{get_or_default, set-set, set-get_or}
 use Rattle.std.proofs.Math.ListN.{set}
 use Rattle.world.specs.declared.connection.Connection.TheVariants.{Closed}
-use Rattle.request_core.proofs.Served.{request_none}
+use Rattle.request_core.proofs.Serves.{request_none}
 use Rattle.request_core.proofs.serving.take_request.Goals as goal
 
 -- what was taken out and isn't a request is put back
 pub returns-in_default : goal.returns-in_default
 returns-in_default c =
-    let items = c.args.connections.now.items in
+    let items = c.args.states.now.items in
     let place = c.args.connection in
     let below : place < length items = omega arith in
     let out = c.replace.ensures.value ∙ c.index_mut.ensures.value in

@@ -3,8 +3,8 @@ use Rattle.std.proofs.lemmas.Bool.{cases_lt}
 use Rattle.checkpoint.specs.Keeper.{end_after}
 use Rattle.journal.specs.Group.{Numbered}
 use Rattle.order_book.specs.Order.{OrderState}
-use Rattle.request_core.specs.Life.{IsAppended}
-use Rattle.request_core.specs.Parts.{IsOrderOf, stage_of}
+use Rattle.request_core.specs.Steps.{IsAppended}
+use Rattle.request_core.specs.Parts.{IsOrderOf}
 use Rattle.request_core.specs.Storing.{event_of, hand_after, order_after}
 use Rattle.request_core.proofs.Appended.{appended, appended_none, appended_refused}
 use Rattle.request_core.proofs.Stored.{not_true_is}
@@ -27,7 +27,7 @@ returns-in_default-clause-world g c = λ world within of kept.
       subst (λ (hand : Option Numbered). IsAppended world (append Fine world) Held order hand old old (g.D.Disk.faults old.disk) (g.D.Disk.honest old.disk) (g.D.Disk.state old.disk) (g.D.Disk.state old.disk))
           (sym c.take.ensures.after)
           (appended_none g.D.Disk.state g.D.Disk.faults g.D.Disk.extent g.D.Disk.honest g.met.D.Disk.sound world order old
-          (subst (λ (hand : Option Numbered). IsOrderOf (stage_of world) order hand) empty of) kept),
+          (subst (λ (hand : Option Numbered). IsOrderOf world.stage order hand) empty of) kept),
     )
 
 -- what isn't refused for its size fits
@@ -51,7 +51,7 @@ returns-in-Ok-clause-world g c = λ world within of kept.
       subst (λ (hand : Option Numbered). IsAppended world (append Fine world) Took order hand old new (g.D.Disk.faults new.disk) (g.D.Disk.honest old.disk) (g.D.Disk.state old.disk) (g.D.Disk.state new.disk))
           (sym c.take.ensures.after)
           (appended g.D.Disk.state g.D.Disk.faults g.D.Disk.extent g.D.Disk.honest g.met.D.Disk.sound world order group old within
-          (subst (λ (hand : Option Numbered). IsOrderOf (stage_of world) order hand) has of) kept new works fit c.in-Ok.ensures.ok c.in-Ok.ensures.faults_ok c.append.ensures.honest.1
+          (subst (λ (hand : Option Numbered). IsOrderOf world.stage order hand) has of) kept new works fit c.in-Ok.ensures.ok c.in-Ok.ensures.faults_ok c.append.ensures.honest.1
           c.in-Ok.ensures.stored c.in-Ok.ensures.any_moment),
     )
 
@@ -64,7 +64,7 @@ returns-in-Err-clause-world g c = λ world within of kept.
     let refusal = c.in-Err.fault in
     let has : c.args.hand.now ≡ Some group = sym c.take.ensures.value ∙ c.in-Some.is in
     let step = appended_refused g.D.Disk.state g.D.Disk.faults g.D.Disk.extent g.D.Disk.honest g.met.D.Disk.sound world order group old within
-    (subst (λ (hand : Option Numbered). IsOrderOf (stage_of world) order hand) has of) kept refusal new c.in-Err.ensures.only c.in-Err.ensures.failed c.in-Err.ensures.full c.in-Err.ensures.out_of_order
+    (subst (λ (hand : Option Numbered). IsOrderOf world.stage order hand) has of) kept refusal new c.in-Err.ensures.only c.in-Err.ensures.failed c.in-Err.ensures.full c.in-Err.ensures.out_of_order
     c.in-Err.ensures.err c.in-Err.ensures.faults_err c.append.ensures.honest.1 c.in-Err.ensures.any_moment in
     let same = c.in-Err.ensures.group_back in (
       step.0,

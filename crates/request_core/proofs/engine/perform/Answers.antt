@@ -1,50 +1,49 @@
 use Rattle.std.proofs.Common.{Option, sym, ◌∙◌, ap, subst}
 use Rattle.journal.specs.Group.{Numbered}
-use Rattle.nbd_wire.specs.Request.{message}
-use Rattle.request_core.specs.Bench.{BenchState}
-use Rattle.request_core.specs.Parts.{AreConnectionsOf, IsOrderOf, stage_of}
+use Rattle.request_core.specs.Bench.{ConnectionsState}
+use Rattle.request_core.specs.Parts.{AreConnectionsOf, IsOrderOf}
 use Rattle.request_core.specs.Serving.{AreTermsOf}
-use Rattle.request_core.proofs.Connections.{talked_answer, talked_send}
+use Rattle.request_core.proofs.Talks.{talked_answer, talked_send}
 use Rattle.request_core.proofs.Performed.{disk_publishes, disk_seals, of_step, performed_appended, performed_kept, performed_talked}
 use Rattle.request_core.proofs.Stored.{kept_publish_by, kept_seal_by}
 use Rattle.world.specs.Serve.{Fine, answer, serve}
 use Rattle.world.specs.Step.{append, publish, seal, send}
 use Rattle.world.specs.declared.step.Step.TheVariants as steps
-use Rattle.request_core.proofs.rehearsal.perform.Goals as goal
+use Rattle.request_core.proofs.engine.perform.Goals as goal
 
 pub returns-in-Send-clause-world : goal.returns-in-Send-clause-world
 returns-in-Send-clause-world g c = λ world within of kept are flags mode.
-    let inside = c.bench.inside in
-    let view = c.bench.view_is in
+    let inside = c.connections.inside in
+    let view = c.connections.view_is in
     let order = c.args.order.now in
     let keeper = c.args.keeper.now in
     let faults = g.D.Disk.faults keeper.disk in
-    let items = inside.connections.items in
-    let here = subst (AreConnectionsOf world) (sym (ap (λ (b : BenchState). b.connections) view)) are in
-    let hand = subst (λ (group : Option Numbered). IsOrderOf (stage_of world) order group) (sym (ap (λ (b : BenchState). b.group) view)) of in
-    let bench : BenchState = record { flags = inside.flags; mode = inside.mode; connections = c.send.new.connections.items; group = c.bench.inside.group; log = inside.log.items } in
-    let talked = talked_send world items c.send.new.connections.items c.in-Send.connection c.send.result order inside.group hand here (message c.in-Send.request) c.send.ensures in (
+    let items = inside.states.items in
+    let here = subst (AreConnectionsOf world) (sym (ap (λ (b : ConnectionsState). b.states) view)) are in
+    let hand = subst (λ (group : Option Numbered). IsOrderOf world.stage order group) (sym (ap (λ (b : ConnectionsState). b.group) view)) of in
+    let bench : ConnectionsState = record { flags = inside.flags; mode = inside.mode; states = c.send.new.states.items; group = c.connections.inside.group } in
+    let talked = talked_send world items c.send.new.states.items c.in-Send.connection c.send.result order inside.group hand here c.in-Send.request c.send.ensures in (
       talked.0,
       of_step talked.0 c.args.step.now (steps.Send c.in-Send.connection c.in-Send.request) c.in-Send.is
           (performed_talked (g.D.Disk.extent keeper.disk) (g.D.Disk.honest keeper.disk) (g.D.Disk.state keeper.disk) (g.met.D.Disk.sound keeper.disk) world keeper faults within
-          (send talked.0 world c.in-Send.connection (message c.in-Send.request) (world.connections c.in-Send.connection)) c.send.result order bench kept talked.1),
+          (send talked.0 world c.in-Send.connection c.in-Send.request (world.connections c.in-Send.connection)) c.send.result order bench kept talked.1),
     )
 
 pub returns-in-Serve-clause-world : goal.returns-in-Serve-clause-world
 returns-in-Serve-clause-world g c = λ world within of kept are flags mode.
-    let inside = c.bench.inside in
-    let view = c.bench.view_is in
+    let inside = c.connections.inside in
+    let view = c.connections.view_is in
     let order = c.args.order.now in
     let keeper = c.args.keeper.now in
     let faults = g.D.Disk.faults keeper.disk in
-    let items = inside.connections.items in
-    let here = subst (AreConnectionsOf world) (sym (ap (λ (b : BenchState). b.connections) view)) are in
-    let hand = subst (λ (group : Option Numbered). IsOrderOf (stage_of world) order group) (sym (ap (λ (b : BenchState). b.group) view)) of in
-    let bench : BenchState = record { flags = inside.flags; mode = inside.mode; connections = c.serve.new.connections.items; group = c.bench.inside.group; log = inside.log.items } in
+    let items = inside.states.items in
+    let here = subst (AreConnectionsOf world) (sym (ap (λ (b : ConnectionsState). b.states) view)) are in
+    let hand = subst (λ (group : Option Numbered). IsOrderOf world.stage order group) (sym (ap (λ (b : ConnectionsState). b.group) view)) of in
+    let bench : ConnectionsState = record { flags = inside.flags; mode = inside.mode; states = c.serve.new.states.items; group = c.connections.inside.group } in
     let terms : AreTermsOf world c.geometry.result inside.flags inside.mode = record {
       geometry_is = c.geometry.ensures ∙ kept.geometry;
-      flags_is = ap (λ (b : BenchState). b.flags) view ∙ flags;
-      mode_is = ap (λ (b : BenchState). b.mode) view ∙ mode;
+      flags_is = ap (λ (b : ConnectionsState). b.flags) view ∙ flags;
+      mode_is = ap (λ (b : ConnectionsState). b.mode) view ∙ mode;
     } in
     let talked = c.serve.ensures.world world inside.group within hand terms here in (
       talked.0,
@@ -55,16 +54,16 @@ returns-in-Serve-clause-world g c = λ world within of kept are flags mode.
 
 pub returns-in-Answer-clause-world : goal.returns-in-Answer-clause-world
 returns-in-Answer-clause-world g c = λ world within of kept are flags mode.
-    let inside = c.bench.inside in
-    let view = c.bench.view_is in
+    let inside = c.connections.inside in
+    let view = c.connections.view_is in
     let order = c.args.order.now in
     let keeper = c.args.keeper.now in
     let faults = g.D.Disk.faults keeper.disk in
-    let items = inside.connections.items in
-    let here = subst (AreConnectionsOf world) (sym (ap (λ (b : BenchState). b.connections) view)) are in
-    let hand = subst (λ (group : Option Numbered). IsOrderOf (stage_of world) order group) (sym (ap (λ (b : BenchState). b.group) view)) of in
-    let bench : BenchState = record { flags = inside.flags; mode = inside.mode; connections = c.answer.new.connections.items; group = c.bench.inside.group; log = inside.log.items } in
-    let talked = talked_answer world items c.answer.new.connections.items c.in-Answer.connection c.answer.result order inside.group hand here c.answer.ensures in (
+    let items = inside.states.items in
+    let here = subst (AreConnectionsOf world) (sym (ap (λ (b : ConnectionsState). b.states) view)) are in
+    let hand = subst (λ (group : Option Numbered). IsOrderOf world.stage order group) (sym (ap (λ (b : ConnectionsState). b.group) view)) of in
+    let bench : ConnectionsState = record { flags = inside.flags; mode = inside.mode; states = c.answer.new.states.items; group = c.connections.inside.group } in
+    let talked = talked_answer world items c.answer.new.states.items c.in-Answer.connection c.answer.result order inside.group hand here c.answer.ensures in (
       Fine,
       of_step Fine c.args.step.now (steps.Answer c.in-Answer.connection) c.in-Answer.is
           (performed_talked (g.D.Disk.extent keeper.disk) (g.D.Disk.honest keeper.disk) (g.D.Disk.state keeper.disk) (g.met.D.Disk.sound keeper.disk) world keeper faults within
@@ -73,15 +72,15 @@ returns-in-Answer-clause-world g c = λ world within of kept are flags mode.
 
 pub returns-in-Seal-clause-world : goal.returns-in-Seal-clause-world
 returns-in-Seal-clause-world g c = λ world within of kept are flags mode.
-    let inside = c.bench.inside in
-    let view = c.bench.view_is in
+    let inside = c.connections.inside in
+    let view = c.connections.view_is in
     let order = c.args.order.now in
     let keeper = c.args.keeper.now in
     let faults = g.D.Disk.faults keeper.disk in
-    let items = inside.connections.items in
-    let here = subst (AreConnectionsOf world) (sym (ap (λ (b : BenchState). b.connections) view)) are in
-    let hand = subst (λ (group : Option Numbered). IsOrderOf (stage_of world) order group) (sym (ap (λ (b : BenchState). b.group) view)) of in
-    let bench : BenchState = record { flags = inside.flags; mode = inside.mode; connections = c.bench.inside.connections.items; group = c.seal.new.hand; log = inside.log.items } in
+    let items = inside.states.items in
+    let here = subst (AreConnectionsOf world) (sym (ap (λ (b : ConnectionsState). b.states) view)) are in
+    let hand = subst (λ (group : Option Numbered). IsOrderOf world.stage order group) (sym (ap (λ (b : ConnectionsState). b.group) view)) of in
+    let bench : ConnectionsState = record { flags = inside.flags; mode = inside.mode; states = c.connections.inside.states.items; group = c.seal.new.hand } in
     let sealed = kept_seal_by world keeper faults order c.seal.new.order inside.group c.seal.new.hand c.seal.result kept within hand c.seal.ensures.seals in (
       sealed.0,
       of_step sealed.0 c.args.step.now steps.Seal c.in-Seal.is
@@ -92,15 +91,15 @@ returns-in-Seal-clause-world g c = λ world within of kept are flags mode.
 
 pub returns-in-Append-clause-world : goal.returns-in-Append-clause-world
 returns-in-Append-clause-world g c = λ world within of kept are flags mode.
-    let inside = c.bench.inside in
-    let view = c.bench.view_is in
+    let inside = c.connections.inside in
+    let view = c.connections.view_is in
     let order = c.args.order.now in
     let keeper = c.args.keeper.now in
     let faults = g.D.Disk.faults keeper.disk in
-    let items = inside.connections.items in
-    let here = subst (AreConnectionsOf world) (sym (ap (λ (b : BenchState). b.connections) view)) are in
-    let hand = subst (λ (group : Option Numbered). IsOrderOf (stage_of world) order group) (sym (ap (λ (b : BenchState). b.group) view)) of in
-    let bench : BenchState = record { flags = inside.flags; mode = inside.mode; connections = c.bench.inside.connections.items; group = c.append.new.hand; log = inside.log.items } in
+    let items = inside.states.items in
+    let here = subst (AreConnectionsOf world) (sym (ap (λ (b : ConnectionsState). b.states) view)) are in
+    let hand = subst (λ (group : Option Numbered). IsOrderOf world.stage order group) (sym (ap (λ (b : ConnectionsState). b.group) view)) of in
+    let bench : ConnectionsState = record { flags = inside.flags; mode = inside.mode; states = c.connections.inside.states.items; group = c.append.new.hand } in
     let stored = c.append.ensures.world world within hand kept in (
       stored.0,
       of_step stored.0 c.args.step.now steps.Append c.in-Append.is
@@ -113,7 +112,7 @@ returns-in-Publish-clause-world g c = λ world within of kept are flags mode.
     let order = c.args.order.now in
     let keeper = c.args.keeper.now in
     let faults = g.D.Disk.faults keeper.disk in
-    let bench = c.args.bench.now in
+    let bench = c.args.connections.now in
     let published = kept_publish_by world keeper faults order c.publish.new.order bench.group c.publish.result kept within of c.publish.ensures.publishes in (
       Fine,
       of_step Fine c.args.step.now steps.Publish c.in-Publish.is

@@ -8,16 +8,16 @@ use Rattle.nbd_wire.specs.Request.{Message}
 use Rattle.nbd_wire.specs.declared.error.Errno.TheVariants.{Io}
 use Rattle.journal.specs.Group.{Numbered}
 use Rattle.order_book.specs.Order.{OrderState}
-use Rattle.request_core.specs.Parts.{stage_of, AreConnectionsOf, IsOrderOf}
-use Rattle.request_core.specs.Serving.{IsSentBy, IsServed, IsTalked, due_of, is_idle, request_in}
-use Rattle.request_core.proofs.Served.{grown_same}
+use Rattle.request_core.specs.Parts.{AreConnectionsOf, IsOrderOf}
+use Rattle.request_core.specs.Serving.{IsSentBy, IsServed, IsTalked, due_of, is_idle, request_in, sent_state}
+use Rattle.request_core.proofs.Serves.{grown_same}
 use Rattle.world.specs.declared.connection.Connection.{Connection}
 use Rattle.world.specs.declared.connection.Connection.TheVariants.{Idle, Requested, Waiting, Ready, Closed}
 use Rattle.world.specs.declared.event.Event.{Event}
 use Rattle.world.specs.declared.event.Event.TheVariants.{Sent, Answered, Held, Failed}
 use Rattle.world.specs.declared.event.StepFault.TheVariants.{NoMemory}
-use Rattle.world.specs.declared.event.Outcome.{Outcome}
-use Rattle.world.specs.declared.event.Outcome.TheVariants.{Done, Refused}
+use Rattle.nbd_wire.specs.declared.message.Answer.{Answer}
+use Rattle.nbd_wire.specs.declared.message.Answer.TheVariants.{Done, Refused}
 use Rattle.world.specs.Serve.{Luck, Fine, Starved, answer, answered, held, serve}
 use Rattle.world.specs.Step.{send}
 use Rattle.world.specs.World.{World, put}
@@ -66,20 +66,20 @@ pub open_unlike : (request : Message) → Requested request ≡ Closed → ⊥
 open_unlike request is = cc
 
 module _ (world : World) (items new : List Connection) (c : ℕ) (event : Event) (order : OrderState) (group : Option Numbered)
-    (of : IsOrderOf (stage_of world) order group) (same : AreConnectionsOf world items) where
+    (of : IsOrderOf world.stage order group) (same : AreConnectionsOf world items) where
   talked_held : new ≡ items → event ≡ Held → IsTalked world (held world) new event order group
   talked_held new_is event_is = record {
     of_connections = λ d. ap (λ (l : List Connection). get_or l d Closed) new_is ∙ same d;
     log = ap (λ (e : Event). world.log ++ e ∷ []) (sym event_is);
-    grown = grown_same (stage_of world);
+    grown = grown_same world.stage;
     of_order = of;
   }
 
-  talked_answered : (outcome : Outcome) → c < length items → new ≡ set items c Idle → event ≡ Answered c outcome → IsTalked world (answered world c outcome) new event order group
+  talked_answered : (outcome : Answer) → c < length items → new ≡ set items c Idle → event ≡ Answered c outcome → IsTalked world (answered world c outcome) new event order group
   talked_answered outcome below new_is event_is = record {
     of_connections = λ d. ap (λ (l : List Connection). get_or l d Closed) new_is ∙ set_put items world.connections c Idle below same d;
     log = ap (λ (e : Event). world.log ++ e ∷ []) (sym event_is);
-    grown = grown_same (stage_of world);
+    grown = grown_same world.stage;
     of_order = of;
   }
 
@@ -91,18 +91,18 @@ module _ (world : World) (items new : List Connection) (c : ℕ) (event : Event)
   waiting false false below is = talked_held is.0 is.1
 
   by_state : (state : Connection) → get_or items c Closed ≡ state
-      → MatchOption (due_of (world.setting.opening + world.durable) world.stopped state) ((new ≡ items) × (event ≡ Held)) (λ outcome. (new ≡ set items c Idle) × (event ≡ Answered c outcome))
+      → MatchOption (due_of (world.stage.setting.opening + world.stage.durable) world.stage.stopped state) ((new ≡ items) × (event ≡ Held)) (λ outcome. (new ≡ set items c Idle) × (event ≡ Answered c outcome))
       → IsTalked world (answer world c state) new event order group
   by_state Idle at is = talked_held is.0 is.1
   by_state (Requested request) at is = talked_held is.0 is.1
   by_state (Waiting number) at is =
-      waiting (nat_le number (world.setting.opening + world.durable)) world.stopped (within_list items c (λ closed. waiting_unlike number (sym at ∙ closed))) is
+      waiting (nat_le number (world.stage.setting.opening + world.stage.durable)) world.stage.stopped (within_list items c (λ closed. waiting_unlike number (sym at ∙ closed))) is
     where
       waiting_unlike : (number : ℕ) → Waiting number ≡ Closed → ⊥
       waiting_unlike number is = cc
   by_state (Ready outcome) at is = talked_answered outcome (within_list items c (λ closed. ready_unlike outcome (sym at ∙ closed))) is.0 is.1
     where
-      ready_unlike : (outcome : Outcome) → Ready outcome ≡ Closed → ⊥
+      ready_unlike : (outcome : Answer) → Ready outcome ≡ Closed → ⊥
       ready_unlike outcome is = cc
   by_state Closed at is = talked_held is.0 is.1
 
@@ -110,10 +110,10 @@ module _ (world : World) (items new : List Connection) (c : ℕ) (event : Event)
   pub talked_answer : MatchOption (due_of order.durable order.stopped (get_or items c Closed)) ((new ≡ items) × (event ≡ Held)) (λ outcome. (new ≡ set items c Idle) × (event ≡ Answered c outcome))
       → IsTalked world (answer world c (world.connections c)) new event order group
   talked_answer is = by_state (world.connections c) (same c)
-      (subst (λ (due : Option Outcome). MatchOption due ((new ≡ items) × (event ≡ Held)) (λ outcome. (new ≡ set items c Idle) × (event ≡ Answered c outcome)))
+      (subst (λ (due : Option Answer). MatchOption due ((new ≡ items) × (event ≡ Held)) (λ outcome. (new ≡ set items c Idle) × (event ≡ Answered c outcome)))
       (ap (λ (n : ℕ). due_of n order.stopped (get_or items c Closed)) of.durable
-      ∙ (ap (λ (b : Bool). due_of (world.setting.opening + world.durable) b (get_or items c Closed)) of.stopped
-      ∙ ap (due_of (world.setting.opening + world.durable) world.stopped) (same c))) is)
+      ∙ (ap (λ (b : Bool). due_of (world.stage.setting.opening + world.stage.durable) b (get_or items c Closed)) of.stopped
+      ∙ ap (due_of (world.stage.setting.opening + world.stage.durable) world.stage.stopped) (same c))) is)
 
   idle_unlike : Idle ≡ Closed → ⊥
   idle_unlike is = cc
@@ -135,7 +135,7 @@ module _ (world : World) (items new : List Connection) (c : ℕ) (event : Event)
           of_connections = λ d. ap (λ (l : List Connection). get_or l d Closed) sends.0
               ∙ set_put items world.connections c (Requested request) (within_list items c (λ closed. idle_unlike (sym at ∙ closed))) same d;
           log = ap (λ (e : Event). world.log ++ e ∷ []) (sym sends.1);
-          grown = grown_same (stage_of world);
+          grown = grown_same world.stage;
           of_order = of;
         },
       )
@@ -144,7 +144,7 @@ module _ (world : World) (items new : List Connection) (c : ℕ) (event : Event)
         record {
           of_connections = λ d. ap (λ (l : List Connection). get_or l d Closed) fails.0 ∙ same d;
           log = ap (λ (e : Event). world.log ++ e ∷ []) (sym fails.1);
-          grown = grown_same (stage_of world);
+          grown = grown_same world.stage;
           of_order = of;
         },
       )
@@ -159,3 +159,13 @@ module _ (world : World) (items new : List Connection) (c : ℕ) (event : Event)
       by_kind (Waiting number) at is = (Fine, talked_held is.0 is.1)
       by_kind (Ready outcome) at is = (Fine, talked_held is.0 is.1)
       by_kind Closed at is = (Fine, talked_held is.0 is.1)
+
+-- the connections of a world in which one that had no request open has sent one
+pub sent_states : (world : World) (items : List Connection) (c : ℕ) (request : Message) → world.connections c ≡ Idle → AreConnectionsOf world items
+    → (d : ℕ) → get_or (sent_state items c request) d Closed ≡ put world.connections c (Requested request) d
+sent_states world items c request idle same d =
+    ap (λ (b : Bool). get_or (if b then set items c (Requested request) else items) d Closed) (ap is_idle (same c ∙ idle))
+    ∙ set_put items world.connections c (Requested request) (within_list items c (λ closed. idle_apart (sym (same c ∙ idle) ∙ closed))) same d
+  where
+    idle_apart : Idle ≡ Closed → ⊥
+    idle_apart is = cc

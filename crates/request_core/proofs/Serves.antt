@@ -1,6 +1,6 @@
 -- what serving a connection makes of the world
 use Rattle.std.proofs.Common.{◌≡◌, ◌⊎◌, inl, inr, ℕ, ◌+◌, ◌/◌, ◌<◌, ◌<◌, ◌==◌, ◌↔◌, Bool, true, false, if◌then◌else◌, Option, None, List, [], ◌∷◌, append-nil, length, bit_and, sym, ◌∙◌, ap, subst, refl, arith}
-use Rattle.std.proofs.lemmas.Bool.{cases_eq, cases_Bool, eq-eqb, ne_eqb}
+use Rattle.std.proofs.lemmas.Bool.{cases_eq, cases_Bool, eq-eqb, le-ltb, lt-ltb, ne_eqb}
 use Rattle.image_model.specs.declared.command.Command.{Command}
 use Rattle.image_model.specs.declared.geometry.Geometry.{Geometry}
 use Rattle.nbd_wire.specs.declared.head.RequestHead.{RequestHead}
@@ -13,17 +13,18 @@ use Rattle.nbd_wire.specs.Request.{Message}
 use Rattle.nbd_wire.specs.declared.error.Errno.TheVariants.{NoSpace}
 use Rattle.order_book.specs.Order.{OrderState, with_command}
 use Rattle.order_book.specs.Order as book
-use Rattle.request_core.specs.Parts.{Stage, stage_of, IsOrderOf}
-use Rattle.request_core.specs.Serving.{IsGrown, IsServed, request_in}
+use Rattle.request_core.specs.Parts.{IsOrderOf}
+use Rattle.request_core.specs.Serving.{IsGrown, IsServed, event_for, quiet_event, request_in, served_after, state_of}
+use Rattle.request_core.specs.declared.serving.Served.{Served}
 use Rattle.request_core.proofs.Orders.{order_accepts, room_of}
 use Rattle.world.specs.declared.connection.Connection.{Connection}
 use Rattle.world.specs.declared.connection.Connection.TheVariants.{Idle, Requested, Waiting, Ready, Closed}
 use Rattle.world.specs.declared.event.Event.{Event}
 use Rattle.world.specs.declared.event.Event.TheVariants.{Numbered as numbered, Held}
-use Rattle.world.specs.declared.event.Outcome.TheVariants.{Refused}
+use Rattle.nbd_wire.specs.declared.message.Answer.TheVariants.{Refused}
 use Rattle.world.specs.Log.{command_of, waits_for_store}
 use Rattle.world.specs.Serve.{Luck, Fine, logged, held, moved, ready, accepted, write_served, state_after}
-use Rattle.world.specs.World.{World, put, last_number, has_room}
+use Rattle.world.specs.World.{World, put, last_number, has_room, Stage}
 use Rattle.world_law.specs.Law.{IsWithin}
 
 -- a choice whose test is known
@@ -44,30 +45,61 @@ put_as_is f c x is d = by_case (cases_eq d c)
     by_case (inl same) = ap (λ (b : Bool). if b then x else f d) (eq-eqb d c same) ∙ (sym is ∙ ap f (sym same))
     by_case (inr other) = ap (λ (b : Bool). if b then x else f d) (ne_eqb d c other)
 
-module _ (world : World) (c : ℕ) (request : Message) (order : OrderState) (group : Option Numbered) (of : IsOrderOf (stage_of world) order group) where
+module _ (world : World) (c : ℕ) (request : Message) (order : OrderState) (group : Option Numbered) (of : IsOrderOf world.stage order group) where
   pub served_moved : (state : Connection) (event : Event) → IsServed world (logged (moved world c state) event) c state event order group
-  served_moved state event = record { connections = λ d. refl; log = refl; grown = grown_same (stage_of world); of_order = of }
+  served_moved state event = record { connections = λ d. refl; log = refl; grown = grown_same world.stage; of_order = of }
 
   pub served_held : world.connections c ≡ Requested request → IsServed world (held world) c (Requested request) Held order group
-  served_held is = record { connections = put_as_is world.connections c (Requested request) is; log = refl; grown = grown_same (stage_of world); of_order = of }
+  served_held is = record { connections = put_as_is world.connections c (Requested request) is; log = refl; grown = grown_same world.stage; of_order = of }
 
   -- a command that got its number
   pub served_accepted : (command : Command) (number : ℕ) → IsWithin world → order.mark < 18446744073709551615 → change_of command ≡ command_of request
-      → IsChange world.setting.geometry.blocks (command_of request) → number ≡ order.mark + 1
-      → IsServed world (accepted Fine world c request) c (state_after (waits_for_store world.setting.mode request) number) (numbered c number) (with_command order command) group
+      → IsChange world.stage.setting.geometry.blocks (command_of request) → number ≡ order.mark + 1
+      → IsServed world (accepted Fine world c request) c (state_after (waits_for_store world.stage.setting.mode request) number) (numbered c number) (with_command order command) group
   served_accepted command number within left own change is = subst
-      (λ (n : ℕ). IsServed world (accepted Fine world c request) c (state_after (waits_for_store world.setting.mode request) n) (numbered c n) (with_command order command) group)
+      (λ (n : ℕ). IsServed world (accepted Fine world c request) c (state_after (waits_for_store world.stage.setting.mode request) n) (numbered c n) (with_command order command) group)
       (sym (is ∙ ap (λ (n : ℕ). n + 1) of.mark))
       (record {
         connections = λ d. refl;
         log = refl;
         grown = record { commands = command_of request ∷ []; is = refl; takes = (change, tt) };
         of_order = let durable = within.durable in let stored = within.stored in let sealed = within.sealed in
-            order_accepts (stage_of world) order group of command (command_of request) own (omega (arith, stored, sealed)) (omega (arith, durable, stored, sealed)) left;
+            order_accepts world.stage order group of command (command_of request) own (omega (arith, stored, sealed)) (omega (arith, durable, stored, sealed)) left;
       })
 
+  -- the event of a request whose command got its number, and of one after which the order is as it was
+  pub event_numbered : (result : Served) → event_for c order.mark (order.mark + 1) result ≡ numbered c (order.mark + 1)
+  event_numbered result = ap (λ (b : Bool). if b then numbered c (order.mark + 1) else quiet_event result) (lt-ltb order.mark (order.mark + 1) (omega arith))
+
+  pub event_quiet : (result : Served) → event_for c order.mark order.mark result ≡ quiet_event result
+  event_quiet result = ap (λ (b : Bool). if b then numbered c order.mark else quiet_event result) (le-ltb order.mark order.mark (omega arith))
+
+  -- a request after which the order is as it was
+  pub served_quiet : (next : World) (result given : Served) (new : OrderState) → new ≡ order → result ≡ given
+      → IsServed world next c (state_of given) (quiet_event given) order group
+      → IsServed world next c (state_of result) (event_for c order.mark new.mark result) new group
+  served_quiet next result given new same is here =
+      subst (λ (r : Served). IsServed world next c (state_of r) (event_for c order.mark new.mark r) new group) (sym is)
+      (subst (λ (o : OrderState). IsServed world next c (state_of given) (event_for c order.mark o.mark given) o group) (sym same)
+      (subst (λ (e : Event). IsServed world next c (state_of given) e order group) (sym (event_quiet given)) here))
+
+  -- a request whose command got its number
+  pub served_numbered : (next : World) (result : Served) (waits : Bool) (cookie number : ℕ) (command : Command) (new : OrderState) → new ≡ with_command order command
+      → number ≡ order.mark + 1 → result ≡ served_after waits cookie number
+      → IsServed world next c (state_after waits number) (numbered c number) (with_command order command) group
+      → IsServed world next c (state_of result) (event_for c order.mark new.mark result) new group
+  served_numbered next result waits cookie number command new same is result_is here =
+      subst (λ (r : Served). IsServed world next c (state_of r) (event_for c order.mark new.mark r) new group) (sym result_is)
+      (subst (λ (o : OrderState). IsServed world next c (state_of (served_after waits cookie number)) (event_for c order.mark o.mark (served_after waits cookie number)) o group) (sym same)
+      (subst (λ (s : Connection). IsServed world next c s (event_for c order.mark (order.mark + 1) (served_after waits cookie number)) (with_command order command) group) (sym (state_after_same waits cookie number))
+      (subst (λ (e : Event). IsServed world next c (state_after waits number) e (with_command order command) group) (ap (numbered c) is ∙ sym (event_numbered (served_after waits cookie number))) here)))
+    where
+      state_after_same : (waits : Bool) (cookie number : ℕ) → state_of (served_after waits cookie number) ≡ state_after waits number
+      state_after_same true cookie number = refl
+      state_after_same false cookie number = refl
+
   room_same : (command : Command) → change_of command ≡ command_of request → has_room world (command_of request) ≡ book.has_room order command
-  room_same command own = ap (has_room world) (sym own) ∙ sym (room_of (stage_of world) order group of command)
+  room_same command own = ap (has_room world) (sym own) ∙ sym (room_of world.stage order group of command)
 
   -- which way a write command goes
   pub write_full : (luck : Luck) (P : World → Type 0) → order.mark ≡ 18446744073709551615 → P (ready world c (Refused NoSpace)) → P (write_served luck world c request)

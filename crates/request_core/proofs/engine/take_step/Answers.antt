@@ -1,0 +1,17 @@
+use Rattle.std.proofs.Common.{[], ◌∷◌, refl}
+use Rattle.request_core.proofs.Runs.{stepped}
+use Rattle.world.specs.Step.{after_step}
+use Rattle.request_core.proofs.engine.take_step.Goals as goal
+
+pub returns-clause-world : goal.returns-clause-world
+returns-clause-world g c = λ world of.
+    let old = c.args.keeper.now in
+    let new = c.perform.new.keeper in
+    let step = c.args.step.now in
+    let done = c.perform.ensures.world world (c.schedule_law.ensures.within world of.reached) of.of_order of.of_keeper of.of_states of.flags of.mode in
+    let grows = c.schedule_law.ensures.grows world (after_step world step done.0) (step ∷ []) (done.0, refl) in (
+      done.0,
+      stepped world step done.0 c.perform.result c.args.order.now c.perform.new.order c.args.connections.now c.perform.new.connections old new (g.D.Disk.faults old.disk) (g.D.Disk.faults new.disk)
+          (g.D.Disk.honest old.disk) (g.D.Disk.honest new.disk) (g.D.Disk.state old.disk) (g.D.Disk.state new.disk) c.perform.ensures.honest.0 of done.1 grows
+          c.perform.ensures.connections.0 c.perform.ensures.connections.1,
+    )

@@ -1,0 +1,95 @@
+ghost use Rattle.std.specs.Prelude.{◌≡◌, ◌↔◌, IfSome, slice_index_or};
+ghost use Rattle.order_book.specs.Order.{IsInHand};
+ghost use Rattle.request_core.specs.Life.{IsStepped};
+ghost use Rattle.request_core.specs.Parts.{AreConnectionsOf, IsExportOf, IsKeeperOf, IsOrderOf};
+ghost use Rattle.request_core.specs.Serving.{is_idle, sent_state};
+ghost use Rattle.request_core.specs.Steps.{IsPerformed};
+ghost use Rattle.world.specs.Serve.{Luck};
+ghost use Rattle.world.specs.Step.{after_step};
+ghost use Rattle.world.specs.World.{World};
+ghost use Rattle.world.specs.declared.connection.Connection.TheVariants as Connection;
+ghost use Rattle.world_law.specs.Law.{IsWithin};
+
+use crate::bench::Connections;
+use crate::serving::{Terms, answer, send, send_owned, serve};
+use crate::storing::{append, publish, seal};
+use checkpoint::Keeper;
+use disk_model::Disk;
+use nbd_wire::Request;
+use order_book::Order;
+use std::alloc::Global;
+use world::{Event, Step};
+use world_law::schedule_law;
+
+impl Connections {
+    /// A connection sends a request without a copy, where it has none open; else the request is let go.
+    pub fn send(&mut self, connection: usize, request: Request) -> bool
+        ensures sent { result ≡ is_idle (slice_index_or self.old.states connection Connection.Closed) }
+        ensures connections { self.new ≡ record self.old { states = sent_state self.old.states connection request } }
+    {
+        send_owned(&mut self.states, connection, request)
+    }
+}
+
+/// Carries out one step, and gives its event.
+///
+/// A step whose condition doesn't hold changes nothing, but an `Append` of a group that doesn't fit the area puts it back.
+pub fn take_step<D: Disk>(
+    alloc: Global,
+    step: &Step,
+    order: &mut Order,
+    keeper: &mut Keeper<D>,
+    connections: &mut Connections,
+) -> Event
+    requires group { IfSome connections.old.group (IsInHand order.old) }
+    ensures group { IfSome connections.new.group (IsInHand order.new) }
+    ensures extent { D.extent keeper.new.disk ≡ D.extent keeper.old.disk }
+    ensures honest { D.honest keeper.new.disk ↔ D.honest keeper.old.disk }
+
+    // In each world that the parts are of the step leads to a next world, of which they then are; only its luck is free.
+    ensures world { (world : World) → IsExportOf world order.old keeper.old (D.faults keeper.old.disk) connections.old (D.honest keeper.old.disk) (D.state keeper.old.disk)
+        → (luck : Luck) × IsStepped world (after_step world step.now luck) result order.new keeper.new (D.faults keeper.new.disk) connections.new
+        (D.honest keeper.new.disk) (D.state keeper.old.disk) (D.state keeper.new.disk) }
+{
+    schedule_law();
+    perform(alloc, step, order, keeper, connections)
+}
+
+// Carries out one step, and gives its event.
+fn perform<D: Disk>(
+    alloc: Global,
+    step: &Step,
+    order: &mut Order,
+    keeper: &mut Keeper<D>,
+    connections: &mut Connections,
+) -> Event
+    requires group { IfSome connections.old.group (IsInHand order.old) }
+    ensures group { IfSome connections.new.group (IsInHand order.new) }
+    ensures connections { (connections.new.flags ≡ connections.old.flags) × (connections.new.mode ≡ connections.old.mode) }
+    ensures extent { D.extent keeper.new.disk ≡ D.extent keeper.old.disk }
+    ensures honest { D.honest keeper.new.disk ↔ D.honest keeper.old.disk }
+    ensures world { (world : World) → IsWithin world → IsOrderOf world.stage order.old connections.old.group
+        → IsKeeperOf world.stage keeper.old (D.faults keeper.old.disk) → AreConnectionsOf world connections.old.states
+        → connections.old.flags ≡ world.stage.setting.flags → connections.old.mode ≡ world.stage.setting.mode
+        → (luck : Luck) × IsPerformed world (after_step world step.now luck) result order.new connections.new keeper.old keeper.new (D.faults keeper.new.disk)
+        (D.honest keeper.old.disk) (D.state keeper.old.disk) (D.state keeper.new.disk) }
+{
+    let terms = Terms {
+        geometry: keeper.geometry(),
+        flags: connections.flags,
+        mode: connections.mode,
+    };
+    match step {
+        Step::Send(connection, request) => send(
+            alloc,
+            &mut connections.states,
+            *connection,
+            request,
+        ),
+        Step::Serve(connection) => serve(&mut connections.states, *connection, order, terms),
+        Step::Answer(connection) => answer(&mut connections.states, *connection, order),
+        Step::Seal => seal(&mut connections.group, order),
+        Step::Append => append(&mut connections.group, order, keeper),
+        Step::Publish => publish(order, keeper),
+    }
+}

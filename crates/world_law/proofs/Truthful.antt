@@ -1,0 +1,272 @@
+-- what a log tells of the device is true
+use Rattle.std.proofs.Common.{◌≡◌, ◌≢◌, ◌⊎◌, inl, inr, ℕ, ◌+◌, ◌<◌, ◌≤◌, ◌==◌, ◌&&◌, ◌||◌, ◌*◌, Bool, true, false, min, nat_le, nat_lt, not, Result, Ok, Err, List, [], ◌∷◌, ◌++◌, length, drop, sym, ◌∙◌, ap, if◌then◌else◌, subst, refl, arith, bit_and}
+use Rattle.std.proofs.lemmas.Bool.{cases_eq, cases_lt}
+use Rattle.disk_model.specs.Faults.{counted}
+use Rattle.image_model.specs.declared.geometry.Geometry.{Geometry}
+use Rattle.nbd_wire.specs.Request.{Message}
+use Rattle.nbd_wire.specs.declared.error.Errno.{Errno}
+use Rattle.nbd_wire.specs.declared.error.Errno.TheVariants.{Io, NoMemory, NoSpace, Invalid}
+use Rattle.nbd_wire.specs.declared.head.RequestHead.{RequestHead}
+use Rattle.nbd_wire.specs.declared.message.SessionFlags.{SessionFlags}
+use Rattle.world.specs.declared.action.Action.{Action}
+use Rattle.world.specs.declared.action.Action.TheVariants.{End, Serve}
+use Rattle.world.specs.declared.connection.Connection.{Connection}
+use Rattle.world.specs.declared.connection.Connection.TheVariants.{Idle, Requested, Waiting, Ready, Closed}
+use Rattle.world.specs.declared.event.Event.{Event}
+use Rattle.world.specs.declared.event.Event.TheVariants.{Sent, Answered, Numbered, Took, Held, Failed}
+use Rattle.nbd_wire.specs.declared.message.Answer.{Answer}
+use Rattle.nbd_wire.specs.declared.message.Answer.TheVariants.{Done, Refused}
+use Rattle.world.specs.declared.event.StepFault.TheVariants as fault
+use Rattle.world.specs.declared.step.Step.{Step}
+use Rattle.world.specs.declared.step.Step.TheVariants as steps
+use Rattle.world.specs.Log.{StandsAt, command_of, is_flush, waits_for_store}
+use Rattle.world.specs.Run.{IsReached, Fresh, After}
+use Rattle.world.specs.Serve.{Luck, Fine, Starved, Faulted, logged, held, moved, ready, ordered, state_after, accepted, write_served, passed, judged, serve, answered, answer}
+use Rattle.world.specs.Step.{staged, send, sent, sealed_more, seal, put_back, faulted, stored_more, append_in_hand, append, publish, after_step}
+use Rattle.world.specs.Verdict.{verdict, range_verdict, first_of_rules, is_known, allowed_flags, is_unaligned, past_end}
+use Rattle.world.specs.World.{World, Stage, Setting, fresh, put, last_number, has_room, fits}
+use Rattle.world_law.specs.Law.{HasFailed, TellsFault, TellsTruth}
+use Rattle.world_law.proofs.Events.{get_split}
+use Rattle.world_law.proofs.Logged.{put_same, put_other}
+use Rattle.world_law.proofs.Steps.{of_either}
+
+-- Whatever tells of a fault stands beside an order that was stopped, and that is so only after a fault.
+record IsTruthful (world : World) : Type 0 where
+  told : (place : ℕ) (event : Event) → StandsAt world.log place event → TellsFault event → world.stage.stopped ≡ true
+  due : (connection : ℕ) → world.connections connection ≡ Ready (Refused Io) → world.stage.stopped ≡ true
+  failed : world.stage.stopped ≡ true → HasFailed world.stage
+  -- the count doesn't fall
+  since : (world.stage.setting.failures ≤ world.stage.faults) ⊎ (18446744073709551615 ≤ world.stage.faults)
+
+-- a rule that doesn't answer EIO leaves the rest
+skip : (test : Bool) (errno : Errno) (rest : Result Action Errno) → (errno ≡ Io → ⊥) → (if test then Err errno else rest) ≡ Err Io → rest ≡ Err Io
+skip true errno rest unlike is = absurd (unlike (same_error errno is))
+  where
+    same_error : (errno : Errno) → (let result : Result Action Errno = Err errno in result ≡ Err Io) → errno ≡ Io
+    same_error errno is = cc
+skip false errno rest unlike is = is
+
+pass : (test : Bool) (action : Action) (rest : Result Action Errno) → (if test then Ok action else rest) ≡ Err Io → rest ≡ Err Io
+pass true action rest is = cc
+pass false action rest is = is
+
+invalid_unlike : Invalid ≡ Io → ⊥
+invalid_unlike is = cc
+
+-- no rule of judgement answers EIO
+no_rule : (disc unknown flagged empty flush context unaligned long beyond other : Bool) (errno : Errno) → (errno ≡ Io → ⊥)
+    → first_of_rules ((disc, Ok End) ∷ (unknown, Err Invalid) ∷ (flagged, Err Invalid) ∷ (empty, Ok Serve) ∷ (flush, Err Invalid) ∷ (context, Err Invalid) ∷ [])
+    (first_of_rules ((unaligned, Err Invalid) ∷ (long, Err Invalid) ∷ (beyond, Err errno) ∷ (other, Err Invalid) ∷ []) (Ok Serve)) ≡ Err Io → ⊥
+no_rule disc unknown flagged empty flush context unaligned long beyond other errno unlike is =
+    let a = pass disc End _ is in
+    let b = skip unknown Invalid _ invalid_unlike a in
+    let c = skip flagged Invalid _ invalid_unlike b in
+    let d = pass empty Serve _ c in
+    let e = skip flush Invalid _ invalid_unlike d in
+    let f = skip context Invalid _ invalid_unlike e in
+    let g = skip unaligned Invalid _ invalid_unlike f in
+    let h = skip long Invalid _ invalid_unlike g in
+    let i = skip beyond errno _ unlike h in
+    ok_unlike (skip other Invalid _ invalid_unlike i)
+  where
+    ok_unlike : (let result : Result Action Errno = Ok Serve in result ≡ Err Io) → ⊥
+    ok_unlike is = cc
+
+past_unlike : (kind : ℕ) → past_end kind ≡ Io → ⊥
+past_unlike kind = of_either (λ (errno : Errno). errno ≡ Io → ⊥) ((kind == 1) || (kind == 6)) NoSpace Invalid (λ _ is. cc) (λ _ is. cc)
+
+verdict_unlike : (head : RequestHead) (geometry : Geometry) (flags : SessionFlags) → verdict head geometry flags ≡ Err Io → ⊥
+verdict_unlike head geometry flags is =
+    no_rule (head.kind == 2) (not (is_known head.kind)) (not (bit_and head.flags (allowed_flags head.kind flags.structured) == head.flags))
+    ((head.kind == 3) && (head.offset == 0) && (head.length == 0)) (head.kind == 3) ((head.kind == 7) && not (flags.structured && flags.context))
+    (is_unaligned head) (((head.kind == 0) || (head.kind == 1)) && nat_lt 1048576 head.length) (nat_lt (4096 * geometry.blocks) (head.offset + head.length))
+    (not (head.kind == 1)) (past_end head.kind) (past_unlike head.kind) is
+
+refused_inside : (errno : Errno) → Ready (Refused errno) ≡ Ready (Refused Io) → errno ≡ Io
+refused_inside errno is = cc
+
+module _ (world : World) (true_so_far : IsTruthful world) where
+  -- a step after which order and keeper have met no fault more
+  calm : (next : World) (event : Event) → next.log ≡ world.log ++ event ∷ [] → next.stage.stopped ≡ world.stage.stopped → next.stage.faults ≡ world.stage.faults
+      → next.stage.setting ≡ world.stage.setting → (TellsFault event → world.stage.stopped ≡ true)
+      → ((connection : ℕ) → next.connections connection ≡ Ready (Refused Io) → world.stage.stopped ≡ true) → IsTruthful next
+  calm next event log stopped faults setting tells due = record {
+    told = λ place other at tells_other. stopped ∙ before place other (get_split world.log event place other (subst (λ (l : List Event). StandsAt l place other) log at)) tells_other;
+    due = λ connection is. stopped ∙ due connection is;
+    failed = λ is. still (true_so_far.failed (sym stopped ∙ is));
+    since = going true_so_far.since;
+  }
+    where
+      before : (place : ℕ) (other : Event) → StandsAt world.log place other ⊎ ((place ≡ length world.log) × (other ≡ event)) → TellsFault other → world.stage.stopped ≡ true
+      before place other (inl at) tells_other = true_so_far.told place other at tells_other
+      before place other (inr last) tells_other = tells (subst TellsFault last.1 tells_other)
+
+      given : next.stage.setting.failures ≡ world.stage.setting.failures
+      given = ap (λ (s : Setting). s.failures) setting
+
+      still : HasFailed world.stage → HasFailed next.stage
+      still (inl more) = inl (omega (arith, more, faults, given))
+      still (inr most) = inr (omega (arith, most, faults))
+
+      going : (world.stage.setting.failures ≤ world.stage.faults) ⊎ (18446744073709551615 ≤ world.stage.faults)
+          → (next.stage.setting.failures ≤ next.stage.faults) ⊎ (18446744073709551615 ≤ next.stage.faults)
+      going (inl more) = inl (omega (arith, more, faults, given))
+      going (inr most) = inr (omega (arith, most, faults))
+
+  calm_held : IsTruthful (held world)
+  calm_held = calm (held world) Held refl refl refl refl (λ tells. absurd tells) true_so_far.due
+
+  calm_failed : IsTruthful (logged world (Failed fault.NoMemory))
+  calm_failed = calm (logged world (Failed fault.NoMemory)) (Failed fault.NoMemory) refl refl refl refl (λ tells. absurd tells) true_so_far.due
+
+  due_put : (c : ℕ) (state : Connection) → (state ≡ Ready (Refused Io) → world.stage.stopped ≡ true)
+      → (d : ℕ) → put world.connections c state d ≡ Ready (Refused Io) → world.stage.stopped ≡ true
+  due_put c state here d = by_case (cases_eq d c)
+    where
+      by_case : (d ≡ c) ⊎ (d ≡ c → ⊥) → put world.connections c state d ≡ Ready (Refused Io) → world.stage.stopped ≡ true
+      by_case (inl is) there = here (sym (put_same world.connections c state) ∙ (sym (ap (put world.connections c state) is) ∙ there))
+      by_case (inr other) there = true_so_far.due d (sym (put_other world.connections c state d other) ∙ there)
+
+  module _ (c : ℕ) where
+    calm_moved : (state : Connection) (event : Event) → (TellsFault event → world.stage.stopped ≡ true) → (state ≡ Ready (Refused Io) → world.stage.stopped ≡ true)
+        → IsTruthful (logged (moved world c state) event)
+    calm_moved state event tells here = calm (logged (moved world c state) event) event refl refl refl refl tells (due_put c state here)
+
+    calm_ready : (errno : Errno) → (errno ≡ Io → world.stage.stopped ≡ true) → IsTruthful (ready world c (Refused errno))
+    calm_ready errno here = calm_moved (Ready (Refused errno)) Took (λ tells. absurd tells) (λ is. here (refused_inside errno is))
+
+    calm_sent : (luck : Luck) (request : Message) → IsTruthful (sent luck world c request)
+    calm_sent Starved request = calm_failed
+    calm_sent Fine request = calm (sent Fine world c request) (Sent c request) refl refl refl refl (λ tells. absurd tells) (due_put c (Requested request) (λ is. cc))
+    calm_sent Faulted request = calm (sent Faulted world c request) (Sent c request) refl refl refl refl (λ tells. absurd tells) (due_put c (Requested request) (λ is. cc))
+
+    calm_send : (luck : Luck) (request : Message) (state : Connection) → IsTruthful (send luck world c request state)
+    calm_send luck request Idle = calm_sent luck request
+    calm_send luck request (Requested other) = calm_held
+    calm_send luck request (Waiting number) = calm_held
+    calm_send luck request (Ready outcome) = calm_held
+    calm_send luck request Closed = calm_held
+
+    after_unlike : (waits : Bool) (number : ℕ) → state_after waits number ≡ Ready (Refused Io) → ⊥
+    after_unlike true number is = cc
+    after_unlike false number is = cc
+
+    calm_numbered : (request : Message) (waits : Bool) (number : ℕ) → IsTruthful (logged (moved (ordered world c request) c (state_after waits number)) (Numbered c number))
+    calm_numbered request waits number = calm (logged (moved (ordered world c request) c (state_after waits number)) (Numbered c number)) (Numbered c number) refl refl refl refl
+        (λ tells. absurd tells) (due_put c (state_after waits number) (λ is. absurd (after_unlike waits number is)))
+
+    memory_unlike : NoMemory ≡ Io → ⊥
+    memory_unlike is = cc
+
+    space_unlike : NoSpace ≡ Io → ⊥
+    space_unlike is = cc
+
+    calm_accepted : (luck : Luck) (request : Message) → IsTruthful (accepted luck world c request)
+    calm_accepted Starved request = calm_ready NoMemory (λ is. absurd (memory_unlike is))
+    calm_accepted Fine request = calm_numbered request _ _
+    calm_accepted Faulted request = calm_numbered request _ _
+
+    calm_passed : (luck : Luck) (request : Message) → IsTruthful (passed luck world c request)
+    calm_passed luck request = of_either IsTruthful world.stage.stopped _ _ (λ stopped. calm_ready Io (λ is. stopped))
+        (λ works. of_either IsTruthful (is_flush request) _ _ (λ flush. calm_moved (Waiting (last_number world)) Took (λ tells. absurd tells) (λ is. cc))
+        (λ other. of_either IsTruthful (last_number world == 18446744073709551615) _ _ (λ full. calm_ready NoSpace (λ is. absurd (space_unlike is)))
+        (λ left. of_either IsTruthful (has_room world (command_of request)) _ _ (λ room. calm_accepted luck request) (λ none. calm_held))))
+
+    calm_judged : (result : Result Action Errno) → (result ≡ Err Io → ⊥) → (luck : Luck) (request : Message) → IsTruthful (judged result luck world c request)
+    calm_judged (Ok End) unlike luck request = calm_moved Closed Took (λ tells. absurd tells) (λ is. cc)
+    calm_judged (Ok Serve) unlike luck request = calm_passed luck request
+    calm_judged (Err errno) unlike luck request = calm_ready errno (λ is. absurd (unlike (ap (λ (e : Errno). let result : Result Action Errno = Err e in result) is)))
+
+    calm_serve : (luck : Luck) (state : Connection) → IsTruthful (serve luck world c state)
+    calm_serve luck (Requested request) = calm_judged (verdict request.head world.stage.setting.geometry world.stage.setting.flags)
+        (verdict_unlike request.head world.stage.setting.geometry world.stage.setting.flags) luck request
+    calm_serve luck Idle = calm_held
+    calm_serve luck (Waiting number) = calm_held
+    calm_serve luck (Ready outcome) = calm_held
+    calm_serve luck Closed = calm_held
+
+    calm_answered : (outcome : Answer) → (outcome ≡ Refused Io → world.stage.stopped ≡ true) → IsTruthful (answered world c outcome)
+    calm_answered outcome tells = calm_moved Idle (Answered c outcome) tells (λ is. cc)
+
+    done_unlike : Done ≡ Refused Io → ⊥
+    done_unlike is = cc
+
+    calm_answer : (state : Connection) → world.connections c ≡ state → IsTruthful (answer world c state)
+    calm_answer (Ready outcome) at = calm_answered outcome (λ is. true_so_far.due c (at ∙ ap Ready is))
+    calm_answer (Waiting number) at = of_either IsTruthful (nat_le number (world.stage.setting.opening + world.stage.durable)) _ _ (λ reached. calm_answered Done (λ is. absurd (done_unlike is)))
+        (λ above. of_either IsTruthful world.stage.stopped _ _ (λ stopped. calm_answered (Refused Io) (λ is. stopped)) (λ works. calm_held))
+    calm_answer Idle at = calm_held
+    calm_answer (Requested request) at = calm_held
+    calm_answer Closed at = calm_held
+
+  -- a step of order and keeper that meets no fault
+  calm_staged : (sealed stored durable at : ℕ) (event : Event) → (TellsFault event → world.stage.stopped ≡ true)
+      → IsTruthful (logged (staged world (record world.stage { sealed = sealed; stored = stored; durable = durable; at = at })) event)
+  calm_staged sealed stored durable at event tells =
+      calm (logged (staged world (record world.stage { sealed = sealed; stored = stored; durable = durable; at = at })) event) event refl refl refl refl tells true_so_far.due
+
+  calm_sealed : (luck : Luck) → IsTruthful (sealed_more luck world)
+  calm_sealed Starved = calm_failed
+  calm_sealed Fine = calm_staged _ _ _ _ Took (λ tells. absurd tells)
+  calm_sealed Faulted = calm_staged _ _ _ _ Took (λ tells. absurd tells)
+
+  -- a fault more is counted, if the count isn't at its end
+  rises : (world.stage.setting.failures ≤ world.stage.faults) ⊎ (18446744073709551615 ≤ world.stage.faults)
+      → HasFailed (faulted world).stage
+  rises (inl more) = by_room (cases_lt world.stage.faults 18446744073709551615)
+    where
+      by_room : (world.stage.faults < 18446744073709551615) ⊎ (18446744073709551615 ≤ world.stage.faults) → HasFailed (faulted world).stage
+      by_room (inl room) = inl (omega (arith, more, room))
+      by_room (inr full) = inr (omega (arith, full))
+  rises (inr most) = inr (omega (arith, most))
+
+  risen_since : HasFailed (faulted world).stage
+      → ((faulted world).stage.setting.failures ≤ (faulted world).stage.faults) ⊎ (18446744073709551615 ≤ (faulted world).stage.faults)
+  risen_since (inl more) = inl (omega (arith, more))
+  risen_since (inr most) = inr most
+
+  calm_stored : (luck : Luck) → IsTruthful (stored_more luck world)
+  calm_stored Starved = calm_failed
+  calm_stored Fine = calm_staged _ _ _ _ Took (λ tells. absurd tells)
+  calm_stored Faulted = record {
+    told = λ place other at tells. refl;
+    due = λ connection is. refl;
+    failed = λ is. rises true_so_far.since;
+    since = risen_since (rises true_so_far.since);
+  }
+
+  calm_append : (luck : Luck) → IsTruthful (append luck world)
+  calm_append luck = of_either IsTruthful (nat_lt world.stage.stored world.stage.sealed) _ _
+      (λ hand. of_either IsTruthful world.stage.stopped _ _ (λ stopped. calm_staged _ _ _ _ (Failed fault.FailedBefore) (λ tells. stopped))
+      (λ works. of_either IsTruthful (fits world) _ _ (λ fit. calm_stored luck) (λ full. calm_staged _ _ _ _ Held (λ tells. absurd tells))))
+      (λ none. calm_held)
+
+  calm_publish : IsTruthful (publish world)
+  calm_publish = of_either IsTruthful (nat_lt world.stage.durable world.stage.stored) _ _ (λ more. calm_staged _ _ _ _ Took (λ tells. absurd tells)) (λ none. calm_held)
+
+  true_step : (step : Step) (luck : Luck) → IsTruthful (after_step world step luck)
+  true_step (steps.Send c request) luck = calm_send c luck request (world.connections c)
+  true_step (steps.Serve c) luck = calm_serve c luck (world.connections c)
+  true_step (steps.Answer c) luck = calm_answer c (world.connections c) refl
+  true_step steps.Seal luck = of_either IsTruthful (nat_lt world.stage.sealed (length world.stage.order) && (world.stage.sealed == world.stage.durable)) _ _
+      (λ pending. calm_sealed luck) (λ none. calm_held)
+  true_step steps.Append luck = calm_append luck
+  true_step steps.Publish luck = calm_publish
+
+true_fresh : (setting : Setting) (end : ℕ) → IsTruthful (fresh setting end)
+true_fresh setting end = record {
+  told = λ place event at tells. cc;
+  due = λ c is. absurd (of_either (λ (s : Connection). s ≡ Ready (Refused Io) → ⊥) (nat_lt c setting.connections) Idle Closed (λ inside idle. cc) (λ outside closed. cc) is);
+  failed = λ is. cc;
+  since = inl (omega arith);
+}
+
+true_reached : (world : World) → IsReached world → IsTruthful world
+true_reached world (Fresh setting end) = true_fresh setting end
+true_reached world (After {world = before} step luck reached) = true_step before (true_reached before reached) step luck
+
+-- what schedules lead to tells the truth
+pub truth_reached : (world : World) → IsReached world → TellsTruth world
+truth_reached world reached =
+    let is = true_reached world reached in
+    record { told = λ place event at tells. is.failed (is.told place event at tells); stopped = is.failed }
