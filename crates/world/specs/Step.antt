@@ -1,8 +1,8 @@
 -- how each step changes the world
 use Rattle.std.specs.Prelude.{ℕ, ◌+◌, true, ◌&&◌, ◌==◌, nat_lt, if◌then◌else◌, length, drop}
 use Rattle.disk_model.specs.Faults.{counted}
+use Rattle.image_model.specs.Bodies.{body_limit}
 use Rattle.nbd_wire.specs.Request.{HasItsData, Message, message}
-use Rattle.order_book.specs.Order.{body_limit}
 use Rattle.world.specs.declared.connection.Connection.{Connection}
 use Rattle.world.specs.declared.connection.Connection.TheVariants.{Idle, Requested, Waiting, Ready, Closed}
 use Rattle.world.specs.declared.event.Event.TheVariants.{Sent, Took, Failed}

@@ -75,7 +75,7 @@ in_hand world = take (world.sealed - world.stored) (drop world.stored world.orde
 -- that aren't durable in 67,108,864 bytes
 abbrev pub has_room : World → Change → Bool
 has_room world command =
-    frames_suffice world.setting.frames (dirty_blocks world.order) command
+    frames_suffice world.setting.frames (dirty_blocks world.setting.opening world.order) (last_number world + 1) command
     && nat_le (bodies_bytes (drop world.durable world.order) + body_bytes command) 67108864
 
 -- whether the group in hand and the gate behind it fit the area

@@ -21,7 +21,7 @@ use Rattle.world.specs.declared.event.Outcome.TheVariants.{Done, Refused}
 use Rattle.world.specs.declared.step.Step.{Step}
 use Rattle.world.specs.declared.step.Step.TheVariants as steps
 use Rattle.disk_model.specs.Faults.{counted}
-use Rattle.order_book.specs.Order.{body_limit}
+use Rattle.image_model.specs.Bodies.{body_limit}
 use Rattle.world.specs.Log.{command_of, is_write, is_flush, waits_for_store, IsAnswered}
 use Rattle.world.specs.Room.{body_bytes, bodies_bytes, longest}
 use Rattle.world.specs.Serve.{Luck, Fine, Starved, Faulted, logged, held, moved, ready, ordered, state_after, accepted, write_served, passed, judged, serve, answer}
