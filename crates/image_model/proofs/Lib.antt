@@ -1,1 +1,2 @@
+pub mod DirtyMaps
 pub mod Positions

@@ -4,7 +4,7 @@ use Rattle.std.specs.List.{AllByRecursion}
 use Rattle.image_model.specs.declared.command.Command.{Command}
 use Rattle.image_model.specs.declared.command.Command.TheVariants.{Put, Clear}
 use Rattle.image_model.specs.declared.command.Kind.{Kind}
-use Rattle.image_model.specs.Command.{IsCleared}
+use Rattle.image_model.specs.declared.command.Kind.TheVariants.{Data, Zero, Hole}
 
 -- a change of an image, in whole blocks of 4,096 bytes
 pub data Change : Type 0 where
@@ -17,6 +17,12 @@ pub data Change : Type 0 where
 abbrev pub change_of : Command → Change
 change_of (Put first bytes) = Written first bytes.items
 change_of (Clear first blocks kind) = Cleared first blocks kind
+
+-- a kind that cleared blocks may have
+abbrev pub IsCleared : Kind → Type 0
+IsCleared Data = ⊥
+IsCleared Zero = Unit {0}
+IsCleared Hole = Unit {0}
 
 -- a change that an image of so many blocks takes: 1 to 256 blocks of bytes, or at least one block cleared
 abbrev pub IsChange : ℕ → Change → Type 0

@@ -1,24 +1,18 @@
 -- what a write command is, and the bytes it takes in a group, by docs/FORMATS.md, "Group"
 use Rattle.std.specs.Prelude.{ℕ, ◌≡◌, ◌+◌, ◌*◌, ◌≤◌, List, sum_by, vec_len}
+pub use Rattle.image_model.specs.Change.{IsCleared}
+use Rattle.image_model.specs.Change.{change_of}
+use Rattle.image_model.specs.Bodies.{body_bytes}
 use Rattle.image_model.specs.declared.command.Command.{Command}
 use Rattle.image_model.specs.declared.command.Command.TheVariants.{Put, Clear}
-use Rattle.image_model.specs.declared.command.Kind.{Kind}
-use Rattle.image_model.specs.declared.command.Kind.TheVariants.{Data, Zero, Hole}
 
 -- the bytes that a command takes in a group
 abbrev pub body_of : Command → ℕ
-body_of (Put first bytes) = 13 + vec_len bytes
-body_of (Clear first blocks kind) = 13
+body_of command = body_bytes (change_of command)
 
 -- the bytes that commands take in a group
 abbrev pub bodies_of : List Command → ℕ
 bodies_of commands = sum_by body_of commands
-
--- a kind that a Clear may have
-abbrev pub IsCleared : Kind → Type 0
-IsCleared Data = ⊥
-IsCleared Zero = Unit {0}
-IsCleared Hole = Unit {0}
 
 -- a command that an image of so many blocks takes
 abbrev pub IsCommand : ℕ → Command → Type 0

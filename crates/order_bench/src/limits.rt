@@ -1,10 +1,15 @@
-use crate::load::{accept, clear, put, store};
+ghost use Rattle.std.specs.Prelude.{◌<◌, ◌^◌};
+
+use crate::load::{accept, clear, keeper, put, store};
 use anyhow::{Result, bail};
 use image_model::Command;
 use order_book::{Order, OrderFault};
 use std::alloc::Global;
 
 const LEAST_AREA_BYTES: u32 = 2_097_152;
+
+/// The bytes of an area that takes the longest group.
+const ROOMY_AREA_BYTES: u32 = 16_777_216;
 
 /// What stands in a group.
 #[derive(Drop)]
@@ -86,9 +91,35 @@ pub fn full_frames(alloc: Global) -> Result<(OrderFault, u64, u64, u64)> {
     Ok((fault, block, again, cleared))
 }
 
+// How many puts of a block each are accepted from this block on, until one has no room.
+fn free_frames(alloc: Global, order: &mut Order, first: u64) -> Result<u64>
+    requires { first < 2 ^ 16 }
+{
+    for block in 0..1_000 {
+        match accept(order, put(alloc, first + block, 1)?) {
+            Ok(_) => {}
+            Err(OrderFault::NoRoom) => return Ok(block),
+            Err(fault) => return Err(fault.into()),
+        }
+    }
+    bail!("always room")
+}
+
+/// How many of 512 full frames are free after a clear of ten blocks, and of all blocks from the twentieth on.
+pub fn cleared_frames(alloc: Global) -> Result<(u64, u64)> {
+    let mut order = Order::new(alloc, 0, 512, LEAST_AREA_BYTES);
+    let _first = accept(&mut order, put(alloc, 0, 256)?)?;
+    let _second = accept(&mut order, put(alloc, 256, 256)?)?;
+    let _few = accept(&mut order, clear(0, 10))?;
+    let after_few = free_frames(alloc, &mut order, 1_000)?;
+    let _many = accept(&mut order, clear(20, (1 << 24) - 20))?;
+    Ok((after_few, free_frames(alloc, &mut order, 2_000)?))
+}
+
 /// The last number that 67,108,864 bytes take, why the next command is refused, and its number once a group is durable.
 pub fn full_backlog(alloc: Global) -> Result<(u64, OrderFault, u64)> {
-    let mut order = Order::new(alloc, 0, 4_096, 1 << 30);
+    let mut keeper = keeper(alloc, 256, ROOMY_AREA_BYTES)?;
+    let mut order = Order::new(alloc, 0, 4_096, ROOMY_AREA_BYTES);
     for _ in 0..63 {
         let _number = accept(&mut order, put(alloc, 0, 256)?)?;
     }
@@ -100,7 +131,7 @@ pub fn full_backlog(alloc: Global) -> Result<(u64, OrderFault, u64)> {
     let Err(fault) = accept(&mut order, clear(9, 1)) else {
         bail!("accepted")
     };
-    store(&mut order)?;
+    store(&mut order, &mut keeper)?;
     let next = accept(&mut order, clear(9, 1))?;
     Ok((full, fault, next))
 }

@@ -1,7 +1,10 @@
 ghost use Rattle.std.specs.Prelude.{◌≡◌, ◌+◌, ◌≤◌, ◌<◌, ◌^◌, All, IfOk};
 ghost use Rattle.order_book.specs.Order.{IsWrite};
 
-use image_model::{BLOCK_BYTES, Command, Kind};
+use anyhow::{Result, bail};
+use checkpoint::Keeper;
+use disk_model::SimDisk;
+use image_model::{BLOCK_BYTES, Command, Geometry, Kind};
 use order_book::{Order, OrderFault};
 use std::alloc::{AllocError, Global};
 
@@ -66,11 +69,27 @@ pub fn accept_all(order: &mut Order, mut commands: Vec<Command>) -> Result<(), O
     Ok(())
 }
 
-/// Makes what is pending durable, as far as one group takes it.
-pub fn store(order: &mut Order) -> Result<(), OrderFault> {
+/// The keeper of a new simulated device.
+pub fn keeper(alloc: Global, blocks: u64, area: u32) -> Result<Keeper<SimDisk>> {
+    let Some(geometry) = Geometry::new(blocks, area) else {
+        bail!("outside the limits")
+    };
+    let mut disk = SimDisk::new(alloc, geometry.device_bytes())?;
+    Keeper::format(alloc, &mut disk, geometry)?;
+    match Keeper::open(alloc, disk) {
+        Ok(keeper) => Ok(keeper),
+        Err((fault, _)) => Err(fault.into()),
+    }
+}
+
+/// Stores what is pending, as far as one group takes it.
+pub fn store(order: &mut Order, keeper: &mut Keeper<SimDisk>) -> Result<()> {
     if let Some(group) = order.seal()? {
-        let _stored = group.into_parts();
-        order.publish_count(order.sealed());
+        if let Err((fault, group)) = keeper.append(group) {
+            let _refused = group.into_parts();
+            return Err(fault.into());
+        }
+        order.publish(keeper);
     }
     Ok(())
 }

@@ -7,6 +7,8 @@ mod limits;
 mod load;
 
 use anyhow::Result;
+use checkpoint::Keeper;
+use disk_model::SimDisk;
 use order_book::Order;
 use std::alloc::Global;
 use std::env;
@@ -14,21 +16,22 @@ use std::time::{Duration, Instant};
 
 const FRAMES: u32 = 65_536;
 
-const AREA_BYTES: u32 = 67_108_864;
+/// The bytes of an area that takes all that is accepted.
+const AREA_BYTES: u32 = 536_870_912;
 
 /// How many batches are accepted at each number of dirty blocks.
-const BATCHES: u64 = 1_000;
+const BATCHES: u64 = 200;
 
-// An order with so many dirty blocks, none of whose commands is pending.
-fn order_with(alloc: Global, dirty: u64) -> Result<Order>
+// An order with so many dirty blocks, all of whose commands are stored.
+fn order_with(alloc: Global, dirty: u64, keeper: &mut Keeper<SimDisk>) -> Result<Order>
     requires some { 0 < dirty }
     requires few { dirty < 2 ^ 32 }
 {
-    let mut order = Order::new(alloc, 0, FRAMES, AREA_BYTES);
+    let mut order = Order::new(alloc, keeper.count(), FRAMES, keeper.geometry().area);
     for start in 0..dirty.div_ceil(load::BATCH) {
         let commands = load::batch(alloc, start, dirty)?;
         load::accept_all(&mut order, commands)?;
-        load::store(&mut order)?;
+        load::store(&mut order, keeper)?;
     }
     Ok(order)
 }
@@ -38,14 +41,15 @@ fn accepts(rt: &HostRuntime, alloc: Global, dirty: u64) -> Result<Duration>
     requires some { 0 < dirty }
     requires few { dirty < 2 ^ 32 }
 {
-    let mut order = order_with(alloc, dirty)?;
+    let mut keeper = load::keeper(alloc, FRAMES as u64, AREA_BYTES)?;
+    let mut order = order_with(alloc, dirty, &mut keeper)?;
     let mut time = Duration::ZERO;
     for start in 0..BATCHES {
         let commands = load::batch(alloc, start, dirty)?;
         let begin = Instant::now(rt)?;
         load::accept_all(&mut order, commands)?;
         time = time.saturating_add(begin.elapsed(rt)?);
-        load::store(&mut order)?;
+        load::store(&mut order, &mut keeper)?;
     }
     Ok(time)
 }
@@ -72,6 +76,8 @@ fn print_limits(rt: &impl Print, alloc: Global) -> Result<()> {
     }
     let (fault, block, again, cleared) = limits::full_frames(alloc)?;
     println!(rt; "block {block}: {fault}, then {again} and {cleared}")?;
+    let (few, many) = limits::cleared_frames(alloc)?;
+    println!(rt; "{few} and {many} frames free after clears")?;
     let (full, fault, next) = limits::full_backlog(alloc)?;
     println!(rt; "after {full}: {fault}, then {next}")?;
     let (last, fault) = limits::stopped_order(alloc)?;
@@ -84,7 +90,8 @@ fn main(rt: HostRuntime) -> Result<()> {
     if env::args(&rt)?.any(|word| word.as_str() == "--measure") {
         return measure(&rt, alloc);
     }
-    let order = order_with(alloc, 1_000)?;
+    let mut keeper = load::keeper(alloc, 1_000, 8_388_608)?;
+    let order = order_with(alloc, 1_000, &mut keeper)?;
     let (accepted, durable) = (order.mark(), order.durable());
     println!(rt; "{accepted} accepted, {durable} durable")?;
     print_limits(&rt, alloc)

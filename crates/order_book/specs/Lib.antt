@@ -1,5 +1,4 @@
 pub mod Backlog
-pub mod Blocks
 pub mod Order
 pub mod Pending
 pub mod State

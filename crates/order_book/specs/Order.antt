@@ -1,13 +1,14 @@
 -- the order of write commands as callers see it
-use Rattle.std.specs.Prelude.{◌≡◌, ℕ, ◌+◌, ◌-◌, ◌<◌, ◌≤◌, ◌&&◌, ◌==◌, Option, Some, None, Bool, false, nat_le, min, if◌then◌else◌, List, [], ◌∷◌, ◌++◌, length, drop, take, sum, All}
-use Rattle.std.specs.Ordering.{nat_cmp}
-use Rattle.std.specs.FinSet.{FinSet, empty}
+use Rattle.std.specs.Prelude.{◌≡◌, ℕ, ◌+◌, ◌-◌, ◌<◌, ◌≤◌, ◌&&◌, ◌==◌, Option, Some, None, Bool, false, nat_le, if◌then◌else◌, List, [], ◌∷◌, ◌++◌, length, drop, take, sum, All}
+use Rattle.std.specs.FinMap.{empty}
 use Rattle.image_model.specs.declared.command.Command.{Command}
+use Rattle.image_model.specs.Bodies.{body_limit}
+use Rattle.image_model.specs.Change.{change_of}
 use Rattle.image_model.specs.Command.{IsCommand, body_of, bodies_of}
+use Rattle.image_model.specs.Dirty.{Dirty, dirty_after, frames_suffice}
 use Rattle.journal.specs.Group.{Numbered}
 use Rattle.order_book.specs.declared.fault.OrderFault.{OrderFault}
 use Rattle.order_book.specs.declared.fault.OrderFault.TheVariants.{NumbersFull, NoRoom, Stopped}
-use Rattle.order_book.specs.Blocks.{dirty_after, has_frames}
 use Rattle.order_book.specs.Pending.{HasSmallBody}
 
 pub record OrderState : Type 0 where
@@ -23,8 +24,8 @@ pub record OrderState : Type 0 where
   pub pending : List Command
   -- the bytes that each command above the durable number takes in a group
   pub bodies : List ℕ
-  -- the blocks whose last touch is a Put
-  pub dirty : FinSet nat_cmp
+  -- the blocks whose last touch is a Put, each with that command's number
+  pub dirty : Dirty
   -- the most blocks that may be dirty, and the bytes of a journal area
   pub frames : ℕ
   pub area : ℕ
@@ -55,7 +56,9 @@ pub record IsWrite (command : Command) : Type 0 where
 
 -- whether a command has room: in the frames, and in the 67,108,864 bytes for what isn't durable
 abbrev pub has_room : OrderState → Command → Bool
-has_room order command = has_frames order.dirty order.frames command && nat_le (sum order.bodies + body_of command) 67108864
+has_room order command =
+    frames_suffice order.frames order.dirty (order.mark + 1) (change_of command)
+    && nat_le (sum order.bodies + body_of command) 67108864
 
 -- why a command is refused before any growth of memory: the first reason that holds
 abbrev pub refusal_of : OrderState → Command → Option OrderFault
@@ -70,12 +73,8 @@ with_command order command = record order {
   mark = order.mark + 1;
   pending = order.pending ++ command ∷ [];
   bodies = order.bodies ++ body_of command ∷ [];
-  dirty = dirty_after order.dirty command;
+  dirty = dirty_after order.dirty (order.mark + 1) (change_of command);
 }
-
--- the most bytes of a group's body: 8,388,608, and with 18 bytes round it no more than an area
-abbrev pub body_limit : ℕ → ℕ
-body_limit area = min 8388608 (area - 18)
 
 -- the longest beginning of the pending list became a group
 pub record Seals (old new : OrderState) (group : Numbered) : Type 0 where

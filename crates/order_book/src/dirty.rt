@@ -1,154 +1,155 @@
-ghost use Rattle.std.specs.Prelude.{◌≡◌, ◌+◌, ◌-◌, ◌/◌, ◌<◌, ◌≤◌, ◌||◌, ◌&&◌, ℕ, not, nat_eq, nat_le, nat_lt, OnOk, OnErr, List, fold, length};
-ghost use Rattle.std.specs.HashSet as bag;
-ghost use Rattle.std.specs.FinSet as set;
+ghost use Rattle.std.specs.Prelude.{◌≡◌, ◌+◌, ◌/◌, ◌<◌, ◌≤◌, ◌^◌, ℕ, Some, None, if◌then◌else◌, nat_eq, OnOk, OnErr, List, fold, length, map as mapped};
+ghost use Rattle.std.specs.HashMap as hash;
+ghost use Rattle.std.specs.FinMap as map;
 ghost use Rattle.std.specs.Ordering.{nat_cmp};
 ghost use Rattle.std.specs.Coded.{coded_ℕ};
 ghost use Rattle.image_model.specs.declared.command.Command.{Command};
-ghost use Rattle.order_book.specs.Blocks.{blocks_from, dirty_after, has_frames, last_touch_is_put};
-ghost use Rattle.order_book.specs.Order.{IsWrite};
+ghost use Rattle.image_model.specs.Change.{Change, change_of};
+ghost use Rattle.image_model.specs.Dirty.{with_blocks, without_blocks, dirty_after, dirty_blocks, frames_suffice, last_write};
+ghost use Rattle.image_model.specs.Image.{covers};
+ghost use Rattle.order_book.specs.Order.{IsWrite, new_order, with_command};
 
 use image_model::{BLOCK_BYTES, Command};
 use std::alloc::{AllocError, Global};
-use std::collections::HashSet;
+use std::collections::HashMap;
 use std::marker::Model;
 
-/// The blocks whose last touch is a `Put`.
+/// The blocks whose last touch is a `Put`, each with that command's number.
 #[derive(Drop)]
 pub(crate) struct DirtyBlocks {
-    blocks: HashSet<u64>,
+    numbers: HashMap<u64, u64>,
 }
 
 impl Model for DirtyBlocks {
-    ghost Value = { set.FinSet nat_cmp };
+    ghost Value = { map.FinMap nat_cmp ℕ };
 
-    ghost coded = { set.code coded_ℕ };
+    ghost coded = { map.code coded_ℕ coded_ℕ };
 
-    ghost view = { λ dirty. set.from_list dirty.blocks.keys };
+    ghost view = { λ dirty. map.from_entries dirty.numbers.entries };
 }
 
 // The blocks that the bytes fill.
 fn blocks_in(bytes: &[u8]) -> u64
-    ensures { result ≡ length bytes.now / 4096 }
+    ensures { result ≡ (length bytes.now + 4095) / 4096 }
 {
-    bytes.len() as u64 / BLOCK_BYTES
+    (bytes.len() as u64).div_ceil(BLOCK_BYTES)
 }
 
-// How many blocks the set has with those of the range.
-fn union_len(blocks: &HashSet<u64>, first: u64, end: u64) -> u64
-    requires range { first ≤ end }
-    requires few { end - first ≤ 256 }
-    ensures { result ≡ set.len (set.union (set.from_list blocks.now.keys) (blocks_from first (end - first))) }
+// How many blocks have a number once those of the range have one.
+fn len_with(numbers: &HashMap<u64, u64>, first: u64, count: u64) -> u64
+    requires few { count ≤ 256 }
+    requires range { first + count < 2 ^ 64 }
+    ensures { (number : ℕ) → result ≡ map.len (with_blocks (map.from_entries numbers.now.entries) number first count) }
 {
-    let mut count = blocks.len() as u64;
-    for block in first..end {
-        if !blocks.contains(&block) {
-            count += 1;
+    let mut len = numbers.len() as u64;
+    for offset in 0..count {
+        let block = first + offset;
+        if !numbers.contains_key(&block) {
+            len += 1;
         }
     }
-    count
+    len
 }
 
-// Adds the blocks of the range, for which there is room.
-fn insert_range(blocks: &mut HashSet<u64>, first: u64, end: u64)
-    requires range { first ≤ end }
-    requires room { end - first ≤ bag.spare blocks.old }
-    ensures { (q : ℕ) → bag.contains nat_eq blocks.new q ≡ (bag.contains nat_eq blocks.old q || (nat_le first q && nat_lt q end)) }
+// Gives the blocks of the range, for which there is room, this number.
+fn insert_range(numbers: &mut HashMap<u64, u64>, number: u64, first: u64, count: u64)
+    requires room { count ≤ hash.spare numbers.old }
+    requires range { first + count < 2 ^ 64 }
+    ensures { (q : ℕ) → hash.get nat_eq numbers.new q ≡ (if covers first count q then Some number else hash.get nat_eq numbers.old q) }
 {
-    for block in first..end {
-        let Ok(_) = blocks.insert(block) else {
+    for offset in 0..count {
+        let Ok(_) = numbers.insert(first + offset, number) else {
             unreachable!();
         };
     }
 }
 
 // Drops the blocks of the range, one by one.
-fn remove_range(blocks: &mut HashSet<u64>, first: u64, end: u64)
-    requires { first ≤ end }
-    ensures { (q : ℕ) → bag.contains nat_eq blocks.new q ≡ (bag.contains nat_eq blocks.old q && not (nat_le first q && nat_lt q end)) }
+fn remove_range(numbers: &mut HashMap<u64, u64>, first: u64, count: u64)
+    requires { first + count < 2 ^ 64 }
+    ensures { (q : ℕ) → hash.get nat_eq numbers.new q ≡ (if covers first count q then None else hash.get nat_eq numbers.old q) }
 {
-    for block in first..end {
-        blocks.remove(&block);
+    for offset in 0..count {
+        let block = first + offset;
+        numbers.remove(&block);
     }
 }
 
-// Drops the blocks of the range, by a look at each block of the set.
-fn retain_outside(blocks: &mut HashSet<u64>, first: u64, end: u64)
-    ensures { (q : ℕ) → bag.contains nat_eq blocks.new q ≡ (bag.contains nat_eq blocks.old q && not (nat_le first q && nat_lt q end)) }
+// Drops the blocks of the range, by a look at each block that has a number.
+fn retain_outside(numbers: &mut HashMap<u64, u64>, first: u64, count: u64)
+    requires { first + count < 2 ^ 64 }
+    ensures { (q : ℕ) → hash.get nat_eq numbers.new q ≡ (if covers first count q then None else hash.get nat_eq numbers.old q) }
 {
-    blocks.retain(|block| *block < first || end <= *block);
+    let end = first + count;
+    numbers.retain(|block, _| *block < first || end <= *block);
 }
 
 impl DirtyBlocks {
     pub(crate) fn new(alloc: Global) -> DirtyBlocks
-        ensures { result ≡ set.empty }
+        ensures { result ≡ map.empty }
     {
         DirtyBlocks {
-            blocks: HashSet::new(alloc),
+            numbers: HashMap::new(alloc),
         }
     }
 
-    /// How many blocks are dirty once those of the range are.
-    pub(crate) fn len_with(&self, first: u64, end: u64) -> u64
-        requires range { first ≤ end }
-        requires few { end - first ≤ 256 }
-        ensures { result ≡ set.len (set.union self.now (blocks_from first (end - first))) }
-    {
-        union_len(&self.blocks, first, end)
-    }
-
-    /// Makes the blocks of the range dirty.
-    pub(crate) fn put(&mut self, first: u64, end: u64) -> Result<(), AllocError>
-        requires range { first ≤ end }
-        ensures ok { OnOk result (self.new ≡ set.union self.old (blocks_from first (end - first))) }
+    /// Makes the blocks of the range dirty, by the command with this number.
+    pub(crate) fn put(&mut self, number: u64, first: u64, count: u64) -> Result<(), AllocError>
+        requires { first + count < 2 ^ 64 }
+        ensures ok { OnOk result (self.new ≡ with_blocks self.old number first count) }
         ensures err { OnErr result (self.new ≡ self.old) }
     {
-        self.blocks.reserve((end - first) as usize)?;
-        insert_range(&mut self.blocks, first, end);
+        self.numbers.reserve(count as usize)?;
+        insert_range(&mut self.numbers, number, first, count);
         Ok(())
     }
 
     /// Makes the blocks of the range clean, by as many steps as it has blocks, or as there are dirty blocks.
-    pub(crate) fn clear(&mut self, first: u64, end: u64)
-        requires range { first ≤ end }
-        ensures { self.new ≡ set.difference self.old (blocks_from first (end - first)) }
+    pub(crate) fn clear(&mut self, first: u64, count: u64)
+        requires { first + count < 2 ^ 64 }
+        ensures { self.new ≡ without_blocks self.old first count }
     {
-        if end - first <= self.blocks.len() as u64 {
-            remove_range(&mut self.blocks, first, end);
+        if count <= self.numbers.len() as u64 {
+            remove_range(&mut self.numbers, first, count);
         } else {
-            retain_outside(&mut self.blocks, first, end);
+            retain_outside(&mut self.numbers, first, count);
         }
     }
 
     /// Whether `frames` frames hold the dirty blocks and those of the command.
     pub(crate) fn has_frames(&self, command: &Command, frames: u32) -> bool
         requires { IsWrite command.now }
-        ensures { result ≡ has_frames self.now frames command.now }
+        ensures { (number : ℕ) → result ≡ frames_suffice frames self.now number (change_of command.now) }
     {
         match command {
-            Command::Put { first, bytes } => self.len_with(*first, *first + blocks_in(bytes))
-                <= frames as u64,
+            Command::Put { first, bytes } => {
+                len_with(&self.numbers, *first, blocks_in(bytes)) <= frames as u64
+            }
             Command::Clear { .. } => true,
         }
     }
 
-    /// Changes the set as the command does.
-    pub(crate) fn apply(&mut self, command: &Command) -> Result<(), AllocError>
+    /// Changes the blocks as the command with this number does.
+    pub(crate) fn apply(&mut self, command: &Command, number: u64) -> Result<(), AllocError>
         requires { IsWrite command.now }
-        ensures ok { OnOk result (self.new ≡ dirty_after self.old command.now) }
+        ensures ok { OnOk result (self.new ≡ dirty_after self.old number (change_of command.now)) }
         ensures err { OnErr result (self.new ≡ self.old) }
     {
         match command {
-            Command::Put { first, bytes } => self.put(*first, *first + blocks_in(bytes)),
+            Command::Put { first, bytes } => self.put(number, *first, blocks_in(bytes)),
             Command::Clear { first, blocks, .. } => {
-                self.clear(*first, *first + *blocks as u64);
+                self.clear(*first, *blocks as u64);
                 Ok(())
             }
         }
     }
 }
 
-/// Which blocks are dirty: after any commands those where the last command that touches them is a `Put`.
+/// Which blocks are dirty once an order has accepted any commands: those where the last command that touches them is a
+/// `Put`, each with the number of that one.
 pub fn dirty_blocks_law()
-    ensures { (commands : List Command) (block : ℕ) →
-        set.contains (fold dirty_after set.empty commands) block ≡ last_touch_is_put block commands }
+    ensures accepted { (opening frames area : ℕ) (commands : List Command) →
+        (fold with_command (new_order opening frames area) commands).dirty ≡ dirty_blocks opening (mapped change_of commands) }
+    ensures last_touch { (opening : ℕ) (changes : List Change) (block : ℕ) →
+        map.get (dirty_blocks opening changes) block ≡ last_write block opening changes }
 {}

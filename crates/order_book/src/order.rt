@@ -1,5 +1,6 @@
 ghost use Rattle.std.specs.Prelude.{◌≡◌, ◌+◌, ◌<◌, ◌≤◌, ◌↔◌, [], true, false, ◌⊎◌, IsErrAnd, IfErr, IfOk, IfSome, IfNone, OnErr, OnOk};
-ghost use Rattle.order_book.specs.Order.{OrderState, new_order, IsNumbered, IsWrite, has_room, refusal_of, with_command, Seals, IsInHand, with_group, with_durable, body_limit};
+ghost use Rattle.order_book.specs.Order.{OrderState, new_order, IsNumbered, IsWrite, has_room, refusal_of, with_command, Seals, IsInHand, with_group, with_durable};
+ghost use Rattle.image_model.specs.Bodies.{body_limit};
 
 use crate::backlog::Backlog;
 use crate::dirty::DirtyBlocks;
@@ -40,12 +41,12 @@ pub struct Order {
 impl Model for Order {
     ghost use Rattle.std.specs.Coded.{codes, coded_ℕ};
     ghost use Rattle.std.specs.Ordering.{nat_cmp};
-    ghost use Rattle.std.specs.FinSet as set;
+    ghost use Rattle.std.specs.FinMap as map;
     ghost use Rattle.order_book.specs.Order.{OrderState, IsOrder};
 
     ghost Value = { OrderState };
 
-    ghost coded = { Prim.hlevel (codes, set.code {R = nat_cmp} coded_ℕ) };
+    ghost coded = { Prim.hlevel (codes, map.code {R = nat_cmp} coded_ℕ coded_ℕ) };
 
     ghost use Rattle.order_book.specs.State.{state_of};
 
@@ -157,7 +158,7 @@ impl Order {
         let Ok(()) = make_room(&mut self.pending, &mut self.backlog, self.in_hand + 1) else {
             return Err((OrderFault::NoMemory, command));
         };
-        let Ok(()) = self.dirty.apply(&command) else {
+        let Ok(()) = self.dirty.apply(&command, self.mark + 1) else {
             return Err((OrderFault::NoMemory, command));
         };
         let body = command.body_bytes();
@@ -239,13 +240,7 @@ impl Order {
     pub fn publish<D: Disk>(&mut self, keeper: &Keeper<D>)
         ensures { self.new ≡ with_durable self.old keeper.now.count }
     {
-        self.publish_count(keeper.count());
-    }
-
-    /// Raises the durable number to `count`, where it lies between the durable number and the last accepted one.
-    pub fn publish_count(&mut self, count: u64)
-        ensures { self.new ≡ with_durable self.old count }
-    {
+        let count = keeper.count();
         if self.durable <= count && count <= self.mark {
             self.backlog.forget(count - self.durable);
             self.durable = count;

@@ -2,34 +2,20 @@
 use Rattle.std.proofs.Common.{◌≡◌, ℕ, zero, suc, ◌+◌, ◌-◌, ◌/◌, ◌<◌, ◌≤◌, ◌&&◌, Bool, true, if◌then◌else◌, nat_le, Option, Some, None, List, [], ◌∷◌, ◌++◌, append_assoc, length, length-append, map, take, drop, sym, ◌∙◌, ap, subst, refl, arith}
 use Rattle.std.proofs.lemmas.Bool.{and_from, le-leb, lt-leb}
 use Rattle.std.proofs.lemmas.List.{length-map, map-append, drop-append-le, drop-drop, drop-map, drop_at, take_at, take-map}
-use Rattle.std.proofs.lemmas.List.Sums.{fold-append, sum_by-cons}
+use Rattle.std.proofs.lemmas.List.Sums.{sum_by-cons}
 use Rattle.std.specs.List.{sum, sum_by}
-use Rattle.std.specs.Ordering.{nat_cmp}
-use Rattle.std.specs.FinSet.{FinSet, empty, union, len}
 use Rattle.image_model.specs.declared.command.Command.{Command}
 use Rattle.image_model.specs.declared.command.Command.TheVariants.{Put, Clear}
 use Rattle.image_model.specs.Change.{Change, change_of}
 use Rattle.image_model.specs.Command.{body_of, bodies_of}
 use Rattle.journal.specs.Group.{Numbered}
-use Rattle.order_book.specs.Blocks.{blocks_from, dirty_after, has_frames}
-use Rattle.order_book.specs.Order.{OrderState, Seals, body_limit, with_command, with_durable, with_group}
+use Rattle.image_model.proofs.DirtyMaps.{dirty_blocks-push}
+use Rattle.order_book.specs.Order.{OrderState, Seals, with_command, with_durable, with_group}
 use Rattle.order_book.specs.Order as book
 use Rattle.world.specs.World.{Stage}
 use Rattle.request_core.specs.Parts.{IsOrderOf, commands_in}
-use Rattle.world.specs.Room.{body_bytes, bodies_bytes, dirty_blocks, frames_suffice, longest, touched}
-
--- a command and its change take as many bytes, touch the same blocks and want the same frames
-pub body_same : (command : Command) → body_of command ≡ body_bytes (change_of command)
-body_same (Put first bytes) = ap (λ (n : ℕ). 13 + n) bytes.ok.0
-body_same (Clear first blocks kind) = refl
-
-pub dirty_same : (dirty : FinSet nat_cmp) (command : Command) → dirty_after dirty command ≡ touched dirty (change_of command)
-dirty_same dirty (Put first bytes) = ap (λ (n : ℕ). union dirty (blocks_from first (n / 4096))) bytes.ok.0
-dirty_same dirty (Clear first blocks kind) = refl
-
-pub frames_same : (frames : ℕ) (dirty : FinSet nat_cmp) (command : Command) → has_frames dirty frames command ≡ frames_suffice frames dirty (change_of command)
-frames_same frames dirty (Put first bytes) = ap (λ (n : ℕ). nat_le (len (union dirty (blocks_from first (n / 4096)))) frames) bytes.ok.0
-frames_same frames dirty (Clear first blocks kind) = refl
+use Rattle.image_model.specs.Bodies.{body_bytes, bodies_bytes, body_limit, longest}
+use Rattle.image_model.specs.Dirty.{Dirty, dirty_after, dirty_blocks, frames_suffice}
 
 pub sum_map : {X : Type 0} (f : X → ℕ) (xs : List X) → sum (map f xs) ≡ sum_by f xs
 sum_map f [] = refl
@@ -38,8 +24,7 @@ sum_map f (x ∷ xs) = sum_by-cons (λ (n : ℕ). n) (f x) (map f xs) ∙ (ap (�
 pub bodies_same : (commands : List Command) → bodies_of commands ≡ bodies_bytes (map change_of commands)
 bodies_same [] = refl
 bodies_same (command ∷ commands) =
-    sum_by-cons body_of command commands ∙ (ap (λ (n : ℕ). n + bodies_of commands) (body_same command)
-    ∙ (ap (λ (n : ℕ). body_bytes (change_of command) + n) (bodies_same commands) ∙ sym (sum_by-cons body_bytes (change_of command) (map change_of commands))))
+    sum_by-cons body_of command commands ∙ (ap (λ (n : ℕ). body_bytes (change_of command) + n) (bodies_same commands) ∙ sym (sum_by-cons body_bytes (change_of command) (map change_of commands)))
 
 module _ (stage : Stage) (order : OrderState) (group : Option Numbered) (of : IsOrderOf stage order group) where
   -- one command more
@@ -60,11 +45,13 @@ module _ (stage : Stage) (order : OrderState) (group : Option Numbered) (of : Is
     first = of.first;
     some = of.some;
     bodies = ap (λ (l : List ℕ). l ++ body_of command ∷ []) of.bodies
-        ∙ (ap (λ (n : ℕ). map body_bytes (drop stage.durable stage.order) ++ n ∷ []) (body_same command ∙ ap body_bytes own)
+        ∙ (ap (λ (n : ℕ). map body_bytes (drop stage.durable stage.order) ++ n ∷ []) (ap body_bytes own)
         ∙ (sym (map-append body_bytes (drop stage.durable stage.order) (change ∷ []))
         ∙ ap (map body_bytes) (sym (drop-append-le stage.durable stage.order (change ∷ []) durable))));
-    dirty = dirty_same order.dirty command ∙ (ap (touched order.dirty) own
-        ∙ (ap (λ (d : FinSet nat_cmp). touched d change) of.dirty ∙ sym (fold-append touched empty stage.order (change ∷ []))));
+    dirty = ap (λ (c : Change). dirty_after order.dirty (order.mark + 1) c) own
+        ∙ (ap (λ (d : Dirty). dirty_after d (order.mark + 1) change) of.dirty
+        ∙ (ap (λ (n : ℕ). dirty_after (dirty_blocks stage.setting.opening stage.order) (n + 1) change) of.mark
+        ∙ sym (dirty_blocks-push stage.setting.opening stage.order change)));
     frames = of.frames;
     area = of.area;
     stopped = of.stopped;
@@ -73,17 +60,16 @@ module _ (stage : Stage) (order : OrderState) (group : Option Numbered) (of : Is
 
   -- the room that a command needs
   pub room_of : (command : Command) → book.has_room order command
-      ≡ (frames_suffice stage.setting.frames (dirty_blocks stage.order) (change_of command)
+      ≡ (frames_suffice stage.setting.frames (dirty_blocks stage.setting.opening stage.order) (stage.setting.opening + length stage.order + 1) (change_of command)
       && nat_le (bodies_bytes (drop stage.durable stage.order) + body_bytes (change_of command)) 67108864)
   room_of command =
+      let dirty = dirty_blocks stage.setting.opening stage.order in
       ap (λ (b : Bool). b && nat_le (sum order.bodies + body_of command) 67108864)
-      (frames_same order.frames order.dirty command
-      ∙ (ap (λ (n : ℕ). frames_suffice n order.dirty (change_of command)) of.frames
-      ∙ ap (λ (d : FinSet nat_cmp). frames_suffice stage.setting.frames d (change_of command)) of.dirty))
-      ∙ (ap (λ (n : ℕ). frames_suffice stage.setting.frames (dirty_blocks stage.order) (change_of command) && nat_le (n + body_of command) 67108864)
+      (ap (λ (n : ℕ). frames_suffice n order.dirty (order.mark + 1) (change_of command)) of.frames
+      ∙ (ap (λ (d : Dirty). frames_suffice stage.setting.frames d (order.mark + 1) (change_of command)) of.dirty
+      ∙ ap (λ (n : ℕ). frames_suffice stage.setting.frames dirty (n + 1) (change_of command)) of.mark))
+      ∙ ap (λ (n : ℕ). frames_suffice stage.setting.frames dirty (stage.setting.opening + length stage.order + 1) (change_of command) && nat_le (n + body_of command) 67108864)
       (ap sum of.bodies ∙ sum_map body_bytes (drop stage.durable stage.order))
-      ∙ ap (λ (n : ℕ). frames_suffice stage.setting.frames (dirty_blocks stage.order) (change_of command) && nat_le (bodies_bytes (drop stage.durable stage.order) + n) 67108864)
-      (body_same command))
 
 -- the longest beginning is the one that fits where no longer one does
 pub longest_is : (limit : ℕ) (commands : List Change) (count : ℕ) → count ≤ length commands → bodies_bytes (take count commands) ≤ limit

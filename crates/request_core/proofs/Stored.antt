@@ -16,7 +16,7 @@ use Rattle.request_core.proofs.Serves.{if_false, if_true}
 use Rattle.world.specs.declared.event.Event.{Event}
 use Rattle.world.specs.declared.event.Event.TheVariants.{Took, Held, Failed}
 use Rattle.world.specs.declared.event.StepFault.TheVariants.{NoMemory, DeviceFault, FailedBefore}
-use Rattle.world.specs.Room.{bodies_bytes}
+use Rattle.image_model.specs.Bodies.{bodies_bytes}
 use Rattle.world.specs.Serve.{Luck, Fine, Starved, held, logged}
 use Rattle.world.specs.Step.{append, faulted, publish, put_back, seal, starved, stored_more}
 use Rattle.world.specs.World.{World, fits, in_hand, Stage}

@@ -11,7 +11,8 @@ use Rattle.order_book.specs.Order.{OrderState}
 use Rattle.request_core.specs.Bench.{BenchState, ConnectionsState}
 use Rattle.world.specs.declared.connection.Connection.{Connection}
 use Rattle.world.specs.declared.connection.Connection.TheVariants.{Closed}
-use Rattle.world.specs.Room.{body_bytes, dirty_blocks}
+use Rattle.image_model.specs.Bodies.{body_bytes}
+use Rattle.image_model.specs.Dirty.{dirty_blocks}
 use Rattle.world.specs.Run.{IsReached}
 use Rattle.world.specs.World.{World, Stage}
 
@@ -43,7 +44,7 @@ pub record IsOrderOf (stage : Stage) (order : OrderState) (group : Option Number
   pub first : IfSome group (λ held. held.first ≡ stage.setting.opening + stage.stored + 1)
   pub some : IfSome group (λ held. 1 ≤ length held.commands)
   pub bodies : order.bodies ≡ map body_bytes (drop stage.durable stage.order)
-  pub dirty : order.dirty ≡ dirty_blocks stage.order
+  pub dirty : order.dirty ≡ dirty_blocks stage.setting.opening stage.order
   pub frames : order.frames ≡ stage.setting.frames
   pub area : order.area ≡ stage.setting.geometry.area
   pub stopped : order.stopped ≡ stage.stopped

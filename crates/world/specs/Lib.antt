@@ -1,6 +1,5 @@
 pub mod Covered
 pub mod Log
-pub mod Room
 pub mod Run
 pub mod Serve
 pub mod Step

@@ -1,15 +1,14 @@
 -- how each step changes the world
 use Rattle.std.specs.Prelude.{ℕ, ◌+◌, true, ◌&&◌, ◌==◌, nat_lt, if◌then◌else◌, length, drop}
 use Rattle.disk_model.specs.Faults.{counted}
+use Rattle.image_model.specs.Bodies.{bodies_bytes, body_limit, longest}
 use Rattle.nbd_wire.specs.Request.{Message}
-use Rattle.order_book.specs.Order.{body_limit}
 use Rattle.world.specs.declared.connection.Connection.{Connection}
 use Rattle.world.specs.declared.connection.Connection.TheVariants.{Idle, Requested, Waiting, Ready, Closed}
 use Rattle.world.specs.declared.event.Event.TheVariants.{Sent, Took, Failed}
 use Rattle.world.specs.declared.event.StepFault.TheVariants.{NoMemory, DeviceFault, FailedBefore}
 use Rattle.world.specs.declared.step.Step.{Step}
 use Rattle.world.specs.declared.step.Step.TheVariants.{Send, Serve, Answer, Seal, Append, Publish}
-use Rattle.world.specs.Room.{bodies_bytes, longest}
 use Rattle.world.specs.Serve.{Luck, Fine, Starved, Faulted, logged, held, moved, serve, answer}
 use Rattle.world.specs.World.{World, Stage, put, in_hand, fits}
 

@@ -1,6 +1,8 @@
 -- The world of an export: its connections, the order of write commands, and what of it is stored.
 use Rattle.std.specs.Prelude.{ℕ, ◌+◌, ◌-◌, ◌&&◌, ◌==◌, Bool, false, nat_le, nat_lt, if◌then◌else◌, List, [], length, drop, take}
+use Rattle.image_model.specs.Bodies.{body_bytes, bodies_bytes}
 use Rattle.image_model.specs.Change.{Change}
+use Rattle.image_model.specs.Dirty.{dirty_blocks, frames_suffice}
 use Rattle.image_model.specs.Image.{Image}
 use Rattle.image_model.specs.declared.geometry.Geometry.{Geometry}
 use Rattle.nbd_wire.specs.declared.message.SessionFlags.{SessionFlags}
@@ -8,7 +10,6 @@ use Rattle.world.specs.declared.connection.Connection.{Connection}
 use Rattle.world.specs.declared.connection.Connection.TheVariants.{Idle, Closed}
 use Rattle.world.specs.declared.event.Event.{Event}
 use Rattle.world.specs.declared.step.Mode.{Mode}
-use Rattle.world.specs.Room.{body_bytes, bodies_bytes, dirty_blocks, frames_suffice}
 
 -- what stays as it is as long as the device isn't opened again
 pub record Setting : Type 0 where
@@ -85,7 +86,7 @@ in_hand world = take (world.stage.sealed - world.stage.stored) (drop world.stage
 -- that aren't durable in 67,108,864 bytes
 abbrev pub has_room : World → Change → Bool
 has_room world command =
-    frames_suffice world.stage.setting.frames (dirty_blocks world.stage.order) command
+    frames_suffice world.stage.setting.frames (dirty_blocks world.stage.setting.opening world.stage.order) (last_number world + 1) command
     && nat_le (bodies_bytes (drop world.stage.durable world.stage.order) + body_bytes command) 67108864
 
 -- whether the group in hand and the gate behind it fit the area

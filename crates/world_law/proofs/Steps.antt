@@ -21,9 +21,8 @@ use Rattle.nbd_wire.specs.declared.message.Answer.TheVariants.{Done, Refused, By
 use Rattle.world.specs.declared.step.Step.{Step}
 use Rattle.world.specs.declared.step.Step.TheVariants as steps
 use Rattle.disk_model.specs.Faults.{counted}
-use Rattle.order_book.specs.Order.{body_limit}
+use Rattle.image_model.specs.Bodies.{bodies_bytes, body_bytes, body_limit, longest}
 use Rattle.world.specs.Log.{command_of, is_write, is_flush, waits_for_store, IsAnswered}
-use Rattle.world.specs.Room.{body_bytes, bodies_bytes, longest}
 use Rattle.world.specs.Serve.{Luck, Fine, Starved, Faulted, logged, held, moved, ready, ordered, state_after, accepted, write_served, passed, judged, serve, answer}
 use Rattle.world.specs.Step.{staged, send, sealed_more, seal, put_back, stored_more, append, publish, after_step}
 use Rattle.world.specs.Verdict.{verdict, first_of_rules, is_known, allowed_flags, is_unaligned, past_end}

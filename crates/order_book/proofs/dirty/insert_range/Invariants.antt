@@ -1,9 +1,9 @@
-use Rattle.std.proofs.Common.{◌≡◌, ◌-◌, ◌≤◌, ◌||◌, ℕ, nat_eq}
-use Rattle.std.specs.HashSet as bag
-use Rattle.order_book.proofs.Sets.{in_range}
+use Rattle.std.proofs.Common.{◌≡◌, ◌-◌, ◌≤◌, ℕ, nat_eq, Some, if◌then◌else◌}
+use Rattle.std.specs.HashMap as hash
+use Rattle.image_model.specs.Image.{covers}
 use Rattle.order_book.proofs.dirty.insert_range.Given as goal
 
-abbrev pub invariant-loop-block : goal.invariant-loop-block
-invariant-loop-block l =
-    (l.end - l.block ≤ bag.spare l.blocks)
-    × ((q : ℕ) → bag.contains nat_eq l.blocks q ≡ (bag.contains nat_eq l.initial.blocks q || in_range l.first l.block q))
+abbrev pub invariant-loop-offset : goal.invariant-loop-offset
+invariant-loop-offset l =
+    (l.count - l.offset ≤ hash.spare l.numbers)
+    × ((q : ℕ) → hash.get nat_eq l.numbers q ≡ (if covers l.first l.offset q then Some l.number else hash.get nat_eq l.initial.numbers q))

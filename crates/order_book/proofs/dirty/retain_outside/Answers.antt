@@ -1,12 +1,17 @@
-use Rattle.std.proofs.Common.{rules, ◌∙◌, ap, not, nat_eq}
-use Rattle.std.specs.Cmp.{nat_eq_equiv}
-use Rattle.std.specs.List.{list_any}
-use Rattle.std.proofs.lemmas.Fn.{filter_same}
-use Rattle.std.proofs.lemmas.Map.Made.{is_member-filter}
-use Rattle.order_book.proofs.Sets.{in_range, same_range}
+use Rattle.std.proofs.Common.{ℕ, Bool, true, rules, ◌≡◌, ◌∙◌, ap, not, cond, nat_eq, Option, None, refl, sym}
+use Rattle.std.specs.Map.{lookup}
+use Rattle.std.proofs.lemmas.Map.Entries.{lookup-filter-keys}
+use Rattle.std.proofs.lemmas.Map.Made.{filter_same_pairs}
+use borrow.Author.Tests.{eqb-true}
+use Rattle.image_model.specs.Image.{covers}
 use Rattle.order_book.proofs.dirty.retain_outside.Goals as goal
+
+turned : (b : Bool) (o : Option ℕ) → cond (not b) o None ≡ cond b None o
+turned b o = elim b as (λ t. cond (not t) o None ≡ cond t None o) [ true ↦ refl | _ ↦ refl ]
 
 pub returns : goal.returns
 returns c = λ q.
-    ap (list_any (nat_eq q)) (filter_same _ (λ block. not (in_range c.args.first c.args.end block)) _ (λ x b f' k. search rules) _ _ c.retain.ensures.filtered)
-    ∙ is_member-filter nat_eq_equiv (λ block. not (in_range c.args.first c.args.end block)) q (λ x e. same_range c.args.first c.args.end q x e) c.args.blocks.now.keys
+    let outside = λ (block : ℕ). not (covers c.args.first c.args.count block) in
+    ap (lookup (nat_eq q)) (filter_same_pairs _ (λ e. outside e.0) _ (λ k v b w f' t. search rules) _ _ c.retain.ensures.filtered)
+    ∙ lookup-filter-keys (nat_eq q) outside (outside q) (λ k same. sym (ap outside (eqb-true q k same))) c.args.numbers.now.entries
+    ∙ turned (covers c.args.first c.args.count q) (lookup (nat_eq q) c.args.numbers.now.entries)

@@ -1,15 +1,14 @@
-use Rattle.std.proofs.Common.{◌∙◌, ◌-◌, ap}
-use Rattle.std.specs.FinSet.{difference}
-use Rattle.order_book.specs.Blocks.{blocks_from}
-use Rattle.order_book.proofs.Sets.{from_list-difference}
+use Rattle.std.proofs.Common.{◌∙◌, ap}
+use Rattle.image_model.specs.Dirty.{without_blocks}
+use Rattle.order_book.proofs.Maps.{made-without_blocks}
 use Rattle.order_book.proofs.dirty.DirtyBlocks.clear.Goals as goal
 
-pub returns-then-end-first : goal.returns-then-end-first
-returns-then-end-first c =
-    from_list-difference _ _ c.args.first c.args.end c.requires.range c.remove_range.ensures
-    ∙ ap (λ s. difference s (blocks_from c.args.first (c.args.end - c.args.first))) c.self.view_is
+pub returns-then-count-len : goal.returns-then-count-len
+returns-then-count-len c =
+    made-without_blocks _ _ c.args.first c.args.count c.remove_range.ensures
+    ∙ ap (λ m. without_blocks m c.args.first c.args.count) c.self.view_is
 
-pub returns-else-end-first : goal.returns-else-end-first
-returns-else-end-first c =
-    from_list-difference _ _ c.args.first c.args.end c.requires.range c.retain_outside.ensures
-    ∙ ap (λ s. difference s (blocks_from c.args.first (c.args.end - c.args.first))) c.self.view_is
+pub returns-else-count-len : goal.returns-else-count-len
+returns-else-count-len c =
+    made-without_blocks _ _ c.args.first c.args.count c.retain_outside.ensures
+    ∙ ap (λ m. without_blocks m c.args.first c.args.count) c.self.view_is

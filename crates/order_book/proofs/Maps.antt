@@ -1,0 +1,82 @@
+-- maps of dirty blocks as lists of entries
+use Rattle.std.proofs.Common.{◌≡◌, ℕ, ◌+◌, suc, Bool, false, cond, if◌then◌else◌, nat_eq, Option, Some, None, List, [], ◌∷◌, length, map, sym, ap, ◌∙◌, refl, arith}
+use Rattle.std.specs.Prelude.{fold}
+use Rattle.std.specs.Option.{is_some}
+use Rattle.std.specs.List.{IsDistinct, AllByRecursion}
+use Rattle.std.specs.Map.{lookup, keys_of}
+use Rattle.std.specs.Ordering.{nat_cmp}
+use Rattle.std.specs.Cmp.{nat_cmp_total, unsigned_tied}
+use Rattle.std.specs.FinMap.{find, get, len, from_entries, get-from_entries, len-empty, len-insert, same_map, nat_cmp-IsAntisymmetric}
+use Rattle.image_model.specs.declared.command.Command.{Command}
+use Rattle.image_model.specs.Change.{change_of}
+use Rattle.image_model.specs.Image.{covers}
+use Rattle.image_model.specs.Dirty.{Dirty, with_blocks, without_blocks, dirty_from}
+use Rattle.image_model.proofs.DirtyMaps.{get-with_blocks, get-without_blocks, len-with_blocks_more}
+use Rattle.order_book.specs.Order.{OrderState, with_command}
+
+abbrev pub Entries : Type 0
+Entries = List (ℕ × ℕ)
+
+find-lookup : (entries : Entries) (q : ℕ) → find nat_cmp q entries ≡ lookup (nat_eq q) entries
+find-lookup [] q = refl
+find-lookup (e ∷ entries) q = λ i. cond (unsigned_tied q e.0 i) (Some e.1) (find-lookup entries q i)
+
+-- a map made of entries has what a look-up finds in them
+pub get-entries : (entries : Entries) (q : ℕ) → get (from_entries {R = nat_cmp} entries) q ≡ lookup (nat_eq q) entries
+get-entries entries q = get-from_entries nat_cmp_total entries q ∙ find-lookup entries q
+
+-- entries in which a look-up finds what a map has make that map
+made : (entries : Entries) (dirty : Dirty) → ((q : ℕ) → lookup (nat_eq q) entries ≡ get dirty q) → from_entries entries ≡ dirty
+made entries dirty is = same_map nat_cmp_total nat_cmp-IsAntisymmetric _ _ (λ q. get-entries entries q ∙ is q)
+
+-- two lists with the same look-ups make one map
+pub made-same : (old new : Entries) → ((q : ℕ) → lookup (nat_eq q) new ≡ lookup (nat_eq q) old) → from_entries {R = nat_cmp} new ≡ from_entries old
+made-same old new same = made new (from_entries old) (λ q. same q ∙ sym (get-entries old q))
+
+-- the blocks of a range have a number
+pub made-with_blocks : (old new : Entries) (number first count : ℕ)
+    → ((q : ℕ) → lookup (nat_eq q) new ≡ (if covers first count q then Some number else lookup (nat_eq q) old))
+    → from_entries new ≡ with_blocks (from_entries old) number first count
+made-with_blocks old new number first count is = made new (with_blocks (from_entries old) number first count) (λ q.
+    is q ∙ sym (get-with_blocks (from_entries old) number first count q
+    ∙ ap (λ (o : Option ℕ). if covers first count q then Some number else o) (get-entries old q)))
+
+-- the blocks of a range have none
+pub made-without_blocks : (old new : Entries) (first count : ℕ)
+    → ((q : ℕ) → lookup (nat_eq q) new ≡ (if covers first count q then None else lookup (nat_eq q) old))
+    → from_entries new ≡ without_blocks (from_entries old) first count
+made-without_blocks old new first count is = made new (without_blocks (from_entries old) first count) (λ q.
+    is q ∙ sym (get-without_blocks (from_entries old) first count q
+    ∙ ap (λ (o : Option ℕ). if covers first count q then None else o) (get-entries old q)))
+
+not_found : (k : ℕ) (entries : Entries) → AllByRecursion (λ x. nat_eq k x ≡ false) (keys_of entries) → lookup (nat_eq k) entries ≡ None
+not_found k [] all = refl
+not_found k (e ∷ entries) all = ap (λ (b : Bool). cond b (Some e.1) (lookup (nat_eq k) entries)) all.0 ∙ not_found k entries all.1
+
+-- of entries with distinct keys a map has as many
+pub len-entries : (entries : Entries) → IsDistinct nat_eq (keys_of entries) → len (from_entries {R = nat_cmp} entries) ≡ length entries
+unfolding IsDistinct
+len-entries [] distinct = len-empty nat_cmp ℕ
+len-entries (e ∷ entries) distinct =
+    let rest : Dirty = from_entries entries in
+    let absent : get rest e.0 ≡ None = get-entries entries e.0 ∙ not_found e.0 entries distinct.0 in
+    len-insert nat_cmp_total rest e.0 e.1
+    ∙ ap (λ (o : Option ℕ). cond (is_some o) (len rest) (len rest + 1)) absent
+    ∙ (let known = len-entries entries distinct.1 in omega arith)
+
+-- a step of a count of the blocks that have a number, and those of a range
+pub len-with_blocks_step : (entries : Entries) (number first count : ℕ) →
+    len (with_blocks (from_entries entries) number first (count + 1))
+    ≡ (let counted = len (with_blocks (from_entries entries) number first count) in if is_some (lookup (nat_eq (first + count)) entries) then counted else counted + 1)
+len-with_blocks_step entries number first count =
+    let counted = len (with_blocks (from_entries entries) number first count) in
+    let next : count + 1 ≡ suc count = omega arith in
+    ap (λ (n : ℕ). len (with_blocks (from_entries entries) number first n)) next
+    ∙ len-with_blocks_more (from_entries entries) number first count
+    ∙ ap (λ (o : Option ℕ). if is_some o then counted else counted + 1) (get-entries entries (first + count))
+
+-- what an order that accepts commands holds as dirty
+pub dirty-fold : (order : OrderState) (commands : List Command) →
+    (fold with_command order commands).dirty ≡ dirty_from order.dirty order.mark (map change_of commands)
+dirty-fold order [] = refl
+dirty-fold order (command ∷ commands) = dirty-fold (with_command order command) commands
