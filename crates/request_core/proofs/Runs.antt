@@ -1,5 +1,5 @@
 -- steps one after another
-use Rattle.std.proofs.Common.{◌≡◌, ℕ, ◌+◌, ◌<◌, ◌≤◌, List, [], ◌∷◌, ◌++◌, append_assoc, length, sym, ◌∙◌, ap, subst, refl, arith}
+use Rattle.std.proofs.Common.{◌≡◌, ℕ, ◌+◌, ◌≤◌, Bool, true, false, List, [], ◌∷◌, ◌++◌, sym, ◌∙◌, ap, subst, refl, arith}
 use Rattle.checkpoint.specs.Keeper.{KeeperState}
 use Rattle.disk_model.specs.Disk.{State, LeavesOnly, MayLeave, IsSound}
 use Rattle.disk_model.proofs.Moments.{begins, goes_on, weakens}
@@ -7,7 +7,7 @@ use Rattle.image_model.specs.Change.{Change}
 use Rattle.image_model.specs.Image.{Image}
 use Rattle.order_book.specs.Order.{OrderState}
 use Rattle.request_core.specs.Bench.{BenchState, ConnectionsState}
-use Rattle.request_core.specs.Life.{IsDurable, IsRehearsed, IsStepped, KeepsCovered, Leads}
+use Rattle.request_core.specs.Life.{IsDurable, IsRehearsed, IsStepped, Leads, Trusts}
 use Rattle.request_core.specs.Parts.{AreConnectionsOf, IsExportOf, IsWorldOf, StandsAfter}
 use Rattle.request_core.specs.Serving.{sent_state}
 use Rattle.request_core.specs.Steps.{IsPerformed}
@@ -26,14 +26,23 @@ use Rattle.world.specs.Step.{after_step, send, sent}
 use Rattle.world.specs.World.{World, Setting}
 use Rattle.world_law.specs.Law.{Grows, IsWithin}
 
+-- a trusted device is honest
+pub trusted_honest : (trusted : Bool) (honest : Type 0) → Trusts trusted honest → honest
+trusted_honest true honest is = is
+trusted_honest false honest is = absurd is
+
+pub trusts_as : (trusted : Bool) (this other : Type 0) → (this → other) → Trusts trusted this → Trusts trusted other
+trusts_as true this other so is = so is
+trusts_as false this other so is = is
+
 -- a step that was performed
 pub stepped : {D : Type 0} (world : World) (step : Step) (luck : Luck) (event : Event) (order order' : OrderState) (connections connections' : ConnectionsState) (old new : KeeperState D)
-    (before_failures failures : ℕ) (old_honest honest : Type 0) (before after : State) → (honest → old_honest)
-    → IsExportOf world order old before_failures connections old_honest before
+    (before_failures failures : ℕ) (old_honest trusting honest : Type 0) (before after : State) → (honest → trusting) → (trusting → old_honest)
+    → IsExportOf world order old before_failures connections trusting before
     → IsPerformed world (after_step world step luck) event order' connections' old new failures old_honest before after → Grows world (after_step world step luck)
     → connections'.flags ≡ connections.flags → connections'.mode ≡ connections.mode
     → IsStepped world (after_step world step luck) event order' new failures connections' honest before after
-stepped world step luck event order order' connections connections' old new before_failures failures old_honest honest before after was of performed grows flags mode = record {
+stepped world step luck event order order' connections connections' old new before_failures failures old_honest trusting honest before after was trusts of performed grows flags mode = record {
   of_export = record {
     of_order = performed.of_order;
     of_keeper = performed.of_keeper;
@@ -41,10 +50,10 @@ stepped world step luck event order order' connections connections' old new befo
     flags = flags ∙ (of.flags ∙ ap (λ (s : Setting). s.flags) (sym grows.setting));
     mode = mode ∙ (of.mode ∙ ap (λ (s : Setting). s.mode) (sym grows.setting));
     reached = After step luck of.reached;
-    disk = λ is_honest. (performed.disk (was is_honest) (of.disk (was is_honest))).0;
+    disk = λ is_honest. (performed.disk (trusts (was is_honest)) (of.disk (was is_honest))).0;
   };
   log = performed.log;
-  crash = λ is_honest. (performed.disk (was is_honest) (of.disk (was is_honest))).1;
+  crash = λ is_honest. (performed.disk (trusts (was is_honest)) (of.disk (was is_honest))).1;
 }
 
 -- what stands after some commands of an order stands after some of the order that has grown

@@ -1,6 +1,6 @@
 -- What steps make of an export and its device. A crash ends a life; the next one begins with the image and the number that
 -- its content stands for.
-use Rattle.std.specs.Prelude.{ℕ, ◌≡◌, ◌+◌, ◌≤◌, List, [], ◌∷◌, ◌++◌, length}
+use Rattle.std.specs.Prelude.{ℕ, ◌≡◌, ◌+◌, ◌≤◌, Bool, true, false, List, [], ◌∷◌, ◌++◌, length}
 use Rattle.checkpoint.specs.Keeper.{KeeperState}
 use Rattle.checkpoint.specs.Stands.{StandsFor}
 use Rattle.disk_model.specs.Disk.{State, LeavesOnly, MayLeave}
@@ -9,13 +9,19 @@ use Rattle.image_model.specs.Image.{Image}
 use Rattle.nbd_wire.specs.declared.message.SessionFlags.{SessionFlags}
 use Rattle.order_book.specs.Order.{OrderState}
 use Rattle.request_core.specs.Bench.{BenchState, ConnectionsState}
+use Rattle.request_core.specs.Serving.{sent_state}
 use Rattle.request_core.specs.Parts.{IsExportOf, IsWorldOf, StandsAfter, image_after}
 use Rattle.world.specs.declared.event.Event.{Event}
 use Rattle.world.specs.declared.step.Mode.{Mode}
+use Rattle.nbd_wire.specs.Request.{Message}
+use Rattle.world.specs.declared.connection.Connection.TheVariants.{Idle}
 use Rattle.world.specs.declared.step.Step.{Step}
+use Rattle.world.specs.declared.step.Step.TheVariants.{Send}
 use Rattle.world.specs.Covered.{Covers}
 use Rattle.world.specs.Log.{IsLegal}
-use Rattle.world.specs.Run.{IsRun}
+use Rattle.world.specs.Run.{IsReached, IsRun}
+use Rattle.world.specs.Serve.{Luck, Fine}
+use Rattle.world.specs.Step.{after_step, sent}
 use Rattle.world.specs.World.{World, fresh}
 
 -- the world in which a life begins, with a keeper that found this image and whose device counts so many faults
@@ -32,6 +38,12 @@ first_world keeper found faults most count given kept =
       base = keeper.base;
       failures = faults;
     }) keeper.used
+
+-- What is said of a device's content has its honesty as a premise. Where the device isn't trusted, nothing is said of it,
+-- and nothing has to be known.
+abbrev pub Trusts : Bool → Type 0 → Type 0
+Trusts true honest = honest
+Trusts false honest = ⊥
 
 -- A step leads from one world to the next and has this event; the parts are then of the next world, and on an honest
 -- device a crash at any moment since before leaves what reaches all that was stored then.
@@ -71,3 +83,30 @@ pub record IsRehearsed {D : Type 0} (world next : World) (done : List Step) (ord
   pub of_world : IsWorldOf next order keeper failures bench honest after
   pub legal : IsLegal bench.log next.stage.order next.paired
   pub durable : honest → IsDurable world next before after
+
+-- How steps go together into runs, of keepers whose devices have these states, counts of faults, and honesty.
+pub record LeadsLaw {D : Type 0} (state : D → State) (faults : D → ℕ) (honest : D → Type 0) : Type 0 where
+  -- no step leads from a world to itself
+  pub none : (world : World) (trusted : Bool) (order : OrderState) (keeper : KeeperState D) (connections : ConnectionsState)
+      → IsExportOf world order keeper (faults keeper.disk) connections (Trusts trusted (honest keeper.disk)) (state keeper.disk)
+      → Leads world world [] order keeper (faults keeper.disk) connections (Trusts trusted (honest keeper.disk)) (state keeper.disk) (state keeper.disk)
+  -- one step leads as it does
+  pub one : (world : World) (trusted : Bool) (step : Step) (luck : Luck) (event : Event) (order : OrderState) (keeper : KeeperState D) (connections : ConnectionsState) (start : D) → IsReached world
+      → IsStepped world (after_step world step luck) event order keeper (faults keeper.disk) connections (Trusts trusted (honest keeper.disk)) (state start) (state keeper.disk)
+      → Leads world (after_step world step luck) (step ∷ []) order keeper (faults keeper.disk) connections (Trusts trusted (honest keeper.disk)) (state start) (state keeper.disk)
+  -- a request that is sent leads too
+  pub sends : (world : World) (trusted : Bool) (connection : ℕ) (request : Message) (order : OrderState) (keeper : KeeperState D) (connections : ConnectionsState)
+      → world.connections connection ≡ Idle
+      → IsExportOf world order keeper (faults keeper.disk) connections (Trusts trusted (honest keeper.disk)) (state keeper.disk)
+      → Leads world (sent Fine world connection request) (Send connection request ∷ []) order keeper (faults keeper.disk)
+      (record connections { states = sent_state connections.states connection request }) (Trusts trusted (honest keeper.disk)) (state keeper.disk) (state keeper.disk)
+  -- where one run leads to a world from which another leads on, both together lead
+  pub on : (world mid next : World) (trusted : Bool) (first more : List Step) (order order' : OrderState) (keeper keeper' : KeeperState D) (connections connections' : ConnectionsState) (start : D)
+      → (honest keeper'.disk → honest keeper.disk)
+      → Leads world mid first order keeper (faults keeper.disk) connections (Trusts trusted (honest keeper.disk)) (state start) (state keeper.disk)
+      → Leads mid next more order' keeper' (faults keeper'.disk) connections' (Trusts trusted (honest keeper'.disk)) (state keeper.disk) (state keeper'.disk)
+      → Leads world next (first ++ more) order' keeper' (faults keeper'.disk) connections' (Trusts trusted (honest keeper'.disk)) (state start) (state keeper'.disk)
+  -- what the log of a world covers is not lost on the way
+  pub durable : (world next : World) (trusted : Bool) (steps : List Step) (order : OrderState) (keeper : KeeperState D) (connections : ConnectionsState) (start : D) → IsReached world
+      → Leads world next steps order keeper (faults keeper.disk) connections (Trusts trusted (honest keeper.disk)) (state start) (state keeper.disk)
+      → Trusts trusted (honest keeper.disk) → IsDurable world next (state start) (state keeper.disk)

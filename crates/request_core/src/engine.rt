@@ -1,6 +1,6 @@
-ghost use Rattle.std.specs.Prelude.{◌≡◌, ◌↔◌, IfSome, slice_index_or};
+ghost use Rattle.std.specs.Prelude.{◌≡◌, ◌↔◌, Bool, IfSome, slice_index_or};
 ghost use Rattle.order_book.specs.Order.{IsInHand};
-ghost use Rattle.request_core.specs.Life.{IsStepped};
+ghost use Rattle.request_core.specs.Life.{IsStepped, Trusts};
 ghost use Rattle.request_core.specs.Parts.{AreConnectionsOf, IsExportOf, IsKeeperOf, IsOrderOf};
 ghost use Rattle.request_core.specs.Serving.{is_idle, sent_state};
 ghost use Rattle.request_core.specs.Steps.{IsPerformed};
@@ -47,9 +47,9 @@ pub fn take_step<D: Disk>(
     ensures honest { D.honest keeper.new.disk ↔ D.honest keeper.old.disk }
 
     // In each world that the parts are of the step leads to a next world, of which they then are; only its luck is free.
-    ensures world { (world : World) → IsExportOf world order.old keeper.old (D.faults keeper.old.disk) connections.old (D.honest keeper.old.disk) (D.state keeper.old.disk)
+    ensures world { (world : World) (trusted : Bool) → IsExportOf world order.old keeper.old (D.faults keeper.old.disk) connections.old (Trusts trusted (D.honest keeper.old.disk)) (D.state keeper.old.disk)
         → (luck : Luck) × IsStepped world (after_step world step.now luck) result order.new keeper.new (D.faults keeper.new.disk) connections.new
-        (D.honest keeper.new.disk) (D.state keeper.old.disk) (D.state keeper.new.disk) }
+        (Trusts trusted (D.honest keeper.new.disk)) (D.state keeper.old.disk) (D.state keeper.new.disk) }
 {
     schedule_law();
     perform(alloc, step, order, keeper, connections)

@@ -1,6 +1,6 @@
-ghost use Rattle.std.specs.Prelude.{◌≡◌, ◌≤◌, ◌↔◌, ℕ, IfSome, OnErr, OnOk, length, take};
+ghost use Rattle.std.specs.Prelude.{◌≡◌, ◌≤◌, ◌↔◌, ℕ, Bool, IfSome, OnErr, OnOk, length, take};
 ghost use Rattle.order_book.specs.Order.{IsInHand};
-ghost use Rattle.request_core.specs.Life.{IsRehearsed, IsStepped};
+ghost use Rattle.request_core.specs.Life.{IsRehearsed, IsStepped, Trusts};
 ghost use Rattle.request_core.specs.Parts.{IsWorldOf};
 ghost use Rattle.world.specs.Serve.{Luck};
 ghost use Rattle.world.specs.Step.{after_step};
@@ -35,10 +35,10 @@ pub fn rehearse<D: Disk>(
     // For each world that the parts are of: some first steps, at `Ok` all of them, lead to a next world that they are
     // then of, and the log is legal. On an honest device all that is covered is kept by every crash: what was covered at
     // the start since then, and what is covered at the end from then on.
-    ensures world { (world : World) → IsWorldOf world order.old keeper.old (D.faults keeper.old.disk) bench.old (D.honest keeper.old.disk) (D.state keeper.old.disk)
+    ensures world { (world : World) (trusted : Bool) → IsWorldOf world order.old keeper.old (D.faults keeper.old.disk) bench.old (Trusts trusted (D.honest keeper.old.disk)) (D.state keeper.old.disk)
         → (next : World) × (done : ℕ) × (done ≤ length steps.now) × OnOk result (done ≡ length steps.now)
         × IsRehearsed world next (take done steps.now) order.new keeper.new (D.faults keeper.new.disk) bench.new
-        (D.honest keeper.new.disk) (D.state keeper.old.disk) (D.state keeper.new.disk) }
+        (Trusts trusted (D.honest keeper.new.disk)) (D.state keeper.old.disk) (D.state keeper.new.disk) }
 {
     schedule_law();
     for step in steps {
@@ -59,10 +59,10 @@ fn carry_out<D: Disk>(
     ensures err { OnErr result ((order.new ≡ order.old) × (keeper.new ≡ keeper.old) × (bench.new ≡ bench.old)) }
     ensures extent { D.extent keeper.new.disk ≡ D.extent keeper.old.disk }
     ensures honest { D.honest keeper.new.disk ↔ D.honest keeper.old.disk }
-    ensures world { (world : World) → IsWorldOf world order.old keeper.old (D.faults keeper.old.disk) bench.old (D.honest keeper.old.disk) (D.state keeper.old.disk)
+    ensures world { (world : World) (trusted : Bool) → IsWorldOf world order.old keeper.old (D.faults keeper.old.disk) bench.old (Trusts trusted (D.honest keeper.old.disk)) (D.state keeper.old.disk)
         → OnOk result ((luck : Luck) × (event : Event) × (bench.new.log ≡ (after_step world step.now luck).log)
         × IsStepped world (after_step world step.now luck) event order.new keeper.new (D.faults keeper.new.disk) bench.new.connections
-        (D.honest keeper.new.disk) (D.state keeper.old.disk) (D.state keeper.new.disk)) }
+        (Trusts trusted (D.honest keeper.new.disk)) (D.state keeper.old.disk) (D.state keeper.new.disk)) }
 {
     let place = bench.log.len();
     bench.log.push(Event::Held)?;

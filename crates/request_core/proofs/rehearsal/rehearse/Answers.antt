@@ -3,8 +3,8 @@ use Rattle.std.proofs.lemmas.List.{take_more}
 use Rattle.checkpoint.specs.Keeper.{KeeperState}
 use Rattle.order_book.specs.Order.{OrderState}
 use Rattle.request_core.specs.Bench.{BenchState}
-use Rattle.request_core.specs.Life.{Leads}
-use Rattle.request_core.proofs.Runs.{leads_none, leads_on, leads_step, rehearsed}
+use Rattle.request_core.specs.Life.{Leads, Trusts}
+use Rattle.request_core.proofs.Runs.{leads_none, leads_on, leads_step, rehearsed, trusted_honest, trusts_as}
 use Rattle.world.specs.declared.step.Step.{Step}
 use Rattle.world.specs.Step.{after_step}
 use Rattle.request_core.proofs.rehearsal.rehearse.Goals as goal
@@ -16,11 +16,11 @@ loop-step-init g c =
       group = c.requires.group;
       extent = refl;
       honest = (λ is. is, λ is. is);
-      world = λ world of. (
+      world = λ world trusted of. (
         world,
         of.log,
-        leads_none world c.args.order.now keeper (g.D.Disk.faults keeper.disk) c.args.bench.now.connections (g.D.Disk.extent keeper.disk) (g.D.Disk.honest keeper.disk) (g.D.Disk.state keeper.disk)
-            (g.met.D.Disk.sound keeper.disk) (c.schedule_law.ensures.within world of.of_export.reached) of.of_export,
+        leads_none world c.args.order.now keeper (g.D.Disk.faults keeper.disk) c.args.bench.now.connections (g.D.Disk.extent keeper.disk) (Trusts trusted (g.D.Disk.honest keeper.disk)) (g.D.Disk.state keeper.disk)
+            (λ trusts. g.met.D.Disk.sound keeper.disk (trusted_honest trusted (g.D.Disk.honest keeper.disk) trusts)) (c.schedule_law.ensures.within world of.of_export.reached) of.of_export,
       );
     }
 
@@ -37,33 +37,33 @@ loop-step-preserved g c =
       group = c.in_ok-carry_out.ensures.group;
       extent = c.carry_out.ensures.extent ∙ c.loop-step.invariant.extent;
       honest = (λ is. c.loop-step.invariant.honest.0 (c.carry_out.ensures.honest.0 is), λ is. c.carry_out.ensures.honest.1 (c.loop-step.invariant.honest.1 is));
-      world = λ world of.
-          let here = c.loop-step.invariant.world world of in
+      world = λ world trusted of.
+          let here = c.loop-step.invariant.world world trusted of in
           let next = here.0 in
           let so_far = here.2 in
           let law = c.schedule_law.ensures in
-          let carried = c.in_ok-carry_out.ensures.world next (record { of_export = so_far.of_export; log = here.1 }) in
+          let carried = c.in_ok-carry_out.ensures.world next trusted (record { of_export = so_far.of_export; log = here.1 }) in
           let grows = law.grows world next (take index steps) so_far.run in
           let grows_on = law.grows next (after_step next step carried.0) (step ∷ []) (carried.0, refl) in
           let one = leads_step next step carried.0 carried.1 c.carry_out.new.order new (g.D.Disk.faults new.disk) c.carry_out.new.bench.connections
-          (g.D.Disk.honest new.disk) (g.D.Disk.state now.disk) (g.D.Disk.state new.disk) carried.3 grows_on (law.within next so_far.of_export.reached) in (
+          (Trusts trusted (g.D.Disk.honest new.disk)) (g.D.Disk.state now.disk) (g.D.Disk.state new.disk) carried.3 grows_on (law.within next so_far.of_export.reached) in (
             after_step next step carried.0,
             carried.2,
             subst (λ (done : List Step). Leads world (after_step next step carried.0) done c.carry_out.new.order new (g.D.Disk.faults new.disk) c.carry_out.new.bench.connections
-                (g.D.Disk.honest new.disk) (g.D.Disk.state old.disk) (g.D.Disk.state new.disk)) (sym taken)
+                (Trusts trusted (g.D.Disk.honest new.disk)) (g.D.Disk.state old.disk) (g.D.Disk.state new.disk)) (sym taken)
                 (leads_on world next (after_step next step carried.0) (take index steps) (step ∷ []) c.loop-step.order c.carry_out.new.order now new (g.D.Disk.faults now.disk) (g.D.Disk.faults new.disk)
-                c.loop-step.bench.connections c.carry_out.new.bench.connections (g.D.Disk.honest now.disk) (g.D.Disk.honest new.disk) (g.D.Disk.state old.disk) (g.D.Disk.state now.disk) (g.D.Disk.state new.disk)
-                c.carry_out.ensures.honest.0 so_far one grows grows_on),
+                c.loop-step.bench.connections c.carry_out.new.bench.connections (Trusts trusted (g.D.Disk.honest now.disk)) (Trusts trusted (g.D.Disk.honest new.disk)) (g.D.Disk.state old.disk) (g.D.Disk.state now.disk) (g.D.Disk.state new.disk)
+                (trusts_as trusted (g.D.Disk.honest new.disk) (g.D.Disk.honest now.disk) c.carry_out.ensures.honest.0) so_far one grows grows_on),
           );
     }
 
 pub returns-clause-world : goal.returns-clause-world
-returns-clause-world g c = λ world of.
+returns-clause-world g c = λ world trusted of.
     let old = c.args.keeper.now in
     let new = c.loop-step.keeper in
     let steps = c.args.steps.now in
     let index = c.loop-step.step-index in
-    let here = c.loop-step.invariant.world world of in
+    let here = c.loop-step.invariant.world world trusted of in
     let next = here.0 in
     let so_far = here.2 in
     let law = c.schedule_law.ensures in (
@@ -71,8 +71,8 @@ returns-clause-world g c = λ world of.
       index,
       c.loop-step.auto.step-index-end,
       omega (arith, c.loop-step.auto.step-index-end, c.loop-step-test.false),
-      rehearsed world next (take index steps) c.loop-step.order new (g.D.Disk.faults new.disk) c.loop-step.bench (g.D.Disk.extent new.disk) (g.D.Disk.honest new.disk) (g.D.Disk.state old.disk) (g.D.Disk.state new.disk)
-          so_far here.1 (g.met.D.Disk.sound new.disk) (law.grows world next (take index steps) so_far.run) (law.within next so_far.of_export.reached)
+      rehearsed world next (take index steps) c.loop-step.order new (g.D.Disk.faults new.disk) c.loop-step.bench (g.D.Disk.extent new.disk) (Trusts trusted (g.D.Disk.honest new.disk)) (g.D.Disk.state old.disk) (g.D.Disk.state new.disk)
+          so_far here.1 (λ trusts. g.met.D.Disk.sound new.disk (trusted_honest trusted (g.D.Disk.honest new.disk) trusts)) (law.grows world next (take index steps) so_far.run) (law.within next so_far.of_export.reached)
           (law.covered world of.of_export.reached) (law.covered next so_far.of_export.reached) (law.legal next so_far.of_export.reached),
     )
 
@@ -82,24 +82,24 @@ no_ok Q P (Ok value) is = absurd is
 no_ok Q P (Err error) is = tt
 
 pub returns-in_err-carry_out-clause-world : goal.returns-in_err-carry_out-clause-world
-returns-in_err-carry_out-clause-world g c = λ world of.
+returns-in_err-carry_out-clause-world g c = λ world trusted of.
     let old = c.args.keeper.now in
     let new = c.carry_out.new.keeper in
     let steps = c.args.steps.now in
     let index = c.loop-step.step-index in
-    let here = c.loop-step.invariant.world world of in
+    let here = c.loop-step.invariant.world world trusted of in
     let next = here.0 in
     let same = c.in_err-carry_out.ensures.err in
-    let so_far = subst (λ (b : BenchState). Leads world next (take index steps) c.carry_out.new.order new (g.D.Disk.faults new.disk) b.connections (g.D.Disk.honest new.disk) (g.D.Disk.state old.disk) (g.D.Disk.state new.disk)) (sym same.2)
-    (subst (λ (k : KeeperState g.row.D.Denot). Leads world next (take index steps) c.carry_out.new.order k (g.D.Disk.faults k.disk) c.loop-step.bench.connections (g.D.Disk.honest k.disk) (g.D.Disk.state old.disk) (g.D.Disk.state k.disk)) (sym same.1)
-    (subst (λ (o : OrderState). Leads world next (take index steps) o c.loop-step.keeper (g.D.Disk.faults c.loop-step.keeper.disk) c.loop-step.bench.connections (g.D.Disk.honest c.loop-step.keeper.disk) (g.D.Disk.state old.disk) (g.D.Disk.state c.loop-step.keeper.disk)) (sym same.0)
+    let so_far = subst (λ (b : BenchState). Leads world next (take index steps) c.carry_out.new.order new (g.D.Disk.faults new.disk) b.connections (Trusts trusted (g.D.Disk.honest new.disk)) (g.D.Disk.state old.disk) (g.D.Disk.state new.disk)) (sym same.2)
+    (subst (λ (k : KeeperState g.row.D.Denot). Leads world next (take index steps) c.carry_out.new.order k (g.D.Disk.faults k.disk) c.loop-step.bench.connections (Trusts trusted (g.D.Disk.honest k.disk)) (g.D.Disk.state old.disk) (g.D.Disk.state k.disk)) (sym same.1)
+    (subst (λ (o : OrderState). Leads world next (take index steps) o c.loop-step.keeper (g.D.Disk.faults c.loop-step.keeper.disk) c.loop-step.bench.connections (Trusts trusted (g.D.Disk.honest c.loop-step.keeper.disk)) (g.D.Disk.state old.disk) (g.D.Disk.state c.loop-step.keeper.disk)) (sym same.0)
     here.2)) in
     let law = c.schedule_law.ensures in (
       next,
       index,
       c.loop-step.auto.step-index-end,
       no_ok _ _ c.from_residual.result c.from_residual.ensures.1,
-      rehearsed world next (take index steps) c.carry_out.new.order new (g.D.Disk.faults new.disk) c.carry_out.new.bench (g.D.Disk.extent new.disk) (g.D.Disk.honest new.disk) (g.D.Disk.state old.disk) (g.D.Disk.state new.disk)
-          so_far (ap (λ (b : BenchState). b.log) same.2 ∙ here.1) (g.met.D.Disk.sound new.disk) (law.grows world next (take index steps) so_far.run) (law.within next so_far.of_export.reached)
+      rehearsed world next (take index steps) c.carry_out.new.order new (g.D.Disk.faults new.disk) c.carry_out.new.bench (g.D.Disk.extent new.disk) (Trusts trusted (g.D.Disk.honest new.disk)) (g.D.Disk.state old.disk) (g.D.Disk.state new.disk)
+          so_far (ap (λ (b : BenchState). b.log) same.2 ∙ here.1) (λ trusts. g.met.D.Disk.sound new.disk (trusted_honest trusted (g.D.Disk.honest new.disk) trusts)) (law.grows world next (take index steps) so_far.run) (law.within next so_far.of_export.reached)
           (law.covered world of.of_export.reached) (law.covered next so_far.of_export.reached) (law.legal next so_far.of_export.reached),
     )

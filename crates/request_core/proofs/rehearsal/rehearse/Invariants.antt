@@ -1,6 +1,6 @@
-use Rattle.std.proofs.Common.{◌≡◌, IfSome, ◌↔◌, take}
+use Rattle.std.proofs.Common.{◌≡◌, Bool, IfSome, ◌↔◌, take}
 use Rattle.order_book.specs.Order.{IsInHand}
-use Rattle.request_core.specs.Life.{Leads}
+use Rattle.request_core.specs.Life.{Leads, Trusts}
 use Rattle.request_core.specs.Parts.{IsWorldOf}
 use Rattle.world.specs.World.{World}
 use Rattle.request_core.proofs.rehearsal.rehearse.Given as goal
@@ -13,7 +13,7 @@ invariant-loop-step g l =
       group : IfSome l.bench.connections.group (IsInHand l.order);
       extent : disk.extent l.keeper.disk ≡ disk.extent l.fn.keeper.disk;
       honest : disk.honest l.keeper.disk ↔ disk.honest l.fn.keeper.disk;
-      world : (world : World) → IsWorldOf world l.fn.order l.fn.keeper (disk.faults l.fn.keeper.disk) l.fn.bench (disk.honest l.fn.keeper.disk) (disk.state l.fn.keeper.disk)
+      world : (world : World) (trusted : Bool) → IsWorldOf world l.fn.order l.fn.keeper (disk.faults l.fn.keeper.disk) l.fn.bench (Trusts trusted (disk.honest l.fn.keeper.disk)) (disk.state l.fn.keeper.disk)
           → (next : World) × (l.bench.log ≡ next.log) × Leads world next (take l.step-index l.steps) l.order l.keeper (disk.faults l.keeper.disk) l.bench.connections
-          (disk.honest l.keeper.disk) (disk.state l.fn.keeper.disk) (disk.state l.keeper.disk);
+          (Trusts trusted (disk.honest l.keeper.disk)) (disk.state l.fn.keeper.disk) (disk.state l.keeper.disk);
     }
