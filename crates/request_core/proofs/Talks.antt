@@ -1,7 +1,7 @@
 -- connections in a list, and in a world
-use Rattle.std.proofs.Common.{◌≡◌, ◌⊎◌, inl, inr, ℕ, ◌+◌, ◌<◌, ◌≤◌, Bool, true, false, if◌then◌else◌, nat_le, Option, Some, None, MatchBool, MatchOption, List, [], ◌∷◌, ◌++◌, length, get_or, sym, ◌∙◌, ap, subst}
+use Rattle.std.proofs.Common.{◌≡◌, ◌⊎◌, inl, inr, ℕ, ◌+◌, ◌<◌, ◌≤◌, Bool, true, false, if◌then◌else◌, nat_le, Option, Some, None, Ok, Err, MatchBool, MatchOption, List, [], ◌∷◌, ◌++◌, length, get_or, refl, sym, ◌∙◌, ap, subst}
 use Rattle.std.proofs.lemmas.Bool.{cases_eq, eq-eqb, ne_eqb}
-use Rattle.std.proofs.lemmas.List.{get_or-set_same, get_or-set_other, set-set}
+use Rattle.std.proofs.lemmas.List.{get_or-set_same, get_or-set_other, set-get_or, set-set}
 use Rattle.std.proofs.Math.ListN.{set, get_or-eq_default}
 use Rattle.std.proofs.lemmas.Bool.{cases_lt}
 use Rattle.nbd_wire.specs.Request.{Message}
@@ -9,7 +9,7 @@ use Rattle.nbd_wire.specs.declared.error.Errno.TheVariants.{Io}
 use Rattle.journal.specs.Group.{Numbered}
 use Rattle.order_book.specs.Order.{OrderState}
 use Rattle.request_core.specs.Parts.{AreConnectionsOf, IsOrderOf}
-use Rattle.request_core.specs.Serving.{IsSentBy, IsServed, IsTalked, due_of, is_idle, request_in, sent_state}
+use Rattle.request_core.specs.Serving.{IsAnsweredBy, IsSentBy, IsServed, IsTalked, answer_due, due_of, is_idle, request_in, sent_state}
 use Rattle.request_core.proofs.Serves.{grown_same}
 use Rattle.world.specs.declared.connection.Connection.{Connection}
 use Rattle.world.specs.declared.connection.Connection.TheVariants.{Idle, Requested, Waiting, Ready, Closed}
@@ -169,3 +169,26 @@ sent_states world items c request idle same d =
   where
     idle_apart : Idle ≡ Closed → ⊥
     idle_apart is = cc
+
+-- where no answer is due, the state is as it was
+due_none : (durable : ℕ) (stopped : Bool) (state left : Connection) → answer_due durable stopped state ≡ Err left → (due_of durable stopped state ≡ None) × (left ≡ state)
+due_none durable stopped Idle left is = (refl, cc)
+due_none durable stopped (Requested request) left is = (refl, cc)
+due_none durable stopped (Waiting number) left is = waits (nat_le number durable) stopped is
+  where
+    waits : (reached halted : Bool) → (if reached then Ok Done else (if halted then Ok (Refused Io) else Err (Waiting number))) ≡ Err left
+        → ((if reached then Some Done else (if halted then Some (Refused Io) else None)) ≡ None) × (left ≡ Waiting number)
+    waits true halted is = cc
+    waits false true is = cc
+    waits false false is = (refl, cc)
+due_none durable stopped (Ready answer) left is = cc
+due_none durable stopped Closed left is = (refl, cc)
+
+-- a connection whose state was taken out and put back, since no answer was due
+pub answered_none : (durable : ℕ) (stopped : Bool) (items : List Connection) (c : ℕ) (taken state left : Connection) → get_or items c Closed ≡ state
+    → answer_due durable stopped state ≡ Err left → IsAnsweredBy durable stopped items c (set (set items c taken) c left) Held
+answered_none durable stopped items c taken state left at is =
+    let none = due_none durable stopped state left is in
+    subst (λ (due : Option Answer). MatchOption due ((set (set items c taken) c left ≡ items) × (Held ≡ Held)) (λ answer. (set (set items c taken) c left ≡ set items c Idle) × (Held ≡ Answered c answer)))
+    (sym (ap (due_of durable stopped) at ∙ none.0))
+    (set-set items c taken left ∙ (ap (set items c) (none.1 ∙ sym at) ∙ set-get_or items c Closed), refl)

@@ -1,0 +1,4 @@
+pub mod Bytes
+pub mod Dialogs
+pub mod Sessions
+pub mod Steps

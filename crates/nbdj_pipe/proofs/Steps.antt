@@ -1,0 +1,273 @@
+-- how steps of an export follow one another
+use Rattle.std.proofs.Common.{◌≡◌, ◌⊎◌, inl, inr, ℕ, ◌+◌, ◌*◌, ◌==◌, ◌&&◌, ◌||◌, not, bit_and, Bool, true, false, if◌then◌else◌, nat_le, nat_lt, Option, Some, None, Result, Ok, Err, IfOk, IsErrAnd, List, [], ◌∷◌, ◌++◌, append_assoc, append-nil, length, sym, ◌∙◌, ap, subst, refl}
+use Rattle.checkpoint.specs.Keeper.{KeeperState}
+use Rattle.disk_model.specs.Disk.{State}
+use Rattle.nbd_wire.specs.Request.{Message}
+use Rattle.nbd_wire.specs.declared.error.Errno.{Errno}
+use Rattle.nbd_wire.specs.declared.error.Errno.TheVariants.{Io, Invalid, NoMemory, NoSpace}
+use Rattle.nbd_wire.specs.declared.head.RequestHead.{RequestHead}
+use Rattle.nbd_wire.specs.declared.message.SessionFlags.{SessionFlags}
+use Rattle.image_model.specs.declared.geometry.Geometry.{Geometry}
+use Rattle.world.specs.Verdict.{allowed_flags, first_of_rules, is_known, is_unaligned, past_end}
+use Rattle.std.proofs.lemmas.Bool.{eqb-true}
+use Rattle.nbd_wire.specs.declared.message.Answer.{Answer}
+use Rattle.nbd_wire.specs.declared.message.Answer.TheVariants.{Done, Refused}
+use Rattle.order_book.specs.Order.{OrderState}
+use Rattle.request_core.specs.Bench.{ConnectionsState}
+use Rattle.request_core.specs.Life.{LeadsLaw, Trusts}
+use Rattle.request_core.specs.Parts.{IsExportOf}
+use Rattle.world.specs.declared.action.Action.{Action}
+use Rattle.world.specs.declared.action.Action.TheVariants.{End}
+use Rattle.world.specs.declared.connection.Connection.{Connection}
+use Rattle.world.specs.declared.connection.Connection.TheVariants.{Idle, Requested, Waiting, Ready, Closed}
+use Rattle.world.specs.declared.event.Event.{Event}
+use Rattle.world.specs.declared.event.Event.TheVariants.{Sent, Answered, Numbered, Took, Held, Failed}
+use Rattle.world.specs.declared.step.Step.{Step}
+use Rattle.world.specs.declared.step.Step.TheVariants as steps
+use Rattle.world.specs.declared.step.Step.TheVariants.{Send, Serve, Seal, Append, Publish}
+use Rattle.world.specs.Log.{command_of, is_flush}
+use Rattle.world.specs.Serve.{Luck, Fine, Starved, Faulted, accepted, answer, answered, held, judged, logged, moved, ordered, passed, ready, state_after}
+use Rattle.world.specs.Step.{after_step, append, publish, put_back, seal, sealed_more, stored_more}
+use Rattle.world.specs.World.{World, fits, has_room, last_number, put}
+use Rattle.nbdj_pipe.specs.Export.{AwaitsAnswer, Follows, IsGiven, IsJudged, IsStoring, HasAnswer, Settles, said_of, told_by}
+use Rattle.nbdj_pipe.specs.declared.refusal.Refusal.{Refusal}
+use Rattle.nbdj_pipe.specs.Talk.{plain, spoken, verdict_on}
+
+pub spoken_on : (log more : List Event) → spoken (log ++ more) ≡ spoken log ++ spoken more
+spoken_on [] more = refl
+spoken_on (Sent c request ∷ log) more = ap (λ (l : List Event). Sent c request ∷ l) (spoken_on log more)
+spoken_on (Answered c answer ∷ log) more = ap (λ (l : List Event). Answered c answer ∷ l) (spoken_on log more)
+spoken_on (Numbered c number ∷ log) more = spoken_on log more
+spoken_on (Took ∷ log) more = spoken_on log more
+spoken_on (Held ∷ log) more = spoken_on log more
+spoken_on (Failed fault ∷ log) more = spoken_on log more
+
+-- the last of a list with one item more
+pub last_same : {X : Type 0} (xs : List X) (x y : X) → xs ++ x ∷ [] ≡ xs ++ y ∷ [] → x ≡ y
+last_same [] x y is = cc
+last_same (z ∷ xs) x y is = last_same xs x y (rest z xs (x ∷ []) (y ∷ []) is)
+  where
+    rest : {X : Type 0} (z : X) (xs a b : List X) → z ∷ (xs ++ a) ≡ z ∷ (xs ++ b) → xs ++ a ≡ xs ++ b
+    rest z xs a b is = cc
+
+module _ {D : Type 0} (state : D → State) (faults : D → ℕ) (honest : D → Type 0) (law : LeadsLaw state faults honest) where
+  -- one run after another
+  pub follows_on : (world mid next : World) (trusted : Bool) (said more : List Event) (order order' : OrderState) (keeper keeper' : KeeperState D) (connections connections' : ConnectionsState) (start : D)
+      → (honest keeper'.disk → honest keeper.disk)
+      → Follows world mid said order keeper (faults keeper.disk) connections (Trusts trusted (honest keeper.disk)) (state start) (state keeper.disk)
+      → Follows mid next more order' keeper' (faults keeper'.disk) connections' (Trusts trusted (honest keeper'.disk)) (state keeper.disk) (state keeper'.disk)
+      → Follows world next (said ++ more) order' keeper' (faults keeper'.disk) connections' (Trusts trusted (honest keeper'.disk)) (state start) (state keeper'.disk)
+  follows_on world mid next trusted said more order order' keeper keeper' connections connections' start was here on = record {
+    steps = here.steps ++ on.steps;
+    leads = law.on world mid next trusted here.steps on.steps order order' keeper keeper' connections connections' start was here.leads on.leads;
+    said_is = on.said_is ∙ (ap (λ (l : List Event). l ++ more) here.said_is ∙ append_assoc (spoken world.log) said more);
+    setting = on.setting ∙ here.setting;
+  }
+
+module _ {D : Type 0} (state : D → State) (faults : D → ℕ) (honest : D → Type 0) (law : LeadsLaw state faults honest) where
+  -- nothing was done
+  pub settles_none : (world : World) (trusted : Bool) (order : OrderState) (keeper : KeeperState D) (connections : ConnectionsState)
+      → IsExportOf world order keeper (faults keeper.disk) connections (Trusts trusted (honest keeper.disk)) (state keeper.disk)
+      → Settles world world order keeper (faults keeper.disk) connections (Trusts trusted (honest keeper.disk)) (state keeper.disk) (state keeper.disk)
+  settles_none world trusted order keeper connections of = record {
+    follows = record { steps = []; leads = law.none world trusted order keeper connections of; said_is = sym (append-nil (spoken world.log)); setting = refl };
+    connections_are = refl;
+  }
+
+  pub settles_on : (world mid next : World) (trusted : Bool) (order order' : OrderState) (keeper keeper' : KeeperState D) (connections connections' : ConnectionsState) (start : D)
+      → (honest keeper'.disk → honest keeper.disk)
+      → Settles world mid order keeper (faults keeper.disk) connections (Trusts trusted (honest keeper.disk)) (state start) (state keeper.disk)
+      → Settles mid next order' keeper' (faults keeper'.disk) connections' (Trusts trusted (honest keeper'.disk)) (state keeper.disk) (state keeper'.disk)
+      → Settles world next order' keeper' (faults keeper'.disk) connections' (Trusts trusted (honest keeper'.disk)) (state start) (state keeper'.disk)
+  settles_on world mid next trusted order order' keeper keeper' connections connections' start was here on = record {
+    follows = follows_on state faults honest law world mid next trusted [] [] order order' keeper keeper' connections connections' start was here.follows on.follows;
+    connections_are = on.connections_are ∙ here.connections_are;
+  }
+
+-- what holds of both sides of a choice holds of the choice
+of_either : {X : Type 0} (P : X → Type 0) (test : Bool) (x y : X) → P x → P y → P (if test then x else y)
+of_either P true x y here there = here
+of_either P false x y here there = there
+
+
+-- a step of order and keeper leaves the connections as they are
+module _ (world : World) where
+  -- nothing is said by an event that neither sends nor answers
+  abbrev IsStill : World → Type 0
+  IsStill next = (next.connections ≡ world.connections) × ((event : Event) × (next.log ≡ world.log ++ event ∷ []) × (spoken (event ∷ []) ≡ []))
+
+  still_held : IsStill (held world)
+  still_held = (refl, (Held, refl, refl))
+
+  still_sealed : (luck : Luck) → IsStill (sealed_more luck world)
+  still_sealed Starved = (refl, (_, refl, refl))
+  still_sealed Fine = (refl, (Took, refl, refl))
+  still_sealed Faulted = (refl, (Took, refl, refl))
+
+  still_seal : (luck : Luck) → IsStill (seal luck world)
+  still_seal luck = of_either IsStill (nat_lt world.stage.sealed (length world.stage.order) && (world.stage.sealed == world.stage.durable)) _ _ (still_sealed luck) still_held
+
+  still_stored : (luck : Luck) → IsStill (stored_more luck world)
+  still_stored Starved = (refl, (_, refl, refl))
+  still_stored Fine = (refl, (Took, refl, refl))
+  still_stored Faulted = (refl, (_, refl, refl))
+
+  still_append : (luck : Luck) → IsStill (append luck world)
+  still_append luck = of_either IsStill (nat_lt world.stage.stored world.stage.sealed) _ _
+      (of_either IsStill world.stage.stopped _ _ (refl, (_, refl, refl))
+      (of_either IsStill (fits world) _ _ (still_stored luck) (refl, (Held, refl, refl))))
+      still_held
+
+  still_publish : IsStill (publish world)
+  still_publish = of_either IsStill (nat_lt world.stage.durable world.stage.stored) _ _ (refl, (Took, refl, refl)) still_held
+
+  pub still_step : (step : Step) (luck : Luck) → IsStoring step → IsStill (after_step world step luck)
+  still_step (Send c request) luck is = absurd is
+  still_step (Serve c) luck is = absurd is
+  still_step (steps.Answer c) luck is = absurd is
+  still_step Seal luck is = still_seal luck
+  still_step Append luck is = still_append luck
+  still_step Publish luck is = still_publish
+
+  -- what serving a request comes to: nothing, where there is no room for its command, or what the verdict on it says
+  abbrev pub IsServedAs : Result Action Errno → World → Type 0
+  IsServedAs given next = (next ≡ held world)
+      ⊎ (IsJudged given (next.connections 0) × ((event : Event) × (next.log ≡ world.log ++ event ∷ []) × (spoken (event ∷ []) ≡ []) × (event ≡ Held → ⊥)))
+
+  put_here : (state : Connection) → put world.connections 0 state 0 ≡ state
+  put_here state = refl
+
+  took_apart : Took ≡ Held → ⊥
+  took_apart is = cc
+
+  numbered_apart : (c number : ℕ) → Numbered c number ≡ Held → ⊥
+  numbered_apart c number is = cc
+
+  served_waits : (request : Message) (waits : Bool) (number : ℕ) → IsServedAs (Ok Action.Serve) (logged (moved (ordered world 0 request) 0 (state_after waits number)) (Numbered 0 number))
+  served_waits request true number = inr (tt, (Numbered 0 number, refl, refl, numbered_apart 0 number))
+  served_waits request false number = inr (inl refl, (Numbered 0 number, refl, refl, numbered_apart 0 number))
+
+  served_refused : (errno : Errno) → IsServedAs (Ok Action.Serve) (ready world 0 (Refused errno))
+  served_refused errno = inr (inr (errno, refl), (Took, refl, refl, took_apart))
+
+  served_accepted : (luck : Luck) (request : Message) → IsServedAs (Ok Action.Serve) (accepted luck world 0 request)
+  served_accepted Starved request = served_refused NoMemory
+  served_accepted Fine request = served_waits request _ _
+  served_accepted Faulted request = served_waits request _ _
+
+  served_passed : (luck : Luck) (request : Message) → IsServedAs (Ok Action.Serve) (passed luck world 0 request)
+  served_passed luck request = of_either (IsServedAs (Ok Action.Serve)) world.stage.stopped _ _ (served_refused Io)
+      (of_either (IsServedAs (Ok Action.Serve)) (is_flush request) _ _ (inr (tt, (Took, refl, refl, took_apart)))
+      (of_either (IsServedAs (Ok Action.Serve)) (last_number world == 18446744073709551615) _ _ (served_refused NoSpace)
+      (of_either (IsServedAs (Ok Action.Serve)) (has_room world (command_of request)) _ _ (served_accepted luck request) (inl refl))))
+
+  pub served_as : (luck : Luck) (request : Message) (given : Result Action Errno) → IsServedAs given (judged given luck world 0 request)
+  served_as luck request (Ok End) = inr (refl, (Took, refl, refl, took_apart))
+  served_as luck request (Ok Action.Serve) = served_passed luck request
+  served_as luck request (Err errno) = inr (refl, (Took, refl, refl, took_apart))
+
+  -- what answering comes to: nothing, where no answer is due, or the answer that is given
+  abbrev pub IsAnsweredAs : Connection → World → Type 0
+  IsAnsweredAs state next = (next ≡ held world) ⊎ ((given : Answer) × (next ≡ answered world 0 given) × IsGiven state given)
+
+  pub answered_as : (state : Connection) → AwaitsAnswer state → IsAnsweredAs state (answer world 0 state)
+  answered_as Idle awaits = absurd awaits
+  answered_as (Requested request) awaits = absurd awaits
+  answered_as (Waiting number) awaits = of_either (IsAnsweredAs (Waiting number)) (nat_le number (world.stage.setting.opening + world.stage.durable)) _ _
+      (inr (Done, refl, inl refl))
+      (of_either (IsAnsweredAs (Waiting number)) world.stage.stopped _ _ (inr (Refused Io, refl, inr (Io, refl))) (inl refl))
+  answered_as (Ready given) awaits = inr (given, refl, refl)
+  answered_as Closed awaits = absurd awaits
+
+-- an answer that is a refusal
+pub no_ok : {T E : Type 0} (Q : E → Type 0) (P : T → Type 0) (answer : Result T E) → IsErrAnd answer Q → IfOk answer P
+no_ok Q P (Ok value) is = absurd is
+no_ok Q P (Err error) is = tt
+
+pub told_err : (Q : Refusal → Type 0) (answer : Result Answer Refusal) → IsErrAnd answer Q → told_by answer ≡ []
+told_err Q (Ok value) is = absurd is
+told_err Q (Err error) is = refl
+
+pub none_is : {X : Type 0} (o : Option X) → ((x : X) → o ≡ Some x → ⊥) → o ≡ None
+none_is None none = refl
+none_is (Some x) none = absurd (none x refl)
+
+pub said_err : (Q : Refusal → Type 0) (answer : Result (Option Answer) Refusal) → IsErrAnd answer Q → said_of answer ≡ []
+said_err Q (Ok value) is = absurd is
+said_err Q (Err error) is = refl
+
+-- a request that isn't a DISC, once it is judged, awaits its answer
+pub judged_awaits : (given : Result Action Errno) (state : Connection) → IsJudged given state → (given ≡ Ok End → ⊥) → AwaitsAnswer state
+judged_awaits (Ok End) state is other = absurd (other refl)
+judged_awaits (Ok Action.Serve) state is other = is
+judged_awaits (Err errno) state is other = subst AwaitsAnswer (sym is) (inr (errno, refl))
+
+-- a rule that ends nothing leaves the rest
+past_error : (test : Bool) (errno : Errno) (rest : Result Action Errno) → (if test then Err errno else rest) ≡ Ok End → rest ≡ Ok End
+past_error true errno rest is = cc
+past_error false errno rest is = is
+
+past_served : (test : Bool) (rest : Result Action Errno) → (if test then Ok Action.Serve else rest) ≡ Ok End → rest ≡ Ok End
+past_served true rest is = absurd (apart is)
+  where
+    apart : (let result : Result Action Errno = Ok Action.Serve in result ≡ Ok End) → ⊥
+    apart is = cc
+past_served false rest is = is
+
+no_end : (disc unknown flagged empty flush context unaligned long beyond other : Bool) (errno : Errno) → disc ≡ false
+    → first_of_rules ((disc, Ok End) ∷ (unknown, Err Invalid) ∷ (flagged, Err Invalid) ∷ (empty, Ok Action.Serve) ∷ (flush, Err Invalid) ∷ (context, Err Invalid) ∷ [])
+    (first_of_rules ((unaligned, Err Invalid) ∷ (long, Err Invalid) ∷ (beyond, Err errno) ∷ (other, Err Invalid) ∷ []) (Ok Action.Serve)) ≡ Ok End → ⊥
+no_end true unknown flagged empty flush context unaligned long beyond other errno no_disc is = absurd (apart no_disc)
+  where
+    apart : true ≡ false → ⊥
+    apart is = cc
+no_end false unknown flagged empty flush context unaligned long beyond other errno no_disc is =
+    let b = past_error unknown Invalid _ is in
+    let c = past_error flagged Invalid _ b in
+    let d = past_served empty _ c in
+    let e = past_error flush Invalid _ d in
+    let f = past_error context Invalid _ e in
+    let g = past_error unaligned Invalid _ f in
+    let h = past_error long Invalid _ g in
+    let i = past_error beyond errno _ h in
+    serve_apart (past_error other Invalid _ i)
+  where
+    serve_apart : (let result : Result Action Errno = Ok Action.Serve in result ≡ Ok End) → ⊥
+    serve_apart is = cc
+
+-- the verdict that ends a session is on a DISC
+pub end_kind : (head : RequestHead) (geometry : Geometry) (flags : SessionFlags) → verdict_on head geometry flags ≡ Ok End → head.kind ≡ 2
+unfolding verdict_on
+end_kind head geometry flags is = by_kind (head.kind == 2) refl
+  where
+    by_kind : (test : Bool) → (head.kind == 2) ≡ test → head.kind ≡ 2
+    by_kind true at = eqb-true head.kind 2 at
+    by_kind false at =
+        absurd (no_end (head.kind == 2) (not (is_known head.kind)) (not (bit_and head.flags (allowed_flags head.kind flags.structured) == head.flags))
+        ((head.kind == 3) && (head.offset == 0) && (head.length == 0)) (head.kind == 3) ((head.kind == 7) && not (flags.structured && flags.context))
+        (is_unaligned head) (((head.kind == 0) || (head.kind == 1)) && nat_lt 1048576 head.length) (nat_lt (4096 * geometry.blocks) (head.offset + head.length))
+        (not (head.kind == 1)) (past_end head.kind) at is)
+
+-- the answer that was given is one that the request may have
+pub has_answer : (world next : World) (request : Message) (given : Answer) (state : Connection) → (request.head.kind ≡ 2 → ⊥) → world.stage.setting.flags ≡ plain
+    → IsJudged (verdict_on request.head world.stage.setting.geometry world.stage.setting.flags) state → AwaitsAnswer state → IsGiven state given → next.connections 0 ≡ Idle
+    → HasAnswer world next request (Some given)
+has_answer world next request given state kind flags judged awaits fits idle = (
+  record {
+    no_disc = kind;
+    short = is_short state awaits fits;
+    judged = λ errno refused. is_error errno
+        (subst (λ (r : Result Action Errno). IsJudged r state) (ap (verdict_on request.head world.stage.setting.geometry) flags ∙ refused) judged);
+  },
+  idle,
+)
+  where
+    is_short : (state : Connection) → AwaitsAnswer state → IsGiven state given → (given ≡ Done) ⊎ ((errno : Errno) × (given ≡ Refused errno))
+    is_short Idle awaits fits = absurd awaits
+    is_short (Requested other) awaits fits = absurd awaits
+    is_short (Waiting number) awaits fits = fits
+    is_short (Ready own) awaits fits = subst (λ (a : Answer). (a ≡ Done) ⊎ ((errno : Errno) × (a ≡ Refused errno))) (sym fits) awaits
+    is_short Closed awaits fits = absurd awaits
+
+    is_error : (errno : Errno) → state ≡ Ready (Refused errno) → given ≡ Refused errno
+    is_error errno is = subst (λ (s : Connection). IsGiven s given) is fits

@@ -1,0 +1,112 @@
+use Rattle.std.proofs.Common.{◌≡◌, ℕ, List, [], ◌∷◌, Option, Some, None, Result, Ok, Err, ap, sym, subst, refl, ◌∙◌}
+use Rattle.nbd_wire.specs.declared.head.RequestHead.{RequestHead}
+use Rattle.request_core.specs.Bench.{ConnectionsState}
+use Rattle.request_core.specs.Life.{Leads, Trusts}
+use Rattle.world.specs.declared.event.Event.{Event}
+use Rattle.world.specs.declared.event.Event.TheVariants.{Sent, Answered}
+use Rattle.world.specs.declared.step.Step.TheVariants.{Send}
+use Rattle.world.specs.Serve.{Fine}
+use Rattle.world.specs.Step.{sent}
+use Rattle.nbdj_pipe.specs.Export.{Follows, HasAnswer, said_of}
+use Rattle.nbdj_pipe.specs.Talk.{verdict_on}
+use Rattle.nbdj_pipe.proofs.Steps.{end_kind, follows_on, has_answer, judged_awaits, no_ok, said_err, spoken_on}
+use Rattle.nbdj_pipe.proofs.export.Export.serve.Goals as goal
+
+pub returns-in_err-serve_sent-clause-world : goal.returns-in_err-serve_sent-clause-world
+returns-in_err-serve_sent-clause-world g c = λ world trusted of idle plain_flags.
+    let disk = g.D.Disk in
+    let old = c.args.self.now in
+    let request = c.args.request in
+    let one = c.serve_sent.new.self in
+    let asked = c.send-sent.new.self in
+    let sent_world = sent Fine world 0 request in
+    let sends = c.leads_law.ensures.sends world trusted 0 request old.order old.keeper old.connections idle of in
+    let sending = subst (λ (connections : ConnectionsState). Leads world sent_world (Send 0 request ∷ []) old.order old.keeper (disk.faults old.keeper.disk) connections
+    (Trusts trusted (disk.honest old.keeper.disk)) (disk.state old.keeper.disk) (disk.state old.keeper.disk)) (sym c.send-sent.ensures.connections) sends in
+    let first : Follows world sent_world (Sent 0 request ∷ []) old.order old.keeper (disk.faults old.keeper.disk) asked (Trusts trusted (disk.honest old.keeper.disk)) (disk.state old.keeper.disk) (disk.state old.keeper.disk) =
+    record { steps = Send 0 request ∷ []; leads = sending; said_is = spoken_on world.log (Sent 0 request ∷ []); setting = refl } in
+    let second = c.serve_sent.ensures.world sent_world trusted request sending.of_export refl in
+    let so_far = follows_on disk.state disk.faults disk.honest c.leads_law.ensures world sent_world second.0 trusted (Sent 0 request ∷ []) [] old.order one.order old.keeper one.keeper asked one.connections old.keeper.disk
+    c.serve_sent.ensures.honest.0 first second.2 in
+    (
+      second.0,
+      no_ok _ (HasAnswer world second.0 request) c.from_residual.result c.from_residual.ensures.1,
+      subst (λ (said : List Event). Follows world second.0 (Sent 0 request ∷ said) one.order one.keeper (disk.faults one.keeper.disk) one.connections (Trusts trusted (disk.honest one.keeper.disk))
+          (disk.state old.keeper.disk) (disk.state one.keeper.disk)) (sym (said_err _ c.from_residual.result c.from_residual.ensures.1)) so_far,
+    )
+
+pub returns-then-disconnects-clause-world : goal.returns-then-disconnects-clause-world
+returns-then-disconnects-clause-world g c = λ world trusted of idle plain_flags.
+    let disk = g.D.Disk in
+    let old = c.args.self.now in
+    let request = c.args.request in
+    let one = c.serve_sent.new.self in
+    let asked = c.send-sent.new.self in
+    let sent_world = sent Fine world 0 request in
+    let sends = c.leads_law.ensures.sends world trusted 0 request old.order old.keeper old.connections idle of in
+    let sending = subst (λ (connections : ConnectionsState). Leads world sent_world (Send 0 request ∷ []) old.order old.keeper (disk.faults old.keeper.disk) connections
+    (Trusts trusted (disk.honest old.keeper.disk)) (disk.state old.keeper.disk) (disk.state old.keeper.disk)) (sym c.send-sent.ensures.connections) sends in
+    let first : Follows world sent_world (Sent 0 request ∷ []) old.order old.keeper (disk.faults old.keeper.disk) asked (Trusts trusted (disk.honest old.keeper.disk)) (disk.state old.keeper.disk) (disk.state old.keeper.disk) =
+    record { steps = Send 0 request ∷ []; leads = sending; said_is = spoken_on world.log (Sent 0 request ∷ []); setting = refl } in
+    let second = c.serve_sent.ensures.world sent_world trusted request sending.of_export refl in
+    let so_far = follows_on disk.state disk.faults disk.honest c.leads_law.ensures world sent_world second.0 trusted (Sent 0 request ∷ []) [] old.order one.order old.keeper one.keeper asked one.connections old.keeper.disk
+    c.serve_sent.ensures.honest.0 first second.2 in
+    (second.0, sym (ap (λ (h : RequestHead). h.kind) c.head.ensures) ∙ c.if-disconnects.true, so_far)
+
+pub returns-in_err-answer-clause-world : goal.returns-in_err-answer-clause-world
+returns-in_err-answer-clause-world g c = λ world trusted of idle plain_flags.
+    let disk = g.D.Disk in
+    let old = c.args.self.now in
+    let request = c.args.request in
+    let one = c.serve_sent.new.self in
+    let asked = c.send-sent.new.self in
+    let sent_world = sent Fine world 0 request in
+    let sends = c.leads_law.ensures.sends world trusted 0 request old.order old.keeper old.connections idle of in
+    let sending = subst (λ (connections : ConnectionsState). Leads world sent_world (Send 0 request ∷ []) old.order old.keeper (disk.faults old.keeper.disk) connections
+    (Trusts trusted (disk.honest old.keeper.disk)) (disk.state old.keeper.disk) (disk.state old.keeper.disk)) (sym c.send-sent.ensures.connections) sends in
+    let first : Follows world sent_world (Sent 0 request ∷ []) old.order old.keeper (disk.faults old.keeper.disk) asked (Trusts trusted (disk.honest old.keeper.disk)) (disk.state old.keeper.disk) (disk.state old.keeper.disk) =
+    record { steps = Send 0 request ∷ []; leads = sending; said_is = spoken_on world.log (Sent 0 request ∷ []); setting = refl } in
+    let second = c.in_ok-serve_sent.ensures.world sent_world trusted request sending.of_export refl in
+    let so_far = follows_on disk.state disk.faults disk.honest c.leads_law.ensures world sent_world second.0 trusted (Sent 0 request ∷ []) [] old.order one.order old.keeper one.keeper asked one.connections old.keeper.disk
+    c.serve_sent.ensures.honest.0 first second.2 in
+    let two = c.answer.new.self in
+    let kind : request.head.kind ≡ 2 → ⊥ = λ is. c.if-disconnects.false (ap (λ (h : RequestHead). h.kind) c.head.ensures ∙ is) in
+    let awaits = judged_awaits (verdict_on request.head world.stage.setting.geometry world.stage.setting.flags) (second.0.connections 0) second.1
+    (λ is. kind (end_kind request.head world.stage.setting.geometry world.stage.setting.flags is)) in
+    let third = c.in_err-answer.ensures.world second.0 trusted second.2.leads.of_export awaits in
+    (
+      third.0,
+      no_ok _ (HasAnswer world third.0 request) c.from_residual-in_err-answer.result c.from_residual-in_err-answer.ensures.1,
+      subst (λ (said : List Event). Follows world third.0 (Sent 0 request ∷ said) two.order two.keeper (disk.faults two.keeper.disk) two.connections (Trusts trusted (disk.honest two.keeper.disk))
+          (disk.state old.keeper.disk) (disk.state two.keeper.disk)) (sym (said_err _ c.from_residual-in_err-answer.result c.from_residual-in_err-answer.ensures.1))
+          (follows_on disk.state disk.faults disk.honest c.leads_law.ensures world second.0 third.0 trusted (Sent 0 request ∷ []) [] one.order two.order one.keeper two.keeper one.connections two.connections old.keeper.disk
+          c.answer.ensures.honest.0 so_far third.2),
+    )
+
+pub returns-clause-world : goal.returns-clause-world
+returns-clause-world g c = λ world trusted of idle plain_flags.
+    let disk = g.D.Disk in
+    let old = c.args.self.now in
+    let request = c.args.request in
+    let one = c.serve_sent.new.self in
+    let asked = c.send-sent.new.self in
+    let sent_world = sent Fine world 0 request in
+    let sends = c.leads_law.ensures.sends world trusted 0 request old.order old.keeper old.connections idle of in
+    let sending = subst (λ (connections : ConnectionsState). Leads world sent_world (Send 0 request ∷ []) old.order old.keeper (disk.faults old.keeper.disk) connections
+    (Trusts trusted (disk.honest old.keeper.disk)) (disk.state old.keeper.disk) (disk.state old.keeper.disk)) (sym c.send-sent.ensures.connections) sends in
+    let first : Follows world sent_world (Sent 0 request ∷ []) old.order old.keeper (disk.faults old.keeper.disk) asked (Trusts trusted (disk.honest old.keeper.disk)) (disk.state old.keeper.disk) (disk.state old.keeper.disk) =
+    record { steps = Send 0 request ∷ []; leads = sending; said_is = spoken_on world.log (Sent 0 request ∷ []); setting = refl } in
+    let second = c.in_ok-serve_sent.ensures.world sent_world trusted request sending.of_export refl in
+    let so_far = follows_on disk.state disk.faults disk.honest c.leads_law.ensures world sent_world second.0 trusted (Sent 0 request ∷ []) [] old.order one.order old.keeper one.keeper asked one.connections old.keeper.disk
+    c.serve_sent.ensures.honest.0 first second.2 in
+    let two = c.answer.new.self in
+    let kind : request.head.kind ≡ 2 → ⊥ = λ is. c.if-disconnects.false (ap (λ (h : RequestHead). h.kind) c.head.ensures ∙ is) in
+    let awaits = judged_awaits (verdict_on request.head world.stage.setting.geometry world.stage.setting.flags) (second.0.connections 0) second.1
+    (λ is. kind (end_kind request.head world.stage.setting.geometry world.stage.setting.flags is)) in
+    let third = c.in_ok-answer.ensures.world second.0 trusted second.2.leads.of_export awaits in
+    let answer = c.in_ok-answer.field-0 in (
+      third.0,
+      has_answer world third.0 request answer (second.0.connections 0) kind plain_flags second.1 awaits third.1.1 third.1.0,
+      follows_on disk.state disk.faults disk.honest c.leads_law.ensures world second.0 third.0 trusted (Sent 0 request ∷ []) (Answered 0 answer ∷ []) one.order two.order one.keeper two.keeper one.connections two.connections old.keeper.disk
+          c.answer.ensures.honest.0 so_far third.2,
+    )

@@ -1,0 +1,30 @@
+use Rattle.std.proofs.Common.{◌∙◌}
+use Rattle.nbdj_pipe.proofs.Steps.{settles_on}
+use Rattle.nbdj_pipe.proofs.export.Export.store_some.Goals as goal
+
+pub returns-clause-world : goal.returns-clause-world
+returns-clause-world g c = λ world trusted of.
+    let disk = g.D.Disk in
+    let law = c.leads_law.ensures in
+    let one = c.store_step-sealed.new.self in
+    let two = c.store_step-appended.new.self in
+    let three = c.store_step-published.new.self in
+    let first = c.store_step-sealed.ensures.world world trusted of in
+    let second = c.store_step-appended.ensures.world first.0 trusted first.1.follows.leads.of_export in
+    let third = c.store_step-published.ensures.world second.0 trusted second.1.follows.leads.of_export in (
+      third.0,
+      settles_on disk.state disk.faults disk.honest law world second.0 third.0 trusted two.order three.order two.keeper three.keeper two.connections three.connections c.args.self.now.keeper.disk
+          c.store_step-published.ensures.honest.0
+          (settles_on disk.state disk.faults disk.honest law world first.0 second.0 trusted one.order two.order one.keeper two.keeper one.connections two.connections c.args.self.now.keeper.disk
+          c.store_step-appended.ensures.honest.0 first.1 second.1) third.1,
+    )
+
+pub returns-clause-honest : goal.returns-clause-honest
+returns-clause-honest g c =
+    let one = c.store_step-sealed.ensures.honest in
+    let two = c.store_step-appended.ensures.honest in
+    let three = c.store_step-published.ensures.honest in
+    (λ is. one.0 (two.0 (three.0 is)), λ is. three.1 (two.1 (one.1 is)))
+
+pub returns-clause-extent : goal.returns-clause-extent
+returns-clause-extent g c = c.store_step-published.ensures.extent ∙ (c.store_step-appended.ensures.extent ∙ c.store_step-sealed.ensures.extent)

@@ -1,0 +1,5 @@
+pub mod Refusals
+pub mod Talk
+pub mod Export
+pub mod Session
+pub mod Pipe

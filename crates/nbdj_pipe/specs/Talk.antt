@@ -1,0 +1,75 @@
+-- What a connection and its export say to one another, in a log and as bytes.
+use Rattle.std.specs.Prelude.{ℕ, ◌≡◌, ◌≢◌, ◌⊎◌, false, Result, Ok, Err, List, [], ◌∷◌, ◌++◌}
+use Rattle.std.specs.List.{AllByRecursion}
+use Rattle.image_model.specs.declared.geometry.Geometry.{Geometry}
+use Rattle.nbd_wire.specs.Errno.{errno_number}
+use Rattle.nbd_wire.specs.Head.{simple_reply}
+use Rattle.nbd_wire.specs.Request.{Message}
+use Rattle.nbd_wire.specs.declared.error.Errno.{Errno}
+use Rattle.nbd_wire.specs.declared.head.RequestHead.{RequestHead}
+use Rattle.nbd_wire.specs.declared.message.Answer.{Answer}
+use Rattle.nbd_wire.specs.declared.message.Answer.TheVariants.{Done, Refused, Bytes, States}
+use Rattle.nbd_wire.specs.declared.message.SessionFlags.{SessionFlags}
+use Rattle.world.specs.declared.action.Action.{Action}
+use Rattle.world.specs.declared.event.Event.{Event}
+use Rattle.world.specs.declared.event.Event.TheVariants.{Sent, Answered, Numbered, Took, Held, Failed}
+use Rattle.world.specs.Verdict.{verdict}
+
+-- what a log says of requests and answers: the events that send or answer one
+abbrev pub spoken : List Event → List Event
+spoken [] = []
+spoken (Sent connection request ∷ log) = Sent connection request ∷ spoken log
+spoken (Answered connection answer ∷ log) = Answered connection answer ∷ spoken log
+spoken (Numbered connection number ∷ log) = spoken log
+spoken (Took ∷ log) = spoken log
+spoken (Held ∷ log) = spoken log
+spoken (Failed fault ∷ log) = spoken log
+
+-- a request and its answer
+pub record Exchange : Type 0 where
+  pub request : Message
+  pub answer : Answer
+
+-- requests of the one connection there is, each answered before the next is sent
+abbrev pub talk : List Exchange → List Event
+talk [] = []
+talk (exchange ∷ exchanges) = Sent 0 exchange.request ∷ Answered 0 exchange.answer ∷ talk exchanges
+
+-- the requests
+abbrev pub asked : List Exchange → List Message
+asked [] = []
+asked (exchange ∷ exchanges) = exchange.request ∷ asked exchanges
+
+-- the number of an answer's error on the wire, 0 for none
+abbrev pub error_of : Answer → ℕ
+error_of Done = 0
+error_of (Refused errno) = errno_number errno
+error_of (Bytes read) = 0
+error_of (States runs) = 0
+
+-- an answer as a simple reply without data
+unfoldable pub reply_to : ℕ → Answer → List ℕ
+reply_to cookie answer = simple_reply (error_of answer) cookie []
+
+-- the text of the replies, one to each request in their order
+abbrev pub dialog : List Exchange → List ℕ
+dialog [] = []
+dialog (exchange ∷ exchanges) = reply_to exchange.request.head.cookie exchange.answer ++ dialog exchanges
+
+-- what both sides of a connection without a handshake have agreed on
+abbrev pub plain : SessionFlags
+plain = record { structured = false; context = false }
+
+-- the verdict on a request, without its rules
+unfoldable pub verdict_on : RequestHead → Geometry → SessionFlags → Result Action Errno
+verdict_on head geometry flags = verdict head geometry flags
+
+-- a request that isn't a DISC, and its answer: one that the rules of judgement refuse has that error
+pub record IsAnswered (geometry : Geometry) (exchange : Exchange) : Type 0 where
+  pub no_disc : exchange.request.head.kind ≢ 2
+  pub short : (exchange.answer ≡ Done) ⊎ ((errno : Errno) × (exchange.answer ≡ Refused errno))
+  pub judged : (errno : Errno) → (let result : Result Action Errno = Err errno in verdict_on exchange.request.head geometry plain ≡ result)
+      → exchange.answer ≡ Refused errno
+
+abbrev pub AreAnswered : Geometry → List Exchange → Type 0
+AreAnswered geometry exchanges = AllByRecursion (IsAnswered geometry) exchanges

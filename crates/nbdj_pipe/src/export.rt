@@ -1,0 +1,253 @@
+ghost use Rattle.std.specs.Prelude.{◌≡◌, ◌↔◌, ◌++◌, Bool, [], ◌∷◌, IfErr, IfOk, IfSome, MatchBool, MatchOption, OnOk};
+ghost use Rattle.nbd_wire.specs.Request.{Message};
+ghost use Rattle.nbdj_pipe.specs.Export.{AwaitsAnswer, Follows, HasAnswer, IsGiven, IsJudged, IsOfKind, IsStoring, Settles, said_of, told, told_by};
+ghost use Rattle.nbdj_pipe.specs.Session.{IsEarly};
+ghost use Rattle.nbdj_pipe.specs.Talk.{plain, spoken, verdict_on};
+ghost use Rattle.order_book.specs.Order.{IsInHand};
+ghost use Rattle.request_core.specs.Life.{Trusts};
+ghost use Rattle.request_core.specs.Parts.{IsExportOf};
+ghost use Rattle.world.specs.Serve.{Luck};
+ghost use Rattle.world.specs.Step.{after_step};
+ghost use Rattle.world.specs.World.{World};
+ghost use Rattle.world.specs.declared.connection.Connection.TheVariants as Connection;
+ghost use Rattle.world.specs.declared.event.Event.TheVariants as Event;
+
+use crate::refusal::Refusal;
+use checkpoint::Keeper;
+use disk_model::Disk;
+use nbd_wire::{Answer, DISCONNECT, Request};
+use order_book::Order;
+use request_core::{Connections, Event, Step, StepFault, leads_law, take_step};
+use std::alloc::Global;
+use world_law::schedule_law;
+
+// What became of a group, by the events of sealing and appending it. After a fault of the device nothing is refused: the
+// order is stopped, and answers tell of it.
+fn stored(sealed: &Event, appended: &Event) -> Result<(), Refusal>
+    ensures { IfErr result IsEarly }
+{
+    if matches!(sealed, Event::Failed(_)) {
+        return Err(Refusal::NoMemory);
+    }
+    match appended {
+        Event::Took => Ok(()),
+        Event::Failed(StepFault::NoMemory) => Err(Refusal::NoMemory),
+        Event::Failed(StepFault::DeviceFault | StepFault::FailedBefore) => Ok(()),
+        _ => Err(Refusal::AreaFull),
+    }
+}
+
+/// An export with one connection, which is served step by step. It is spent by `close`, since a group may be in hand.
+pub(crate) struct Export<D: Disk> {
+    pub(crate) alloc: Global,
+    pub(crate) order: Order,
+    pub(crate) keeper: Keeper<D>,
+    pub(crate) connections: Connections,
+}
+
+impl<D: Disk> Export<D> {
+    /// Carries out one step.
+    pub(crate) fn step(&mut self, step: Step) -> Event
+        requires group { IfSome self.old.connections.group (IsInHand self.old.order) }
+        ensures group { IfSome self.new.connections.group (IsInHand self.new.order) }
+        ensures extent { D.extent self.new.keeper.disk ≡ D.extent self.old.keeper.disk }
+        ensures honest { D.honest self.new.keeper.disk ↔ D.honest self.old.keeper.disk }
+        ensures world { (world : World) (trusted : Bool) → IsExportOf world self.old.order self.old.keeper (D.faults self.old.keeper.disk) self.old.connections (Trusts trusted (D.honest self.old.keeper.disk)) (D.state self.old.keeper.disk)
+            → (luck : Luck) × ((after_step world step luck).log ≡ world.log ++ result ∷ [])
+            × Follows world (after_step world step luck) (spoken (result ∷ [])) self.new.order self.new.keeper (D.faults self.new.keeper.disk) self.new.connections
+            (Trusts trusted (D.honest self.new.keeper.disk)) (D.state self.old.keeper.disk) (D.state self.new.keeper.disk) }
+    {
+        leads_law::<D>();
+        schedule_law();
+        take_step(
+            self.alloc,
+            &step,
+            &mut self.order,
+            &mut self.keeper,
+            &mut self.connections,
+        )
+    }
+
+    // Carries out a step of order and keeper alone.
+    fn store_step(&mut self, step: Step) -> Event
+        requires storing { IsStoring step }
+        requires group { IfSome self.old.connections.group (IsInHand self.old.order) }
+        ensures group { IfSome self.new.connections.group (IsInHand self.new.order) }
+        ensures extent { D.extent self.new.keeper.disk ≡ D.extent self.old.keeper.disk }
+        ensures honest { D.honest self.new.keeper.disk ↔ D.honest self.old.keeper.disk }
+        ensures world { (world : World) (trusted : Bool) → IsExportOf world self.old.order self.old.keeper (D.faults self.old.keeper.disk) self.old.connections (Trusts trusted (D.honest self.old.keeper.disk)) (D.state self.old.keeper.disk)
+            → (next : World) × Settles world next self.new.order self.new.keeper (D.faults self.new.keeper.disk) self.new.connections
+            (Trusts trusted (D.honest self.new.keeper.disk)) (D.state self.old.keeper.disk) (D.state self.new.keeper.disk) }
+    {
+        self.step(step)
+    }
+
+    // Stores the next group: the one in hand, or the longest beginning of what is pending. Where the device fails the order is
+    // stopped.
+    fn store_some(&mut self) -> Result<(), Refusal>
+        requires group { IfSome self.old.connections.group (IsInHand self.old.order) }
+        ensures group { IfSome self.new.connections.group (IsInHand self.new.order) }
+        ensures extent { D.extent self.new.keeper.disk ≡ D.extent self.old.keeper.disk }
+        ensures honest { D.honest self.new.keeper.disk ↔ D.honest self.old.keeper.disk }
+        ensures early { IfErr result IsEarly }
+        ensures world { (world : World) (trusted : Bool) → IsExportOf world self.old.order self.old.keeper (D.faults self.old.keeper.disk) self.old.connections (Trusts trusted (D.honest self.old.keeper.disk)) (D.state self.old.keeper.disk)
+            → (next : World) × Settles world next self.new.order self.new.keeper (D.faults self.new.keeper.disk) self.new.connections
+            (Trusts trusted (D.honest self.new.keeper.disk)) (D.state self.old.keeper.disk) (D.state self.new.keeper.disk) }
+    {
+        leads_law::<D>();
+        let sealed = self.store_step(Step::Seal);
+        let appended = self.store_step(Step::Append);
+        let _published = self.store_step(Step::Publish);
+        stored(&sealed, &appended)
+    }
+
+    // Whether there is nothing to store, or nothing that can be.
+    fn is_settled(&self) -> bool {
+        self.order.stopped() || self.order.durable() == self.order.mark()
+    }
+
+    /// Stores all that is pending, or what can be stored before the device fails.
+    pub(crate) fn store_all(&mut self) -> Result<(), Refusal>
+        requires group { IfSome self.old.connections.group (IsInHand self.old.order) }
+        ensures group { IfSome self.new.connections.group (IsInHand self.new.order) }
+        ensures extent { D.extent self.new.keeper.disk ≡ D.extent self.old.keeper.disk }
+        ensures honest { D.honest self.new.keeper.disk ↔ D.honest self.old.keeper.disk }
+        ensures early { IfErr result IsEarly }
+        ensures world { (world : World) (trusted : Bool) → IsExportOf world self.old.order self.old.keeper (D.faults self.old.keeper.disk) self.old.connections (Trusts trusted (D.honest self.old.keeper.disk)) (D.state self.old.keeper.disk)
+            → (next : World) × Settles world next self.new.order self.new.keeper (D.faults self.new.keeper.disk) self.new.connections
+            (Trusts trusted (D.honest self.new.keeper.disk)) (D.state self.old.keeper.disk) (D.state self.new.keeper.disk) }
+    {
+        leads_law::<D>();
+        for _ in 0..u64::MAX {
+            if self.is_settled() {
+                return Ok(());
+            }
+            self.store_some()?;
+        }
+        Err(Refusal::Failed)
+    }
+
+    // Serves the request that was sent; not where there is no room for its command.
+    fn try_serve(&mut self) -> bool
+        requires group { IfSome self.old.connections.group (IsInHand self.old.order) }
+        ensures group { IfSome self.new.connections.group (IsInHand self.new.order) }
+        ensures extent { D.extent self.new.keeper.disk ≡ D.extent self.old.keeper.disk }
+        ensures honest { D.honest self.new.keeper.disk ↔ D.honest self.old.keeper.disk }
+        ensures world { (world : World) (trusted : Bool) (request : Message) → IsExportOf world self.old.order self.old.keeper (D.faults self.old.keeper.disk) self.old.connections (Trusts trusted (D.honest self.old.keeper.disk)) (D.state self.old.keeper.disk)
+            → world.connections 0 ≡ Connection.Requested request
+            → (next : World) × MatchBool result (IsJudged (verdict_on request.head world.stage.setting.geometry world.stage.setting.flags) (next.connections 0))
+            (next.connections ≡ world.connections)
+            × Follows world next [] self.new.order self.new.keeper (D.faults self.new.keeper.disk) self.new.connections
+            (Trusts trusted (D.honest self.new.keeper.disk)) (D.state self.old.keeper.disk) (D.state self.new.keeper.disk) }
+    {
+        if let Event::Held = self.step(Step::Serve(0)) {
+            return false;
+        }
+        true
+    }
+
+    // Serves the request that was sent, once more after all that is pending was stored where there is no room for its command.
+    fn serve_sent(&mut self) -> Result<(), Refusal>
+        requires group { IfSome self.old.connections.group (IsInHand self.old.order) }
+        ensures group { IfSome self.new.connections.group (IsInHand self.new.order) }
+        ensures extent { D.extent self.new.keeper.disk ≡ D.extent self.old.keeper.disk }
+        ensures honest { D.honest self.new.keeper.disk ↔ D.honest self.old.keeper.disk }
+        ensures early { IfErr result IsEarly }
+        ensures world { (world : World) (trusted : Bool) (request : Message) → IsExportOf world self.old.order self.old.keeper (D.faults self.old.keeper.disk) self.old.connections (Trusts trusted (D.honest self.old.keeper.disk)) (D.state self.old.keeper.disk)
+            → world.connections 0 ≡ Connection.Requested request
+            → (next : World) × OnOk result (IsJudged (verdict_on request.head world.stage.setting.geometry world.stage.setting.flags) (next.connections 0))
+            × Follows world next [] self.new.order self.new.keeper (D.faults self.new.keeper.disk) self.new.connections
+            (Trusts trusted (D.honest self.new.keeper.disk)) (D.state self.old.keeper.disk) (D.state self.new.keeper.disk) }
+    {
+        leads_law::<D>();
+        if self.try_serve() {
+            return Ok(());
+        }
+        self.store_all()?;
+        if self.try_serve() {
+            return Ok(());
+        }
+        Err(Refusal::NoRoom)
+    }
+
+    // Gives the answer to the request that was served, where it is due.
+    fn try_answer(&mut self) -> Option<Answer>
+        requires group { IfSome self.old.connections.group (IsInHand self.old.order) }
+        ensures group { IfSome self.new.connections.group (IsInHand self.new.order) }
+        ensures extent { D.extent self.new.keeper.disk ≡ D.extent self.old.keeper.disk }
+        ensures honest { D.honest self.new.keeper.disk ↔ D.honest self.old.keeper.disk }
+        ensures world { (world : World) (trusted : Bool) → IsExportOf world self.old.order self.old.keeper (D.faults self.old.keeper.disk) self.old.connections (Trusts trusted (D.honest self.old.keeper.disk)) (D.state self.old.keeper.disk)
+            → AwaitsAnswer (world.connections 0)
+            → (next : World) × MatchOption result (next.connections ≡ world.connections) (λ answer. (next.connections 0 ≡ Connection.Idle) × IsGiven (world.connections 0) answer)
+            × Follows world next (told result) self.new.order self.new.keeper (D.faults self.new.keeper.disk) self.new.connections
+            (Trusts trusted (D.honest self.new.keeper.disk)) (D.state self.old.keeper.disk) (D.state self.new.keeper.disk) }
+    {
+        match self.step(Step::Answer(0)) {
+            Event::Answered(_, answer) => Some(answer),
+            _ => None,
+        }
+    }
+
+    // Gives the answer to the request that was served, after all that is pending was stored where it isn't due.
+    fn answer(&mut self) -> Result<Answer, Refusal>
+        requires group { IfSome self.old.connections.group (IsInHand self.old.order) }
+        ensures group { IfSome self.new.connections.group (IsInHand self.new.order) }
+        ensures extent { D.extent self.new.keeper.disk ≡ D.extent self.old.keeper.disk }
+        ensures honest { D.honest self.new.keeper.disk ↔ D.honest self.old.keeper.disk }
+        ensures early { IfErr result IsEarly }
+        ensures world { (world : World) (trusted : Bool) → IsExportOf world self.old.order self.old.keeper (D.faults self.old.keeper.disk) self.old.connections (Trusts trusted (D.honest self.old.keeper.disk)) (D.state self.old.keeper.disk)
+            → AwaitsAnswer (world.connections 0)
+            → (next : World) × IfOk result (λ answer. (next.connections 0 ≡ Connection.Idle) × IsGiven (world.connections 0) answer)
+            × Follows world next (told_by result) self.new.order self.new.keeper (D.faults self.new.keeper.disk) self.new.connections
+            (Trusts trusted (D.honest self.new.keeper.disk)) (D.state self.old.keeper.disk) (D.state self.new.keeper.disk) }
+    {
+        leads_law::<D>();
+        if let Some(answer) = self.try_answer() {
+            return Ok(answer);
+        }
+        self.store_all()?;
+        match self.try_answer() {
+            Some(answer) => Ok(answer),
+            None => Err(Refusal::Failed),
+        }
+    }
+
+    /// Serves a request to its answer; a DISC has none.
+    pub(crate) fn serve(&mut self, request: Request) -> Result<Option<Answer>, Refusal>
+        requires group { IfSome self.old.connections.group (IsInHand self.old.order) }
+        ensures group { IfSome self.new.connections.group (IsInHand self.new.order) }
+        ensures extent { D.extent self.new.keeper.disk ≡ D.extent self.old.keeper.disk }
+        ensures honest { D.honest self.new.keeper.disk ↔ D.honest self.old.keeper.disk }
+        ensures early { IfErr result IsEarly }
+        ensures kind { IfOk result (IsOfKind request) }
+        ensures world { (world : World) (trusted : Bool) → IsExportOf world self.old.order self.old.keeper (D.faults self.old.keeper.disk) self.old.connections (Trusts trusted (D.honest self.old.keeper.disk)) (D.state self.old.keeper.disk)
+            → world.connections 0 ≡ Connection.Idle → world.stage.setting.flags ≡ plain
+            → (next : World) × IfOk result (HasAnswer world next request)
+            × Follows world next (Event.Sent 0 request ∷ said_of result) self.new.order self.new.keeper (D.faults self.new.keeper.disk) self.new.connections
+            (Trusts trusted (D.honest self.new.keeper.disk)) (D.state self.old.keeper.disk) (D.state self.new.keeper.disk) }
+    {
+        leads_law::<D>();
+        let disconnects = request.head().kind == DISCONNECT;
+        let _sent = self.connections.send(0, request);
+        self.serve_sent()?;
+        if disconnects {
+            return Ok(None);
+        }
+        Ok(Some(self.answer()?))
+    }
+
+    /// The device, as it is.
+    pub(crate) fn into_disk(self) -> D
+        requires { IfSome self.connections.group (IsInHand self.order) }
+        ensures { result ≡ self.keeper.disk }
+    {
+        let Export {
+            alloc: _,
+            mut order,
+            keeper,
+            connections,
+        } = self;
+        connections.close(&mut order);
+        keeper.into_disk()
+    }
+}

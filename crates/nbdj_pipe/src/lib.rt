@@ -1,0 +1,15 @@
+//! One connection served over streams of bytes, without a handshake: requests come in, replies go out, and the write
+//! commands go through an order of commands to a device.
+#![tactic(auto)]
+
+mod export;
+mod options;
+mod refusal;
+mod session;
+
+mod streams;
+
+pub use options::PipeOptions;
+pub use refusal::Refusal;
+pub use session::pipe;
+
