@@ -9,7 +9,8 @@ use crate::files::{make, open};
 use clap::error::ErrorKind;
 use disk_model::FileDisk;
 use nbdj_line::line;
-use nbdj_run::{Plan, perform, script};
+use nbdj_run::{Plan, perform};
+use nbdj_script::script;
 use std::process::ExitCode;
 use std::{env, io};
 

@@ -3,8 +3,8 @@
 use Rattle.std.specs.Prelude.{ℕ, ◌≡◌, Option, Some, None, List, codes}
 use Rattle.std.specs.Str.Parse.{IsNumeral, digits_value, without_leading_plus}
 use Rattle.clap.specs.Words.{Row, Text, first_of, one_of}
-use Rattle.nbdj_run.specs.declared.plan.CacheMode.{CacheMode}
-use Rattle.nbdj_run.specs.declared.plan.CacheMode.TheVariants.{Writeback, Writethrough}
+use Rattle.world.specs.declared.step.Mode.{Mode}
+use Rattle.world.specs.declared.step.Mode.TheVariants.{Writeback, Writethrough}
 use Rattle.nbdj_run.specs.declared.plan.Plan.{Plan}
 use Rattle.nbdj_run.specs.declared.plan.Plan.TheVariants.{Format, Pipe, Recover, Rehearse}
 
@@ -18,7 +18,7 @@ pub record IsGiven (rows : List Row) (name : Text) (number : ℕ) : Type 0 where
 abbrev pub HasPath : List Row → Text → Type 0
 HasPath rows path = first_of (codes "path") rows ≡ Some path
 
-abbrev pub mode_name : CacheMode → Text
+abbrev pub mode_name : Mode → Text
 mode_name Writeback = codes "writeback"
 mode_name Writethrough = codes "writethrough"
 
@@ -29,6 +29,6 @@ IsAsked (Some (name, rows)) (Format path geometry) =
     (name ≡ codes "format") × HasPath rows path.now × IsGiven rows (codes "blocks") geometry.blocks × IsGiven rows (codes "area") geometry.area
 IsAsked (Some (name, rows)) (Pipe path options) =
     (name ≡ codes "pipe") × HasPath rows path.now × IsGiven rows (codes "frames") options.frames
-    × (first_of (codes "cache") rows ≡ Some (mode_name options.cache))
+    × (first_of (codes "cache") rows ≡ Some (mode_name options.mode))
 IsAsked (Some (name, rows)) (Recover path) = (name ≡ codes "recover") × HasPath rows path.now
 IsAsked (Some (name, rows)) Rehearse = name ≡ codes "rehearse"

@@ -8,8 +8,10 @@ use crate::commands::{modes, program};
 use clap::error::ErrorKind;
 use clap::{ArgMatches, Error};
 use image_model::Geometry;
-use nbdj_run::{CacheMode, PipeOptions, Plan};
+use nbdj_pipe::PipeOptions;
+use nbdj_run::Plan;
 use std::alloc::Global;
+use world::Mode;
 
 /// Reads a command line, the program's name first. Texts of help and version come as errors too.
 ///
@@ -60,19 +62,19 @@ fn pipe<'a>(alloc: Global, matches: &ArgMatches<'a>) -> Result<Plan<'a>, Error>
 {
     let path = path(alloc, matches)?;
     let frames = number(alloc, matches, "frames")?;
-    let cache = cache(alloc, matches)?;
-    match PipeOptions::new(frames, cache) {
+    let mode = mode(alloc, matches)?;
+    match PipeOptions::new(frames, mode) {
         Some(options) => Ok(Plan::Pipe { path, options }),
         None => Err(fault(alloc, "--frames: the frames are 512 to 65536")),
     }
 }
 
-fn cache(alloc: Global, matches: &ArgMatches<'_>) -> Result<CacheMode, Error>
-    ensures { IfOk result (λ cache. first_of (codes "cache") (rows_of (found_of matches.now)) ≡ Some (mode_name cache)) }
+fn mode(alloc: Global, matches: &ArgMatches<'_>) -> Result<Mode, Error>
+    ensures { IfOk result (λ mode. first_of (codes "cache") (rows_of (found_of matches.now)) ≡ Some (mode_name mode)) }
 {
     match text(matches, "cache") {
-        Some("writeback") => Ok(CacheMode::Writeback),
-        Some("writethrough") => Ok(CacheMode::Writethrough),
+        Some("writeback") => Ok(Mode::Writeback),
+        Some("writethrough") => Ok(Mode::Writethrough),
         _ => Err(fault(alloc, "--cache: the mode is writeback or writethrough")),
     }
 }

@@ -1,4 +1,1 @@
 pub mod Plan
-pub mod Pipe
-pub mod Session
-pub mod Wire

@@ -1,18 +1,8 @@
-//! What the program `nbdj` does, over any device, reader and writers.
+//! The plans of the program `nbdj`, carried out over any device, reader and writers.
 #![tactic(auto)]
 
-mod connection;
-mod life;
 mod plan;
-mod refusal;
-mod rehearsing;
 mod run;
-mod script_line;
-mod storing;
-mod streams;
 
-pub use connection::pipe;
-pub use plan::{CacheMode, PipeOptions, Plan};
-pub use refusal::Refusal;
-pub use rehearsing::script;
+pub use plan::Plan;
 pub use run::perform;

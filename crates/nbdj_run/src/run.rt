@@ -1,15 +1,14 @@
-ghost use Rattle.std.specs.Prelude.{◌≡◌, Result};
+ghost use Rattle.std.specs.Prelude.{◌≡◌, ◌⊎◌, Result};
 ghost use Rattle.image_model.specs.Geometry.{device_bytes_of};
-ghost use Rattle.nbdj_run.specs.Pipe.{IsPiped, status_of};
+ghost use Rattle.nbdj_pipe.specs.Pipe.{IsPiped, IsUnopened, status_of};
 ghost use Rattle.nbdj_run.specs.Plan.{IsPipe, Suits};
-ghost use Rattle.nbdj_run.specs.declared.refusal.Refusal.{Refusal};
+ghost use Rattle.nbdj_pipe.specs.declared.refusal.Refusal.{Refusal};
 
-use crate::connection::pipe;
 use crate::plan::Plan;
-use crate::refusal::Refusal;
 use checkpoint::Keeper;
 use disk_model::Disk;
 use image_model::Geometry;
+use nbdj_pipe::{Refusal, pipe};
 use std::alloc::Global;
 use std::fmt::Display;
 use std::io::{Read, Write};
@@ -29,7 +28,8 @@ pub fn perform<D: Disk + Drop, R: Read, W: Write, E: Write>(
     requires { Suits plan.now (D.extent disk) }
     // A pipe wrote what it owes for what it read, and answers 0 where it ended with a DISC.
     ensures { IsPipe plan.now → (outcome : Result (Unit {0}) Refusal) × (result.0 ≡ status_of outcome)
-        × IsPiped (R.remaining input.old) (R.remaining input.new) (W.contents output.old) (W.contents output.new) outcome }
+        × (IsUnopened (R.remaining input.old) (R.remaining input.new) (W.contents output.old) (W.contents output.new) outcome
+        ⊎ IsPiped (R.remaining input.old) (R.remaining input.new) (W.contents output.old) (W.contents output.new) outcome) }
 {
     let (outcome, disk) = match *plan {
         Plan::Format { path: _, geometry } => format(alloc, disk, geometry, output),

@@ -4,7 +4,9 @@ ghost use Rattle.nbdj_run.specs.Plan.{Suits};
 use disk_model::{Disk, SimDisk};
 use image_model::Geometry;
 use nbd_wire::{RequestHead, encode_request};
-use nbdj_run::{CacheMode, PipeOptions, Plan, perform};
+use nbdj_pipe::PipeOptions;
+use nbdj_run::{Plan, perform};
+use world::Mode;
 use std::alloc::{AllocError, Global};
 use std::io::Read;
 use std::process::Abort;
@@ -52,7 +54,7 @@ pub const PIPE: Plan<'static> = Plan::Pipe {
     path: "",
     options: PipeOptions {
         frames: 4096,
-        cache: CacheMode::Writeback,
+        mode: Mode::Writeback,
     },
 };
 

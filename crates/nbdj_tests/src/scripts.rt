@@ -1,4 +1,4 @@
-use nbdj_run::script;
+use nbdj_script::script;
 use std::alloc::{AllocError, Global};
 use std::io::{self, ErrorKind, Read, Write};
 use std::test::Fail;

@@ -1,13 +1,11 @@
-ghost use Rattle.std.specs.Prelude.{◌≡◌, IfOk};
-ghost use Rattle.world.specs.Step.{HasItsRequest};
 
 use crate::life::{BlockRun, Life, Told, flush, write};
-use crate::refusal::Refusal;
 use crate::script_line::{Line, Setup, StepLine, parse};
 use checkpoint::{Keeper, KeeperFault};
 use disk_model::{CrashChoice, SimDisk};
 use image_model::Kind;
-use request_core::{Outcome, Step, StepFault};
+use nbdj_pipe::Refusal;
+use request_core::{Step, StepFault};
 use std::alloc::{AllocError, Global};
 use std::fmt::Display;
 use std::io::{BufRead, BufReader, ErrorKind, Read, Write};
@@ -192,10 +190,10 @@ impl Rehearsal {
             (Told::Failed(fault), _) => {
                 self.print(output, format_args!("failed {}", number_of(fault)))
             }
-            (Told::Answered(Outcome::Done), StepLine::Answer(connection)) => {
+            (Told::Answered(Ok(())), StepLine::Answer(connection)) => {
                 self.print(output, format_args!("answer {} ok", name_of(connection)))
             }
-            (Told::Answered(Outcome::Refused(errno)), StepLine::Answer(connection)) => self.print(
+            (Told::Answered(Err(errno)), StepLine::Answer(connection)) => self.print(
                 output,
                 format_args!("answer {} error {}", name_of(connection), errno.number()),
             ),
@@ -327,7 +325,6 @@ fn print_opened<W: Write>(count: u64, runs: &[BlockRun], output: &mut W) -> Resu
 
 // The step of a line.
 fn step_of(alloc: Global, line: StepLine, cookie: u64) -> Result<Step, AllocError>
-    ensures { IfOk result HasItsRequest }
 {
     Ok(match line {
         StepLine::Put(connection, put) => Step::Send(connection, write(alloc, cookie, put)?),

@@ -1,15 +1,13 @@
 ghost use Rattle.std.specs.Prelude.{◌≡◌, ◌<◌, ◌≤◌, ◌*◌, length, vec_len, IfOk, IfSome};
-ghost use Rattle.nbd_wire.specs.Request.{HasItsData};
-ghost use Rattle.world.specs.Step.{HasItsRequest};
 
 use crate::script_line::{BlockWrite, CONNECTIONS, Setup};
 use bitflags::Flags;
 use checkpoint::{Keeper, KeeperFault};
 use disk_model::{CallKind, CrashChoice, SimDisk};
 use image_model::{BLOCK_BYTES, Kind};
-use nbd_wire::{CommandFlags, FLUSH, MAX_PAYLOAD, Request, RequestHead, SessionFlags, WRITE};
+use nbd_wire::{Answer, CommandFlags, Errno, FLUSH, MAX_PAYLOAD, Request, RequestHead, SessionFlags, WRITE};
 use order_book::Order;
-use request_core::{Bench, Event, Outcome, Step, StepFault, rehearse};
+use request_core::{Bench, Event, Step, StepFault, rehearse};
 use std::alloc::{AllocError, Global};
 use std::marker::Model;
 
@@ -26,7 +24,7 @@ pub enum Told {
     Held,
     /// The refusal.
     Failed(StepFault),
-    Answered(Outcome),
+    Answered(Result<(), Errno>),
 }
 
 /// Neighbouring blocks of one state that begin with the same byte.
@@ -54,7 +52,7 @@ impl Model for Life {
 
     ghost view = { λ life. life.bench };
 
-    ghost invariant = { λ life. IfSome life.bench.group (IsInHand life.order) };
+    ghost invariant = { λ life. IfSome life.bench.connections.group (IsInHand life.order) };
 }
 
 impl Life {
@@ -108,9 +106,7 @@ impl Life {
     }
 
     /// Carries out one step.
-    pub fn step(&mut self, step: Step) -> Told
-        requires { HasItsRequest step }
-    {
+    pub fn step(&mut self, step: Step) -> Told {
         let steps = [step];
         match rehearse(&steps, &mut self.order, &mut self.keeper, &mut self.bench) {
             Ok(()) => last_event(self.bench.log()),
@@ -155,44 +151,42 @@ fn last_event(log: &[Event]) -> Told {
     match log.last() {
         Some(Event::Held) | None => Told::Held,
         Some(Event::Failed(fault)) => Told::Failed(*fault),
-        Some(Event::Answered(_, outcome)) => Told::Answered(*outcome),
+        Some(Event::Answered(_, Answer::Refused(errno))) => Told::Answered(Err(*errno)),
+        Some(Event::Answered(_, _)) => Told::Answered(Ok(())),
         Some(Event::Sent(..) | Event::Numbered(..) | Event::Took) => Told::Done,
     }
 }
 
 /// A FLUSH.
-pub fn flush(alloc: Global, cookie: u64) -> Request
-    ensures { HasItsData result }
-{
-    Request {
-        head: RequestHead {
+pub fn flush(alloc: Global, cookie: u64) -> Request {
+    Request::new(
+        RequestHead {
             flags: 0,
             kind: FLUSH,
             cookie,
             offset: 0,
             length: 0,
         },
-        bytes: Vec::new(alloc),
-    }
+        Vec::new(alloc),
+    )
 }
 
 /// A WRITE; the data of a long one aren't kept.
-pub fn write(alloc: Global, cookie: u64, put: BlockWrite) -> Result<Request, AllocError>
-    ensures { IfOk result HasItsData }
-{
+pub fn write(alloc: Global, cookie: u64, put: BlockWrite) -> Result<Request, AllocError> {
     let length = (put.blocks * BLOCK_BYTES) as u32;
     let kept = if length <= MAX_PAYLOAD { length } else { 0 };
     let flags = if put.fua { CommandFlags::FUA.bits() } else { 0 };
-    Ok(Request {
-        head: RequestHead {
-            flags,
-            kind: WRITE,
-            cookie,
-            offset: put.first * BLOCK_BYTES,
-            length,
-        },
-        bytes: filled(alloc, put.byte, kept as usize)?,
-    })
+    let head = RequestHead {
+        flags,
+        kind: WRITE,
+        cookie,
+        offset: put.first * BLOCK_BYTES,
+        length,
+    };
+    Ok(Request::new(
+        head,
+        filled(alloc, put.byte, kept as usize)?,
+    ))
 }
 
 fn filled(alloc: Global, byte: u8, count: usize) -> Result<Vec<u8>, AllocError>

@@ -1,2 +1,0 @@
-mod Dialogs
-mod Sessions
