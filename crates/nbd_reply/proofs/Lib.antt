@@ -1,0 +1,4 @@
+pub mod Appends
+pub mod Chunks
+pub mod Decoding
+pub mod Parts
