@@ -2,3 +2,4 @@ pub mod Appends
 pub mod Chunks
 pub mod Decoding
 pub mod Parts
+pub mod Spelling

@@ -1,5 +1,4 @@
--- What a client reads in the bytes of a reply. It knows what it asked: the type of the request, its cookie, its range, and
--- whether it asked for one chunk.
+-- What a client reads in the bytes of a reply. It knows what it asked: the type of the request, its cookie and its range.
 use Rattle.std.specs.Prelude.{◌≡◌, ◌≢◌, ℕ, ◌+◌, ◌^◌, ◌<◌, Bool, true, false, ◌&&◌, not, List, [], ◌∷◌, ◌++◌, length, replicate}
 use Rattle.std.specs.List.{AllByRecursion}
 use Rattle.nbd_wire.specs.declared.head.RequestHead.{RequestHead}
@@ -106,3 +105,9 @@ OneReply =
     (session : SessionFlags) (head : RequestHead) (text other x y : List ℕ) (answer others : Answer)
     → Decodes session head text answer → Decodes session head other others → text ++ x ≡ other ++ y
     → (text ≡ other) × (answer ≡ others)
+
+-- each answer is told by one text
+abbrev pub OneSpelling : Type 0
+OneSpelling =
+    (session : SessionFlags) (head : RequestHead) (text other : List ℕ) (answer : Answer)
+    → Decodes session head text answer → Decodes session head other answer → text ≡ other
