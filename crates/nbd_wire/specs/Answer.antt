@@ -10,6 +10,11 @@ pub record BytesRead : Type 0 where
   pub bytes : List ℕ
   pub runs : List Run
 
+-- bytes in one run
+abbrev pub one_run : ℕ → List ℕ → ℕ → BytesRead
+one_run from content status =
+    record { offset = from; bytes = content; runs = record { length = length content; status = status } ∷ [] }
+
 -- the status of data, and that of bytes that are a hole and read as zero (bits 0 and 1 of the context base:allocation)
 abbrev pub data_status : ℕ
 data_status = 0

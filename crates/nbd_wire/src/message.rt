@@ -1,11 +1,16 @@
-ghost use Rattle.std.specs.Prelude.{◌≡◌, IfOk, length, vec_len};
-ghost use Rattle.nbd_wire.specs.Answer.{IsBytesRead, IsStates};
-ghost use Rattle.nbd_wire.specs.Request.{handed_len};
+ghost use Rattle.std.specs.Prelude.{◌≡◌, ◌≤◌, ◌<◌, ◌+◌, ◌^◌, [], ◌∷◌, IfOk, length, replicate, vec_len};
+ghost use Rattle.nbd_wire.specs.Answer.{IsBytesRead, IsStates, data_status, hole_status, one_run};
+ghost use Rattle.nbd_wire.specs.Request.{handed_len, payload_limit};
 
 use crate::error::Errno;
 use crate::head::RequestHead;
 use std::alloc::{AllocError, Global};
 use std::marker::Model;
+
+/// The status of data.
+pub const DATA: u32 = 0;
+/// The status of bytes that are a hole and read as zero: bits 0 and 1 of the context `base:allocation`.
+pub const HOLE: u32 = 3;
 
 /// A request with the data that follow its head on the stream: a WRITE's data, of as many bytes as its head
 /// says; none behind another request, and none where the data were too long to be kept.
@@ -104,8 +109,8 @@ impl Answer {
     }
 }
 
-/// Bytes that were read from `offset` on, and the runs that part them into data, status 0, and other bytes,
-/// status 3, which are zero: one run for each longest part in one status.
+/// Bytes that were read from `offset` on, and the runs that part them into [`DATA`] and [`HOLE`]s,
+/// which are zero: one run for each longest part in one status.
 #[derive(Debug, Drop)]
 pub struct ReadBytes {
     offset: u64,
@@ -136,6 +141,29 @@ impl ReadBytes {
         }
     }
 
+    /// Bytes that are all data.
+    pub fn data(alloc: Global, offset: u64, bytes: Vec<u8>) -> Result<ReadBytes, AllocError>
+        requires some { 0 < vec_len bytes }
+        requires most { vec_len bytes ≤ payload_limit }
+        requires inside { offset + vec_len bytes < 2 ^ 64 }
+        ensures { IfOk result (λ read. read ≡ one_run offset bytes.items data_status) }
+    {
+        let runs = one_run(alloc, bytes.len() as u32, DATA)?;
+        Ok(ReadBytes::new(offset, bytes, runs))
+    }
+
+    /// So many bytes that are all zero and no data.
+    pub fn hole(alloc: Global, offset: u64, size: u32) -> Result<ReadBytes, AllocError>
+        requires some { 0 < size }
+        requires most { size ≤ payload_limit }
+        requires inside { offset + size < 2 ^ 64 }
+        ensures { IfOk result (λ read. read ≡ one_run offset (replicate size 0) hole_status) }
+    {
+        let bytes = vec![in alloc; 0; size as usize]?;
+        let runs = one_run(alloc, size, HOLE)?;
+        Ok(ReadBytes::new(offset, bytes, runs))
+    }
+
     /// A copy of them.
     pub fn try_clone(&self, alloc: Global) -> Result<ReadBytes, AllocError>
         ensures { IfOk result (λ copy. copy ≡ self.now) }
@@ -156,7 +184,8 @@ impl ReadBytes {
 
     /// The bytes.
     pub fn bytes(&self) -> &[u8]
-        ensures { result.now ≡ self.now.bytes }
+        ensures value { result.now ≡ self.now.bytes }
+        ensures most { length result.now ≤ payload_limit }
     {
         &self.bytes
     }
@@ -168,6 +197,15 @@ impl ReadBytes {
     {
         &self.runs
     }
+}
+
+// A run alone.
+fn one_run(alloc: Global, length: u32, status: u32) -> Result<Vec<Run>, AllocError>
+    ensures { IfOk result (λ runs. runs.items ≡ record { length = length; status = status } ∷ []) }
+{
+    let mut runs = Vec::new(alloc);
+    runs.push(Run { length, status })?;
+    Ok(runs)
 }
 
 /// 1 to 1,024 runs of bytes by their state, none of them empty.

@@ -1,9 +1,15 @@
-//! How fast the stream reader takes requests from a stream. With no argument it reads a short stream and
-//! prints one line; with `--measure` it measures, beside a plain copy of the same bytes.
+//! How fast the stream reader takes requests from a stream, and how fast replies to READs are written. With no
+//! argument it reads a short stream, writes some replies and prints a line on each; with `--measure` it
+//! measures, beside a plain copy of the same bytes.
 #![tactic(auto)]
 
+ghost use Rattle.std.specs.Prelude.{◌<◌, ◌≤◌};
+
 use anyhow::Result;
-use nbd_wire::{RequestHead, StreamReader, WRITE, encode_request};
+use nbd_reply::encode_reply;
+use nbd_wire::{
+    Answer, READ, ReadBytes, Reply, RequestHead, SessionFlags, StreamReader, WRITE, encode_request,
+};
 use std::alloc::{AllocError, Global};
 use std::env;
 use std::hint::black_box;
@@ -19,6 +25,11 @@ const ROWS: [(u32, u32, usize); 6] = [
     (256, 1_048_576, 65536),
     (256, 1_048_576, 1_048_576),
 ];
+
+const STRUCTURED: SessionFlags = SessionFlags {
+    structured: true,
+    context: false,
+};
 
 // A stream of WRITEs, each with `length` bytes of data.
 fn writes(alloc: Global, count: u32, length: u32) -> Result<Vec<u8>, AllocError> {
@@ -71,9 +82,9 @@ fn copy(alloc: Global, stream: &[u8], part: usize) -> Result<u64> {
     Ok(bytes)
 }
 
-fn megabytes_a_second(bytes: usize, time: Duration) -> u64 {
+fn megabytes_a_second(bytes: u64, time: Duration) -> u64 {
     let nanos = u64::try_from(time.as_nanos()).unwrap_or(u64::MAX).max(1);
-    (bytes as u64).saturating_mul(1000) / nanos
+    bytes.saturating_mul(1000) / nanos
 }
 
 // Prints a line on a stream of `count` WRITEs, read in pieces.
@@ -87,10 +98,10 @@ fn measure(
     let stream = stream.as_slice();
     let start = Instant::now(rt)?;
     let totals = read(rt.alloc(), stream, piece)?;
-    let reading = megabytes_a_second(stream.len(), start.elapsed(rt)?);
+    let reading = megabytes_a_second(stream.len() as u64, start.elapsed(rt)?);
     let start = Instant::now(rt)?;
     let copied = copy(rt.alloc(), stream, length as usize)?;
-    let copying = megabytes_a_second(stream.len(), start.elapsed(rt)?);
+    let copying = megabytes_a_second(stream.len() as u64, start.elapsed(rt)?);
     let requests = totals.requests;
     let ratio = reading.saturating_mul(1000) / copying.max(1);
     let (whole, thousandths) = (ratio / 1000, ratio % 1000);
@@ -100,11 +111,87 @@ fn measure(
     Ok(())
 }
 
+// The replies to `count` READs of so many bytes, which are all data.
+fn read_replies(alloc: Global, count: u32, length: u32) -> Result<Vec<Reply>>
+    requires { (0 < length) × (length ≤ 1048576) }
+{
+    let mut replies = Vec::new(alloc);
+    for i in 0..count {
+        let bytes = vec![in alloc; 0x5au8; length as usize]?;
+        let answer = Answer::Bytes(ReadBytes::data(alloc, 0, bytes)?);
+        replies.push(Reply {
+            cookie: u64::from(i),
+            answer,
+        })?;
+    }
+    Ok(replies)
+}
+
+// Writes each reply to a READ into memory of its own, and counts the bytes.
+fn write_replies(alloc: Global, replies: &[Reply]) -> Result<u64> {
+    let mut bytes = 0u64;
+    for reply in replies {
+        if let Answer::Bytes(_) = &reply.answer {
+            let mut out = Vec::new(alloc);
+            encode_reply(reply, &STRUCTURED, READ, false, &mut out)?;
+            bytes = bytes.wrapping_add(black_box(out).len() as u64);
+        }
+    }
+    Ok(bytes)
+}
+
+// Copies the bytes of each, into memory of its own, and counts them.
+fn copy_replies(alloc: Global, replies: &[Reply]) -> Result<u64> {
+    let mut bytes = 0u64;
+    for reply in replies {
+        if let Answer::Bytes(read) = &reply.answer {
+            let copied = black_box(Vec::from_slice(alloc, read.bytes())?);
+            bytes = bytes.wrapping_add(copied.len() as u64);
+        }
+    }
+    Ok(bytes)
+}
+
+// Prints a line on the replies to `count` READs of so many bytes, each written `rounds` times.
+fn measure_replies(
+    rt: &(impl Clock + Print + AllocGlobal),
+    rounds: u32,
+    count: u32,
+    length: u32,
+) -> Result<()>
+    requires { (0 < length) × (length ≤ 1048576) }
+{
+    let replies = read_replies(rt.alloc(), count, length)?;
+    let replies = replies.as_slice();
+    let mut written = 0u64;
+    let start = Instant::now(rt)?;
+    for _ in 0..rounds {
+        written = written.wrapping_add(write_replies(rt.alloc(), replies)?);
+    }
+    let writing = megabytes_a_second(written, start.elapsed(rt)?);
+    let mut copied = 0u64;
+    let start = Instant::now(rt)?;
+    for _ in 0..rounds {
+        copied = copied.wrapping_add(copy_replies(rt.alloc(), replies)?);
+    }
+    let copying = megabytes_a_second(copied, start.elapsed(rt)?);
+    let ratio = writing.saturating_mul(1000) / copying.max(1);
+    let (whole, thousandths) = (ratio / 1000, ratio % 1000);
+    println!(rt;
+        "{count} replies of {length} bytes, {rounds} times: {writing} MB/s; {copied} bytes copied: {copying} MB/s; ratio {whole}.{thousandths:03}"
+    )?;
+    Ok(())
+}
+
 fn main(rt: HostRuntime) -> Result<()> {
     if env::args(&rt)?.any(|word| word.as_str() == "--measure") {
         for (count, length, piece) in ROWS {
             measure(&rt, count, length, piece)?;
         }
+        // First replies whose bytes lie in memory, and then few of them, whose bytes lie in a cache.
+        measure_replies(&rt, 1, 65536, 4096)?;
+        measure_replies(&rt, 1, 256, 1_048_576)?;
+        measure_replies(&rt, 16384, 4, 4096)?;
         return Ok(());
     }
     let stream = writes(rt.alloc(), 64, 4096)?;
@@ -112,5 +199,7 @@ fn main(rt: HostRuntime) -> Result<()> {
     let requests = totals.requests;
     let bytes = totals.bytes;
     println!(rt; "{requests} requests, {bytes} bytes of data")?;
+    let written = write_replies(rt.alloc(), read_replies(rt.alloc(), 64, 4096)?.as_slice())?;
+    println!(rt; "64 replies, {written} bytes")?;
     Ok(())
 }

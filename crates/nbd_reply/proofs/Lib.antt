@@ -1,0 +1,5 @@
+pub mod Appends
+pub mod Chunks
+pub mod Decoding
+pub mod Parts
+pub mod Spelling
