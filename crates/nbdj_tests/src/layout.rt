@@ -1,7 +1,6 @@
 use crate::runs::formatted;
 use disk_model::{Disk, SimDisk};
-use header_slots::Side;
-use image_model::{Geometry, Kind};
+use image_model::{Geometry, Kind, Side};
 use regions::Regions;
 use std::alloc::Global;
 use std::process::Abort;

@@ -2,15 +2,14 @@ ghost use Rattle.std.specs.Prelude.{◌≡◌, ◌+◌, ◌≤◌, ◌<◌, ◌�
 ghost use Rattle.disk_model.specs.Disk.{MayLeave, IsKept, LeavesOnly};
 ghost use Rattle.disk_model.specs.Faults.{faults_after};
 ghost use Rattle.image_model.specs.Geometry.{device_bytes_of, map_bytes_of};
-ghost use Rattle.header_slots.specs.declared.header.Side.TheVariants as Side;
+ghost use Rattle.image_model.specs.declared.side.Side.TheVariants as Side;
 ghost use Rattle.regions.specs.Layout.{area_at, map_at, block_at};
 ghost use Rattle.regions.specs.Map.{IsMapReading, faults_after_reading};
 
 use crate::fault::RegionFault;
 use alloc_map::AllocMap;
 use disk_model::{DeviceFault, Disk};
-use header_slots::Side;
-use image_model::{BLOCK_BYTES, Geometry};
+use image_model::{BLOCK_BYTES, Geometry, Side};
 use std::alloc::Global;
 
 /// Where the map slots and the data of a device stand.
