@@ -47,7 +47,7 @@ fn map_and_block(rt: HostRuntime) -> Result<(), Fail> {
     let geometry = Geometry::new(16, AREA).ok_or("outside the limits")?;
     let mut block = [0; 4096];
     assert!(rt; disk.size() == 4_276_224);
-    let read = Regions::of(&geometry).read_block(&mut disk, 15, &mut block);
+    let read = Regions::of(&geometry).read_blocks(&mut disk, 15, &mut block);
     read.ok().ok_or("block")?;
     assert!(rt; block == BLOCK);
     Ok(())
