@@ -7,12 +7,12 @@ use Rattle.image_model.specs.declared.command.Kind.TheVariants.{Data, Zero, Hole
 use Rattle.alloc_map.specs.Codes.{code_at, code_of, kind_of, state_at}
 use Rattle.alloc_map.specs.Map.{IsMapOf, IsBadMap}
 
-kind_of-code_of : (state : Kind) → kind_of (code_of state) ≡ state
+pub kind_of-code_of : (state : Kind) → kind_of (code_of state) ≡ state
 kind_of-code_of Data = refl
 kind_of-code_of Zero = refl
 kind_of-code_of Hole = refl
 
-code_of-below : (state : Kind) → code_of state < 3
+pub code_of-below : (state : Kind) → code_of state < 3
 code_of-below Data = lit< tt
 code_of-below Zero = lit< tt
 code_of-below Hole = lit< tt

@@ -1,5 +1,5 @@
 -- the two-bit codes of blocks, by docs/FORMATS.md, "Map slot"
-use Rattle.std.specs.Prelude.{ℕ, ◌*◌, ◌/◌, ◌%◌, ◌^◌, List, slice_index, slice_index_or, nat_eq, if◌then◌else◌, map}
+use Rattle.std.specs.Prelude.{ℕ, Bool, ◌*◌, ◌/◌, ◌%◌, ◌^◌, List, slice_index, slice_index_or, nat_eq, if◌then◌else◌, map}
 use Rattle.std.specs.List.{range_with_len}
 use Rattle.image_model.specs.declared.command.Kind.{Kind}
 use Rattle.image_model.specs.declared.command.Kind.TheVariants.{Data, Zero, Hole}
@@ -17,6 +17,10 @@ code_of Data = 2
 -- the state that a code below 3 stands for
 abbrev pub kind_of : ℕ → Kind
 kind_of code = if nat_eq code 0 then Hole else (if nat_eq code 1 then Zero else Data)
+
+-- whether a state is this one
+abbrev pub is_state : Kind → Kind → Bool
+is_state kind state = nat_eq (code_of state) (code_of kind)
 
 -- the state of a block; past the last block a hole
 abbrev pub state_at : List Kind → ℕ → Kind

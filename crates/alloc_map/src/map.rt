@@ -1,11 +1,14 @@
-ghost use Rattle.std.specs.Prelude.{◌≡◌, ◌*◌, ◌<◌, ◌≤◌, ◌↔◌, length, replicate, IfOk, MatchBool};
-ghost use Rattle.alloc_map.specs.Codes.{code_at, kind_of, state_at};
-ghost use Rattle.alloc_map.specs.Map.{IsMapOf, IsMap, IsBadMap};
-ghost use Rattle.alloc_map.specs.declared.fault.MapFault.TheVariants as MapFault;
+ghost use Rattle.std.specs.Prelude.{◌≡◌, ◌+◌, ◌*◌, ◌<◌, ◌≤◌, ◌↔◌, count_by, length, replicate, IfOk, IsErr};
+ghost use Rattle.alloc_map.specs.Codes.{is_state, state_at};
+ghost use Rattle.alloc_map.specs.Map.{IsMapOf, IsBadMap};
+ghost use Rattle.alloc_map.specs.Runs.{AreRuns, IsRun};
 ghost use Rattle.image_model.specs.Geometry.{map_bytes_of};
+ghost use Rattle.image_model.specs.Patched.{patched};
 ghost use Rattle.image_model.specs.declared.command.Kind.TheVariants as Kind;
 
-use crate::fault::MapFault;
+use crate::codes::{code_in, code_of, has_good_codes, run_end, set_codes};
+use crate::fault::BadMap;
+use crate::run::Run;
 use image_model::Kind;
 use std::alloc::{AllocError, Global};
 use std::marker::Model;
@@ -39,29 +42,6 @@ fn map_bytes(blocks: u64) -> usize
     4096 * blocks.div_ceil(16384) as usize
 }
 
-// The code of a block.
-fn code_in(bytes: &[u8], block: u64) -> u8
-    requires { block < 4 * length bytes.now }
-    ensures { result ≡ code_at bytes.now block }
-{
-    (bytes[(block / 4) as usize] >> (2 * (block % 4))) % 4
-}
-
-// Whether the codes are those of a map of so many blocks.
-fn has_good_codes(blocks: u64, bytes: &[u8]) -> bool
-    requires few { blocks ≤ 16777216 }
-    requires size { length bytes.now ≡ map_bytes_of blocks }
-    ensures { MatchBool result (IsMap blocks bytes.now) (IsBadMap blocks bytes.now) }
-{
-    for block in 0..4 * bytes.len() as u64 {
-        let code = code_in(bytes, block);
-        if code == 3 || (block >= blocks && code > 0) {
-            return false;
-        }
-    }
-    true
-}
-
 impl AllocMap {
     /// The map of an image of so many blocks, which are all holes.
     pub fn new(alloc: Global, blocks: u64) -> Result<AllocMap, AllocError>
@@ -74,32 +54,43 @@ impl AllocMap {
         })
     }
 
-    /// Reads the map of an image of so many blocks from the bytes of a map slot.
-    pub fn from_bytes(alloc: Global, blocks: u64, bytes: &[u8]) -> Result<AllocMap, MapFault>
+    /// The map of an image of so many blocks that the bytes of a map slot are; it keeps these very bytes.
+    pub fn from_bytes(blocks: u64, bytes: Vec<u8>) -> Result<AllocMap, BadMap>
         requires few { blocks ≤ 16777216 }
-        requires size { length bytes.now ≡ map_bytes_of blocks }
+        requires size { length bytes.items ≡ map_bytes_of blocks }
         ensures blocks { IfOk result (λ map. length map ≡ blocks) }
-        ensures states { IfOk result (λ map. IsMapOf bytes.now map) }
-        ensures bad_map { (result ≡ Err MapFault.BadMap) ↔ IsBadMap blocks bytes.now }
+        ensures states { IfOk result (λ map. IsMapOf bytes.items map) }
+        ensures bad_map { IsErr result ↔ IsBadMap blocks bytes.items }
     {
-        if !has_good_codes(blocks, bytes) {
-            return Err(MapFault::BadMap);
+        if !has_good_codes(blocks, &bytes) {
+            return Err(BadMap);
         }
-        let mut copied = Vec::new(alloc);
-        copied.extend_from_slice(bytes)?;
-        Ok(AllocMap {
-            blocks,
-            bytes: copied,
-        })
+        Ok(AllocMap { blocks, bytes })
     }
 
     /// The bytes of a map slot that holds this map.
+    pub fn bytes(&self) -> &[u8]
+        ensures { IsMapOf result.now self.now }
+    {
+        &self.bytes
+    }
+
+    /// A copy of the bytes of a map slot that holds this map.
     pub fn to_bytes(&self, alloc: Global) -> Result<Vec<u8>, AllocError>
         ensures { IfOk result (λ bytes. IsMapOf bytes.items self.now) }
     {
-        let mut copied = Vec::new(alloc);
-        copied.extend_from_slice(&self.bytes)?;
+        let copied = Vec::from_slice(alloc, &self.bytes)?;
         Ok(copied)
+    }
+
+    /// Another map of the same states.
+    pub fn copy(&self, alloc: Global) -> Result<AllocMap, AllocError>
+        ensures { IfOk result (λ map. map ≡ self.now) }
+    {
+        Ok(AllocMap {
+            blocks: self.blocks,
+            bytes: Vec::from_slice(alloc, &self.bytes)?,
+        })
     }
 
     /// The state of a block.
@@ -111,6 +102,65 @@ impl AllocMap {
             0 => Kind::Hole,
             1 => Kind::Zero,
             _ => Kind::Data,
+        }
+    }
+
+    /// Gives so many blocks from the first one on this state. It takes a step for four blocks, but at the edges.
+    pub fn set_range(&mut self, first: u64, blocks: u64, kind: Kind)
+        requires { first + blocks ≤ length self.old }
+        ensures { self.new ≡ patched self.old first (replicate blocks kind) }
+    {
+        set_codes(&mut self.bytes, first, first + blocks, code_of(kind));
+    }
+
+    /// The longest runs of equal states from one block on up to another, the first `limit` of them. It takes a step
+    /// for 32 blocks where they are of one state, else for each.
+    pub fn runs(
+        &self,
+        alloc: Global,
+        from: u64,
+        to: u64,
+        limit: usize,
+    ) -> Result<Vec<Run>, AllocError>
+        requires order { from ≤ to }
+        requires inside { to ≤ length self.now }
+        ensures { IfOk result (λ runs. AreRuns self.now from to limit runs.items) }
+    {
+        let mut runs = Vec::new(alloc);
+        let mut block = from;
+        while block < to && runs.len() < limit {
+            let run = self.run_at(block, to);
+            block += run.blocks;
+            runs.push(run)?;
+        }
+        Ok(runs)
+    }
+
+    /// How many blocks have this state. It takes a step for 32 blocks where they are of one state, else for each.
+    pub fn count(&self, kind: Kind) -> u64
+        ensures { result ≡ count_by (is_state kind) self.now }
+    {
+        let mut count = 0;
+        let mut block = 0;
+        while block < self.blocks {
+            let run = self.run_at(block, self.blocks);
+            if run.kind == kind {
+                count += run.blocks;
+            }
+            block += run.blocks;
+        }
+        count
+    }
+
+    // The longest run that begins with this block, before `to`.
+    fn run_at(&self, block: u64, to: u64) -> Run
+        requires before { block < to }
+        requires inside { to ≤ length self.now }
+        ensures { IsRun self.now block to result }
+    {
+        Run {
+            blocks: run_end(&self.bytes, block, to) - block,
+            kind: self.state(block),
         }
     }
 }

@@ -1,12 +1,11 @@
 -- The areas in use, read one after the other.
 use Rattle.std.proofs.Common.{◌≡◌, Some, None, inl, inr, ℕ, ◌+◌, ◌<◌, List, [], refl, sym, ◌∙◌, ap, subst, arith}
 use Rattle.disk_model.specs.Disk.{State}
-use Rattle.header_slots.specs.Place.{index_of}
-use Rattle.header_slots.specs.Slots.{other_of}
+use Rattle.image_model.specs.Side.{index_of, other_of}
 use Rattle.header_slots.specs.declared.header.Areas.{Areas}
 use Rattle.header_slots.specs.declared.header.Header.{Header}
-use Rattle.header_slots.specs.declared.header.Side.{Side}
-use Rattle.header_slots.specs.declared.header.Side.TheVariants.{Zero, One}
+use Rattle.image_model.specs.declared.side.Side.{Side}
+use Rattle.image_model.specs.declared.side.Side.TheVariants.{Zero, One}
 use Rattle.journal.specs.Area.{AreaState}
 use Rattle.journal.specs.GroupList.{HoldsList, IsDamaged, IsHeld, IsList, IsNextGroup, IsOpen, Lead, StandsAt, next_behind, size_of, sizes_of}
 use Rattle.journal.specs.Spelling.{group_bytes}
@@ -19,12 +18,6 @@ use Rattle.checkpoint.specs.Keeps.{IsPlaced}
 use Rattle.checkpoint.specs.Opening.{HoldsAreas, IsAreaDamaged, IsFirstDamaged, IsGroupsRefused}
 use Rattle.checkpoint.specs.Stands.{HoldsEarlier, area_of, last_area, next_number}
 use Rattle.checkpoint.proofs.Frame.{moved_list}
-
-pub other_is : (side other : Side) → index_of other + index_of side ≡ 1 → other ≡ other_of side
-other_is Zero Zero sum = absurd (omega arith)
-other_is Zero One sum = refl
-other_is One Zero sum = refl
-other_is One One sum = absurd (omega arith)
 
 -- one area is in use
 module _ (header : Header) (one : header.areas ≡ Areas.One) where

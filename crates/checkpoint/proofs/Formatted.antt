@@ -7,8 +7,8 @@ use Rattle.alloc_map.proofs.States.{byte_of_zeroes, map_of_zeroes, own_states, s
 use Rattle.disk_model.specs.Disk.{State, InRange, IsSound, IsSteady, IsSynced, IsWritten, LeavesOnly, MayLeave, MayLeaveTorn}
 use Rattle.disk_model.proofs.Moments.{goes_on, weakens}
 use Rattle.header_slots.specs.Slots.{HoldsNone, IsBodyWritten, IsOpen}
-use Rattle.header_slots.specs.declared.header.Side.{Side}
-use Rattle.header_slots.specs.declared.header.Side.TheVariants.{Zero, One}
+use Rattle.image_model.specs.declared.side.Side.{Side}
+use Rattle.image_model.specs.declared.side.Side.TheVariants.{Zero, One}
 use Rattle.header_slots.proofs.Frame.{moved_spelling}
 use Rattle.image_model.specs.Geometry.{device_bytes_of, map_bytes_of}
 use Rattle.image_model.specs.declared.command.Kind.TheVariants.{Hole}

@@ -3,11 +3,12 @@ use Rattle.std.proofs.Common.{◌≡◌, ℕ, ◌+◌, ◌*◌, ◌/◌, ◌≤�
 use Rattle.std.proofs.lemmas.Grind.{flat_map-append}
 use Rattle.alloc_map.specs.Codes.{state_at}
 use Rattle.disk_model.specs.Disk.{InRange}
-use Rattle.header_slots.specs.Slots.{HoldsHeader, IsReading, other_of}
+use Rattle.header_slots.specs.Slots.{HoldsHeader, IsReading}
+use Rattle.image_model.specs.Side.{other_of}
 use Rattle.header_slots.specs.declared.header.Areas.{Areas}
 use Rattle.header_slots.specs.declared.header.Header.{Header}
-use Rattle.header_slots.specs.declared.header.Side.{Side}
-use Rattle.header_slots.specs.declared.header.Side.TheVariants.{Zero, One}
+use Rattle.image_model.specs.declared.side.Side.{Side}
+use Rattle.image_model.specs.declared.side.Side.TheVariants.{Zero, One}
 use Rattle.header_slots.proofs.Frame.{same_reading}
 use Rattle.image_model.specs.Change.{Change}
 use Rattle.image_model.specs.Image.{Image, apply, apply_all}

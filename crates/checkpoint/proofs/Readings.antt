@@ -7,7 +7,7 @@ use Rattle.header_slots.specs.Slots.{HoldsHeader, IsReading}
 use Rattle.header_slots.specs.declared.fault.HeaderFault.{HeaderFault}
 use Rattle.header_slots.specs.declared.fault.HeaderFault.TheVariants as headers
 use Rattle.header_slots.specs.declared.header.Header.{Header}
-use Rattle.header_slots.specs.declared.header.Side.{Side}
+use Rattle.image_model.specs.declared.side.Side.{Side}
 use Rattle.image_model.specs.declared.command.Kind.{Kind}
 use Rattle.journal.specs.Reading.{IsOnlyRead}
 use Rattle.regions.specs.Layout.{map_at}

@@ -1,7 +1,7 @@
 -- that a keeper keeps an image
 use Rattle.std.specs.Prelude.{ℕ, ◌≡◌, false}
 use Rattle.disk_model.specs.Disk.{State, IsAllSynced}
-use Rattle.header_slots.specs.declared.header.Side.{Side}
+use Rattle.image_model.specs.declared.side.Side.{Side}
 use Rattle.image_model.specs.Image.{Image}
 use Rattle.image_model.specs.declared.geometry.Geometry.{Geometry}
 use Rattle.journal.specs.Area.{AreaState}

@@ -3,7 +3,7 @@ use Rattle.std.specs.Prelude.{ℕ, ◌≡◌, ◌⊎◌, List, length, Option, R
 use Rattle.header_slots.specs.Slots.{HoldsHeader, HoldsNone, HoldsBad}
 use Rattle.header_slots.specs.declared.header.Areas.{Areas}
 use Rattle.header_slots.specs.declared.header.Header.{Header}
-use Rattle.header_slots.specs.declared.header.Side.{Side}
+use Rattle.image_model.specs.declared.side.Side.{Side}
 use Rattle.image_model.specs.declared.command.Kind.{Kind}
 use Rattle.disk_model.specs.Disk.{State, IsAllSynced}
 use Rattle.journal.specs.Area.{AreaState}

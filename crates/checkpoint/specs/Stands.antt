@@ -1,10 +1,11 @@
 -- What the content of a device stands for: an image, and the number of the last command in it.
 use Rattle.std.specs.Prelude.{ℕ, ◌≡◌, ◌+◌, ◌%◌, ◌/◌, Bool, true, false, if◌then◌else◌, List, [], ◌++◌, length, slice_index}
 use Rattle.alloc_map.specs.Codes.{state_at}
-use Rattle.header_slots.specs.Slots.{HoldsHeader, other_of}
+use Rattle.header_slots.specs.Slots.{HoldsHeader}
+use Rattle.image_model.specs.Side.{other_of}
 use Rattle.header_slots.specs.declared.header.Areas.{Areas}
 use Rattle.header_slots.specs.declared.header.Header.{Header}
-use Rattle.header_slots.specs.declared.header.Side.{Side}
+use Rattle.image_model.specs.declared.side.Side.{Side}
 use Rattle.image_model.specs.Image.{Image, apply_all}
 use Rattle.image_model.specs.declared.command.Kind.{Kind}
 use Rattle.image_model.specs.declared.command.Kind.TheVariants.{Data, Zero, Hole}

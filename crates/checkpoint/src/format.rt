@@ -11,8 +11,8 @@ ghost use Rattle.image_model.specs.declared.geometry.Geometry.{Geometry};
 use crate::fault::KeeperFault;
 use crate::keeper::Keeper;
 use disk_model::{DeviceFault, Disk};
-use header_slots::{Areas, Header, Side, close_gate, open_gate, write_body};
-use image_model::Geometry;
+use header_slots::{Areas, Header, close_gate, fill_slot, open_gate};
+use image_model::{Geometry, Side};
 use journal::Area;
 use regions::Regions;
 use std::alloc::Global;
@@ -81,7 +81,7 @@ fn write_parts<D: Disk>(alloc: Global, disk: &mut D, geometry: Geometry) -> Resu
     );
     area.close_first(disk)?;
     disk.write_at(regions.map_from(Side::Zero), &holes)?;
-    write_body(disk, Side::Zero, &first_header(geometry))?;
+    fill_slot(disk, Side::Zero, &first_header(geometry))?;
     Ok(())
 }
 

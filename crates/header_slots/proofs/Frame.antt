@@ -5,10 +5,11 @@ use Rattle.byteorder.specs.Endian.{big_from}
 use Rattle.header_slots.specs.declared.fault.HeaderFault.{HeaderFault}
 use Rattle.header_slots.specs.declared.fault.HeaderFault.TheVariants.{DeviceFault, NoHeader, BadHeader}
 use Rattle.header_slots.specs.declared.header.Header.{Header}
-use Rattle.header_slots.specs.declared.header.Side.{Side}
-use Rattle.header_slots.specs.declared.header.Side.TheVariants.{Zero, One}
+use Rattle.image_model.specs.declared.side.Side.{Side}
+use Rattle.image_model.specs.declared.side.Side.TheVariants.{Zero, One}
 use Rattle.header_slots.specs.Header.{number_at, AreSizes, SpellsAt, IsBadAt, another_magic, outside_limits, no_mode, no_first_area, no_map_slot}
-use Rattle.header_slots.specs.Slots.{slot_at, other_of, generation_in, IsInForce, AreEqual, IsBad, equal_generations, no_header_there, another_size, IsReading}
+use Rattle.header_slots.specs.Slots.{slot_at, generation_in, IsInForce, AreEqual, IsBad, equal_generations, no_header_there, another_size, IsReading}
+use Rattle.image_model.specs.Side.{other_of}
 
 same_from : (count p q : ℕ) (a b : List ℕ) → ((k : ℕ) → k < count → slice_index a (p + k) ≡ slice_index b (q + k)) → big_from p count a ≡ big_from q count b
 same_from zero p q a b same = refl

@@ -1,2 +1,4 @@
+pub mod Changed
 pub mod Frame
+pub mod Renewed
 pub mod Sole

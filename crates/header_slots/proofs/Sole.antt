@@ -5,9 +5,9 @@ use Rattle.std.proofs.Math.Nat.{ℕ_set}
 use Rattle.image_model.specs.declared.geometry.Geometry.{Geometry}
 use Rattle.header_slots.specs.declared.header.Areas.{Areas}
 use Rattle.header_slots.specs.declared.header.Header.{Header}
-use Rattle.header_slots.specs.declared.header.Side.{Side}
-use Rattle.header_slots.specs.declared.header.Side.TheVariants.{Zero, One}
-use Rattle.header_slots.specs.Place.{index_of}
+use Rattle.image_model.specs.declared.side.Side.{Side}
+use Rattle.image_model.specs.declared.side.Side.TheVariants.{Zero, One}
+use Rattle.image_model.specs.Side.{index_of}
 use Rattle.header_slots.specs.Header.{number_at, mode_of, AreSizes, SpellsAt, IsBadAt, another_magic, outside_limits, no_mode, no_first_area, no_map_slot}
 use Rattle.header_slots.specs.Slots.{slot_at, IsOpen, IsInForce, HoldsHeader, HoldsNone, HoldsBad, AreEqual, IsBad, equal_generations, no_header_there, another_size}
 

@@ -3,7 +3,7 @@ use Rattle.std.specs.Prelude.{ℕ, ◌≡◌, ◌≢◌, ◌+◌, ◌%◌, ◌<�
 use Rattle.byteorder.specs.Endian.{big_from}
 use Rattle.header_slots.specs.declared.header.Areas.{Areas}
 use Rattle.header_slots.specs.declared.header.Header.{Header}
-use Rattle.header_slots.specs.Place.{index_of}
+use Rattle.image_model.specs.Side.{index_of}
 
 -- the big-endian number in so many bytes from a place on
 unfoldable pub number_at : ℕ → ℕ → List ℕ → ℕ

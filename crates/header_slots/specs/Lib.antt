@@ -1,3 +1,3 @@
-pub mod Place
+pub mod Change
 pub mod Header
 pub mod Slots

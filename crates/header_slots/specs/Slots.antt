@@ -6,18 +6,14 @@ use Rattle.image_model.specs.Geometry.{device_bytes_of}
 use Rattle.header_slots.specs.declared.fault.HeaderFault.{HeaderFault}
 use Rattle.header_slots.specs.declared.fault.HeaderFault.TheVariants.{DeviceFault, NoHeader, BadHeader}
 use Rattle.header_slots.specs.declared.header.Header.{Header}
-use Rattle.header_slots.specs.declared.header.Side.{Side}
-use Rattle.header_slots.specs.declared.header.Side.TheVariants.{Zero, One}
-use Rattle.header_slots.specs.Place.{index_of}
+use Rattle.image_model.specs.declared.side.Side.{Side}
+use Rattle.image_model.specs.declared.side.Side.TheVariants.{Zero, One}
+use Rattle.image_model.specs.Side.{index_of, other_of}
 use Rattle.header_slots.specs.Header.{number_at, SpellsAt, IsBodyOf, IsBadAt}
 
 -- the first byte of a slot, its gate
 abbrev pub slot_at : Side → ℕ
 slot_at slot = 4096 * index_of slot
-
-abbrev pub other_of : Side → Side
-other_of Zero = One
-other_of One = Zero
 
 abbrev pub IsOpen : List ℕ → Side → Type 0
 IsOpen content slot = slice_index content (slot_at slot) ≡ 1

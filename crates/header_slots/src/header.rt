@@ -1,48 +1,8 @@
-ghost use Rattle.std.specs.Prelude.{◌≡◌, ◌+◌, ◌<◌, ◌≤◌, length, MatchOption};
+ghost use Rattle.std.specs.Prelude.{◌≡◌, ◌+◌, ◌≤◌, length, MatchOption};
 ghost use Rattle.header_slots.specs.Header.{number_at, SpellsAt, IsBadAt};
-ghost use Rattle.header_slots.specs.Place.{index_of};
 
 use byteorder::{BigEndian, ByteOrder};
-use image_model::Geometry;
-
-/// One of two: of the header slots, the areas or the map slots.
-#[derive(Clone, Copy, Debug, PartialEq, Eq)]
-pub enum Side {
-    Zero,
-    One,
-}
-
-impl Side {
-    /// 0 or 1.
-    pub fn index(self) -> u8
-        ensures { result ≡ index_of self }
-    {
-        match self {
-            Side::Zero => 0,
-            Side::One => 1,
-        }
-    }
-
-    /// The side that isn't this one.
-    pub fn other(self) -> Side
-        ensures { index_of result + index_of self ≡ 1 }
-    {
-        match self {
-            Side::Zero => Side::One,
-            Side::One => Side::Zero,
-        }
-    }
-
-    fn of(index: u8) -> Option<Side>
-        ensures { MatchOption result (1 < index) (λ side. index ≡ index_of side) }
-    {
-        match index {
-            0 => Some(Side::Zero),
-            1 => Some(Side::One),
-            _ => None,
-        }
-    }
-}
+use image_model::{Geometry, Side};
 
 /// How many areas are in use.
 #[derive(Clone, Copy, Debug, PartialEq, Eq)]

@@ -3,7 +3,7 @@ ghost use Rattle.header_slots.specs.Header.{SpellsAt};
 ghost use Rattle.header_slots.specs.Slots.{IsInForce, HoldsHeader, HoldsNone, HoldsBad, IsReading};
 ghost use Rattle.header_slots.specs.declared.fault.HeaderFault.{HeaderFault};
 ghost use Rattle.header_slots.specs.declared.header.Header.{Header};
-ghost use Rattle.header_slots.specs.declared.header.Side.{Side};
+ghost use Rattle.image_model.specs.declared.side.Side.{Side};
 
 /// What holds of headers and slots, beside the calls. A device has at most one header in force; where it has one, none
 /// of the refusals 7 and 8 stands, and where one of these stands, the other doesn't. All of this depends on the first

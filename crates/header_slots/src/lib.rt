@@ -1,6 +1,7 @@
 //! The two header slots of a device, of which one holds the header in force.
 #![tactic(auto)]
 
+mod change;
 mod fault;
 mod header;
 mod laws;
@@ -8,7 +9,8 @@ mod slots;
 #[cfg(test)]
 mod tests;
 
-pub use fault::HeaderFault;
-pub use header::{Areas, Header, Side};
+pub use change::{HeaderChange, change_header, close_other, open_other, write_body};
+pub use fault::{ChangeFault, HeaderFault};
+pub use header::{Areas, Header};
 pub use laws::header_laws;
-pub use slots::{SLOT_BYTES, close_gate, open_gate, read_current, write_body};
+pub use slots::{SLOT_BYTES, close_gate, fill_slot, open_gate, read_current};

@@ -7,16 +7,17 @@ ghost use Rattle.header_slots.specs.declared.fault.HeaderFault.TheVariants as He
 ghost use Rattle.image_model.specs.Geometry.{device_bytes_of};
 
 use crate::fault::HeaderFault;
-use crate::header::{HEADER_BYTES, Header, Side, u64_at};
+use crate::header::{HEADER_BYTES, Header, u64_at};
 use disk_model::{DeviceFault, Disk};
+use image_model::Side;
 
 /// The bytes of a header slot.
 pub const SLOT_BYTES: u64 = 4096;
 
 // A gate that is open; every other byte is a closed one.
-const OPEN: u8 = 1;
+pub(crate) const OPEN: u8 = 1;
 
-const CLOSED: u8 = 0;
+pub(crate) const CLOSED: u8 = 0;
 
 // The bytes of a slot behind its gate.
 const BODY_BYTES: usize = 4095;
@@ -24,7 +25,8 @@ const BODY_BYTES: usize = 4095;
 // What is read of both slots: slot 0, and slot 1 up to the end of its header.
 const FRONT_BYTES: usize = 4136;
 
-fn slot_from(slot: Side) -> u64
+// The first byte of a slot, its gate.
+pub(crate) fn slot_from(slot: Side) -> u64
     ensures { result ≡ slot_at slot }
 {
     SLOT_BYTES * slot.index() as u64
@@ -102,7 +104,7 @@ pub fn close_gate<D: Disk>(disk: &mut D, slot: Side) -> Result<(), DeviceFault>
 }
 
 /// Writes a header behind a slot's gate and zeroes up to the slot's end, without a sync.
-pub fn write_body<D: Disk>(disk: &mut D, slot: Side, header: &Header) -> Result<(), DeviceFault>
+pub fn fill_slot<D: Disk>(disk: &mut D, slot: Side, header: &Header) -> Result<(), DeviceFault>
     requires { 8192 ≤ D.extent disk.old }
     ensures extent { D.extent disk.new ≡ D.extent disk.old }
     ensures faults { D.faults disk.new ≡ faults_after result (D.faults disk.old) }

@@ -5,3 +5,4 @@ pub mod Dirty
 pub mod Geometry
 pub mod Image
 pub mod Patched
+pub mod Side

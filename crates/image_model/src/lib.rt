@@ -4,9 +4,11 @@
 mod command;
 mod geometry;
 mod plain_image;
+mod side;
 #[cfg(test)]
 mod tests;
 
 pub use command::{Command, Kind};
 pub use geometry::{BLOCK_BYTES, Geometry, LEAST_AREA_BYTES, MOST_AREA_BYTES, MOST_BLOCKS};
 pub use plain_image::{OutOfRange, PlainImage};
+pub use side::Side;

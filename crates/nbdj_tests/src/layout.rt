@@ -1,7 +1,6 @@
 use crate::runs::formatted;
 use disk_model::{Disk, SimDisk};
-use header_slots::Side;
-use image_model::{Geometry, Kind};
+use image_model::{Geometry, Kind, Side};
 use regions::Regions;
 use std::alloc::Global;
 use std::process::Abort;
@@ -48,7 +47,7 @@ fn map_and_block(rt: HostRuntime) -> Result<(), Fail> {
     let geometry = Geometry::new(16, AREA).ok_or("outside the limits")?;
     let mut block = [0; 4096];
     assert!(rt; disk.size() == 4_276_224);
-    let read = Regions::of(&geometry).read_block(&mut disk, 15, &mut block);
+    let read = Regions::of(&geometry).read_blocks(&mut disk, 15, &mut block);
     read.ok().ok_or("block")?;
     assert!(rt; block == BLOCK);
     Ok(())

@@ -2,8 +2,8 @@
 use Rattle.std.specs.Prelude.{ℕ, ◌+◌, ◌*◌}
 use Rattle.image_model.specs.Geometry.{map_bytes_of}
 use Rattle.image_model.specs.declared.geometry.Geometry.{Geometry}
-use Rattle.header_slots.specs.Place.{index_of}
-use Rattle.header_slots.specs.declared.header.Side.{Side}
+use Rattle.image_model.specs.Side.{index_of}
+use Rattle.image_model.specs.declared.side.Side.{Side}
 
 -- the first byte of an area
 abbrev pub area_at : Geometry → Side → ℕ

@@ -1,19 +1,12 @@
 -- the map that stands in a map slot, by docs/FORMATS.md, "Map slot"
 use Rattle.std.specs.Prelude.{ℕ, ◌≡◌, ◌+◌, ◌<◌, List, length, slice_index, Result, Ok, Err}
 use Rattle.alloc_map.specs.Map.{IsMapOf, IsBadMap}
-use Rattle.alloc_map.specs.declared.fault.MapFault.{MapFault}
-use Rattle.alloc_map.specs.declared.fault.MapFault.TheVariants as maps
 use Rattle.alloc_map.specs.declared.map.AllocMap.{AllocMap}
 use Rattle.disk_model.specs.Faults.{counted}
 use Rattle.image_model.specs.Geometry.{map_bytes_of}
 use Rattle.image_model.specs.declared.command.Kind.{Kind}
 use Rattle.regions.specs.declared.fault.RegionFault.{RegionFault}
 use Rattle.regions.specs.declared.fault.RegionFault.TheVariants.{NoMemory, DeviceFault, BadMap}
-
--- the fault that a map's fault is
-abbrev pub fault_of : MapFault → RegionFault
-fault_of maps.NoMemory = NoMemory
-fault_of maps.BadMap = BadMap
 
 -- These are the bytes of the map slot that begins at this place, on a device of so many blocks.
 pub record AreSlot (content : List ℕ) (place blocks : ℕ) (bytes : List ℕ) : Type 0 where

@@ -1,8 +1,7 @@
 ghost use Rattle.std.specs.Prelude.{◌≡◌};
-ghost use Rattle.regions.specs.Map.{fault_of};
 ghost use Rattle.regions.specs.declared.fault.RegionFault.TheVariants as RegionFault;
 
-use alloc_map::MapFault;
+use alloc_map::BadMap;
 use disk_model::DeviceFault;
 use std::alloc::AllocError;
 use thiserror::Error;
@@ -37,13 +36,10 @@ impl From<AllocError> for RegionFault {
     }
 }
 
-impl From<MapFault> for RegionFault {
-    ghost from_gives = { λ fault given. given ≡ fault_of fault };
+impl From<BadMap> for RegionFault {
+    ghost from_gives = { λ _ fault. fault ≡ RegionFault.BadMap };
 
-    fn from(fault: MapFault) -> RegionFault {
-        match fault {
-            MapFault::NoMemory => RegionFault::NoMemory,
-            MapFault::BadMap => RegionFault::BadMap,
-        }
+    fn from(_bad: BadMap) -> RegionFault {
+        RegionFault::BadMap
     }
 }

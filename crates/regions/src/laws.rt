@@ -1,5 +1,5 @@
 ghost use Rattle.std.specs.Prelude.{◌≡◌, ◌+◌, ◌*◌, ℕ};
-ghost use Rattle.header_slots.specs.declared.header.Side.TheVariants as Side;
+ghost use Rattle.image_model.specs.declared.side.Side.TheVariants as Side;
 ghost use Rattle.image_model.specs.Geometry.{device_bytes_of, map_bytes_of};
 ghost use Rattle.image_model.specs.declared.geometry.Geometry.{Geometry};
 ghost use Rattle.regions.specs.Layout.{area_at, map_at, block_at};

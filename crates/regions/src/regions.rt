@@ -1,16 +1,16 @@
-ghost use Rattle.std.specs.Prelude.{◌≡◌, ◌+◌, ◌≤◌, ◌<◌, ◌↔◌, ℕ, length, slice_index, IfOk, OnOk};
-ghost use Rattle.disk_model.specs.Disk.{MayLeave, IsKept, LeavesOnly};
+ghost use Rattle.std.specs.Prelude.{◌≡◌, ◌+◌, ◌*◌, ◌%◌, ◌≤◌, ◌<◌, ◌↔◌, ℕ, length, slice_index, IfOk, OnErr, OnOk};
+ghost use Rattle.disk_model.specs.Disk.{MayLeave, MayLeaveTorn, IsKept, IsWriteFailed, IsWritten, LeavesOnly};
 ghost use Rattle.disk_model.specs.Faults.{faults_after};
 ghost use Rattle.image_model.specs.Geometry.{device_bytes_of, map_bytes_of};
-ghost use Rattle.header_slots.specs.declared.header.Side.TheVariants as Side;
+ghost use Rattle.image_model.specs.declared.side.Side.TheVariants as Side;
 ghost use Rattle.regions.specs.Layout.{area_at, map_at, block_at};
-ghost use Rattle.regions.specs.Map.{IsMapReading, faults_after_reading};
+ghost use Rattle.regions.specs.Map.{HoldsMap, IsMapReading, faults_after_reading};
+ghost use Rattle.regions.specs.Writes.{IsMapWritten, IsSameOutside, IsSteadyIn};
 
 use crate::fault::RegionFault;
 use alloc_map::AllocMap;
 use disk_model::{DeviceFault, Disk};
-use header_slots::Side;
-use image_model::{BLOCK_BYTES, Geometry};
+use image_model::{BLOCK_BYTES, Geometry, Side};
 use std::alloc::Global;
 
 /// Where the map slots and the data of a device stand.
@@ -54,7 +54,7 @@ impl Regions {
         8192 + 2 * self.geometry.area as u64 + 2 * self.geometry.map_bytes() + BLOCK_BYTES * block
     }
 
-    /// Reads the map of a map slot. It takes memory for two maps, and refuses with 0, 1 or 6.
+    /// Reads the map of a map slot, in one call of the device. It takes memory for one map, and refuses with 0, 1 or 6.
     pub fn read_slot<D: Disk>(
         &self,
         alloc: Global,
@@ -74,28 +74,85 @@ impl Regions {
     {
         let mut bytes = vec![in alloc; 0; self.geometry.map_bytes() as usize]?;
         disk.read(self.map_from(slot), &mut bytes)?;
-        Ok(AllocMap::from_bytes(alloc, self.geometry.blocks, &bytes)?)
+        Ok(AllocMap::from_bytes(self.geometry.blocks, bytes)?)
     }
 
-    /// Reads the data of a block, as they are stored, whatever its state. After a fault `into` holds any bytes.
-    pub fn read_block<D: Disk>(
+    /// Writes the map of a map slot, in one call of the device and without a sync.
+    pub fn write_slot<D: Disk>(
         &self,
         disk: &mut D,
-        block: u64,
-        into: &mut [u8],
+        slot: Side,
+        map: &AllocMap,
     ) -> Result<(), DeviceFault>
         requires device { D.extent disk.old ≡ device_bytes_of self.now.geometry.blocks self.now.geometry.area }
-        requires inside { block < self.now.geometry.blocks }
-        requires room { length into.old ≡ 4096 }
+        requires blocks { length map.now ≡ self.now.geometry.blocks }
         ensures extent { D.extent disk.new ≡ D.extent disk.old }
         ensures faults { D.faults disk.new ≡ faults_after result (D.faults disk.old) }
         ensures honest { D.honest disk.new ↔ D.honest disk.old }
 
-        ensures bytes { D.honest disk.old → OnOk result ((k : ℕ) → k < 4096 →
-            slice_index into.new k ≡ slice_index (D.state disk.new).seen (block_at self.now.geometry block + k)) }
+        // On an honest device the slot then reads as the map, where no place of it is loose, and other bytes stay.
+        ensures holds { D.honest disk.old → IsSteadyIn (D.state disk.old) (map_at self.now.geometry slot) (map_bytes_of self.now.geometry.blocks)
+            → OnOk result (HoldsMap (D.state disk.new).seen (map_at self.now.geometry slot) self.now.geometry.blocks map.now) }
+        ensures written { D.honest disk.old → OnOk result
+            (IsMapWritten (D.state disk.old) (map_at self.now.geometry slot) map.now (D.state disk.new)) }
+        ensures others { D.honest disk.old → OnOk result
+            (IsSameOutside (D.state disk.old) (map_at self.now.geometry slot) (map_bytes_of self.now.geometry.blocks) (D.state disk.new)) }
+        ensures failed { D.honest disk.old → OnErr result
+            (IsWriteFailed (D.state disk.old) (map_at self.now.geometry slot) (map_bytes_of self.now.geometry.blocks) (D.state disk.new)) }
+        ensures any_moment { D.honest disk.old → LeavesOnly (D.state disk.old) (D.state disk.new)
+            (MayLeaveTorn (D.state disk.old) (map_at self.now.geometry slot) (map_bytes_of self.now.geometry.blocks)) }
+    {
+        disk.write_at(self.map_from(slot), map.bytes())
+    }
+
+    /// Reads the data of whole blocks from the first one on, as they are stored, whatever their state, in one call of
+    /// the device. After a fault `into` holds any bytes.
+    pub fn read_blocks<D: Disk>(
+        &self,
+        disk: &mut D,
+        first: u64,
+        into: &mut [u8],
+    ) -> Result<(), DeviceFault>
+        requires device { D.extent disk.old ≡ device_bytes_of self.now.geometry.blocks self.now.geometry.area }
+        requires some { 0 < length into.old }
+        requires whole { length into.old % 4096 ≡ 0 }
+        requires inside { 4096 * first + length into.old ≤ 4096 * self.now.geometry.blocks }
+        ensures extent { D.extent disk.new ≡ D.extent disk.old }
+        ensures faults { D.faults disk.new ≡ faults_after result (D.faults disk.old) }
+        ensures honest { D.honest disk.new ↔ D.honest disk.old }
+
+        ensures bytes { D.honest disk.old → OnOk result ((k : ℕ) → k < length into.new →
+            slice_index into.new k ≡ slice_index (D.state disk.new).seen (block_at self.now.geometry first + k)) }
         ensures kept { D.honest disk.old → IsKept (D.state disk.old) (D.state disk.new) }
         ensures any_moment { D.honest disk.old → LeavesOnly (D.state disk.old) (D.state disk.new) (MayLeave (D.state disk.old)) }
     {
-        disk.read(self.block_from(block), into)
+        disk.read(self.block_from(first), into)
+    }
+
+    /// Writes the data of whole blocks from the first one on, in one call of the device and without a sync.
+    pub fn write_blocks<D: Disk>(
+        &self,
+        disk: &mut D,
+        first: u64,
+        bytes: &[u8],
+    ) -> Result<(), DeviceFault>
+        requires device { D.extent disk.old ≡ device_bytes_of self.now.geometry.blocks self.now.geometry.area }
+        requires some { 0 < length bytes.now }
+        requires whole { length bytes.now % 4096 ≡ 0 }
+        requires inside { 4096 * first + length bytes.now ≤ 4096 * self.now.geometry.blocks }
+        ensures extent { D.extent disk.new ≡ D.extent disk.old }
+        ensures faults { D.faults disk.new ≡ faults_after result (D.faults disk.old) }
+        ensures honest { D.honest disk.new ↔ D.honest disk.old }
+
+        ensures written { D.honest disk.old → OnOk result
+            (IsWritten (D.state disk.old) (block_at self.now.geometry first) bytes.now (D.state disk.new)) }
+        ensures others { D.honest disk.old → OnOk result
+            (IsSameOutside (D.state disk.old) (block_at self.now.geometry first) (length bytes.now) (D.state disk.new)) }
+        ensures failed { D.honest disk.old → OnErr result
+            (IsWriteFailed (D.state disk.old) (block_at self.now.geometry first) (length bytes.now) (D.state disk.new)) }
+        ensures any_moment { D.honest disk.old → LeavesOnly (D.state disk.old) (D.state disk.new)
+            (MayLeaveTorn (D.state disk.old) (block_at self.now.geometry first) (length bytes.now)) }
+    {
+        disk.write_at(self.block_from(first), bytes)
     }
 }

@@ -2,7 +2,7 @@ use Rattle.std.proofs.Common.{◌≡◌, ℕ, [], ◌∷◌, replicate, subst, �
 use Rattle.disk_model.specs.Disk.{IsWritten}
 use Rattle.header_slots.specs.Slots.{IsBodyWritten}
 use Rattle.header_slots.specs.declared.header.Header.{Header}
-use Rattle.header_slots.specs.declared.header.Side.TheVariants.{Zero}
+use Rattle.image_model.specs.declared.side.Side.TheVariants.{Zero}
 use Rattle.image_model.specs.Geometry.{map_bytes_of}
 use Rattle.image_model.specs.declared.geometry.Geometry.{Geometry}
 use Rattle.journal.specs.Area.{AreaState}
@@ -22,13 +22,13 @@ returns-in_err-write_at-clause-any_moment g c honest closed =
     map_moments _ closed c.new-area.result.from (omega (arith, c.area_from.ensures.place, from)) _ (gate.written honest) c.map_from.result (omega (arith, c.map_from.ensures.place)) _
     (gate.any_moment honest) (c.write_at.ensures.any_moment (gate.honest.1 honest))
 
-pub returns-in_err-write_body-clause-any_moment : goal.returns-in_err-write_body-clause-any_moment
-returns-in_err-write_body-clause-any_moment g c honest closed =
+pub returns-in_err-fill_slot-clause-any_moment : goal.returns-in_err-fill_slot-clause-any_moment
+returns-in_err-fill_slot-clause-any_moment g c honest closed =
     let from : c.new-area.result.from ≡ c.area_from.result = ap (λ (area : AreaState). area.from) c.new-area.ensures in
     let gate = c.in_ok-close_first.ensures in
     let map = c.in_ok-write_at.ensures in
     body_moments _ closed c.new-area.result.from (omega (arith, c.area_from.ensures.place, from)) _ (gate.written honest) c.map_from.result (omega (arith, c.map_from.ensures.place)) _
-    (gate.any_moment honest) (map.any_moment (gate.honest.1 honest)) (map.written (gate.honest.1 honest)) (c.write_body.ensures.any_moment (map.honest.1 (gate.honest.1 honest)))
+    (gate.any_moment honest) (map.any_moment (gate.honest.1 honest)) (map.written (gate.honest.1 honest)) (c.fill_slot.ensures.any_moment (map.honest.1 (gate.honest.1 honest)))
 
 pub returns-clause-any_moment : goal.returns-clause-any_moment
 returns-clause-any_moment g c honest closed =
@@ -36,14 +36,14 @@ returns-clause-any_moment g c honest closed =
     let gate = c.in_ok-close_first.ensures in
     let map = c.in_ok-write_at.ensures in
     body_moments _ closed c.new-area.result.from (omega (arith, c.area_from.ensures.place, from)) _ (gate.written honest) c.map_from.result (omega (arith, c.map_from.ensures.place)) _
-    (gate.any_moment honest) (map.any_moment (gate.honest.1 honest)) (map.written (gate.honest.1 honest)) (c.write_body.ensures.any_moment (map.honest.1 (gate.honest.1 honest)))
+    (gate.any_moment honest) (map.any_moment (gate.honest.1 honest)) (map.written (gate.honest.1 honest)) (c.fill_slot.ensures.any_moment (map.honest.1 (gate.honest.1 honest)))
 
 pub returns-clause-fresh : goal.returns-clause-fresh
 returns-clause-fresh g c honest closed =
     let geometry = c.args.geometry in
     let gate = c.in_ok-close_first.ensures in
     let map = c.in_ok-write_at.ensures in
-    let body = c.in_ok-write_body.ensures in
+    let body = c.in_ok-fill_slot.ensures in
     let one_honest = gate.honest.1 honest in
     let same = c.of-regions.ensures in
     let from : c.new-area.result.from ≡ area_at geometry Zero = ap (λ (area : AreaState). area.from) c.new-area.ensures ∙ c.area_from.ensures.place ∙ ap (λ (size : Geometry). area_at size Zero) same in
@@ -52,7 +52,7 @@ returns-clause-fresh g c honest closed =
     let before = g.D.Disk.state c.args.disk.now in
     let one = g.D.Disk.state c.close_first.new.disk in
     let two = g.D.Disk.state c.write_at.new.self in
-    let three = g.D.Disk.state c.write_body.new.disk in
+    let three = g.D.Disk.state c.fill_slot.new.disk in
     parts_written geometry before one two three closed.steady c.deref.result.now zeroes
     (subst (λ (place : ℕ). IsWritten before place (0 ∷ []) one) from (gate.written honest))
     (subst (λ (place : ℕ). IsWritten one place c.deref.result.now two) map_is (map.written one_honest))

@@ -1,5 +1,5 @@
 use Rattle.journal.proofs.Chained.{reads_on}
-use Rattle.checkpoint.proofs.Areas.{last_damaged, one_held, other_is, two_held}
+use Rattle.checkpoint.proofs.Areas.{last_damaged, one_held, two_held}
 use Rattle.checkpoint.proofs.Readings.{at_refusal, damage_weaker, seen_same, still_synced}
 use Rattle.checkpoint.proofs.opening.read_areas.Goals as goal
 
@@ -24,7 +24,7 @@ returns-in_err-area-in-Two-clause-read g c honest synced =
     let same = seen_same (g.met.D.Disk.sound c.read_area-in-Two.new.disk mid_honest) mid_synced (second.only_read mid_honest) in
     at_refusal _ _ _ _ c.from_residual-in_err-area-in-Two.ensures.1
     (damage_weaker c.in_err-area-in-Two.field-0.0
-    (last_damaged header c.in-Two.is mid c.in_ok-first-in-Two.first first.placed (first.read honest synced) after.seen c.other-side.result c.next.result same c.next.ensures (other_is header.first_area c.other-side.result c.other-side.ensures))
+    (last_damaged header c.in-Two.is mid c.in_ok-first-in-Two.first first.placed (first.read honest synced) after.seen c.other-side.result c.next.result same c.next.ensures c.other-side.ensures)
     (second.read mid_honest mid_synced))
 
 pub returns-in_ok-area-in-Two-clause-only_read : goal.returns-in_ok-area-in-Two-clause-only_read

@@ -2,4 +2,4 @@ use Rattle.alloc_map.proofs.States.{own_states}
 use Rattle.alloc_map.proofs.map.AllocMap.to_bytes.Goals as goal
 
 pub returns : goal.returns
-returns c = rw (c.in_ok-extend_from_slice.ensures.items, c.new-copied.ensures.items, c.deref.ensures.value) (own_states _ _ _ c.self.invariant c.self.view_is)
+returns c = rw (c.in_ok-copied.ensures.items, c.deref.ensures.value) (own_states _ _ _ c.self.invariant c.self.view_is)

@@ -1,10 +1,10 @@
 use Rattle.std.proofs.Common.{ℕ, ◌+◌, List, Result, Ok, Err, OnOk, OnErr, sym, subst}
 use Rattle.disk_model.specs.Disk.{State, IsWritten, IsWriteFailed, LeavesOnly, MayLeaveTorn}
 use Rattle.header_slots.specs.declared.header.Header.{Header}
-use Rattle.header_slots.specs.declared.header.Side.{Side}
+use Rattle.image_model.specs.declared.side.Side.{Side}
 use Rattle.header_slots.specs.Header.{IsBodyOf}
 use Rattle.header_slots.specs.Slots.{slot_at, IsBodyWritten}
-use Rattle.header_slots.proofs.slots.write_body.Goals as goal
+use Rattle.header_slots.proofs.slots.fill_slot.Goals as goal
 
 body_written : {T E : Type 0} (result : Result T E) (before after : State) (slot : Side) (header : Header) (bytes : List ℕ) → IsBodyOf header bytes → OnOk result (IsWritten before (slot_at slot + 1) bytes after) → OnOk result (IsBodyWritten before slot header after)
 body_written (Ok value) before after slot header bytes body written = record { bytes = bytes; body = body; written = written }

@@ -1,6 +1,6 @@
 use Rattle.std.proofs.Common.{◌≡◌, ℕ, ◌<◌, ◌≤◌}
 use Rattle.alloc_map.specs.Codes.{code_at}
-use Rattle.alloc_map.proofs.map.has_good_codes.Given as goal
+use Rattle.alloc_map.proofs.codes.has_good_codes.Given as goal
 
 abbrev pub invariant-loop-block : goal.invariant-loop-block
 invariant-loop-block l =

@@ -1,0 +1,152 @@
+ghost use Rattle.std.specs.Prelude.{◌≡◌, ◌+◌, ◌≤◌, ◌<◌, ◌↔◌, ◌∷◌, [], IsTrue, IfOk, IfErr, OnOk};
+ghost use Rattle.disk_model.specs.Disk.{IsKept, IsStored, IsSyncedIn, LeavesOnly, MayLeave, MayLeaveTorn};
+ghost use Rattle.disk_model.specs.Faults.{faults_after};
+ghost use Rattle.image_model.specs.Side.{other_of};
+ghost use Rattle.header_slots.specs.Change.{renewed, ComesNext, IsBodyStored, IsChangeAnswer, IsGateClosed, IsInPlace, IsUnwritten, LeavesChange, LeavesClosing, LeavesEither, faults_after_change};
+ghost use Rattle.header_slots.specs.Slots.{slot_at, HoldsHeader, IsOpen};
+ghost use Rattle.header_slots.specs.declared.header.Header.{Header};
+
+use crate::fault::ChangeFault;
+use crate::header::{Areas, Header};
+use crate::slots::{CLOSED, OPEN, read_current, slot_from};
+use disk_model::{DeviceFault, Disk, write_synced};
+use image_model::Side;
+
+/// What a new header says anew. Its generation is one greater than that of the header in force, and the sizes stay.
+#[derive(Clone, Copy, Debug, PartialEq, Eq)]
+pub struct HeaderChange {
+    pub areas: Areas,
+    pub first_area: Side,
+    pub map_slot: Side,
+    /// The number of the last command that map and data hold.
+    pub base: u64,
+}
+
+// Whether a slot's gate is open.
+fn is_open<D: Disk>(disk: &mut D, slot: Side) -> Result<bool, DeviceFault>
+    requires { 8192 ≤ D.extent disk.old }
+    ensures extent { D.extent disk.new ≡ D.extent disk.old }
+    ensures faults { D.faults disk.new ≡ faults_after result (D.faults disk.old) }
+    ensures honest { D.honest disk.new ↔ D.honest disk.old }
+
+    ensures open { D.honest disk.old → IfOk result (λ found. IsTrue found ↔ IsOpen (D.state disk.new).seen slot) }
+    ensures kept { D.honest disk.old → IsKept (D.state disk.old) (D.state disk.new) }
+    ensures any_moment { D.honest disk.old → LeavesOnly (D.state disk.old) (D.state disk.new) (MayLeave (D.state disk.old)) }
+{
+    let mut gate = [0];
+    disk.read(slot_from(slot), &mut gate)?;
+    Ok(gate[0] == OPEN)
+}
+
+/// Closes the gate of the slot that isn't in force, where it is open, and makes that stable.
+///
+/// A closed gate isn't written, as a crash in the write could open it over a torn header.
+pub fn close_other<D: Disk>(disk: &mut D, other: Side) -> Result<(), DeviceFault>
+    requires { 8192 ≤ D.extent disk.old }
+    ensures extent { D.extent disk.new ≡ D.extent disk.old }
+    ensures faults { D.faults disk.new ≡ faults_after result (D.faults disk.old) }
+    ensures honest { D.honest disk.new ↔ D.honest disk.old }
+
+    ensures closed { D.honest disk.old → IsSyncedIn (D.state disk.old) (slot_at other) 1
+        → OnOk result (IsGateClosed (D.state disk.old) other (D.state disk.new)) }
+    ensures any_moment { D.honest disk.old → IsSyncedIn (D.state disk.old) (slot_at other) 1
+        → LeavesOnly (D.state disk.old) (D.state disk.new) (LeavesClosing (D.state disk.old) other) }
+{
+    if !is_open(disk, other)? {
+        return Ok(());
+    }
+    write_synced(disk, slot_from(other), &[CLOSED])
+}
+
+/// Writes a header behind a slot's gate, which isn't written, and makes it stable.
+pub fn write_body<D: Disk>(disk: &mut D, slot: Side, header: &Header) -> Result<(), DeviceFault>
+    requires { 8192 ≤ D.extent disk.old }
+    ensures extent { D.extent disk.new ≡ D.extent disk.old }
+    ensures faults { D.faults disk.new ≡ faults_after result (D.faults disk.old) }
+    ensures honest { D.honest disk.new ↔ D.honest disk.old }
+
+    ensures stored { D.honest disk.old → OnOk result (IsBodyStored (D.state disk.old) slot header.now (D.state disk.new)) }
+    ensures any_moment { D.honest disk.old → LeavesOnly (D.state disk.old) (D.state disk.new)
+        (MayLeaveTorn (D.state disk.old) (slot_at slot + 1) 39) }
+{
+    write_synced(disk, slot_from(slot) + 1, &header.encode())
+}
+
+/// Opens the gate of the slot that isn't in force, and makes that stable; what stands behind it has to be stable.
+pub fn open_other<D: Disk>(disk: &mut D, other: Side) -> Result<(), DeviceFault>
+    requires { 8192 ≤ D.extent disk.old }
+    ensures extent { D.extent disk.new ≡ D.extent disk.old }
+    ensures faults { D.faults disk.new ≡ faults_after result (D.faults disk.old) }
+    ensures honest { D.honest disk.new ↔ D.honest disk.old }
+
+    ensures stored { D.honest disk.old → OnOk result (IsStored (D.state disk.old) (slot_at other) (1 ∷ []) (D.state disk.new)) }
+    ensures any_moment { D.honest disk.old → LeavesOnly (D.state disk.old) (D.state disk.new)
+        (MayLeaveTorn (D.state disk.old) (slot_at other) 1) }
+{
+    write_synced(disk, slot_from(other), &[OPEN])
+}
+
+// Puts a header in the place of the one in force, which stands in this slot, as the next one.
+fn put_in_force<D: Disk>(disk: &mut D, slot: Side, header: &Header) -> Result<(), DeviceFault>
+    requires { 8192 ≤ D.extent disk.old }
+    ensures extent { D.extent disk.new ≡ D.extent disk.old }
+    ensures faults { D.faults disk.new ≡ faults_after result (D.faults disk.old) }
+    ensures honest { D.honest disk.new ↔ D.honest disk.old }
+
+    ensures in_place { D.honest disk.old → IsSyncedIn (D.state disk.old) 0 8192 → (current : Header)
+        → HoldsHeader (D.state disk.old).seen (D.extent disk.old) current slot → ComesNext current header.now
+        → OnOk result (IsInPlace (D.state disk.old) (D.extent disk.old) header.now (other_of slot) (D.state disk.new)) }
+    ensures any_moment { D.honest disk.old → IsSyncedIn (D.state disk.old) 0 8192 → (current : Header)
+        → HoldsHeader (D.state disk.old).seen (D.extent disk.old) current slot → ComesNext current header.now
+        → LeavesOnly (D.state disk.old) (D.state disk.new) (LeavesEither (D.state disk.old) (D.extent disk.old) current slot header.now) }
+{
+    let other = slot.other();
+    close_other(disk, other)?;
+    write_body(disk, other, header)?;
+    open_other(disk, other)
+}
+
+/// Changes the header in force, and answers the new one and its slot.
+///
+/// The new header goes to the other slot: its gate is closed, the header is written, its gate is opened, each made
+/// stable before the next. Where nothing in the two slots is unsynced, a crash at any moment leaves the old header or
+/// the new one in force. 7, 8 and 9 write nothing.
+pub fn change_header<D: Disk>(
+    disk: &mut D,
+    change: &HeaderChange,
+) -> Result<(Header, Side), ChangeFault>
+    ensures extent { D.extent disk.new ≡ D.extent disk.old }
+    ensures faults { D.faults disk.new ≡ faults_after_change result (D.faults disk.old) }
+    ensures honest { D.honest disk.new ↔ D.honest disk.old }
+
+    ensures answer { D.honest disk.old → IsSyncedIn (D.state disk.old) 0 8192
+        → IsChangeAnswer (D.state disk.old).seen (D.extent disk.old) change.now result }
+    ensures in_place { D.honest disk.old → IsSyncedIn (D.state disk.old) 0 8192
+        → IfOk result (λ current. IsInPlace (D.state disk.old) (D.extent disk.old) current.0 current.1 (D.state disk.new)) }
+    ensures kept { D.honest disk.old → IfErr result (λ fault. IsUnwritten fault → IsKept (D.state disk.old) (D.state disk.new)) }
+    ensures any_moment { D.honest disk.old → IsSyncedIn (D.state disk.old) 0 8192
+        → LeavesOnly (D.state disk.old) (D.state disk.new) (LeavesChange (D.state disk.old) (D.extent disk.old) change.now) }
+{
+    let (current, slot) = read_current(disk)?;
+    let Some(generation) = current.generation.checked_add(1) else {
+        return Err(ChangeFault::NumbersFull);
+    };
+    let header = next_header(&current, generation, change);
+    put_in_force(disk, slot, &header)?;
+    Ok((header, slot.other()))
+}
+
+// The next header, with this generation.
+fn next_header(current: &Header, generation: u64, change: &HeaderChange) -> Header
+    requires { generation ≡ current.now.generation + 1 }
+    ensures { result ≡ renewed current.now change.now }
+{
+    Header {
+        generation,
+        geometry: current.geometry,
+        areas: change.areas,
+        first_area: change.first_area,
+        map_slot: change.map_slot,
+        base: change.base,
+    }
+}
