@@ -201,7 +201,7 @@ is=
 tell 'recover leaves the image' "$is"
 
 # A test that memory is refused ends by itself: it passes, or it says where it stopped.
-for tests in journal checkpoint nbdj_tests; do
+for tests in storage_tests nbdj_tests; do
     built=$here/crates/$tests/out/${tests}_tests
     [ -x "$built" ] || { tell "the tests of $tests" 'not built'; continue; }
     for test in $("$built" --list | sed -n 's/: test$//p' | grep -v '^scripts::\|cut_at_every_place'); do

@@ -2,9 +2,9 @@
 ghost use Rattle.std.specs.Prelude.{◌≡◌, ◌+◌, ◌*◌, ◌≤◌, ◌<◌, ◌^◌, length, IfOk};
 ghost use Rattle.image_model.specs.Command.{bodies_of};
 
-use crate::{Area, Group, JournalFault, Touch};
 use disk_model::{CallKind, CrashChoice, Disk, SimDisk};
 use image_model::{Command, Kind};
+use journal::{Area, Group, JournalFault, Touch};
 use std::alloc::{AllocError, Global};
 use std::process::Abort;
 use std::test::Fail;

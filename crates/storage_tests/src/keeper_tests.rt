@@ -2,7 +2,7 @@
 ghost use Rattle.std.specs.Prelude.{◌≡◌, ◌+◌, ◌<◌, ◌^◌, length, IfOk};
 ghost use Rattle.image_model.specs.Geometry.{device_bytes_of};
 
-use crate::{Keeper, KeeperFault};
+use checkpoint::{Keeper, KeeperFault};
 use disk_model::{CrashChoice, Disk, SimDisk};
 use image_model::{Command, Geometry, Kind};
 use journal::Group;
