@@ -15,6 +15,7 @@ called() {
     status=$?
     output=$(hex <output)
     errors=$(cat errors)
+    told
 }
 
 # found: what an opening finds, or how it is refused

@@ -23,14 +23,16 @@ same() { is "$1" '' "$(cmp "$2" "$3" 2>&1)"; }
 # skipped NAME WHY
 skipped() { echo "skipped: $1, since $2"; }
 
+# told: keeps what a run ended with, for the check of the documents
+told() { [ -z "${NBDJ_TOLD:-}" ] || cat errors >>"$NBDJ_TOLD"; }
+
 # run WORD..: runs the program on the file `input`, and sets status, output (in hex) and errors
 run() {
     "$NBDJ" "$@" <input >output 2>errors
     status=$?
     output=$(hex <output)
     errors=$(cat errors)
-    # (for the check of the documents: the texts that runs of these checks ended with)
-    [ -z "${NBDJ_TOLD:-}" ] || cat errors >>"$NBDJ_TOLD"
+    told
 }
 
 # ends NAME STATUS OUTPUT ERRORS WORD..: how a run ends, its output in hex

@@ -20,6 +20,7 @@ refusing() {
     rm -f met
     REFUSE_AT=$n REFUSE_MET=met LD_PRELOAD=./refuse.so timeout 20 "$NBDJ" "$@" <input >output 2>errors
     status=$?
+    told
     [ -e met ]
 }
 

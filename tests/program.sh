@@ -198,6 +198,7 @@ if [ -w /dev/full ]; then
     fresh 16 2097152
     "$NBDJ" pipe d.img <whole >/dev/full 2>errors
     is 'a full output' '1|nbdj: stream fault (21)' "$?|$(cat errors)"
+    told
     : >input
     ends 'after the full output' 0 "$(text 'commands 1')" '' recover d.img
 else
