@@ -1,16 +1,17 @@
 #!/bin/sh
 # Runs the built program NBDJ again and again, and refuses it another call for memory each time, up to the first run that meets
-# none: over the table of scripts, and over format, pipe and recover on a file; and so the built tests of journal, keeper and schedules.
-# Prints a line for each run that does anything but what a refusal may do, and last 'N passed, M failed'.
+# none: over the table of scripts, and over format, pipe and recover on a file; and so the built tests of each crate that has some.
+# Prints a line for each run that does anything but what a refusal may do, what was skipped, how many runs there were, and last
+# 'N passed, M failed': a script, a command and a test are one check each, however many runs that takes.
 set -u
 here=$(cd "$(dirname "$0")/.." && pwd)
-. "$here/tools/bytes.sh"
-folder=$(mktemp -d)
-trap 'rm -rf "$folder"' EXIT
-cd "$folder" || exit 1
-${CC:-cc} -shared -fPIC -O2 -o refuse.so "$here/tools/refuse_memory.c" -ldl || exit 1
-passed=0
-failed=0
+. "$here/tests/checks.sh"
+${CC:-cc} -Wall -Werror -shared -fPIC -O2 -o refuse.so "$here/tools/refuse_memory.c" -ldl || exit 1
+refused=0
+wrong=0
+
+# The most calls that are refused in turn of one check; what lies behind them is skipped, and told.
+most=400
 
 # refusing N WORD..: runs the program on `input` with its N-th call for memory refused; false where it met none
 refusing() {
@@ -19,36 +20,46 @@ refusing() {
     rm -f met
     REFUSE_AT=$n REFUSE_MET=met LD_PRELOAD=./refuse.so timeout 20 "$NBDJ" "$@" <input >output 2>errors
     status=$?
+    told
     [ -e met ]
 }
 
-# tell NAME IS: counts a run; IS is empty where it did what it may
+# tell NAME AMISS: looks at a run; AMISS is empty where it did what it may
 tell() {
-    if [ -z "$2" ]; then
-        passed=$((passed + 1))
-    else
-        failed=$((failed + 1))
-        printf 'FAILED %s: %s\n' "$1" "$2"
+    refused=$((refused + 1))
+    if [ -n "$2" ]; then
+        wrong=$((wrong + 1))
+        printf '%s: %s\n' "$1" "$2"
         paste -d '|' wanted output | head -n 40
         cat errors
     fi
 }
 
-# What is wrong where the first run has met no call already: then nothing was refused.
-some_met() { [ "$n" -gt 1 ] || echo 'no call for memory was met'; }
+# checked NAME AMISS: counts a check. All its runs have done what they may, one at least was refused its call, and the last run, which
+# met none, did what it does with memory: AMISS is empty where it did.
+checked() {
+    amiss=$2
+    if [ "$n" -gt "$most" ]; then
+        skipped "$1" "it makes more calls for memory than the $most that were refused"
+        amiss=
+    fi
+    [ "$n" -gt 1 ] || amiss="no call for memory was met $amiss"
+    is "$1" '0 runs were wrong; ' "$wrong runs were wrong; $amiss"
+    wrong=0
+}
 
 # whole WORD..: runs the program with each call refused in turn; it prints what it prints with memory, or ends for want of it
 whole() {
     "$NBDJ" "$@" <input >wanted
     n=1
-    while refusing "$n" "$@"; do
-        is="status $status, $(cat errors)"
-        if [ "$status" -eq 0 ] && cmp -s wanted output; then is=; fi
-        if [ "$status" -eq 1 ] && [ ! -s output ] && grep -q 'no memory\|cannot open' errors; then is=; fi
-        tell "$1, call $n" "$is"
+    while [ "$n" -le "$most" ] && refusing "$n" "$@"; do
+        amiss="status $status, $(cat errors)"
+        if [ "$status" -eq 0 ] && cmp -s wanted output; then amiss=; fi
+        if [ "$status" -eq 1 ] && [ ! -s output ] && grep -q 'no memory\|cannot open' errors; then amiss=; fi
+        tell "$1, call $n" "$amiss"
         n=$((n + 1))
     done
-    tell "$1 asks for memory" "$(some_met)"
+    checked "$1" "$(cmp wanted output 2>&1)"
 }
 
 # line K FILE
@@ -135,17 +146,16 @@ judge() {
     echo "line $at is '$got', status $status"
 }
 
-sed -n 's/^        "\(format .*\)",$/\1/p' "$here/crates/nbdj_tests/src/scripts.rt" >table
-while read -r script; do
-    printf '%b' "$script" >input
-    runs input >wanted
+for script in "$here"/tests/scripts/*.in; do
+    name=$(basename "$script" .in)
+    cp "$script" input && cp "${script%.in}.out" wanted || exit 1
     n=1
-    while refusing "$n" rehearse; do
-        tell "script '$(head -c 60 input | tr '\n' '/')', call $n" "$(judge)"
+    while [ "$n" -le "$most" ] && refusing "$n" rehearse; do
+        tell "script $name, call $n" "$(judge)"
         n=$((n + 1))
     done
-    tell "script without a refusal" "$(some_met; cmp wanted output 2>&1)"
-done <table
+    checked "script $name" "$(cmp wanted output 2>&1)"
+done
 
 # On a file: an end for want of memory leaves an image that opens with a beginning of what was sent, or, while it is formatted, none.
 : >input
@@ -161,16 +171,16 @@ whole format d.img --blocks 16 --area 2097152
 n=1
 "$NBDJ" format d.img --blocks 16 --area 2097152 >/dev/null
 "$NBDJ" pipe d.img <input >wanted
-while "$NBDJ" format d.img --blocks 16 --area 2097152 >/dev/null; refusing "$n" pipe d.img; do
-    is=
+while "$NBDJ" format d.img --blocks 16 --area 2097152 >/dev/null; [ "$n" -le "$most" ] && refusing "$n" pipe d.img; do
+    amiss=
     case $status in
     0) ;;
-    1) [ "$(cat errors)" = 'nbdj: no memory (0)' ] || grep -q 'cannot open' errors || is="errors $(cat errors)" ;;
-    *) is="status $status" ;;
+    1) [ "$(cat errors)" = 'nbdj: no memory (0)' ] || grep -q 'cannot open' errors || amiss="errors $(cat errors)" ;;
+    *) amiss="status $status" ;;
     esac
     # Each reply is that of the whole run, or says ENOMEM.
     bytes=$(wc -c <output)
-    [ "$((bytes % 16))" -eq 0 ] || is="$bytes bytes of replies"
+    [ "$((bytes % 16))" -eq 0 ] || amiss="$bytes bytes of replies"
     at=0
     stored=0
     while [ "$at" -lt "$bytes" ]; do
@@ -180,42 +190,50 @@ while "$NBDJ" format d.img --blocks 16 --area 2097152 >/dev/null; refusing "$n" 
             # What the FLUSH and the FUA write say is stored: one write, and two.
             case $at in 16) stored=1 ;; 32) stored=2 ;; esac
         elif [ "$reply" != "$(echo "$good" | sed 's/^\(67446698\)00000000/\10000000c/')" ]; then
-            is="a reply $reply"
+            amiss="a reply $reply"
         fi
         at=$((at + 16))
     done
     found=$("$NBDJ" recover d.img 2>&1)
     case $found in
-    'commands '[0-3]) [ "${found#commands }" -ge "$stored" ] || [ "$status" -eq 0 ] || is="found $found, stored $stored" ;;
-    *) is="found $found" ;;
+    'commands '[0-3]) [ "${found#commands }" -ge "$stored" ] || [ "$status" -eq 0 ] || amiss="found $found, stored $stored" ;;
+    *) amiss="found $found" ;;
     esac
-    tell "pipe, call $n" "$is"
+    tell "pipe, call $n" "$amiss"
     n=$((n + 1))
 done
-tell 'pipe asks for memory' "$(some_met)"
+checked pipe "$(cmp wanted output 2>&1)"
 
 : >input
 whole recover d.img
-is=
-[ "$("$NBDJ" recover d.img)" = "$(cat wanted)" ] || is='the image changed'
-tell 'recover leaves the image' "$is"
+is 'recover leaves the image' "$(cat wanted)" "$("$NBDJ" recover d.img)"
+
+# test_refusing N PROGRAM TEST: the like for a built test
+test_refusing() {
+    rm -f met
+    REFUSE_AT=$1 REFUSE_MET=met LD_PRELOAD=./refuse.so timeout 20 "$2" "$3" >output 2>&1
+    status=$?
+    [ -e met ]
+}
 
 # A test that memory is refused ends by itself: it passes, or it says where it stopped.
-for tests in journal checkpoint nbdj_tests; do
-    built=$here/crates/$tests/out/${tests}_tests
-    [ -x "$built" ] || { tell "the tests of $tests" 'not built'; continue; }
-    for test in $("$built" --list | sed -n 's/: test$//p' | grep -v '^scripts::\|cut_at_every_place'); do
+found=0
+: >wanted
+: >errors
+for built in "$here"/crates/*/out/*_tests; do
+    [ -x "$built" ] || continue
+    tests=$(basename "$built" _tests)
+    for test in $("$built" --list | sed -n 's/: test$//p'); do
+        found=$((found + 1))
         n=1
-        is=
-        while rm -f met; REFUSE_AT=$n REFUSE_MET=met LD_PRELOAD=./refuse.so timeout 20 "$built" "$test" >output 2>&1; status=$?; [ -e met ]; do
-            grep -q '^test result: ok\|^test stopped at\|^the test failed' output || is="$is call $n: status $status;"
+        while [ "$n" -le "$most" ] && test_refusing "$n" "$built" "$test"; do
+            tell "$tests, $test, call $n" "$(grep -q '^test result: ok\|^test stopped at\|^the test failed' output || echo "status $status")"
             n=$((n + 1))
         done
-        [ "$status" -eq 0 ] || is="$is without a refusal: status $status"
-        is=$is$(some_met)
-        tell "$tests, $test" "$is"
+        checked "$tests, $test" "$(grep -q '^test result: ok' output || echo "status $status")"
     done
 done
+is 'there are tests' yes "$([ "$found" -gt 0 ] && echo yes)"
 
-echo "$passed passed, $failed failed"
-[ "$failed" -eq 0 ]
+echo "$refused runs with memory refused"
+the_end

@@ -2,39 +2,7 @@
 # Checks of the built program NBDJ on real files. Prints a line for each check that fails, and last 'N passed, M failed'.
 set -u
 here=$(cd "$(dirname "$0")/.." && pwd)
-. "$here/tools/bytes.sh"
-folder=$(mktemp -d)
-trap 'rm -rf "$folder"' EXIT
-cd "$folder" || exit 1
-passed=0
-failed=0
-
-# is NAME WANTED GOT
-is() {
-    if [ "$2" = "$3" ]; then
-        passed=$((passed + 1))
-    else
-        failed=$((failed + 1))
-        printf 'FAILED %s\n  wanted: %s\n  got:    %s\n' "$1" "$2" "$3"
-    fi
-}
-
-# run WORD..: runs the program on the file `input`, and sets status, output (in hex) and errors
-run() {
-    "$NBDJ" "$@" <input >output 2>errors
-    status=$?
-    output=$(hex <output)
-    errors=$(cat errors)
-}
-
-# ends NAME STATUS OUTPUT ERRORS WORD..: how a run ends, its output in hex
-ends() {
-    name=$1
-    wanted="$2|$3|$4"
-    shift 4
-    run "$@"
-    is "$name" "$wanted" "$status|$output|$errors"
-}
+. "$here/tests/checks.sh"
 
 # refused NAME WORD..: the command line is refused with clap's usage and status 2, and makes no file
 refused() {
@@ -43,12 +11,6 @@ refused() {
     run "$@"
     is "$name" '2||yes|no' "$status|$output|$(grep -qi 'usage\|--help' errors && echo yes)|$([ -e new.img ] && echo yes || echo no)"
 }
-
-# text TEXT: a line as hex
-text() { printf '%s\n' "$1" | hex; }
-
-# fresh BLOCKS AREA: a new d.img
-fresh() { "$NBDJ" format d.img --blocks "$1" --area "$2" >/dev/null; }
 
 # patch FILE OFFSET HEX: bytes in the middle of a file
 patch() { bytes "$3" | dd of="$1" bs=1 seek="$2" conv=notrunc 2>/dev/null; }
@@ -80,13 +42,15 @@ refused 'frames too few' pipe new.img --frames 511
 refused 'frames too many' pipe new.img --frames 65537
 refused 'unknown cache mode' pipe new.img --cache unsafe
 refused 'a word too many' recover new.img more
+# The version is that of the first heading of the list of changes.
+version=$(sed -n 's/^## \([0-9][0-9.]*\).*/\1/p' "$here/CHANGELOG.md" | head -n 1)
 run --version
-is 'version' "0|$(text 'nbdj 0.1.0')|" "$status|$output|$errors"
+is 'version' "0|$(text "nbdj $version")|" "$status|$output|$errors"
 run pipe --help
 is 'help' '0|yes|' "$status|$(grep -q FLUSH output && echo yes)|$errors"
 for command in format pipe recover rehearse; do
     run "$command" --version
-    is "version of $command" '0|yes|' "$status|$(grep -q '0\.1\.0$' output && echo yes)|$errors"
+    is "version of $command" "0|$version|" "$status|$(sed 's/.* //' output)|$errors"
     run "$command" --help
     is "help of $command" '0|yes|' "$status|$(grep -q "^Usage: nbdj $command" output && echo yes)|$errors"
 done
@@ -117,6 +81,15 @@ unchanged 'another magic' 'nbdj: bad header (8)'
 fresh 16 2097152
 patch d.img 0 00
 unchanged 'a closed gate' 'nbdj: no header (7)'
+fresh 16 2097152
+patch d.img 4202496 03
+unchanged 'a code 3 in the map' 'nbdj: bad map (6)'
+fresh 16 2097152
+patch d.img 32 ffffffffffffffff
+ends 'the greatest base' 0 "$(text 'commands 18446744073709551615')" '' recover d.img
+{ request 0000 1 1 0 4096; filled 4096 A; request 0000 2 2 0 0; } >input
+ends 'no number is left' 0 "$(reply 1 28)" '' pipe d.img
+: >input
 fresh 16 2097152
 patch d.img 8192 '01 0000000d 0000000000000001 00000001 02 0000000000000000 00000004 00'
 ends 'a stored group' 0 "$(text 'commands 1')" '' recover d.img
@@ -225,8 +198,11 @@ if [ -w /dev/full ]; then
     fresh 16 2097152
     "$NBDJ" pipe d.img <whole >/dev/full 2>errors
     is 'a full output' '1|nbdj: stream fault (21)' "$?|$(cat errors)"
+    told
     : >input
     ends 'after the full output' 0 "$(text 'commands 1')" '' recover d.img
+else
+    skipped 'a stream that cannot be written' 'there is no /dev/full'
 fi
 
 # The largest image, where the file system takes a file of 64 GiB with holes: it is formatted and opened in memory that goes with
@@ -236,6 +212,8 @@ if dd if=/dev/null of=large.img bs=1 seek=68732067840 2>/dev/null; then
     is 'the header of the largest image' 014e42444a524e4c3100000000000000010000000001000000 "$(part large.img 0 25)"
     is 'the largest image again' 'commands 0' "$(ulimit -v 65536 && "$NBDJ" recover large.img 2>&1)"
     rm -f large.img
+else
+    skipped 'the largest image' 'the file system takes no file of 64 GiB with holes'
 fi
 
 # The scripts that docs/SCRIPTS.md teaches, and what it says that they print.
@@ -244,8 +222,25 @@ for k in 1 2 3; do
     block script "$k" >input
     ends "script $k of the page" 0 "$(block prints "$k" | hex)" '' rehearse
 done
-printf 'format 16 2097152 512\nrotate\n' >input
-ends 'a line that is no step' 2 "$(text 'done')" 'nbdj: line 2: not a step' rehearse
+
+# The table of scripts, and what each prints.
+scripts=0
+for script in "$here"/tests/scripts/*.in; do
+    cp "$script" input || continue
+    ends "script $(basename "$script")" 0 "$(hex <"${script%.in}.out")" '' rehearse
+    scripts=$((scripts + 1))
+done
+is 'there are scripts' yes "$([ "$scripts" -gt 0 ] && echo yes)"
+
+# Lines that are no step, as the second of a script, and first lines that are no format.
+while IFS= read -r line; do
+    printf 'format 16 2097152 512\n%s\nseal\n' "$line" >input
+    ends "no step: '$line'" 2 "$(text 'done')" 'nbdj: line 2: not a step' rehearse
+done <"$here/tests/scripts/no_steps"
+while IFS= read -r line; do
+    printf '%s\nseal\n' "$line" >input
+    ends "no format: '$line'" 2 '' 'nbdj: line 1: not a step' rehearse
+done <"$here/tests/scripts/no_formats"
 : >input
 ends 'an empty script' 2 '' 'nbdj: line 1: not a step' rehearse
 
@@ -260,5 +255,4 @@ wait $!
 is 'the end of the script' 0 $?
 exec 4<&-
 
-echo "$passed passed, $failed failed"
-[ "$failed" -eq 0 ]
+the_end

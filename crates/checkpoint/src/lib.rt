@@ -8,8 +8,6 @@ mod laws;
 mod opening;
 mod simulated;
 mod stored;
-#[cfg(test)]
-mod tests;
 
 pub use fault::KeeperFault;
 pub use keeper::Keeper;

@@ -6,8 +6,6 @@ mod fault;
 mod group;
 mod laws;
 mod scan;
-#[cfg(test)]
-mod tests;
 mod touch;
 mod window;
 

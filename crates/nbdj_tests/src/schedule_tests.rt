@@ -1,8 +1,8 @@
 //! Schedules of connections and of the journal over a simulated device: what the log says, and what a crash leaves.
 use crate::schedules::{add, flush, formatted, run, store, write, write_often};
 use disk_model::{CallKind, CrashChoice};
-use nbd_wire::Errno;
-use request_core::{Event, Mode, Outcome, Step, StepFault};
+use nbd_wire::{Answer, Errno};
+use request_core::{Event, Mode, Step, StepFault};
 use std::test::Fail;
 
 // A crash in the write of a group's body, with every torn byte like an open gate, leaves nothing of the group.
@@ -16,7 +16,7 @@ fn crash_in_the_body(rt: HostRuntime) -> Result<(), Fail> {
     store(&mut steps)?;
     let left = run(&rt, alloc, disk, Mode::Writeback, &steps)?;
     assert_eq!(rt; left.log.len(), 6);
-    assert!(rt; matches!(left.log.get(2), Some(Event::Answered(1, Outcome::Done))));
+    assert!(rt; matches!(left.log.get(2), Some(Event::Answered(1, Answer::Done))));
     assert!(rt; matches!(left.log.get(4), Some(Event::Failed(StepFault::DeviceFault))));
     assert!(rt; matches!(left.log.get(5), Some(Event::Held)));
     let mut disk = left.disk;
@@ -58,7 +58,7 @@ fn flush_is_held_and_then_answered(rt: HostRuntime) -> Result<(), Fail> {
     let left = run(&rt, alloc, disk, Mode::Writeback, &steps)?;
     assert!(rt; matches!(left.log.get(1), Some(Event::Numbered(1, 1))));
     assert!(rt; matches!(left.log.get(5), Some(Event::Held)));
-    assert!(rt; matches!(left.log.get(9), Some(Event::Answered(2, Outcome::Done))));
+    assert!(rt; matches!(left.log.get(9), Some(Event::Answered(2, Answer::Done))));
     let mut disk = left.disk;
     disk.crash(CrashChoice::Fill(0xff));
     let again = run(&rt, alloc, disk, Mode::Writeback, &[])?;
@@ -80,7 +80,7 @@ fn one_group_for_many_writes(rt: HostRuntime) -> Result<(), Fail> {
     let left = run(&rt, alloc, disk, Mode::Writeback, &steps)?;
     assert!(rt; matches!(left.log.get(121), Some(Event::Numbered(1, 41))));
     assert!(rt; matches!(left.log.get(122), Some(Event::Held)));
-    assert!(rt; matches!(left.log.get(126), Some(Event::Answered(1, Outcome::Done))));
+    assert!(rt; matches!(left.log.get(126), Some(Event::Answered(1, Answer::Done))));
     assert!(rt; matches!(left.log.get(127), Some(Event::Held)));
     let mut disk = left.disk;
     disk.crash(CrashChoice::Old);
@@ -105,15 +105,14 @@ fn failed_sync(rt: HostRuntime) -> Result<(), Fail> {
     write(alloc, &mut steps, 1, 2, 0x43, 0)?;
     store(&mut steps)?;
     let left = run(&rt, alloc, disk, Mode::Writeback, &steps)?;
-    let eio = Outcome::Refused(Errno::Io);
     assert!(rt;
         matches!(
             left.log.get(10),
             Some(Event::Failed(StepFault::DeviceFault))
         )
     );
-    assert!(rt; matches!(left.log.get(14), Some(Event::Answered(2, outcome)) if *outcome == eio));
-    assert!(rt; matches!(left.log.get(17), Some(Event::Answered(1, outcome)) if *outcome == eio));
+    assert!(rt; matches!(left.log.get(14), Some(Event::Answered(2, Answer::Refused(Errno::Io)))));
+    assert!(rt; matches!(left.log.get(17), Some(Event::Answered(1, Answer::Refused(Errno::Io)))));
     assert!(rt; matches!(left.log.get(18), Some(Event::Took)));
     assert!(rt;
         matches!(
@@ -139,7 +138,7 @@ fn writethrough_waits(rt: HostRuntime) -> Result<(), Fail> {
     add(&mut steps, Step::Answer(1))?;
     let left = run(&rt, alloc, disk, Mode::Writethrough, &steps)?;
     assert!(rt; matches!(left.log.get(2), Some(Event::Held)));
-    assert!(rt; matches!(left.log.get(6), Some(Event::Answered(1, Outcome::Done))));
+    assert!(rt; matches!(left.log.get(6), Some(Event::Answered(1, Answer::Done))));
     Ok(())
 }
 

@@ -1,6 +1,3 @@
-ghost use Rattle.std.specs.Prelude.{◌≡◌, ◌≤◌, ◌*◌, ◌<◌, ◌++◌, ◌∷◌, [], All, IfOk, OnOk};
-ghost use Rattle.world.specs.Step.{HasItsRequest};
-
 use checkpoint::Keeper;
 use disk_model::SimDisk;
 use image_model::Geometry;
@@ -26,11 +23,7 @@ pub fn formatted(rt: &impl Abort, alloc: Global) -> Result<SimDisk, Fail> {
 }
 
 // Adds a step to a schedule.
-pub fn add(steps: &mut Vec<Step>, step: Step) -> Result<(), AllocError>
-    requires steps { All HasItsRequest steps.old.items }
-    requires step { HasItsRequest step }
-    ensures { OnOk result (All HasItsRequest steps.new.items) }
-{
+pub fn add(steps: &mut Vec<Step>, step: Step) -> Result<(), AllocError> {
     steps.push(step)?;
     Ok(())
 }
@@ -43,10 +36,7 @@ fn write_blocks(
     range: (u8, u8),
     byte: u8,
     flags: u16,
-) -> Result<(), AllocError>
-    requires { All HasItsRequest steps.old.items }
-    ensures { OnOk result (All HasItsRequest steps.new.items) }
-{
+) -> Result<(), AllocError> {
     let (first, blocks) = range;
     let head = RequestHead {
         flags,
@@ -56,7 +46,7 @@ fn write_blocks(
         length: 4096 * blocks as u32,
     };
     let bytes = vec![in alloc; byte; 4096 * blocks as usize]?;
-    add(steps, Step::Send(connection, Request { head, bytes }))?;
+    add(steps, Step::Send(connection, Request::new(head, bytes)))?;
     add(steps, Step::Serve(connection))?;
     add(steps, Step::Answer(connection))
 }
@@ -69,18 +59,12 @@ pub fn write(
     block: u8,
     byte: u8,
     flags: u16,
-) -> Result<(), AllocError>
-    requires { All HasItsRequest steps.old.items }
-    ensures { OnOk result (All HasItsRequest steps.new.items) }
-{
+) -> Result<(), AllocError> {
     write_blocks(alloc, steps, connection, (block, 1), byte, flags)
 }
 
 // Lets a connection send a FLUSH, be served and, if it can be, answered.
-pub fn flush(alloc: Global, steps: &mut Vec<Step>, connection: usize) -> Result<(), AllocError>
-    requires { All HasItsRequest steps.old.items }
-    ensures { OnOk result (All HasItsRequest steps.new.items) }
-{
+pub fn flush(alloc: Global, steps: &mut Vec<Step>, connection: usize) -> Result<(), AllocError> {
     let head = RequestHead {
         flags: 0,
         kind: FLUSH,
@@ -89,7 +73,7 @@ pub fn flush(alloc: Global, steps: &mut Vec<Step>, connection: usize) -> Result<
         length: 0,
     };
     let bytes = Vec::new(alloc);
-    add(steps, Step::Send(connection, Request { head, bytes }))?;
+    add(steps, Step::Send(connection, Request::new(head, bytes)))?;
     add(steps, Step::Serve(connection))?;
     add(steps, Step::Answer(connection))
 }
@@ -101,10 +85,7 @@ pub fn write_often(
     count: u8,
     range: (u8, u8),
     stored: bool,
-) -> Result<(), AllocError>
-    requires { All HasItsRequest steps.old.items }
-    ensures { OnOk result (All HasItsRequest steps.new.items) }
-{
+) -> Result<(), AllocError> {
     for _round in 0..count {
         write_blocks(alloc, steps, 0, range, 0x41, 0)?;
         if stored {
@@ -115,10 +96,7 @@ pub fn write_often(
 }
 
 // Seals, stores and publishes what is pending.
-pub fn store(steps: &mut Vec<Step>) -> Result<(), AllocError>
-    requires { All HasItsRequest steps.old.items }
-    ensures { OnOk result (All HasItsRequest steps.new.items) }
-{
+pub fn store(steps: &mut Vec<Step>) -> Result<(), AllocError> {
     add(steps, Step::Seal)?;
     add(steps, Step::Append)?;
     add(steps, Step::Publish)
@@ -139,9 +117,7 @@ pub fn run(
     disk: SimDisk,
     mode: Mode,
     steps: &[Step],
-) -> Result<Left, Fail>
-    requires { All HasItsRequest steps.now }
-{
+) -> Result<Left, Fail> {
     let Ok(mut keeper) = Keeper::open(alloc, disk) else {
         return Err("not opened".into());
     };

@@ -57,3 +57,23 @@ returns-clause-fresh g c honest closed =
     (subst (λ (place : ℕ). IsWritten before place (0 ∷ []) one) from (gate.written honest))
     (subst (λ (place : ℕ). IsWritten one place c.deref.result.now two) map_is (map.written one_honest))
     (subst (λ (header : Header). IsBodyWritten two Zero header three) c.first_header.ensures (body.written (map.honest.1 one_honest)))
+
+pub returns-in_err-write_at-clause-honest : goal.returns-in_err-write_at-clause-honest
+returns-in_err-write_at-clause-honest g c =
+    let first = c.in_ok-close_first.ensures in
+    let second = c.write_at.ensures in
+    (λ honest. first.honest.0 (second.honest.0 honest), λ honest. second.honest.1 (first.honest.1 honest))
+
+pub returns-in_err-write_body-clause-honest : goal.returns-in_err-write_body-clause-honest
+returns-in_err-write_body-clause-honest g c =
+    let first = c.in_ok-close_first.ensures in
+    let second = c.in_ok-write_at.ensures in
+    let third = c.write_body.ensures in
+    (λ honest. first.honest.0 (second.honest.0 (third.honest.0 honest)), λ honest. third.honest.1 (second.honest.1 (first.honest.1 honest)))
+
+pub returns-clause-honest : goal.returns-clause-honest
+returns-clause-honest g c =
+    let first = c.in_ok-close_first.ensures in
+    let second = c.in_ok-write_at.ensures in
+    let third = c.write_body.ensures in
+    (λ honest. first.honest.0 (second.honest.0 (third.honest.0 honest)), λ honest. third.honest.1 (second.honest.1 (first.honest.1 honest)))

@@ -43,3 +43,15 @@ returns-in_ok-area-in-Two-clause-read g c honest synced =
     let mid_synced = still_synced synced (first.only_read honest) in
     let same = seen_same (g.met.D.Disk.sound c.read_area-in-Two.new.disk mid_honest) mid_synced (second.only_read mid_honest) in
     two_held header c.in-Two.is mid c.in_ok-first-in-Two.first first.placed (first.read honest synced) after c.in_ok-area-in-Two.area c.next.result same c.next.ensures (second.read mid_honest mid_synced)
+
+pub returns-in_err-area-in-Two-clause-honest : goal.returns-in_err-area-in-Two-clause-honest
+returns-in_err-area-in-Two-clause-honest g c =
+    let first = c.in_ok-first-in-Two.ensures in
+    let second = c.in_err-area-in-Two.ensures in
+    (λ honest. first.honest.0 (second.honest.0 honest), λ honest. second.honest.1 (first.honest.1 honest))
+
+pub returns-in_ok-area-in-Two-clause-honest : goal.returns-in_ok-area-in-Two-clause-honest
+returns-in_ok-area-in-Two-clause-honest g c =
+    let first = c.in_ok-first-in-Two.ensures in
+    let second = c.in_ok-area-in-Two.ensures in
+    (λ honest. first.honest.0 (second.honest.0 honest), λ honest. second.honest.1 (first.honest.1 honest))

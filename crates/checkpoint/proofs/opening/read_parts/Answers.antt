@@ -97,3 +97,23 @@ returns-clause-read g c honest synced =
       map = map;
       areas = third.read two_honest (still_synced one_synced map_read);
     }
+
+pub returns-in_err-map-clause-honest : goal.returns-in_err-map-clause-honest
+returns-in_err-map-clause-honest g c =
+    let first = c.in_ok-header.ensures in
+    let second = c.in_err-map.ensures in
+    (λ honest. first.honest.0 (second.honest.0 honest), λ honest. second.honest.1 (first.honest.1 honest))
+
+pub returns-in_err-first-clause-honest : goal.returns-in_err-first-clause-honest
+returns-in_err-first-clause-honest g c =
+    let first = c.in_ok-header.ensures in
+    let second = c.in_ok-map.ensures in
+    let third = c.in_err-first.ensures in
+    (λ honest. first.honest.0 (second.honest.0 (third.honest.0 honest)), λ honest. third.honest.1 (second.honest.1 (first.honest.1 honest)))
+
+pub returns-clause-honest : goal.returns-clause-honest
+returns-clause-honest g c =
+    let first = c.in_ok-header.ensures in
+    let second = c.in_ok-map.ensures in
+    let third = c.in_ok-first.ensures in
+    (λ honest. first.honest.0 (second.honest.0 (third.honest.0 honest)), λ honest. third.honest.1 (second.honest.1 (first.honest.1 honest)))

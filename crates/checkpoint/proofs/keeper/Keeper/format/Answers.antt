@@ -29,3 +29,23 @@ returns-clause-any_moment g c honest steady =
     (goes_on (weakens (first.any_moment honest) (λ content left. inl left)) (second.any_moment one_honest closed) (λ content left. inr (inl left)))
     (c.in_ok-open_header.ensures.any_moment (second.honest.1 one_honest) (second.closed one_honest closed) c.args.geometry (second.extent ∙ first.extent ∙ c.requires) (second.fresh one_honest closed))
     (λ content left. inr left)
+
+pub returns-in_err-write_parts-clause-honest : goal.returns-in_err-write_parts-clause-honest
+returns-in_err-write_parts-clause-honest g c =
+    let first = c.in_ok-close_headers.ensures in
+    let second = c.in_err-write_parts.ensures in
+    (λ honest. first.honest.0 (second.honest.0 honest), λ honest. second.honest.1 (first.honest.1 honest))
+
+pub returns-in_err-open_header-clause-honest : goal.returns-in_err-open_header-clause-honest
+returns-in_err-open_header-clause-honest g c =
+    let first = c.in_ok-close_headers.ensures in
+    let second = c.in_ok-write_parts.ensures in
+    let third = c.in_err-open_header.ensures in
+    (λ honest. first.honest.0 (second.honest.0 (third.honest.0 honest)), λ honest. third.honest.1 (second.honest.1 (first.honest.1 honest)))
+
+pub returns-clause-honest : goal.returns-clause-honest
+returns-clause-honest g c =
+    let first = c.in_ok-close_headers.ensures in
+    let second = c.in_ok-write_parts.ensures in
+    let third = c.in_ok-open_header.ensures in
+    (λ honest. first.honest.0 (second.honest.0 (third.honest.0 honest)), λ honest. third.honest.1 (second.honest.1 (first.honest.1 honest)))

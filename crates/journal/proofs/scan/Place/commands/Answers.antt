@@ -49,6 +49,34 @@ returns-in_err-found-clause-damaged g c honest content known damaged =
     (c.in_err-found.ensures.damaged (loop.honest.1 honest) content (loop.read_as honest content known) (passed_on c.from_residual.result c.in_err-found.field-0.0 _ c.from_residual.ensures.1 damaged))
     c.loop-test.true
 
+pub returns-in_err-found-clause-honest : goal.returns-in_err-found-clause-honest
+returns-in_err-found-clause-honest g c =
+    let loop = c.loop.invariant in
+    let read = c.in_err-found.ensures in
+    (λ honest. loop.honest.0 (read.honest.0 honest), λ honest. read.honest.1 (loop.honest.1 honest))
+
+pub returns-in_err-found-clause-only_read : goal.returns-in_err-found-clause-only_read
+returns-in_err-found-clause-only_read g c honest =
+    let loop = c.loop.invariant in
+    reads_on (g.met.D.Disk.sound c.args.disk.now honest) (loop.only_read honest) (c.in_err-found.ensures.only_read (loop.honest.1 honest))
+
+pub returns-in_err-found-clause-read_as : goal.returns-in_err-found-clause-read_as
+returns-in_err-found-clause-read_as g c honest content known =
+    let loop = c.loop.invariant in
+    c.in_err-found.ensures.read_as (loop.honest.1 honest) content (loop.read_as honest content known)
+
+pub returns-in_err-note-clause-honest : goal.returns-in_err-note-clause-honest
+returns-in_err-note-clause-honest g c =
+    let loop = c.loop.invariant in
+    let read = c.in_ok-found.ensures in
+    (λ honest. loop.honest.0 (read.honest.0 honest), λ honest. read.honest.1 (loop.honest.1 honest))
+
 pub returns-in_err-note-clause-only_read : goal.returns-in_err-note-clause-only_read
 returns-in_err-note-clause-only_read g c honest =
-    reads_on (g.met.D.Disk.sound c.args.disk.now honest) (c.loop.invariant.only_read honest) (c.in_ok-found.ensures.only_read (c.loop.invariant.honest.1 honest))
+    let loop = c.loop.invariant in
+    reads_on (g.met.D.Disk.sound c.args.disk.now honest) (loop.only_read honest) (c.in_ok-found.ensures.only_read (loop.honest.1 honest))
+
+pub returns-in_err-note-clause-read_as : goal.returns-in_err-note-clause-read_as
+returns-in_err-note-clause-read_as g c honest content known =
+    let loop = c.loop.invariant in
+    c.in_ok-found.ensures.read_as (loop.honest.1 honest) content (loop.read_as honest content known)

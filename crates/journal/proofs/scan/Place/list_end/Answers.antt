@@ -63,3 +63,20 @@ returns-clause-found g c honest content known =
     let same = rw c.in_default.is at read.same in
     subst (λ (touched : List TouchedRange). FoundList area.blocks content area.from c.args.next c.loop-window.end.gate c.loop-window.end.next touched) (sym {A = List TouchedRange} same)
     (lead_ends area.blocks content area.from c.args.next _ _ _ (loop.found honest content known) closed)
+
+pub returns-in_err-behind-clause-honest : goal.returns-in_err-behind-clause-honest
+returns-in_err-behind-clause-honest g c =
+    let loop = c.loop-window.invariant in
+    let read = c.in_err-behind.ensures in
+    (λ honest. loop.honest.0 (read.honest.0 honest), λ honest. read.honest.1 (loop.honest.1 honest))
+
+pub returns-clause-honest : goal.returns-clause-honest
+returns-clause-honest g c =
+    let loop = c.loop-window.invariant in
+    let read = c.in_ok-behind.ensures in
+    (λ honest. loop.honest.0 (read.honest.0 honest), λ honest. read.honest.1 (loop.honest.1 honest))
+
+pub returns-in_err-behind-clause-only_read : goal.returns-in_err-behind-clause-only_read
+returns-in_err-behind-clause-only_read g c honest =
+    let loop = c.loop-window.invariant in
+    reads_on (g.met.D.Disk.sound c.args.disk.now honest) (loop.only_read honest) (c.in_err-behind.ensures.only_read (loop.honest.1 honest))

@@ -41,3 +41,25 @@ returns-clause-found g c honest content known is_open =
     (area.from + (c.args.at.gate + 17)) (area.from + (c.args.at.gate + 17 + head.body)) (omega arith) (omega arith)
     c.args.touched.now.items c.commands.new.touched.items _ _ refl refl (c.is_next.ensures.0 c.if-not-is_next.false)
     (c.in_ok-commands.ensures.found (c.in_ok-head.ensures.honest.1 honest) content (c.in_ok-head.ensures.read_as honest content known))
+
+pub returns-in_err-commands-clause-honest : goal.returns-in_err-commands-clause-honest
+returns-in_err-commands-clause-honest g c =
+    let first = c.in_ok-head.ensures in
+    let second = c.commands.ensures in
+    (λ honest. first.honest.0 (second.honest.0 honest), λ honest. second.honest.1 (first.honest.1 honest))
+
+pub returns-in_err-commands-clause-read_as : goal.returns-in_err-commands-clause-read_as
+returns-in_err-commands-clause-read_as g c honest content known =
+    let first = c.in_ok-head.ensures in
+    c.commands.ensures.read_as (first.honest.1 honest) content (first.read_as honest content known)
+
+pub returns-clause-honest : goal.returns-clause-honest
+returns-clause-honest g c =
+    let first = c.in_ok-head.ensures in
+    let second = c.commands.ensures in
+    (λ honest. first.honest.0 (second.honest.0 honest), λ honest. second.honest.1 (first.honest.1 honest))
+
+pub returns-clause-read_as : goal.returns-clause-read_as
+returns-clause-read_as g c honest content known =
+    let first = c.in_ok-head.ensures in
+    c.commands.ensures.read_as (first.honest.1 honest) content (first.read_as honest content known)

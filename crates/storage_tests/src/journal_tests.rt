@@ -2,9 +2,9 @@
 ghost use Rattle.std.specs.Prelude.{◌≡◌, ◌+◌, ◌*◌, ◌≤◌, ◌<◌, ◌^◌, length, IfOk};
 ghost use Rattle.image_model.specs.Command.{bodies_of};
 
-use crate::{Area, Group, JournalFault, Touch};
 use disk_model::{CallKind, CrashChoice, Disk, SimDisk};
 use image_model::{Command, Kind};
+use journal::{Area, Group, JournalFault, Touch};
 use std::alloc::{AllocError, Global};
 use std::process::Abort;
 use std::test::Fail;
@@ -107,19 +107,37 @@ const ONE_CLEAR: [u8; 31] = [
     1, 0, 0, 0, 13, 0, 0, 0, 0, 0, 0, 0, 1, 0, 0, 0, 1, 2, 0, 0, 0, 0, 0, 0, 0, 0, 0, 0, 0, 4, 0,
 ];
 
-#[test]
-fn spells_groups(rt: HostRuntime) -> Result<(), Fail> {
-    let alloc = rt.alloc();
-    for (clears, puts, next_gate) in [(1, 0, 30), (0, 41, 168_486)] {
-        let mut disk = written_device(alloc, 200_000)?;
-        let mut area = scanned(alloc, &mut disk, 200_000)?;
-        assert!(rt; area.is_empty());
-        append(&mut area, &mut disk, group(alloc, 1, clears, puts)?)?;
-        assert_eq!(rt; byte_at(&rt, &mut disk, 0), 1);
-        assert_eq!(rt; byte_at(&rt, &mut disk, next_gate), 0);
-        assert_eq!(rt; byte_at(&rt, &mut disk, next_gate + 1), 0xff);
-    }
+// A group of so many commands opens its gate, closes the next one, and writes nothing behind it.
+fn check_gates(
+    rt: &impl Abort,
+    alloc: Global,
+    clears: u32,
+    puts: u32,
+    next_gate: u64,
+) -> Result<(), Fail>
+    requires some { 1 ≤ clears + puts }
+    requires bodies { 13 * clears + 4109 * puts ≤ 8388608 }
+    requires place { next_gate < 2 ^ 63 }
+{
+    let mut disk = written_device(alloc, 200_000)?;
+    let mut area = scanned(alloc, &mut disk, 200_000)?;
+    assert!(rt; area.is_empty());
+    append(&mut area, &mut disk, group(alloc, 1, clears, puts)?)?;
+    assert!(rt; byte_at(rt, &mut disk, 0) == 1);
+    assert!(rt; byte_at(rt, &mut disk, next_gate) == 0);
+    assert!(rt; byte_at(rt, &mut disk, next_gate + 1) == 0xff);
+    Ok(())
+}
 
+#[test]
+fn closes_the_next_gate(rt: HostRuntime) -> Result<(), Fail> {
+    check_gates(&rt, rt.alloc(), 1, 0, 30)?;
+    check_gates(&rt, rt.alloc(), 0, 41, 168_486)
+}
+
+#[test]
+fn spells_a_group(rt: HostRuntime) -> Result<(), Fail> {
+    let alloc = rt.alloc();
     let mut disk = device(alloc, 64)?;
     let mut area = scanned(alloc, &mut disk, 64)?;
     append(&mut area, &mut disk, group(alloc, 1, 1, 0)?)?;
@@ -130,45 +148,78 @@ fn spells_groups(rt: HostRuntime) -> Result<(), Fail> {
 }
 
 #[test]
+fn refuses_a_group(rt: HostRuntime) -> Result<(), Fail> {
+    let alloc = rt.alloc();
+    let mut disk = device(alloc, 2_097_152)?;
+    let mut area = scanned(alloc, &mut disk, 2_097_152)?;
+    let full = append(&mut area, &mut disk, group(alloc, 1, 161_002, 1)?);
+    assert!(rt; full == Err(JournalFault::AreaFull));
+    let other = append(&mut area, &mut disk, group(alloc, 2, 1, 0)?);
+    assert!(rt; other == Err(JournalFault::OutOfOrder));
+    Ok(())
+}
+
+#[test]
 fn fills_an_area(rt: HostRuntime) -> Result<(), Fail> {
     let alloc = rt.alloc();
     let mut disk = written_device(alloc, 2_097_152)?;
     let mut area = scanned(alloc, &mut disk, 2_097_152)?;
-    assert_eq!(rt;
-        append(&mut area, &mut disk, group(alloc, 1, 161_002, 1)?),
-        Err(JournalFault::AreaFull)
-    );
-    assert_eq!(rt;
-        append(&mut area, &mut disk, group(alloc, 2, 1, 0)?),
-        Err(JournalFault::OutOfOrder)
-    );
     append(&mut area, &mut disk, group(alloc, 1, 161_318, 0)?)?;
-    assert_eq!(rt; byte_at(&rt, &mut disk, 2_097_151), 0);
+    assert!(rt; byte_at(&rt, &mut disk, 2_097_151) == 0);
     let found = scanned(alloc, &mut disk, 2_097_152)?;
-    assert_eq!(rt; found.next(), 161_319);
+    assert!(rt; found.next() == 161_319);
     Ok(())
 }
 
 // What is found where the list has the first group, or the second too.
 fn check_list(rt: &impl Abort, area: &Area, second: bool) {
-    assert_eq!(rt; area.next(), if second { 3 } else { 2 });
+    assert!(rt; area.next() == if second { 3 } else { 2 });
     let touch = if second {
         Touch::Put(60)
     } else {
         Touch::Clear(Kind::Hole)
     };
-    assert_eq!(rt; area.last_touch(1), Some(touch));
-    assert_eq!(rt; area.last_touch(3), Some(Touch::Clear(Kind::Hole)));
-    assert_eq!(rt; area.last_touch(4), None);
+    assert!(rt; area.last_touch(1) == Some(touch));
+    assert!(rt; area.last_touch(3) == Some(Touch::Clear(Kind::Hole)));
+    assert!(rt; area.last_touch(4).is_none());
     for block in 0..4 {
-        assert_eq!(rt; area.next_touched(block), Some(block));
+        assert!(rt; area.next_touched(block) == Some(block));
     }
-    assert_eq!(rt; area.next_touched(4), None);
+    assert!(rt; area.next_touched(4).is_none());
+}
+
+// A device whose area has one clear, and the area.
+fn with_one_clear(alloc: Global) -> Result<(SimDisk, Area), Fail>
+    ensures disk { IfOk result (λ parts. ⟦<SimDisk as Disk>⟧.extent parts.0 ≡ 8192) }
+    ensures from { IfOk result (λ parts. parts.1.from ≡ 0) }
+    ensures bytes { IfOk result (λ parts. parts.1.bytes ≡ 8192) }
+{
+    let mut disk = device(alloc, 8_192)?;
+    let mut area = scanned(alloc, &mut disk, 8_192)?;
+    append(&mut area, &mut disk, group(alloc, 1, 1, 0)?)?;
+    Ok((disk, area))
+}
+
+// A crash in this call of the append of a second group.
+fn check_crash(
+    rt: &impl Abort,
+    alloc: Global,
+    call: u64,
+    choice: CrashChoice,
+    second: bool,
+) -> Result<(), Fail> {
+    let (mut disk, mut area) = with_one_clear(alloc)?;
+    disk.stop_at(call);
+    let stopped = append(&mut area, &mut disk, group(alloc, 2, 0, 1)?);
+    assert!(rt; stopped == Err(JournalFault::DeviceFault));
+    disk.crash(choice);
+    let found = scanned(alloc, &mut disk, 8_192)?;
+    check_list(rt, &found, second);
+    Ok(())
 }
 
 #[test]
 fn crashes_in_an_append(rt: HostRuntime) -> Result<(), Fail> {
-    let alloc = rt.alloc();
     let choices = [
         (CrashChoice::Fill(0), false),
         (CrashChoice::Fill(1), true),
@@ -178,25 +229,36 @@ fn crashes_in_an_append(rt: HostRuntime) -> Result<(), Fail> {
     ];
     for call in 1..5 {
         for (choice, gate_opens) in choices {
-            let mut disk = device(alloc, 8_192)?;
-            let mut area = scanned(alloc, &mut disk, 8_192)?;
-            append(&mut area, &mut disk, group(alloc, 1, 1, 0)?)?;
-            disk.stop_at(call);
-            assert_eq!(rt;
-                append(&mut area, &mut disk, group(alloc, 2, 0, 1)?),
-                Err(JournalFault::DeviceFault)
-            );
-            disk.crash(choice);
-            let found = scanned(alloc, &mut disk, 8_192)?;
-            check_list(&rt, &found, call > 2 && gate_opens);
+            check_crash(&rt, rt.alloc(), call, choice, call > 2 && gate_opens)?;
         }
     }
     Ok(())
 }
 
+// A fault in the append of a second group, and one in the reads of a scan.
+fn check_fault(
+    rt: &impl Abort,
+    alloc: Global,
+    kind: CallKind,
+    call: u64,
+    second: bool,
+) -> Result<(), Fail> {
+    let (mut disk, mut area) = with_one_clear(alloc)?;
+    check_list(rt, &area, false);
+    disk.fail(kind, call);
+    let failed = append(&mut area, &mut disk, group(alloc, 2, 0, 1)?);
+    assert!(rt; failed == Err(JournalFault::DeviceFault));
+    check_list(rt, &area, false);
+    disk.fail(CallKind::Read, 1);
+    let unread = scanned(alloc, &mut disk, 8_192);
+    assert!(rt; matches!(unread, Err(JournalFault::DeviceFault)));
+    let found = scanned(alloc, &mut disk, 8_192)?;
+    check_list(rt, &found, second);
+    Ok(())
+}
+
 #[test]
 fn faults_in_an_append(rt: HostRuntime) -> Result<(), Fail> {
-    let alloc = rt.alloc();
     let faults = [
         (CallKind::Write, 1, false),
         (CallKind::Sync, 1, false),
@@ -204,25 +266,7 @@ fn faults_in_an_append(rt: HostRuntime) -> Result<(), Fail> {
         (CallKind::Sync, 2, true),
     ];
     for (kind, call, second) in faults {
-        let mut disk = device(alloc, 8_192)?;
-        let mut area = scanned(alloc, &mut disk, 8_192)?;
-        append(&mut area, &mut disk, group(alloc, 1, 1, 0)?)?;
-        check_list(&rt, &area, false);
-        disk.fail(kind, call);
-        assert_eq!(rt;
-            append(&mut area, &mut disk, group(alloc, 2, 0, 1)?),
-            Err(JournalFault::DeviceFault)
-        );
-        check_list(&rt, &area, false);
-        disk.fail(CallKind::Read, 1);
-        assert!(rt;
-            matches!(
-                scanned(alloc, &mut disk, 8_192),
-                Err(JournalFault::DeviceFault)
-            )
-        );
-        let found = scanned(alloc, &mut disk, 8_192)?;
-        check_list(&rt, &found, second);
+        check_fault(&rt, rt.alloc(), kind, call, second)?;
     }
     Ok(())
 }

@@ -1,6 +1,6 @@
 use Rattle.std.proofs.Common.{◌≡◌, ◌+◌, ◌*◌, length}
 use Rattle.image_model.specs.Command.{bodies_of}
-use Rattle.journal.proofs.tests.commands.Given as goal
+use Rattle.storage_tests.proofs.journal_tests.commands.Given as goal
 
 abbrev pub invariant-clears : goal.invariant-clears
 invariant-clears l = record {

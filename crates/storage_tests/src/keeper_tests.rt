@@ -2,7 +2,7 @@
 ghost use Rattle.std.specs.Prelude.{◌≡◌, ◌+◌, ◌<◌, ◌^◌, length, IfOk};
 ghost use Rattle.image_model.specs.Geometry.{device_bytes_of};
 
-use crate::{Keeper, KeeperFault};
+use checkpoint::{Keeper, KeeperFault};
 use disk_model::{CrashChoice, Disk, SimDisk};
 use image_model::{Command, Geometry, Kind};
 use journal::Group;
@@ -56,54 +56,85 @@ fn block_of(rt: &impl Abort, keeper: &mut Keeper<SimDisk>, block: u64, byte: u8)
     kind.ok().expect(rt, "no fault")
 }
 
+// Stores two puts of block 3, after a group that isn't the next.
+fn store_two(
+    rt: &impl Abort,
+    alloc: Global,
+    keeper: &mut Keeper<SimDisk>,
+) -> Result<(), KeeperFault> {
+    let early = append(keeper, put(alloc, 2, 3, 0x41)?);
+    assert!(rt; early == Err(KeeperFault::OutOfOrder));
+    append(keeper, put(alloc, 1, 3, 0x41)?)?;
+    append(keeper, put(alloc, 2, 3, 0x42)?)
+}
+
+// What stands there then.
+fn check_stored(rt: &impl Abort, keeper: &mut Keeper<SimDisk>) {
+    assert!(rt; keeper.count() == 2);
+    assert!(rt; keeper.base() == 0);
+    assert!(rt; block_of(rt, keeper, 3, 0x42) == Kind::Data);
+    assert!(rt; block_of(rt, keeper, 4, 0) == Kind::Hole);
+}
+
 #[test]
 fn stores_and_reads(rt: HostRuntime) -> Result<(), Fail> {
     let alloc = rt.alloc();
     let geometry = Geometry::new(16, 2_097_152).ok_or("outside the limits")?;
     let mut keeper = opened(alloc, formatted(alloc, geometry)?)?;
-    assert_eq!(rt; (keeper.count(), keeper.base()), (0, 0));
-    assert_eq!(rt;
-        append(&mut keeper, put(alloc, 2, 3, 0x41)?),
-        Err(KeeperFault::OutOfOrder)
-    );
-    append(&mut keeper, put(alloc, 1, 3, 0x41)?)?;
-    append(&mut keeper, put(alloc, 2, 3, 0x42)?)?;
-    assert_eq!(rt; block_of(&rt, &mut keeper, 3, 0x42), Kind::Data);
-    assert_eq!(rt; block_of(&rt, &mut keeper, 4, 0), Kind::Hole);
+    assert!(rt; keeper.count() == 0);
+    store_two(&rt, alloc, &mut keeper)?;
+    check_stored(&rt, &mut keeper);
     let mut keeper = opened(alloc, keeper.into_disk())?;
-    assert_eq!(rt; (keeper.count(), keeper.base()), (2, 0));
-    assert_eq!(rt; block_of(&rt, &mut keeper, 3, 0x42), Kind::Data);
+    check_stored(&rt, &mut keeper);
     Ok(())
+}
+
+// An append of which a call is stopped is a device fault, and after it the keeper takes no group.
+fn check_stopped(
+    rt: &impl Abort,
+    alloc: Global,
+    keeper: &mut Keeper<SimDisk>,
+) -> Result<(), AllocError> {
+    let stopped = append(keeper, put(alloc, 1, 0, 7)?);
+    assert!(rt; stopped == Err(KeeperFault::DeviceFault));
+    assert!(rt; keeper.stopped());
+    let after = append(keeper, put(alloc, 1, 0, 7)?);
+    assert!(rt; after == Err(KeeperFault::Failed));
+    Ok(())
+}
+
+// How many commands an opening finds after a crash in this call of an append.
+fn count_after(
+    rt: &impl Abort,
+    alloc: Global,
+    geometry: Geometry,
+    call: u64,
+    choice: CrashChoice,
+) -> Result<u64, Fail> {
+    let mut keeper = opened(alloc, formatted(alloc, geometry)?)?;
+    keeper.stop_at(call);
+    check_stopped(rt, alloc, &mut keeper)?;
+    let mut disk = keeper.into_disk();
+    disk.crash(choice);
+    let keeper = opened(alloc, disk)?;
+    Ok(keeper.count())
 }
 
 #[test]
 fn crashes_in_an_append(rt: HostRuntime) -> Result<(), Fail> {
-    let alloc = rt.alloc();
     let geometry = Geometry::new(16, 2_097_152).ok_or("outside the limits")?;
     let choices = [
-        (CrashChoice::Fill(0), false),
-        (CrashChoice::Fill(1), true),
-        (CrashChoice::Fill(0xff), false),
-        (CrashChoice::Old, false),
-        (CrashChoice::New, true),
+        (CrashChoice::Fill(0), 0),
+        (CrashChoice::Fill(1), 1),
+        (CrashChoice::Fill(0xff), 0),
+        (CrashChoice::Old, 0),
+        (CrashChoice::New, 1),
     ];
     for call in 1..5 {
-        for (choice, gate_opens) in choices {
-            let mut keeper = opened(alloc, formatted(alloc, geometry)?)?;
-            keeper.stop_at(call);
-            assert_eq!(rt;
-                append(&mut keeper, put(alloc, 1, 0, 7)?),
-                Err(KeeperFault::DeviceFault)
-            );
-            assert!(rt; keeper.stopped());
-            assert_eq!(rt;
-                append(&mut keeper, put(alloc, 1, 0, 7)?),
-                Err(KeeperFault::Failed)
-            );
-            let mut disk = keeper.into_disk();
-            disk.crash(choice);
-            let found = opened(alloc, disk)?;
-            assert_eq!(rt; found.count(), if call > 2 && gate_opens { 1 } else { 0 });
+        for (choice, once_written) in choices {
+            let wanted = if call > 2 { once_written } else { 0 };
+            let found = count_after(&rt, rt.alloc(), geometry, call, choice)?;
+            assert!(rt; found == wanted);
         }
     }
     Ok(())
@@ -144,23 +175,40 @@ const DAMAGES: [(u64, u8, KeeperFault); 21] = [
     (8_221, 0, KeeperFault::DamagedGroup),
 ];
 
-#[test]
-fn damage_by_hand(rt: HostRuntime) -> Result<(), Fail> {
-    let alloc = rt.alloc();
+// What an opening says where a byte is another one; the device comes back as it was.
+fn refusal_of(
+    rt: &impl Abort,
+    alloc: Global,
+    mut disk: SimDisk,
+    place: u64,
+    byte: u8,
+) -> Result<(KeeperFault, SimDisk), Fail> {
+    let before = exchange(rt, &mut disk, place, byte);
+    match Keeper::open(alloc, disk) {
+        Ok(_keeper) => Err(Fail::from("opened")),
+        Err((fault, mut disk)) => {
+            assert!(rt; exchange(rt, &mut disk, place, before) == byte);
+            Ok((fault, disk))
+        }
+    }
+}
+
+// A device with one put.
+fn with_one_put(alloc: Global) -> Result<SimDisk, Fail> {
     let geometry = Geometry::new(16, 2_097_152).ok_or("outside the limits")?;
     let mut keeper = opened(alloc, formatted(alloc, geometry)?)?;
     append(&mut keeper, put(alloc, 1, 0, 7)?)?;
-    let mut disk = keeper.into_disk();
+    Ok(keeper.into_disk())
+}
+
+#[test]
+fn damage_by_hand(rt: HostRuntime) -> Result<(), Fail> {
+    let alloc = rt.alloc();
+    let mut disk = with_one_put(alloc)?;
     for (place, byte, wanted) in DAMAGES {
-        let before = exchange(&rt, &mut disk, place, byte);
-        match Keeper::open(alloc, disk) {
-            Ok(_keeper) => return Err(Fail::from("opened")),
-            Err((fault, refused)) => {
-                assert_eq!(rt; fault, wanted, "at {place}");
-                disk = refused;
-            }
-        }
-        assert_eq!(rt; exchange(&rt, &mut disk, place, before), byte);
+        let (fault, same) = refusal_of(&rt, alloc, disk, place, byte)?;
+        assert_eq!(rt; fault, wanted, "at {place}");
+        disk = same;
     }
     let keeper = opened(alloc, disk)?;
     assert_eq!(rt; keeper.count(), 1);

@@ -1,0 +1,7 @@
+//! Tests of the journal and of the keeper, over simulated devices. They stand beside these crates, since a crate with tests is proved twice.
+#![tactic(auto)]
+
+#[cfg(test)]
+mod journal_tests;
+#[cfg(test)]
+mod keeper_tests;

@@ -1,0 +1,149 @@
+#!/bin/sh
+# Checks of the calls of the system that the built program NBDJ makes: that it syncs where it says so, what it does where a write or a
+# sync fails, and that what a FLUSH confirmed is found again after a kill. The last line is 'N passed, M failed'.
+set -u
+here=$(cd "$(dirname "$0")/.." && pwd)
+. "$here/tests/checks.sh"
+${CC:-cc} -Wall -Werror -shared -fPIC -O2 -o fail_calls.so "$here/tools/fail_calls.c" -ldl || exit 1
+
+# called FAIL WORD..: runs the program with this call failing, none where FAIL is empty; `calls` has those that it made
+called() {
+    rm -f calls
+    fail=$1
+    shift
+    CALLS_LOG=$folder/calls FAIL_CALL=$fail LD_PRELOAD=$folder/fail_calls.so "$NBDJ" "$@" <input >output 2>errors
+    status=$?
+    output=$(hex <output)
+    errors=$(cat errors)
+    told
+}
+
+# found: what an opening finds, or how it is refused
+found() { "$NBDJ" recover d.img 2>&1; }
+
+# made NAME WANTED: the calls that were made
+made() { is "$1" "$2" "$(cat calls)"; }
+
+# made_until NAME WANTED FAIL: the calls that were made are these up to the one that failed, and none behind it
+made_until() {
+    made "$1" "$(printf '%s\n' "$2" | awk -v kind="${3% *}" -v n="${3#* }" '$1 == kind && ++met == n { print $0 " failed"; exit } { print }')"
+}
+
+# A format closes both header gates; it writes area 0's first gate, map slot 0 and the header's body; it opens the header's gate.
+format_calls='pwrite 0 1
+pwrite 4096 1
+fdatasync
+pwrite 8192 1
+pwrite 4202496 4096
+pwrite 1 4095
+fdatasync
+pwrite 0 1
+fdatasync'
+: >input
+called '' format d.img --blocks 16 --area 2097152
+is 'a format' "0|$(text 'formatted 4276224')|" "$status|$output|$errors"
+made 'the calls of a format' "$format_calls"
+for fail in 'pwrite 1' 'pwrite 2' 'fdatasync 1' 'pwrite 3' 'pwrite 4' 'pwrite 5' 'fdatasync 2' 'pwrite 6' 'fdatasync 3'; do
+    called "$fail" format d.img --blocks 16 --area 2097152
+    is "format where $fail fails" '1||nbdj: device fault (1)' "$status|$output|$errors"
+    made_until "the calls of a format where $fail fails" "$format_calls" "$fail"
+    # The last sync comes when the header's gate is open already.
+    case $fail in
+    'fdatasync 3') wanted='commands 0' ;;
+    *) wanted='nbdj: no header (7)' ;;
+    esac
+    is "after a format where $fail failed" "$wanted" "$(found)"
+done
+
+# Two WRITEs of two blocks, whose bytes differ from place to place, and a FLUSH; behind them one more WRITE and FLUSH, and the end.
+differing 8192 1 >first
+differing 8192 5000003 >second
+{
+    request 0000 1 1 8192 8192
+    cat first
+    request 0000 1 2 40960 8192
+    cat second
+    request 0000 3 3 0 0
+} >flushed
+{
+    cat flushed
+    request 0000 1 4 0 4096
+    filled 4096 A
+    request 0000 3 5 0 0
+    request 0000 2 6 0 0
+} >requests
+# What the first FLUSH stores, as the formats spell it.
+{
+    bytes '01 0000401a 0000000000000001 00000002'
+    bytes '01 0000000000000002 00000002'
+    cat first
+    bytes '01 000000000000000a 00000002'
+    cat second
+} >group
+
+# stored NAME GATE: the group stands at the beginning of area 0, byte for byte, and the gate behind it is this byte
+stored() {
+    tail -c +8193 d.img | head -c 16427 >stored
+    same "$1" group stored
+    is "$1: the next gate" "$2" "$(part d.img 24619 1)"
+}
+
+# The opening syncs. A group is written from behind its gate to the next gate, synced, opened by the write of a byte, and synced.
+pipe_calls='fdatasync
+pwrite 8193 16427
+fdatasync
+pwrite 8192 1
+fdatasync
+pwrite 24620 4126
+fdatasync
+pwrite 24619 1
+fdatasync'
+cp requests input
+fresh 16 2097152
+called '' pipe d.img
+is 'a pipe' "0|$(reply 1 0)$(reply 2 0)$(reply 3 0)$(reply 4 0)$(reply 5 0)|" "$status|$output|$errors"
+made 'the calls of a pipe' "$pipe_calls"
+is 'after a pipe' 'commands 3' "$(: | found)"
+: >input
+called '' recover d.img
+made 'the calls of a recovery' 'fdatasync'
+cp requests input
+for fail in 'fdatasync 1' 'pwrite 1' 'fdatasync 2' 'pwrite 2' 'fdatasync 3' 'pwrite 3' 'fdatasync 4' 'pwrite 4' 'fdatasync 5'; do
+    fresh 16 2097152
+    called "$fail" pipe d.img
+    # No FLUSH whose sync failed is answered Ok, and after the fault all is answered EIO. Where the last sync of a group failed its gate
+    # is open in the file, and whether it would be after a power cut nobody knows.
+    case $fail in
+    'fdatasync 1') wanted='' count=0 ;;
+    'pwrite 1' | 'fdatasync 2' | 'pwrite 2') wanted=$(reply 1 0)$(reply 2 0)$(reply 3 5)$(reply 4 5)$(reply 5 5) count=0 ;;
+    'fdatasync 3') wanted=$(reply 1 0)$(reply 2 0)$(reply 3 5)$(reply 4 5)$(reply 5 5) count=2 ;;
+    'fdatasync 5') wanted=$(reply 1 0)$(reply 2 0)$(reply 3 0)$(reply 4 0)$(reply 5 5) count=3 ;;
+    *) wanted=$(reply 1 0)$(reply 2 0)$(reply 3 0)$(reply 4 0)$(reply 5 5) count=2 ;;
+    esac
+    is "pipe where $fail fails" "1|$wanted|nbdj: device fault (1)" "$status|$output|$errors"
+    made_until "the calls of a pipe where $fail fails" "$pipe_calls" "$fail"
+    is "after a pipe where $fail failed" "commands $count" "$(: | found)"
+    case $count in
+    2) stored "what is stored where $fail failed" 00 ;;
+    3) stored "what is stored where $fail failed" 01 ;;
+    esac
+done
+
+# The program is killed as soon as the reply to the FLUSH was read: by then it has synced, and what it stored is found byte for byte.
+fresh 16 2097152
+rm -f calls
+mkfifo asked told
+CALLS_LOG=$folder/calls LD_PRELOAD=$folder/fail_calls.so "$NBDJ" pipe d.img <asked >told 2>errors &
+running=$!
+exec 3>asked 4<told
+cat flushed >&3
+is 'the replies before the kill' "$(reply 1 0)$(reply 2 0)$(reply 3 0)" "$(timeout 20 head -c 48 <&4 | hex)"
+made 'the calls before the kill' "$(printf '%s\n' "$pipe_calls" | head -n 5)"
+kill -9 "$running"
+wait "$running" 2>wait
+is 'the status after the kill' 137 $?
+exec 3>&- 4<&-
+is 'after the kill' 'commands 2' "$(: | found)"
+stored 'what is stored after the kill' 00
+
+the_end

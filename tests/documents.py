@@ -1,0 +1,122 @@
+#!/usr/bin/env python3
+"""Holds the documents to the sources and to the built program NBDJ. Prints a line for each check that fails; last 'N passed, M failed'.
+
+- The refusals: the table of docs/FORMATS.md has the number and text of each refusal that the sources number, and the text of each
+  error that a crate names; each row is some crate's. What runs of the other checks ended with, which stands in the file NBDJ_TOLD, is
+  in the table; the rows that no run ended with are printed, since of those only the sources tell.
+- Each console block of README.md and docs/: its commands print what stands there.
+- docs/DESIGN.md has each crate with what it stands on, as crates.txt has it.
+- Prose wraps at 100 columns.
+"""
+import glob
+import os
+import re
+import subprocess
+import sys
+import tempfile
+
+TOP = os.path.dirname(os.path.dirname(os.path.abspath(__file__)))
+passed, failed = 0, 0
+
+
+def check(name, wanted, got):
+    global passed, failed
+    if wanted == got:
+        passed += 1
+    else:
+        failed += 1
+        print(f"FAILED {name}\n  wanted: {wanted}\n  got:    {got}")
+
+
+def read(path):
+    with open(path, encoding="utf-8", errors="replace") as file:
+        return file.read()
+
+
+def documents():
+    return sorted(glob.glob(f"{TOP}/*.md") + glob.glob(f"{TOP}/docs/*.md"))
+
+
+def refusals():
+    """The rows of the table of refusals, by text the number."""
+    part = read(f"{TOP}/docs/FORMATS.md").partition("\n## Refusals\n")[2].partition("\n## ")[0]
+    return {text: int(number) for number, text in re.findall(r"^\| (\d+) \| ([^|]+) \|", part, re.M)}
+
+
+def check_refusals():
+    rows = refusals()
+    check("there are refusals", True, len(rows) > 0)
+    texts, numbered = set(), {}
+    for path in sorted(glob.glob(f"{TOP}/crates/*/src/*.rt")):
+        source = read(path)
+        texts |= set(re.findall(r'#\[error\("([^"{]*)"\)\]', source))
+        names = dict(re.findall(r'#\[error\("([^"{]*)"\)\]\s*(\w+)', source))
+        numbers = dict(re.findall(r"\bRefusal::(\w+) => (\d+),", source))
+        numbered.update({text: int(numbers[name]) for text, name in names.items() if name in numbers})
+    check("some refusal is numbered", True, len(numbered) > 0)
+    check("each refusal of the sources has its row", numbered, {text: rows.get(text) for text in numbered})
+    check("each error of a crate has a row", [], sorted(texts - set(rows)))
+    check("each row is an error of some crate", [], sorted(set(rows) - texts))
+    told = os.environ.get("NBDJ_TOLD")
+    if not told:
+        print("skipped: the texts that runs ended with, since NBDJ_TOLD names no file of them")
+        return
+    seen = set(re.findall(r"^nbdj: (.*) \((\d+)\)$", read(told), re.M))
+    check("some run was refused", True, len(seen) > 0)
+    check("what runs told is in the table", [], sorted(it for it in seen if rows.get(it[0]) != int(it[1])))
+    unseen = [f"{number} {text}" for text, number in rows.items() if (text, str(number)) not in seen]
+    print(f"of the refusals no run of the program ended with: {', '.join(unseen) or 'none'}")
+
+
+def check_examples(program):
+    """The console blocks of each document, one document after another in a folder of its own."""
+    met = 0
+    for path in documents():
+        blocks = re.findall(r"^```console\n(.*?)^```$", read(path), re.M | re.S)
+        with tempfile.TemporaryDirectory() as folder:
+            os.mkdir(f"{folder}/bin")
+            os.symlink(program, f"{folder}/bin/nbdj")
+            os.symlink(f"{TOP}/examples", f"{folder}/examples")
+            place = {**os.environ, "PATH": f"{folder}/bin:{os.environ['PATH']}", "LC_ALL": "C"}
+            for command, printed in re.findall(r"^\$ (.*)\n((?:(?!\$ ).*\n)*)", "".join(blocks), re.M):
+                ran = subprocess.run(["sh", "-c", command], cwd=folder, env=place, capture_output=True, text=True, timeout=60)
+                check(f"{os.path.basename(path)}: {command}", printed, ran.stdout + ran.stderr)
+                met += 1
+    check("the documents have examples", True, met > 0)
+
+
+def check_design():
+    stands = {}
+    for line in read(f"{TOP}/crates.txt").splitlines():
+        head, _, names = line.partition("#")[0].partition(":")
+        if head.split():
+            stands[head.split()[0]] = names.split()
+    wanted = {crate: sorted(it for it in names if it in stands) for crate, names in stands.items()}
+    part = read(f"{TOP}/docs/DESIGN.md")
+    rows = re.findall(r"^\| `(\w+)` \|[^|]*\|([^|]*)\|$", part, re.M)
+    check("the crates of the design", wanted, {crate: sorted(re.findall(r"`(\w+)`", names)) for crate, names in rows})
+
+
+def check_columns():
+    """Lines of prose and of lists; a table's row can't be broken, and a block of code has its own width."""
+    for path in documents():
+        prose = re.sub(r"^```.*?^```$", "", read(path), flags=re.M | re.S)
+        long = [line for line in prose.splitlines() if len(line) > 100 and not re.match(r"\||    ", line)]
+        check(f"{os.path.basename(path)} wraps at 100 columns", [], long)
+
+
+def main():
+    check_refusals()
+    check_design()
+    check_columns()
+    program = os.environ.get("NBDJ")
+    if program and os.access(program, os.X_OK):
+        check_examples(os.path.abspath(program))
+    else:
+        check("the program NBDJ", "a built program", program)
+    print(f"{passed} passed, {failed} failed")
+    return 1 if failed else 0
+
+
+if __name__ == "__main__":
+    sys.exit(main())

@@ -1,0 +1,70 @@
+/* Notes the calls by which a program writes at a place of a file and brings its data to the drive, and can let one of them fail.
+ * Preloaded into a program, it adds a line to the file CALLS_LOG for each: 'pwrite OFFSET COUNT' or 'fdatasync'. Where FAIL_CALL is
+ * 'pwrite N' or 'fdatasync N', the N-th such call, counted from 1, does nothing and answers EIO; its line ends in ' failed'. */
+#define _GNU_SOURCE
+#include <dlfcn.h>
+#include <errno.h>
+#include <fcntl.h>
+#include <stdio.h>
+#include <stdlib.h>
+#include <string.h>
+#include <unistd.h>
+
+static ssize_t (*next_pwrite)(int, const void *, size_t, off_t);
+static int (*next_fdatasync)(int);
+
+static int notes = -1;
+static unsigned long fail_write;
+static unsigned long fail_sync;
+static unsigned long writes;
+static unsigned long syncs;
+
+__attribute__((constructor)) static void start(void) {
+    next_pwrite = (ssize_t(*)(int, const void *, size_t, off_t))dlsym(RTLD_NEXT, "pwrite");
+    next_fdatasync = (int (*)(int))dlsym(RTLD_NEXT, "fdatasync");
+    const char *path = getenv("CALLS_LOG");
+    if (path) {
+        notes = open(path, O_WRONLY | O_CREAT | O_APPEND, 0600);
+    }
+    const char *fail = getenv("FAIL_CALL");
+    if (fail && strncmp(fail, "pwrite ", 7) == 0) {
+        fail_write = strtoul(fail + 7, NULL, 10);
+    } else if (fail && strncmp(fail, "fdatasync ", 10) == 0) {
+        fail_sync = strtoul(fail + 10, NULL, 10);
+    }
+}
+
+/* Adds a line, which is short enough to be written whole. A note that can't be written would hide a call, so it ends the program. */
+static void note(const char *line, int fails) {
+    char text[96];
+    int length = snprintf(text, sizeof text, "%s%s\n", line, fails ? " failed" : "");
+    if (notes >= 0 && write(notes, text, (size_t)length) != length) {
+        abort();
+    }
+}
+
+ssize_t pwrite(int file, const void *from, size_t count, off_t offset) {
+    char line[64];
+    int fails = ++writes == fail_write;
+    snprintf(line, sizeof line, "pwrite %lld %zu", (long long)offset, count);
+    note(line, fails);
+    if (fails) {
+        errno = EIO;
+        return -1;
+    }
+    return next_pwrite(file, from, count, offset);
+}
+
+ssize_t pwrite64(int file, const void *from, size_t count, off_t offset) {
+    return pwrite(file, from, count, offset);
+}
+
+int fdatasync(int file) {
+    int fails = ++syncs == fail_sync;
+    note("fdatasync", fails);
+    if (fails) {
+        errno = EIO;
+        return -1;
+    }
+    return next_fdatasync(file);
+}
