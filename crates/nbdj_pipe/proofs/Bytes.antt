@@ -32,4 +32,3 @@ consumes_kept None mid left stream first kept = tt
 consumes_kept (Some xs) (Some ys) (Some zs) stream first kept = first ∙ ap (λ (t : List ℕ). stream ++ t) (sym kept)
 consumes_kept (Some xs) (Some ys) None stream first kept = elim kept [ ]
 consumes_kept (Some xs) None left stream first kept = elim first [ ]
-

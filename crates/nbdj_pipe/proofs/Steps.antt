@@ -89,7 +89,6 @@ of_either : {X : Type 0} (P : X → Type 0) (test : Bool) (x y : X) → P x → 
 of_either P true x y here there = here
 of_either P false x y here there = there
 
-
 -- a step of order and keeper leaves the connections as they are
 module _ (world : World) where
   -- nothing is said by an event that neither sends nor answers

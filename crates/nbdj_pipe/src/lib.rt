@@ -6,10 +6,8 @@ mod export;
 mod options;
 mod refusal;
 mod session;
-
 mod streams;
 
 pub use options::PipeOptions;
 pub use refusal::Refusal;
 pub use session::pipe;
-

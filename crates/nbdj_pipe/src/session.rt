@@ -52,7 +52,12 @@ pub fn pipe<D: Disk, R: Read, W: Write>(
         Ok(connections) => connections,
         Err(_) => return (Err(Refusal::NoMemory), keeper.into_disk()),
     };
-    let order = Order::new(alloc, keeper.count(), options.frames, keeper.geometry().area);
+    let order = Order::new(
+        alloc,
+        keeper.count(),
+        options.frames,
+        keeper.geometry().area,
+    );
     let mut session = Session {
         export: Export {
             alloc,
@@ -199,7 +204,11 @@ impl<D: Disk> Session<D> {
 }
 
 // How a session ends whose input ended so, whose last commands were stored or not, and whose device has failed or not.
-fn outcome(end: Result<(), Refusal>, stored: Result<(), Refusal>, stopped: bool) -> Result<(), Refusal>
+fn outcome(
+    end: Result<(), Refusal>,
+    stored: Result<(), Refusal>,
+    stopped: bool,
+) -> Result<(), Refusal>
     requires { IfErr stored IsEarly }
     ensures { IsEndOr end result }
 {

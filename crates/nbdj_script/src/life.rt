@@ -5,7 +5,9 @@ use bitflags::Flags;
 use checkpoint::{Keeper, KeeperFault};
 use disk_model::{CallKind, CrashChoice, SimDisk};
 use image_model::{BLOCK_BYTES, Kind};
-use nbd_wire::{Answer, CommandFlags, Errno, FLUSH, MAX_PAYLOAD, Request, RequestHead, SessionFlags, WRITE};
+use nbd_wire::{
+    Answer, CommandFlags, Errno, FLUSH, MAX_PAYLOAD, Request, RequestHead, SessionFlags, WRITE,
+};
 use order_book::Order;
 use request_core::{Bench, Event, Step, StepFault, rehearse};
 use std::alloc::{AllocError, Global};
@@ -183,10 +185,7 @@ pub fn write(alloc: Global, cookie: u64, put: BlockWrite) -> Result<Request, All
         offset: put.first * BLOCK_BYTES,
         length,
     };
-    Ok(Request::new(
-        head,
-        filled(alloc, put.byte, kept as usize)?,
-    ))
+    Ok(Request::new(head, filled(alloc, put.byte, kept as usize)?))
 }
 
 fn filled(alloc: Global, byte: u8, count: usize) -> Result<Vec<u8>, AllocError>

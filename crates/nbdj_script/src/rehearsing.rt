@@ -1,4 +1,3 @@
-
 use crate::life::{BlockRun, Life, Told, flush, write};
 use crate::script_line::{Line, Setup, StepLine, parse};
 use checkpoint::{Keeper, KeeperFault};
@@ -324,8 +323,7 @@ fn print_opened<W: Write>(count: u64, runs: &[BlockRun], output: &mut W) -> Resu
 }
 
 // The step of a line.
-fn step_of(alloc: Global, line: StepLine, cookie: u64) -> Result<Step, AllocError>
-{
+fn step_of(alloc: Global, line: StepLine, cookie: u64) -> Result<Step, AllocError> {
     Ok(match line {
         StepLine::Put(connection, put) => Step::Send(connection, write(alloc, cookie, put)?),
         StepLine::Flush(connection) => Step::Send(connection, flush(alloc, cookie)),

@@ -6,11 +6,11 @@ use image_model::Geometry;
 use nbd_wire::{RequestHead, encode_request};
 use nbdj_pipe::PipeOptions;
 use nbdj_run::{Plan, perform};
-use world::Mode;
 use std::alloc::{AllocError, Global};
 use std::io::Read;
 use std::process::Abort;
 use std::test::Fail;
+use world::Mode;
 
 // What a run of a plan left.
 #[derive(Drop)]

@@ -111,8 +111,18 @@ fn failed_sync(rt: HostRuntime) -> Result<(), Fail> {
             Some(Event::Failed(StepFault::DeviceFault))
         )
     );
-    assert!(rt; matches!(left.log.get(14), Some(Event::Answered(2, Answer::Refused(Errno::Io)))));
-    assert!(rt; matches!(left.log.get(17), Some(Event::Answered(1, Answer::Refused(Errno::Io)))));
+    assert!(rt;
+        matches!(
+            left.log.get(14),
+            Some(Event::Answered(2, Answer::Refused(Errno::Io)))
+        )
+    );
+    assert!(rt;
+        matches!(
+            left.log.get(17),
+            Some(Event::Answered(1, Answer::Refused(Errno::Io)))
+        )
+    );
     assert!(rt; matches!(left.log.get(18), Some(Event::Took)));
     assert!(rt;
         matches!(

@@ -14,7 +14,9 @@ ghost use Rattle.world_law.specs.Law.{IsWithin};
 use crate::judgement::judge;
 use bitflags::Flags;
 use image_model::{BLOCK_BYTES, Command, Geometry};
-use nbd_wire::{Answer, CommandFlags, DISCONNECT, Errno, FLUSH, Reply, Request, RequestHead, SessionFlags};
+use nbd_wire::{
+    Answer, CommandFlags, DISCONNECT, Errno, FLUSH, Reply, Request, RequestHead, SessionFlags,
+};
 use order_book::{Order, OrderFault};
 use std::alloc::Global;
 use std::mem;
@@ -271,7 +273,10 @@ pub(crate) fn answer(states: &mut Vec<Connection>, connection: usize, order: &Or
     if connection >= states.len() {
         return Event::Held;
     }
-    match due(mem::replace(&mut states[connection], Connection::Idle), order) {
+    match due(
+        mem::replace(&mut states[connection], Connection::Idle),
+        order,
+    ) {
         Ok(answer) => Event::Answered(connection, answer),
         Err(state) => {
             states[connection] = state;

@@ -19,8 +19,7 @@ returns-in_err-store_all-clause-world g c = λ world trusted of awaits.
     × Follows world first.0 (told o) one.order one.keeper (disk.faults one.keeper.disk) one.connections (Trusts trusted (disk.honest one.keeper.disk)) (disk.state c.args.self.now.keeper.disk) (disk.state one.keeper.disk)) none (first.1, first.2) in
     let second = c.store_all.ensures.world first.0 trusted begun.1.leads.of_export in
     let so_far = follows_on disk.state disk.faults disk.honest c.leads_law.ensures world first.0 second.0 trusted [] [] one.order two.order one.keeper two.keeper one.connections two.connections c.args.self.now.keeper.disk
-    c.store_all.ensures.honest.0 begun.1 second.1.follows in
-    (
+    c.store_all.ensures.honest.0 begun.1 second.1.follows in (
       second.0,
       no_ok _ (λ (answer : Answer). (second.0.connections 0 ≡ Idle) × IsGiven (world.connections 0) answer) c.from_residual.result c.from_residual.ensures.1,
       subst (λ (said : List Event). Follows world second.0 said two.order two.keeper (disk.faults two.keeper.disk) two.connections (Trusts trusted (disk.honest two.keeper.disk))
@@ -47,7 +46,7 @@ returns-in-None-clause-world g c = λ world trusted of awaits.
       third.0,
       tt,
       follows_on disk.state disk.faults disk.honest c.leads_law.ensures world second.0 third.0 trusted [] [] two.order three.order two.keeper three.keeper two.connections three.connections c.args.self.now.keeper.disk
-    c.try_answer-2.ensures.honest.0 so_far again,
+          c.try_answer-2.ensures.honest.0 so_far again,
     )
 
 pub returns-in-Some-try_answer-clause-world : goal.returns-in-Some-try_answer-clause-world
@@ -72,5 +71,5 @@ returns-in-Some-try_answer-clause-world g c = λ world trusted of awaits.
       third.0,
       (again.0.0, subst (λ (s : Connection). IsGiven s answer) (ap (λ (f : ℕ → Connection). f 0) same) again.0.1),
       follows_on disk.state disk.faults disk.honest c.leads_law.ensures world second.0 third.0 trusted [] (told (Some answer)) two.order three.order two.keeper three.keeper two.connections three.connections c.args.self.now.keeper.disk
-    c.try_answer-2.ensures.honest.0 so_far again.1,
+          c.try_answer-2.ensures.honest.0 so_far again.1,
     )

@@ -27,8 +27,7 @@ returns-in_err-serve_sent-clause-world g c = λ world trusted of idle plain_flag
     record { steps = Send 0 request ∷ []; leads = sending; said_is = spoken_on world.log (Sent 0 request ∷ []); setting = refl } in
     let second = c.serve_sent.ensures.world sent_world trusted request sending.of_export refl in
     let so_far = follows_on disk.state disk.faults disk.honest c.leads_law.ensures world sent_world second.0 trusted (Sent 0 request ∷ []) [] old.order one.order old.keeper one.keeper asked one.connections old.keeper.disk
-    c.serve_sent.ensures.honest.0 first second.2 in
-    (
+    c.serve_sent.ensures.honest.0 first second.2 in (
       second.0,
       no_ok _ (HasAnswer world second.0 request) c.from_residual.result c.from_residual.ensures.1,
       subst (λ (said : List Event). Follows world second.0 (Sent 0 request ∷ said) one.order one.keeper (disk.faults one.keeper.disk) one.connections (Trusts trusted (disk.honest one.keeper.disk))
@@ -73,8 +72,7 @@ returns-in_err-answer-clause-world g c = λ world trusted of idle plain_flags.
     let kind : request.head.kind ≡ 2 → ⊥ = λ is. c.if-disconnects.false (ap (λ (h : RequestHead). h.kind) c.head.ensures ∙ is) in
     let awaits = judged_awaits (verdict_on request.head world.stage.setting.geometry world.stage.setting.flags) (second.0.connections 0) second.1
     (λ is. kind (end_kind request.head world.stage.setting.geometry world.stage.setting.flags is)) in
-    let third = c.in_err-answer.ensures.world second.0 trusted second.2.leads.of_export awaits in
-    (
+    let third = c.in_err-answer.ensures.world second.0 trusted second.2.leads.of_export awaits in (
       third.0,
       no_ok _ (HasAnswer world third.0 request) c.from_residual-in_err-answer.result c.from_residual-in_err-answer.ensures.1,
       subst (λ (said : List Event). Follows world third.0 (Sent 0 request ∷ said) two.order two.keeper (disk.faults two.keeper.disk) two.connections (Trusts trusted (disk.honest two.keeper.disk))

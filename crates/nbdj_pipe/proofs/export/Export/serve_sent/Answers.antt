@@ -30,7 +30,7 @@ returns-then-try_serve-2-clause-world g c = λ world trusted request of sent.
     let second = c.store_all.ensures.world first.0 trusted first.2.leads.of_export in
     let third = c.try_serve-2.ensures.world second.0 trusted request second.1.follows.leads.of_export (ap (λ f. f 0) (second.1.connections_are ∙ same) ∙ sent) in
     let so_far = follows_on disk.state disk.faults disk.honest c.leads_law.ensures world first.0 second.0 trusted [] [] one.order two.order one.keeper two.keeper one.connections two.connections c.args.self.now.keeper.disk
-          c.store_all.ensures.honest.0 first.2 second.1.follows in
+    c.store_all.ensures.honest.0 first.2 second.1.follows in
     let judged = subst (λ (b : Bool). MatchBool b (IsJudged (verdict_on request.head second.0.stage.setting.geometry second.0.stage.setting.flags) (third.0.connections 0)) (third.0.connections ≡ second.0.connections)) c.if-try_serve-2.true third.1 in (
       third.0,
       subst (λ (s : Setting). IsJudged (verdict_on request.head s.geometry s.flags) (third.0.connections 0)) so_far.setting judged,
@@ -49,7 +49,7 @@ returns-clause-world g c = λ world trusted request of sent.
     let second = c.store_all.ensures.world first.0 trusted first.2.leads.of_export in
     let third = c.try_serve-2.ensures.world second.0 trusted request second.1.follows.leads.of_export (ap (λ f. f 0) (second.1.connections_are ∙ same) ∙ sent) in
     let so_far = follows_on disk.state disk.faults disk.honest c.leads_law.ensures world first.0 second.0 trusted [] [] one.order two.order one.keeper two.keeper one.connections two.connections c.args.self.now.keeper.disk
-          c.store_all.ensures.honest.0 first.2 second.1.follows in (
+    c.store_all.ensures.honest.0 first.2 second.1.follows in (
       third.0,
       tt,
       follows_on disk.state disk.faults disk.honest c.leads_law.ensures world second.0 third.0 trusted [] [] two.order three.order two.keeper three.keeper two.connections three.connections c.args.self.now.keeper.disk

@@ -86,7 +86,10 @@ loop-preserved g c =
         λ is. c.loop.invariant.honest.0 (c.take-flow.ensures.honest.0 (c.write_replies.ensures.honest.0 is)),
         λ is. c.write_replies.ensures.honest.1 (c.take-flow.ensures.honest.1 (c.loop.invariant.honest.1 is)),
       );
-      some = omega (arith, c.in_ok-count.ensures.same, c.loop.invariant.some); none_due = c.in_ok-write_replies.ensures.none; going = going }
+      some = omega (arith, c.in_ok-count.ensures.same, c.loop.invariant.some);
+      none_due = c.in_ok-write_replies.ensures.none;
+      going = going;
+    }
 
 pub returns-clause-dialog : goal.returns-clause-dialog
 returns-clause-dialog g c =
