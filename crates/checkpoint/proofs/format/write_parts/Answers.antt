@@ -64,16 +64,16 @@ returns-in_err-write_at-clause-honest g c =
     let second = c.write_at.ensures in
     (λ honest. first.honest.0 (second.honest.0 honest), λ honest. second.honest.1 (first.honest.1 honest))
 
-pub returns-in_err-write_body-clause-honest : goal.returns-in_err-write_body-clause-honest
-returns-in_err-write_body-clause-honest g c =
+pub returns-in_err-fill_slot-clause-honest : goal.returns-in_err-fill_slot-clause-honest
+returns-in_err-fill_slot-clause-honest g c =
     let first = c.in_ok-close_first.ensures in
     let second = c.in_ok-write_at.ensures in
-    let third = c.write_body.ensures in
+    let third = c.fill_slot.ensures in
     (λ honest. first.honest.0 (second.honest.0 (third.honest.0 honest)), λ honest. third.honest.1 (second.honest.1 (first.honest.1 honest)))
 
 pub returns-clause-honest : goal.returns-clause-honest
 returns-clause-honest g c =
     let first = c.in_ok-close_first.ensures in
     let second = c.in_ok-write_at.ensures in
-    let third = c.write_body.ensures in
+    let third = c.fill_slot.ensures in
     (λ honest. first.honest.0 (second.honest.0 (third.honest.0 honest)), λ honest. third.honest.1 (second.honest.1 (first.honest.1 honest)))
