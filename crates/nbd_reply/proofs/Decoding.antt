@@ -226,14 +226,14 @@ back_states true head runs kind asked = record {
   some = omega arith;
   fits = ((asked.1, omega (arith, asked.0.count.1, length-append (to_be_bytes w32 1) (flat_map run_bytes runs), length-runs runs)), tt);
   whole = refl;
-  tells = (kind, refl);
+  tells = (kind, refl, asked.0, asked.2);
 }
 back_states false head runs kind asked = record {
   chunks = block_status runs ∷ [];
   some = omega arith;
   fits = ((asked.1, omega (arith, asked.0.count.1, length-append (to_be_bytes w32 1) (flat_map run_bytes runs), length-runs runs)), tt);
   whole = refl;
-  tells = (kind, refl);
+  tells = (kind, refl, asked.0, asked.2);
 }
 
 back_error : (df : Bool) (head : RequestHead) (errno : Errno) → Back true df head (Refused errno)

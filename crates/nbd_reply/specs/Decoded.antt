@@ -1,5 +1,5 @@
 -- What a client reads in the bytes of a reply. It knows what it asked: the type of the request, its cookie and its range.
-use Rattle.std.specs.Prelude.{◌≡◌, ◌≢◌, ℕ, ◌+◌, ◌^◌, ◌<◌, Bool, true, false, ◌&&◌, not, List, [], ◌∷◌, ◌++◌, length, replicate}
+use Rattle.std.specs.Prelude.{◌≡◌, ◌≢◌, ℕ, ◌+◌, ◌^◌, ◌<◌, Bool, true, false, ◌&&◌, not, List, [], ◌∷◌, ◌++◌, length, replicate, sum_by, ◌≤◌}
 use Rattle.std.specs.List.{AllByRecursion}
 use Rattle.nbd_wire.specs.declared.head.RequestHead.{RequestHead}
 use Rattle.nbd_wire.specs.declared.message.Answer.{Answer}
@@ -33,6 +33,10 @@ TellsBytes at (offset_hole offset size ∷ chunks) bytes runs =
 TellsBytes at (block_status states ∷ chunks) bytes runs = ⊥
 TellsBytes at (error number ∷ chunks) bytes runs = ⊥
 
+-- states of the request's range, from its first byte on, and of no more
+abbrev pub IsCut : List Run → RequestHead → Type 0
+IsCut runs head = sum_by (λ run. run.length) runs ≤ head.length
+
 -- These chunks tell the answer to the request.
 abbrev pub TellsAnswer : RequestHead → List Chunk → Answer → Type 0
 TellsAnswer head chunks Done = ⊥
@@ -40,7 +44,8 @@ TellsAnswer head chunks (Refused errno) = chunks ≡ error (errno_number errno) 
 TellsAnswer head chunks (Bytes read) =
     (head.kind ≡ read_type) × (read.offset ≡ head.offset) × (length read.bytes ≡ head.length)
     × TellsBytes head.offset chunks read.bytes read.runs
-TellsAnswer head chunks (States runs) = (head.kind ≡ status_type) × (chunks ≡ block_status runs ∷ [])
+TellsAnswer head chunks (States runs) =
+    (head.kind ≡ status_type) × (chunks ≡ block_status runs ∷ []) × IsStates runs × IsCut runs head
 
 -- A reply in chunks: one at least, the last of them with DONE.
 pub record DecodesChunks (head : RequestHead) (text : List ℕ) (answer : Answer) : Type 0 where
@@ -81,7 +86,7 @@ AnswersRequest head (Refused errno) = Unit {0}
 AnswersRequest head (Bytes read) =
     IsBytesRead read × (read.offset ≡ head.offset) × (length read.bytes ≡ head.length)
 AnswersRequest head (States runs) =
-    IsStates runs × AllByRecursion (λ run. (run.length < 2 ^ 32) × (run.status < 2 ^ 32)) runs
+    IsStates runs × AllByRecursion (λ run. (run.length < 2 ^ 32) × (run.status < 2 ^ 32)) runs × IsCut runs head
 
 -- what a client is told of an answer: in which runs bytes are, only by a chunk for each
 abbrev pub told : Bool → Answer → Answer

@@ -62,4 +62,4 @@ abbrev pub IsAnswerTo : SessionFlags → ℕ → Answer → Type 0
 IsAnswerTo session kind Done = (kind ≢ read_type) × (kind ≢ status_type)
 IsAnswerTo session kind (Refused errno) = Unit {0}
 IsAnswerTo session kind (Bytes read) = kind ≡ read_type
-IsAnswerTo session kind (States runs) = (kind ≡ status_type) × (session.structured ≡ true)
+IsAnswerTo session kind (States runs) = (kind ≡ status_type) × (session.structured ≡ true) × (session.context ≡ true)

@@ -53,9 +53,22 @@ fn encoded(
     requires { IsAnswerTo session.now kind answer }
 {
     let reply = Reply { cookie, answer };
-    let mut out = Vec::new(alloc);
+    let mut out = beginning(alloc)?;
     encode_reply(&reply, session, kind, false, &mut out)?;
-    Ok(out)
+    behind(alloc, &out)
+}
+
+// Some bytes without room for more, which a reply has to stand behind.
+fn beginning(alloc: Global) -> Result<Vec<u8>, AllocError> {
+    vec![in alloc; 0xee; 3]
+}
+
+// What stands behind these bytes; nothing where they are others.
+fn behind(alloc: Global, out: &[u8]) -> Result<Vec<u8>, AllocError> {
+    match out.strip_prefix(&[0xee, 0xee, 0xee]) {
+        Some(rest) => Vec::from_slice(alloc, rest),
+        None => Ok(Vec::new(alloc)),
+    }
 }
 
 // So many bytes of data, which are all 0x41, and then a hole.
@@ -128,8 +141,9 @@ fn parts(rt: HostRuntime) -> Result<(), Fail> {
             "668e33ef00010002000000000000000a0000000c000000000000100000001000"
         )
     );
-    let mut out = Vec::new(rt.alloc());
+    let mut out = beginning(rt.alloc())?;
     encode_reply(&both, &STRUCTURED, READ, true, &mut out)?;
+    let out = behind(rt.alloc(), &out)?;
     let (first, second) = out.split_at(out.len().min(28 + 4096));
     assert!(rt;
         is_hex_then(
