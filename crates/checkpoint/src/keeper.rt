@@ -69,6 +69,7 @@ impl<D: Disk> Keeper<D> {
         ensures extent { D.extent (disk_after result) ≡ D.extent disk }
         ensures faults { D.faults (disk_after result) ≡ faults_after_opening result (D.faults disk) }
         ensures honest { D.honest (disk_after result) ↔ D.honest disk }
+        ensures works { IfOk result (λ keeper. keeper.failed ≡ false) }
 
         // On an honest device: the content that is fixed is one that a crash at the start may leave; at `Ok` it stands
         // for an image, which the keeper keeps, and a refusal says what is bad of it.

@@ -2,3 +2,5 @@ pub mod Bytes
 pub mod Dialogs
 pub mod Sessions
 pub mod Steps
+pub mod Runs
+pub mod Lives

@@ -1,93 +1,81 @@
 -- How the pieces of a stream join, and what was written for them.
-use Rattle.std.proofs.Common.{◌≡◌, ◌≢◌, ◌⊎◌, ℕ, inl, inr, List, [], ◌∷◌, ◌++◌, Option, Some, None, refl, sym, ap, subst, ◌∙◌, append_assoc, arith, eqb, length, length-append, Result, Ok, Err}
-use Rattle.std.proofs.lemmas.Bool.{cond-true, eq-eqb}
-use Rattle.std.proofs.lemmas.List.{append-nil, reverse-append, reverse-reverse, get_or_at, get_or_append_left}
-use Rattle.std.specs.Prelude.{IsErrAnd, All, reverse}
+use Rattle.std.proofs.Common.{◌≡◌, ◌≢◌, ◌⊎◌, ℕ, Bool, inl, inr, List, [], ◌∷◌, ◌++◌, Option, Some, None, refl, sym, ap, subst, ◌∙◌, append_assoc, arith, Result, Ok, Err}
+use Rattle.std.proofs.lemmas.List.{append-nil, reverse-append, reverse-reverse}
+use Rattle.std.specs.Prelude.{IsErrAnd, reverse}
 use Rattle.std.specs.Io.KnownBytes.{Appends, Consumes, IsAtEnd, Keeps}
 use Rattle.nbd_wire.specs.Request.{Message}
 use Rattle.nbd_wire.specs.Stream.{Begins, Feeds, Reader, end_of, failed, in_data, in_discard, in_head, reading, starved}
 use Rattle.nbd_wire.specs.declared.error.RequestFault.{RequestFault}
 use Rattle.nbd_wire.specs.declared.error.WireFault.{WireFault}
 use Rattle.nbd_wire.specs.declared.error.WireFault.TheVariants.{NoMemory, Malformed}
-use Rattle.nbd_wire.specs.declared.message.Answer.{Answer}
 use Rattle.nbdj_pipe.specs.Refusals.{of_wire}
-use Rattle.nbdj_pipe.specs.Talk.{reply_to}
-use Rattle.nbdj_pipe.proofs.Bytes.{appends_none, appends_on, consumes_kept, consumes_none, consumes_on}
-use Rattle.nbdj_pipe.specs.Pipe.{ReadsTo, IsAnswerTo, IsFaulty, IsDialog, BeginsDialog, before_disc, IsDialogToDisc, IsWholeDialog, IsEnd, IsPiped}
-use Rattle.nbdj_pipe.specs.Session.{Answers, Takes, TakesOn, IsEndOr, IsOrderly, IsEarly, WritesPart}
+use Rattle.nbdj_pipe.specs.Talk.{Exchange, asked, dialog}
+use Rattle.nbdj_pipe.specs.Pipe.{Conversation, ReadsTo, IsEnd, IsFaulty, IsOrderly, IsPiped, IsServed, IsToDisc, IsWhole}
+use Rattle.nbdj_pipe.specs.Session.{IsTaken, Takes, TakesOn, IsEndOr, IsEarly, WritesPart}
 use Rattle.nbdj_pipe.specs.declared.session.Flow.{Flow}
 use Rattle.nbdj_pipe.specs.declared.refusal.Refusal.{Refusal}
-use Rattle.nbdj_pipe.specs.declared.refusal.Refusal.TheVariants.{PeerClosed, ProtocolEnd}
-use Rattle.nbdj_pipe.proofs.Dialogs.{no_disc-append, dialog-append, begins-append, to_disc-append, some_dialog}
+use Rattle.nbdj_pipe.specs.declared.refusal.Refusal.TheVariants.{PeerClosed}
+use Rattle.nbdj_pipe.proofs.Bytes.{appends_none, appends_on, consumes_kept, consumes_none, consumes_on}
+use Rattle.nbdj_pipe.proofs.Dialogs.{HaveNoDisc, all_of, asked-append, asked_whole, behind, dialog-append, disc_behind, each_append, nothing, served_all, served_behind, served_cut, served_nothing, whole_all, whole_behind, whole_nothing}
 
--- a DISC is answered nothing
-pub disc_first : (request : Message) (more : List Message) → request.head.kind ≡ 2 → IsDialogToDisc (request ∷ more) []
-disc_first request more disc = (
-  λ none. none.0 disc,
-  subst (λ (r : List Message). IsDialog r []) (sym (cond-true (eqb request.head.kind 2) [] (request ∷ before_disc more) (eq-eqb request.head.kind 2 disc))) refl,
-)
+-- what a session does of requests and answers
+abbrev Run : Type 1
+Run = List Exchange → Option Message → Type 0
 
--- no request was read, and none was answered
-pub nothing : IsWholeDialog [] []
-nothing = (tt, refl)
-
-pub whole-append : (requests more : List Message) (text rest : List ℕ) → IsWholeDialog requests text → IsWholeDialog more rest → IsWholeDialog (requests ++ more) (text ++ rest)
-whole-append requests more text rest whole others = (no_disc-append requests more whole.0 others.0, dialog-append requests more text rest whole.1 others.1)
-
--- a whole dialog begins one
-whole_begins : (requests : List Message) (text : List ℕ) → IsWholeDialog requests text → BeginsDialog (before_disc requests) text
-whole_begins requests text whole =
-    subst (λ (r : List Message). BeginsDialog (before_disc r) text) (append-nil requests)
-    (subst (BeginsDialog (before_disc (requests ++ []))) (append-nil text) (begins-append requests [] text [] whole.0 whole.1 (some_dialog [])))
-
-begins_part : (requests : List Message) (text rest : List ℕ) → BeginsDialog requests (text ++ rest) → BeginsDialog requests text
-begins_part requests text rest (behind, dialog) = (rest ++ behind, subst (IsDialog requests) (append_assoc text rest behind) dialog)
-
--- what was answered before comes first
-pub answers-append : (requests more : List Message) (reader : Reader) (text rest : List ℕ) (outcome : Result Flow Refusal) → IsWholeDialog requests text → Answers more reader rest outcome
-    → Answers (requests ++ more) reader (text ++ rest) outcome
-answers-append requests more reader text rest outcome whole others = record {
-  begins = begins-append requests more text rest whole.0 whole.1 others.begins;
-  going = λ is. whole-append requests more text rest whole (others.going is);
-  disc = λ is. to_disc-append requests more text rest whole (others.disc is);
-  fault = λ is. (whole-append requests more text rest whole (others.fault is).0, (others.fault is).1);
-  closed = others.closed;
-  device = others.device;
+-- what an outcome that is a refusal of its own says of a piece: nothing
+taken_early : (told : Conversation) (reader : Reader) (refusal : Refusal) → IsEarly refusal → IsTaken told reader (Err refusal)
+taken_early told reader refusal early = record {
+  going = λ e. cc;
+  disc = λ e. cc;
+  fault = λ e. absurd (early.protocol (cc));
+  closed = λ e. early.closed (cc);
+  device = λ e. early.device (cc);
 }
+
+pub no_memory : IsEarly Refusal.NoMemory
+no_memory = record { closed = λ e. cc; protocol = λ e. cc; device = λ e. cc }
+
+pub stream_fault : IsEarly Refusal.StreamFault
+stream_fault = record { closed = λ e. cc; protocol = λ e. cc; device = λ e. cc }
 
 -- two pieces, one after the other
-pub takes-on : (old between new : Reader) (piece more : List ℕ) (before mid after : List ℕ) (outcome : Result Flow Refusal) → Takes old piece between before mid (Ok Flow.Open)
-    → Takes between more new mid after outcome → Takes old (piece ++ more) new before after outcome
-takes-on old between new piece more before mid after outcome first second = record {
-  requests = first.requests ++ second.requests;
-  text = first.text ++ second.text;
-  reads = λ stream requests reads.
-      subst (λ (s : List ℕ). ReadsTo s (requests ++ (first.requests ++ second.requests)) new) (append_assoc stream piece more)
-      (subst (λ (r : List Message). ReadsTo ((stream ++ piece) ++ more) r new) (append_assoc requests first.requests second.requests)
-      (second.reads (stream ++ piece) (requests ++ first.requests) (first.reads stream requests reads)));
-  due = second.due ∙ ap (λ (t : List ℕ). t ++ second.text) first.due ∙ append_assoc before first.text second.text;
-  answers = answers-append first.requests second.requests new first.text second.text outcome (first.answers.going refl) second.answers;
-}
+pub takes-on : (run more_run all_run : Run) → ((first more : List Exchange) (last : Option Message) → run first None → more_run more last → all_run (first ++ more) last)
+    → (old between new : Reader) (piece more : List ℕ) (before mid after : List ℕ) (outcome : Result Flow Refusal) → Takes old piece between before mid (Ok Flow.Open) run
+    → Takes between more new mid after outcome more_run → Takes old (piece ++ more) new before after outcome all_run
+takes-on run more_run all_run join old between new piece more before mid after outcome first second =
+    let whole = first.taken.going refl in
+    let exchanges = first.told.exchanges in
+    let same = asked_whole first.requests first.told first.served whole in
+    record {
+      requests = asked exchanges ++ second.requests;
+      told = behind exchanges second.told;
+      reads = λ stream requests reads.
+          subst (λ (s : List ℕ). ReadsTo s (requests ++ (asked exchanges ++ second.requests)) new) (append_assoc stream piece more)
+          (subst (λ (r : List Message). ReadsTo ((stream ++ piece) ++ more) r new) (append_assoc requests (asked exchanges) second.requests)
+          (second.reads (stream ++ piece) (requests ++ asked exchanges)
+          (subst (λ (r : List Message). ReadsTo (stream ++ piece) (requests ++ r) between) same (first.reads stream requests reads))));
+      due = second.due ∙ ap (λ (t : List ℕ). t ++ second.told.text) (first.due ∙ ap (λ (t : List ℕ). before ++ t) whole.text)
+          ∙ append_assoc before (dialog exchanges) second.told.text;
+      served = served_behind exchanges second.told second.requests first.served.no_disc second.served;
+      taken = record {
+        going = λ is. whole_behind exchanges second.told (second.taken.going is);
+        disc = λ is. disc_behind exchanges second.told (second.taken.disc is);
+        fault = λ is. (whole_behind exchanges second.told (second.taken.fault is).0, (second.taken.fault is).1);
+        closed = second.taken.closed;
+        device = second.taken.device;
+      };
+      runs = join exchanges second.told.exchanges second.told.last (subst (run exchanges) whole.none first.runs) second.runs;
+    }
 
 -- what was read, and what was written for it, as long as nothing ended it
-pub record IsGoing (input input_left output output_made : Option (List ℕ)) (reader : Reader) : Type 0 where
+pub record IsGoing (input input_left output output_made : Option (List ℕ)) (reader : Reader) (run : List Exchange → Option Message → Type 0) : Type 0 where
   pub stream : List ℕ
-  pub text : List ℕ
-  pub requests : List Message
+  pub exchanges : List Exchange
   pub read : Consumes input input_left stream
-  pub written : Appends output output_made text
-  pub handed : ReadsTo stream requests reader
-  pub whole : IsWholeDialog requests text
-
--- a reader's fault stands in the place of requests
-takes_end : (old new : Reader) (piece before : List ℕ) → TakesOn old piece [] new → IsFaulty new → Takes old piece new before before (Err ProtocolEnd)
-takes_end old new piece before reads faulty = record {
-  requests = [];
-  text = [];
-  reads = reads;
-  due = sym (append-nil before);
-  answers = record { begins = ([], refl); going = λ e. cc; disc = λ e. cc; fault = λ e. (nothing, faulty); closed = λ e. cc; device = λ e. cc };
-}
+  pub written : Appends output output_made (dialog exchanges)
+  pub handed : ReadsTo stream (asked exchanges) reader
+  pub no_disc : HaveNoDisc exchanges
+  pub runs : run exchanges None
 
 -- a reader that hands out nothing more for a fault of the stream
 faulty_end : (reader : Reader) (fault : RequestFault) → end_of reader ≡ Some (Malformed fault) → IsFaulty reader
@@ -100,21 +88,32 @@ faulty_end starved fault is = absurd (apart is)
     apart : (let ends : Option WireFault = Some NoMemory in ends ≡ Some (Malformed fault)) → ⊥
     apart is = cc
 
-takes_known_fault : (old new : Reader) (piece before : List ℕ) (fault : WireFault) → TakesOn old piece [] new → end_of new ≡ Some fault → Takes old piece new before before (Err (of_wire fault))
-takes_known_fault old new piece before NoMemory reads is = record {
-  requests = [];
-  text = [];
-  reads = reads;
-  due = sym (append-nil before);
-  answers = record { begins = ([], refl); going = λ e. cc; disc = λ e. cc; fault = λ e. cc; closed = λ e. cc; device = λ e. cc };
-}
-takes_known_fault old new piece before (Malformed fault) reads is = takes_end old new piece before reads (faulty_end new fault is)
+-- a call that hands out nothing more, for a fault of the stream or for want of memory
+module _ (run : Run) (same : run [] None) (old new : Reader) (piece before : List ℕ) (reads : TakesOn old piece [] new) where
+  takes_known_fault : (fault : WireFault) → end_of new ≡ Some fault → Takes old piece new before before (Err (of_wire fault)) run
+  takes_known_fault NoMemory is = record {
+    requests = [];
+    told = nothing;
+    reads = reads;
+    due = sym (append-nil before);
+    served = served_nothing;
+    taken = record { going = λ e. cc; disc = λ e. cc; fault = λ e. cc; closed = λ e. cc; device = λ e. cc };
+    runs = same;
+  }
+  takes_known_fault (Malformed fault) is = record {
+    requests = [];
+    told = nothing;
+    reads = reads;
+    due = sym (append-nil before);
+    served = served_nothing;
+    taken = record { going = λ e. cc; disc = λ e. cc; fault = λ e. (whole_nothing, faulty_end new fault is); closed = λ e. cc; device = λ e. cc };
+    runs = same;
+  }
 
-pub takes_fault : (old new : Reader) (piece before : List ℕ) (fault : WireFault) (outcome : Result Flow Refusal) → TakesOn old piece [] new → end_of new ≡ Some fault → IsErrAnd outcome (λ refusal. refusal ≡ of_wire fault)
-    → Takes old piece new before before outcome
-takes_fault old new piece before fault (Err refusal) reads is same =
-    subst (λ (r : Refusal). Takes old piece new before before (Err r)) (sym same) (takes_known_fault old new piece before fault reads is)
-takes_fault old new piece before fault (Ok flow) reads is same = elim same [ ]
+  pub takes_fault : (fault : WireFault) (outcome : Result Flow Refusal) → end_of new ≡ Some fault → IsErrAnd outcome (λ refusal. refusal ≡ of_wire fault) → Takes old piece new before before outcome run
+  takes_fault fault (Err refusal) is same_refusal =
+      subst (λ (r : Refusal). Takes old piece new before before (Err r) run) (sym same_refusal) (takes_known_fault fault is)
+  takes_fault fault (Ok flow) is same_refusal = elim same_refusal [ ]
 
 -- what a call of a reader handed out goes behind what it had handed out before
 pub feeds_on : (old : Reader) (piece : List ℕ) (requests : List Message) (new : Reader) → Feeds old piece requests new → TakesOn old piece requests new
@@ -154,79 +153,84 @@ module _ (all back left : List Message) (served : List Message) (turned : back �
   pub messages_done : left ≡ [] → all ≡ served ++ []
   messages_done none = again ∙ whole ∙ ap (λ (r : List Message). served ++ reverse r) none
 
-module _ (old new : Reader) (piece : List ℕ) (all : List Message) (served : List Message) (reads : TakesOn old piece (all) new) where
+module _ (run : Run) (old new : Reader) (piece : List ℕ) (all : List Message) (exchanges : List Exchange) (reads : TakesOn old piece all new) (none : HaveNoDisc exchanges) where
   -- the last of the requests was answered
-  pub takes_all : (before after text : List ℕ) → all ≡ served ++ [] → after ≡ before ++ text → IsWholeDialog served text → Takes old piece new before after (Ok Flow.Open)
-  takes_all before after text same due whole =
-      let is : all ≡ served = same ∙ append-nil served in
+  pub takes_all : (before after : List ℕ) → all ≡ asked exchanges ++ [] → after ≡ before ++ dialog exchanges → run exchanges None → Takes old piece new before after (Ok Flow.Open) run
+  takes_all before after same due runs = record {
+    requests = asked exchanges;
+    told = all_of exchanges;
+    reads = subst (λ (r : List Message). TakesOn old piece r new) (same ∙ append-nil (asked exchanges)) reads;
+    due = due;
+    served = served_all exchanges none;
+    taken = record { going = λ e. whole_all exchanges; disc = λ e. cc; fault = λ e. cc; closed = λ e. cc; device = λ e. cc };
+    runs = runs;
+  }
+
+  -- the next one is sent, and has no answer
+  module _ (before after : List ℕ) (request : Message) (more : List Message) (same : all ≡ (asked exchanges ++ request ∷ []) ++ more) (due : after ≡ before ++ dialog exchanges) (runs : run exchanges (Some request)) where
+    abbrev broken_off : Conversation
+    broken_off = record { exchanges = exchanges; unanswered = request ∷ more; last = Some request; text = dialog exchanges }
+
+    is_left : all ≡ asked exchanges ++ request ∷ more
+    is_left = same ∙ append_assoc (asked exchanges) (request ∷ []) more
+
+    served_left : IsServed all broken_off
+    served_left = record { all = is_left; no_disc = none; first = (more, refl); begins = ([], sym (append-nil (dialog exchanges))) }
+
+    -- it is a DISC
+    pub takes_disc : request.head.kind ≡ 2 → Takes old piece new before after (Ok Flow.Ended) run
+    takes_disc disc = record {
+      requests = all;
+      told = broken_off;
+      reads = reads;
+      due = due;
+      served = served_left;
+      taken = record {
+        going = λ e. cc;
+        disc = λ e. record { disc = request; more = more; kind = disc; answered = refl; last = refl; text = refl };
+        fault = λ e. cc;
+        closed = λ e. cc;
+        device = λ e. cc;
+      };
+      runs = runs;
+    }
+
+    -- it couldn't be served
+    pub takes_unserved : (refusal : Refusal) → IsEarly refusal → Takes old piece new before after (Err refusal) run
+    takes_unserved refusal early = record {
+      requests = all;
+      told = broken_off;
+      reads = reads;
+      due = due;
+      served = served_left;
+      taken = taken_early broken_off new refusal early;
+      runs = runs;
+    }
+
+  -- the next one was answered, and there was no memory for its reply
+  pub takes_unwritten : (before after : List ℕ) (exchange : Exchange) (more : List Message) (refusal : Refusal) → all ≡ (asked exchanges ++ exchange.request ∷ []) ++ more → after ≡ before ++ dialog exchanges
+      → exchange.request.head.kind ≢ 2 → run (exchanges ++ exchange ∷ []) None → IsEarly refusal → Takes old piece new before after (Err refusal) run
+  takes_unwritten before after exchange more refusal same due kind runs early =
+      let answered = exchanges ++ exchange ∷ [] in
+      let told : Conversation = record { exchanges = answered; unanswered = more; last = None; text = dialog exchanges } in
       record {
-        requests = served;
-        text = text;
-        reads = subst (λ (r : List Message). TakesOn old piece r new) is reads;
+        requests = all;
+        told = told;
+        reads = reads;
         due = due;
-        answers = record {
-          begins = whole_begins served text whole;
-          going = λ e. whole;
-          disc = λ e. cc;
-          fault = λ e. cc;
-          closed = λ e. cc;
-          device = λ e. cc;
+        served = record {
+          all = same ∙ ap (λ (r : List Message). r ++ more) (sym (asked-append exchanges (exchange ∷ [])));
+          no_disc = each_append (λ (e : Exchange). e.request.head.kind ≢ 2) exchanges (exchange ∷ []) none (kind, tt);
+          first = tt;
+          begins = (dialog (exchange ∷ []), dialog-append exchanges (exchange ∷ []));
         };
+        taken = taken_early told new refusal early;
+        runs = runs;
       }
 
-  -- the next one is a DISC
-  pub takes_disc : (before after text : List ℕ) (request : Message) (more : List Message) → all ≡ (served ++ request ∷ []) ++ more → request.head.kind ≡ 2 → after ≡ before ++ text → IsWholeDialog served text
-      → Takes old piece new before after (Ok Flow.Ended)
-  takes_disc before after text request more same disc due whole =
-      let is : all ≡ served ++ (request ∷ more) = same ∙ append_assoc served (request ∷ []) more in
-      let behind : IsDialogToDisc (request ∷ more) [] = disc_first request more disc in
-      record {
-        requests = served ++ (request ∷ more);
-        text = text;
-        reads = subst (λ (r : List Message). TakesOn old piece r new) is reads;
-        due = due;
-        answers = record {
-          begins = subst (λ (t : List ℕ). BeginsDialog (before_disc (served ++ (request ∷ more))) t) (append-nil text) (begins-append served (request ∷ more) text [] whole.0 whole.1 (some_dialog (request ∷ more)));
-          going = λ e. cc;
-          disc = λ e. subst (λ (t : List ℕ). IsDialogToDisc (served ++ (request ∷ more)) t) (append-nil text) (to_disc-append served (request ∷ more) text [] whole behind);
-          fault = λ e. cc;
-          closed = λ e. cc;
-          device = λ e. cc;
-        };
-      }
-
-  -- the next one couldn't be served
-  takes_some_known : (before after text : List ℕ) (request : Message) (more : List Message) (refusal : Refusal) → all ≡ (served ++ request ∷ []) ++ more → IsEarly refusal → after ≡ before ++ text
-      → IsWholeDialog served text → Takes old piece new before after (Err refusal)
-  takes_some_known before after text request more refusal same no_end due whole =
-      let is : all ≡ served ++ (request ∷ more) = same ∙ append_assoc served (request ∷ []) more in
-      record {
-        requests = served ++ (request ∷ more);
-        text = text;
-        reads = subst (λ (r : List Message). TakesOn old piece r new) is reads;
-        due = due;
-        answers = record {
-          begins = subst (λ (t : List ℕ). BeginsDialog (before_disc (served ++ (request ∷ more))) t) (append-nil text) (begins-append served (request ∷ more) text [] whole.0 whole.1 (some_dialog (request ∷ more)));
-          going = λ e. cc;
-          disc = λ e. cc;
-          fault = λ e. absurd (no_end.protocol (cc));
-          closed = λ e. absurd (no_end.closed (cc));
-          device = λ e. absurd (no_end.device (cc));
-        };
-      }
-
-  pub takes_some : (before after text : List ℕ) (request : Message) (more : List Message) (refusal : Refusal) (outcome : Result Flow Refusal) → all ≡ (served ++ request ∷ []) ++ more → IsEarly refusal
-      → IsErrAnd outcome (λ r. r ≡ refusal) → after ≡ before ++ text → IsWholeDialog served text → Takes old piece new before after outcome
-  takes_some before after text request more refusal (Err other) same no_end is due whole =
-      subst (λ (r : Refusal). Takes old piece new before after (Err r)) (sym is) (takes_some_known before after text request more refusal same no_end due whole)
-  takes_some before after text request more refusal (Ok flow) same no_end is due whole = elim is [ ]
-
--- one more was answered
-pub served_one : (served : List Message) (text : List ℕ) (request : Message) (answer : Answer) → IsWholeDialog served text → IsAnswerTo request answer
-    → IsWholeDialog (served ++ request ∷ []) (text ++ reply_to request.head.cookie answer)
-served_one served text request answer whole is =
-    whole-append served (request ∷ []) text (reply_to request.head.cookie answer) whole
-    ((is, tt), (answer, [], is, sym (append-nil (reply_to request.head.cookie answer)), refl))
+pub as_error : {T : Type 0} (P : Result T Refusal → Type 0) (refusal : Refusal) (outcome : Result T Refusal) → IsErrAnd outcome (λ r. r ≡ refusal) → P (Err refusal) → P outcome
+as_error P refusal (Err other) is holds = subst (λ (r : Refusal). P (Err r)) (sym is) holds
+as_error P refusal (Ok value) is holds = elim is [ ]
 
 pub err_no_end : (outcome : Result (Unit {0}) Refusal) (refusal : Refusal) → IsErrAnd outcome (λ r. r ≡ refusal) → IsEarly refusal → IsErrAnd outcome IsEarly
 err_no_end (Err other) refusal same no_end = subst IsEarly (sym same) no_end
@@ -234,169 +238,178 @@ err_no_end (Ok done) refusal same no_end = elim same [ ]
 
 -- ---- from the start of a session to its end
 
-pub going_first : (input output : Option (List ℕ)) → IsGoing input input output output (reading (in_head []))
-going_first input output = record {
+-- a refusal that says nothing of the input
+end_early : (told : Conversation) (reader : Reader) (left : Option (List ℕ)) (refusal : Refusal) → IsEarly refusal → IsEnd told reader left (Err refusal)
+end_early told reader left refusal early = record {
+  disc = tt;
+  closed = λ e. absurd (early.closed cc);
+  fault = λ e. absurd (early.protocol cc);
+  device = λ e. absurd (early.device cc);
+}
+
+pub going_first : (run : Run) (input output : Option (List ℕ)) → run [] None → IsGoing input input output output (reading (in_head [])) run
+going_first run input output none = record {
   stream = [];
-  text = [];
-  requests = [];
+  exchanges = [];
   read = consumes_none input;
   written = appends_none output;
   handed = (omega arith, refl);
-  whole = nothing;
+  no_disc = tt;
+  runs = none;
 }
 
-module _ (input mid output made : Option (List ℕ)) (reader : Reader) (going : IsGoing input mid output made reader) where
+module _ (run : Run) (input mid output made : Option (List ℕ)) (reader : Reader) (going : IsGoing input mid output made reader run) where
   -- it ended with a refusal that says nothing of the input
-  pub stopped : (left : Option (List ℕ)) (outcome : Result (Unit {0}) Refusal) → Keeps mid left → IsErrAnd outcome IsEarly → IsPiped input left output made outcome
+  pub stopped : (left : Option (List ℕ)) (outcome : Result (Unit {0}) Refusal) → Keeps mid left → IsErrAnd outcome IsEarly → IsPiped input left output made outcome run
   stopped left (Ok done) none no_end = elim no_end [ ]
   stopped left (Err refusal) none no_end = record {
     stream = going.stream;
-    text = going.text;
-    requests = going.requests;
+    requests = asked going.exchanges;
     reader = reader;
+    told = all_of going.exchanges;
     read = consumes_kept input mid left going.stream going.read none;
-    written = going.written;
     handed = going.handed;
-    end = record {
-      begins = whole_begins going.requests going.text going.whole;
-      disc = tt;
-      closed = λ e. absurd (no_end.closed cc);
-      fault = λ e. absurd (no_end.protocol cc);
-      device = λ e. absurd (no_end.device cc);
-    };
+    written = going.written;
+    served = served_all going.exchanges going.no_disc;
+    end = end_early (all_of going.exchanges) reader left refusal no_end;
+    runs = going.runs;
   }
 
   -- the input ended
-  pub closed : (left : Option (List ℕ)) → Consumes mid left [] → IsAtEnd left → IsPiped input left output made (Err PeerClosed)
+  pub closed : (left : Option (List ℕ)) → Consumes mid left [] → IsAtEnd left → IsPiped input left output made (Err PeerClosed) run
   closed left none at_end = record {
     stream = going.stream ++ [];
-    text = going.text;
-    requests = going.requests;
+    requests = asked going.exchanges;
     reader = reader;
+    told = all_of going.exchanges;
     read = consumes_on input mid left going.stream [] going.read none;
+    handed = subst (λ (s : List ℕ). ReadsTo s (asked going.exchanges) reader) (sym (append-nil going.stream)) going.handed;
     written = going.written;
-    handed = subst (λ (s : List ℕ). ReadsTo s going.requests reader) (sym (append-nil going.stream)) going.handed;
-    end = record {
-      begins = whole_begins going.requests going.text going.whole;
-      disc = tt;
-      closed = λ e. (going.whole, at_end);
-      fault = λ e. cc;
-      device = λ e. cc;
-    };
+    served = served_all going.exchanges going.no_disc;
+    end = record { disc = tt; closed = λ e. (whole_all going.exchanges, at_end); fault = λ e. cc; device = λ e. cc };
+    runs = going.runs;
   }
 
   -- a piece was read, and what it came to was answered
-  module _ (left made_on : Option (List ℕ)) (piece due : List ℕ) (new : Reader) (outcome : Result Flow Refusal) (read : Consumes mid left piece) (takes : Takes reader piece new [] due outcome) where
-    reads : ReadsTo (going.stream ++ piece) (going.requests ++ takes.requests) new
-    reads = takes.reads going.stream going.requests going.handed
+  module _ (more_run all_run : Run) (join : (first more : List Exchange) (last : Option Message) → run first None → more_run more last → all_run (first ++ more) last) where
+    module _ (left made_on : Option (List ℕ)) (piece due : List ℕ) (new : Reader) (outcome : Result Flow Refusal) (read : Consumes mid left piece) (takes : Takes reader piece new [] due outcome more_run) where
+      abbrev exchanges : List Exchange
+      exchanges = going.exchanges
 
-    consumed : Consumes input left (going.stream ++ piece)
-    consumed = consumes_on input mid left going.stream piece going.read read
+      abbrev told : Conversation
+      told = behind exchanges takes.told
 
-    answers : Answers (going.requests ++ takes.requests) new (going.text ++ due) outcome
-    answers = subst (λ (t : List ℕ). Answers (going.requests ++ takes.requests) new (going.text ++ t) outcome) (sym takes.due)
-        (answers-append going.requests takes.requests new going.text takes.text outcome going.whole takes.answers)
+      handed : ReadsTo (going.stream ++ piece) (asked exchanges ++ takes.requests) new
+      handed = takes.reads going.stream (asked exchanges) going.handed
 
-    -- not all of the answers could be written
-    pub cut : (refusal : Refusal) (end : Result (Unit {0}) Refusal) → WritesPart made made_on due (Err refusal) → IsErrAnd end IsEarly → IsPiped input left output made_on end
-    cut refusal (Ok done) part no_end = elim no_end [ ]
-    cut refusal (Err other) (first, rest, parts, writes) no_end = record {
-      stream = going.stream ++ piece;
-      text = going.text ++ first;
-      requests = going.requests ++ takes.requests;
-      reader = new;
-      read = consumed;
-      written = appends_on output made made_on going.text first going.written writes;
-      handed = reads;
-      end = record {
-        begins = begins_part (before_disc (going.requests ++ takes.requests)) (going.text ++ first) rest
-            (subst (BeginsDialog (before_disc (going.requests ++ takes.requests))) (ap (λ (t : List ℕ). going.text ++ t) parts ∙ sym (append_assoc going.text first rest)) answers.begins);
-        disc = tt;
-        closed = λ e. absurd (no_end.closed cc);
-        fault = λ e. absurd (no_end.protocol cc);
-        device = λ e. absurd (no_end.device cc);
-      };
-    }
+      consumed : Consumes input left (going.stream ++ piece)
+      consumed = consumes_on input mid left going.stream piece going.read read
 
-    module _ (writes : Appends made made_on due) where
-      wrote : Appends output made_on (going.text ++ due)
-      wrote = appends_on output made made_on going.text due going.written writes
+      served : IsServed (asked exchanges ++ takes.requests) told
+      served = served_behind exchanges takes.told takes.requests going.no_disc takes.served
 
-      pub goes_on : outcome ≡ Ok Flow.Open → IsGoing input left output made_on new
-      goes_on is = record {
-        stream = going.stream ++ piece;
-        text = going.text ++ due;
-        requests = going.requests ++ takes.requests;
-        read = consumed;
-        written = wrote;
-        handed = reads;
-        whole = answers.going is;
-      }
+      ran : all_run told.exchanges told.last
+      ran = join exchanges takes.told.exchanges takes.told.last going.runs takes.runs
 
-      pub ended : outcome ≡ Ok Flow.Ended → IsPiped input left output made_on (Ok tt)
-      ended is = record {
-        stream = going.stream ++ piece;
-        text = going.text ++ due;
-        requests = going.requests ++ takes.requests;
-        reader = new;
-        read = consumed;
-        written = wrote;
-        handed = reads;
-        end = record { begins = answers.begins; disc = answers.disc is; closed = λ e. cc; fault = λ e. cc; device = λ e. cc };
-      }
+      -- not all of the answers could be written
+      pub cut : (refusal : Refusal) (end : Result (Unit {0}) Refusal) → WritesPart made made_on due (Err refusal) → IsErrAnd end IsEarly → IsPiped input left output made_on end all_run
+      cut refusal (Ok done) part no_end = elim no_end [ ]
+      cut refusal (Err other) (first, rest, parts, writes) no_end =
+          let text = dialog exchanges ++ first in
+          record {
+            stream = going.stream ++ piece;
+            requests = asked exchanges ++ takes.requests;
+            reader = new;
+            told = record told { text = text };
+            read = consumed;
+            handed = handed;
+            written = appends_on output made made_on (dialog exchanges) first going.written writes;
+            served = served_cut (asked exchanges ++ takes.requests) told text rest
+                (ap (λ (t : List ℕ). dialog exchanges ++ t) (sym takes.due ∙ parts) ∙ sym (append_assoc (dialog exchanges) first rest)) served;
+            end = end_early (record told { text = text }) new left other no_end;
+            runs = ran;
+          }
 
-      pub refused : (refusal : Refusal) (end : Result (Unit {0}) Refusal) → outcome ≡ Err refusal → IsErrAnd end (λ r. r ≡ refusal) → IsPiped input left output made_on end
-      refused refusal (Ok done) was is = elim is [ ]
-      refused refusal (Err other) was is = record {
-        stream = going.stream ++ piece;
-        text = going.text ++ due;
-        requests = going.requests ++ takes.requests;
-        reader = new;
-        read = consumed;
-        written = wrote;
-        handed = reads;
-        end = record {
-          begins = answers.begins;
-          disc = tt;
-          closed = λ e. absurd (answers.closed cc);
-          fault = λ e. answers.fault cc;
-          device = λ e. absurd (answers.device cc);
-        };
-      }
+      module _ (writes : Appends made made_on due) where
+        wrote : Appends output made_on told.text
+        wrote = subst (λ (t : List ℕ). Appends output made_on (dialog exchanges ++ t)) takes.due (appends_on output made made_on (dialog exchanges) due going.written writes)
+
+        pub goes_on : outcome ≡ Ok Flow.Open → IsGoing input left output made_on new all_run
+        goes_on is =
+            let whole = takes.taken.going is in
+            record {
+              stream = going.stream ++ piece;
+              exchanges = told.exchanges;
+              read = consumed;
+              written = subst (Appends output made_on) (whole_behind exchanges takes.told whole).text wrote;
+              handed = subst (λ (r : List Message). ReadsTo (going.stream ++ piece) r new) (asked_whole (asked exchanges ++ takes.requests) told served (whole_behind exchanges takes.told whole)) handed;
+              no_disc = served.no_disc;
+              runs = subst (all_run told.exchanges) whole.none ran;
+            }
+
+        pub ended : outcome ≡ Ok Flow.Ended → IsPiped input left output made_on (Ok tt) all_run
+        ended is = record {
+          stream = going.stream ++ piece;
+          requests = asked exchanges ++ takes.requests;
+          reader = new;
+          told = told;
+          read = consumed;
+          handed = handed;
+          written = wrote;
+          served = served;
+          end = record { disc = disc_behind exchanges takes.told (takes.taken.disc is); closed = λ e. cc; fault = λ e. cc; device = λ e. cc };
+          runs = ran;
+        }
+
+        pub refused : (refusal : Refusal) (end : Result (Unit {0}) Refusal) → outcome ≡ Err refusal → IsErrAnd end (λ r. r ≡ refusal) → IsPiped input left output made_on end all_run
+        refused refusal (Ok done) was is = elim is [ ]
+        refused refusal (Err other) was is = record {
+          stream = going.stream ++ piece;
+          requests = asked exchanges ++ takes.requests;
+          reader = new;
+          told = told;
+          read = consumed;
+          handed = handed;
+          written = wrote;
+          served = served;
+          end = record {
+            disc = tt;
+            closed = λ e. absurd (takes.taken.closed cc);
+            fault = λ e. (whole_behind exchanges takes.told (takes.taken.fault cc).0, (takes.taken.fault cc).1);
+            device = λ e. absurd (takes.taken.device cc);
+          };
+          runs = ran;
+        }
 
 -- what comes after the end of the input may refuse it, and changes nothing that was written
-module _ (input left output made : Option (List ℕ)) where
-  piped_as : (end outcome : Result (Unit {0}) Refusal) (piped : IsPiped input left output made end) → IsEnd piped.requests piped.reader piped.text left outcome → IsPiped input left output made outcome
+module _ (input left output made : Option (List ℕ)) (run later : Run) (on : (exchanges : List Exchange) (last : Option Message) → run exchanges last → later exchanges last) where
+  piped_as : (end outcome : Result (Unit {0}) Refusal) (piped : IsPiped input left output made end run) → IsEnd piped.told piped.reader left outcome → IsPiped input left output made outcome later
   piped_as end outcome piped is = record {
     stream = piped.stream;
-    text = piped.text;
     requests = piped.requests;
     reader = piped.reader;
+    told = piped.told;
     read = piped.read;
-    written = piped.written;
     handed = piped.handed;
+    written = piped.written;
+    served = piped.served;
     end = is;
+    runs = on piped.told.exchanges piped.told.last piped.runs;
   }
 
-  orderly : (end : Result (Unit {0}) Refusal) (piped : IsPiped input left output made end) → IsOrderly end
-      → IsDialogToDisc piped.requests piped.text ⊎ (IsWholeDialog piped.requests piped.text × (IsAtEnd left ⊎ IsFaulty piped.reader))
+  orderly : (end : Result (Unit {0}) Refusal) (piped : IsPiped input left output made end run) → IsOrderly end
+      → IsToDisc piped.told ⊎ (IsWhole piped.told × (IsAtEnd left ⊎ IsFaulty piped.reader))
   orderly (Ok done) piped is = inl piped.end.disc
   orderly (Err refusal) piped (inl closed) = let ended = piped.end.closed (ap Err closed) in inr (ended.0, inl ended.1)
   orderly (Err refusal) piped (inr fault) = let ended = piped.end.fault (ap Err fault) in inr (ended.0, inr ended.1)
 
-  pub piped_or : (end outcome : Result (Unit {0}) Refusal) → IsPiped input left output made end → IsEndOr end outcome → IsPiped input left output made outcome
-  piped_or end outcome piped (inl same) = subst (IsPiped input left output made) (sym same) piped
-  piped_or end outcome piped (inr (inl (refusal, no_end, is))) = piped_as end outcome piped
-      (subst (IsEnd piped.requests piped.reader piped.text left) (sym is) (record {
-        begins = piped.end.begins;
-        disc = tt;
-        closed = λ e. absurd (no_end.closed cc);
-        fault = λ e. absurd (no_end.protocol cc);
-        device = λ e. absurd (no_end.device cc);
-      }))
-  piped_or end outcome piped (inr (inr (is_orderly, is))) = piped_as end outcome piped
-      (subst (IsEnd piped.requests piped.reader piped.text left) (sym is) (record {
-        begins = piped.end.begins;
+  pub piped_or : (end outcome : Result (Unit {0}) Refusal) (stopped : Bool) → IsPiped input left output made end run → IsEndOr end outcome stopped → IsPiped input left output made outcome later
+  piped_or end outcome stopped piped (inl same) =
+      piped_as end outcome piped (subst (IsEnd piped.told piped.reader left) (sym same) piped.end)
+  piped_or end outcome stopped piped (inr (inl (refusal, early, is))) = piped_as end outcome piped
+      (subst (IsEnd piped.told piped.reader left) (sym is) (end_early piped.told piped.reader left refusal early))
+  piped_or end outcome stopped piped (inr (inr (is_orderly, is, has_stopped))) = piped_as end outcome piped
+      (subst (IsEnd piped.told piped.reader left) (sym is) (record {
         disc = tt;
         closed = λ e. cc;
         fault = λ e. cc;

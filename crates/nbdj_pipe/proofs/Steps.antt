@@ -27,7 +27,7 @@ use Rattle.world.specs.declared.step.Step.TheVariants as steps
 use Rattle.world.specs.declared.step.Step.TheVariants.{Send, Serve, Seal, Append, Publish}
 use Rattle.world.specs.Log.{command_of, is_flush}
 use Rattle.world.specs.Serve.{Luck, Fine, Starved, Faulted, accepted, answer, answered, held, judged, logged, moved, ordered, passed, ready, state_after}
-use Rattle.world.specs.Step.{after_step, append, publish, put_back, seal, sealed_more, stored_more}
+use Rattle.world.specs.Step.{after_step, append, publish, seal, sealed_more, stored_more}
 use Rattle.world.specs.World.{World, fits, has_room, last_number, put}
 use Rattle.nbdj_pipe.specs.Export.{AwaitsAnswer, Follows, IsGiven, IsJudged, IsStoring, HasAnswer, Settles, said_of, told_by}
 use Rattle.nbdj_pipe.specs.declared.refusal.Refusal.{Refusal}

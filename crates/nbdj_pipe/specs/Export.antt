@@ -1,5 +1,5 @@
 -- what the calls of an export make of the world that it is of
-use Rattle.std.specs.Prelude.{ℕ, ◌≡◌, ◌≢◌, ◌⊎◌, List, [], ◌∷◌, ◌++◌, Option, Some, None, Result, Ok, Err}
+use Rattle.std.specs.Prelude.{ℕ, ◌≡◌, ◌≢◌, ◌⊎◌, true, List, [], ◌∷◌, ◌++◌, Option, Some, None, Result, Ok, Err}
 use Rattle.checkpoint.specs.Keeper.{KeeperState}
 use Rattle.disk_model.specs.Disk.{State}
 use Rattle.nbd_wire.specs.Request.{Message}
@@ -35,6 +35,10 @@ pub record Settles {D : Type 0} (world next : World) (order : OrderState) (keepe
     (honest : Type 0) (before after : State) : Type 0 where
   pub follows : Follows world next [] order keeper failures connections honest before after
   pub connections_are : next.connections ≡ world.connections
+
+-- nothing is left to store, or nothing more can be
+abbrev pub IsSettled : OrderState → Type 0
+IsSettled order = (order.stopped ≡ true) ⊎ (order.durable ≡ order.mark)
 
 -- a step of order and keeper alone
 abbrev pub IsStoring : Step → Type 0

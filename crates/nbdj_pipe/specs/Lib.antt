@@ -3,3 +3,4 @@ pub mod Talk
 pub mod Export
 pub mod Session
 pub mod Pipe
+pub mod Life

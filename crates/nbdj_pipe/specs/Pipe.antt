@@ -1,47 +1,53 @@
 -- What a pipe writes for what it reads, by docs/FORMATS.md, "Stream" and "When a reply is made".
-use Rattle.std.specs.Prelude.{ℕ, ◌≡◌, ◌≢◌, ◌⊎◌, ◌==◌, if◌then◌else◌, List, [], ◌∷◌, ◌++◌, Option, Result, Ok, Err, OnOk, IsErrOf}
+use Rattle.std.specs.Prelude.{ℕ, ◌≡◌, ◌≢◌, ◌⊎◌, List, [], ◌∷◌, ◌++◌, Option, Some, None, Result, Ok, Err, OnOk, IsErrOf}
 use Rattle.std.specs.Io.KnownBytes.{Appends, Consumes, IsAtEnd, Keeps}
 use Rattle.std.specs.List.{AllByRecursion}
+use Rattle.checkpoint.specs.Keeper.{faults_by}
+use Rattle.checkpoint.specs.Opening.{IsRefused}
+use Rattle.checkpoint.specs.declared.fault.KeeperFault.{KeeperFault}
+use Rattle.disk_model.specs.Disk.{State}
 use Rattle.nbd_wire.specs.Request.{Message}
 use Rattle.nbd_wire.specs.Stream.{Begins, Reader, Reads, failed, reading, starved}
 use Rattle.nbd_wire.specs.declared.error.RequestFault.{RequestFault}
-use Rattle.nbd_wire.specs.declared.message.Answer.{Answer}
-use Rattle.checkpoint.specs.declared.fault.KeeperFault.{KeeperFault}
 use Rattle.nbdj_pipe.specs.Refusals.{of_keeper}
-use Rattle.nbdj_pipe.specs.Talk.{reply_to}
+use Rattle.nbdj_pipe.specs.Talk.{Exchange, asked, dialog}
 use Rattle.nbdj_pipe.specs.declared.refusal.Refusal.{Refusal}
 use Rattle.nbdj_pipe.specs.declared.refusal.Refusal.TheVariants.{DeviceFault, PeerClosed, ProtocolEnd}
 
--- what every request but a DISC is answered
-abbrev pub IsAnswerTo : Message → Answer → Type 0
-IsAnswerTo request answer = request.head.kind ≢ 2
+-- What became of the requests that were read: the first of them were answered in turn, and the others have no answer. The
+-- first of the others may have been sent to the export all the same. The text is what was written of the replies.
+pub record Conversation : Type 0 where
+  pub exchanges : List Exchange
+  pub unanswered : List Message
+  pub last : Option Message
+  pub text : List ℕ
 
--- the text is the simple replies to these requests, one to each, in their order
-abbrev pub IsDialog : List Message → List ℕ → Type 0
-IsDialog [] text = text ≡ []
-IsDialog (request ∷ requests) text =
-    (answer : Answer) × (rest : List ℕ) × IsAnswerTo request answer
-    × (text ≡ reply_to request.head.cookie answer ++ rest) × IsDialog requests rest
+-- what was sent without an answer, if anything, is the first request that has none
+abbrev pub IsFirst : Option Message → List Message → Type 0
+IsFirst None unanswered = Unit {0}
+IsFirst (Some request) unanswered = (more : List Message) × (unanswered ≡ request ∷ more)
 
--- the text is a beginning of such replies
-abbrev pub BeginsDialog : List Message → List ℕ → Type 0
-BeginsDialog requests text = (rest : List ℕ) × IsDialog requests (text ++ rest)
+-- These requests were read; only requests that aren't a DISC are answered, and the text is a beginning of the replies.
+pub record IsServed (requests : List Message) (told : Conversation) : Type 0 where
+  pub all : requests ≡ asked told.exchanges ++ told.unanswered
+  pub no_disc : AllByRecursion (λ (exchange : Exchange). exchange.request.head.kind ≢ 2) told.exchanges
+  pub first : IsFirst told.last told.unanswered
+  pub begins : (rest : List ℕ) × (dialog told.exchanges ≡ told.text ++ rest)
 
--- the requests before the first DISC
-abbrev pub before_disc : List Message → List Message
-before_disc [] = []
-before_disc (request ∷ requests) = if request.head.kind == 2 then [] else request ∷ before_disc requests
+-- every request is answered, and each reply is written
+pub record IsWhole (told : Conversation) : Type 0 where
+  pub answered : told.unanswered ≡ []
+  pub none : told.last ≡ None
+  pub text : told.text ≡ dialog told.exchanges
 
-abbrev pub HasNoDisc : List Message → Type 0
-HasNoDisc requests = AllByRecursion (λ request. request.head.kind ≢ 2) requests
-
--- among the requests is a DISC, and the text answers those before the first
-abbrev pub IsDialogToDisc : List Message → List ℕ → Type 0
-IsDialogToDisc requests text = (HasNoDisc requests → ⊥) × IsDialog (before_disc requests) text
-
--- no DISC is among the requests, and the text answers them all
-abbrev pub IsWholeDialog : List Message → List ℕ → Type 0
-IsWholeDialog requests text = HasNoDisc requests × IsDialog requests text
+-- every request up to a DISC is answered, and each reply is written
+pub record IsToDisc (told : Conversation) : Type 0 where
+  pub disc : Message
+  pub more : List Message
+  pub kind : disc.head.kind ≡ 2
+  pub answered : told.unanswered ≡ disc ∷ more
+  pub last : told.last ≡ Some disc
+  pub text : told.text ≡ dialog told.exchanges
 
 -- What a reader was handed out of a stream: all of its requests, with what is left behind them, or where memory ran out
 -- the first of them.
@@ -53,38 +59,47 @@ ReadsTo stream requests starved = Begins stream requests
 abbrev pub IsFaulty : Reader → Type 0
 IsFaulty reader = (fault : RequestFault) × (reader ≡ reading (failed fault))
 
--- What an outcome says of the requests that were read, of the reader that handed them out, of the text that was
--- written, and of what is left of the input.
-pub record IsEnd (requests : List Message) (reader : Reader) (text : List ℕ) (input : Option (List ℕ)) (outcome : Result (Unit {0}) Refusal) : Type 0 where
-  -- whatever ended it
-  pub begins : BeginsDialog (before_disc requests) text
+-- the input of a session came to its end
+abbrev pub IsOrderly : Result (Unit {0}) Refusal → Type 0
+IsOrderly (Ok done) = Unit {0}
+IsOrderly (Err refusal) = (refusal ≡ PeerClosed) ⊎ (refusal ≡ ProtocolEnd)
+
+-- What an outcome says of what was answered, of the reader that handed the requests out, and of what is left of the input;
+-- any other refusal says nothing of them.
+pub record IsEnd (told : Conversation) (reader : Reader) (input : Option (List ℕ)) (outcome : Result (Unit {0}) Refusal) : Type 0 where
   -- a DISC came
-  pub disc : OnOk outcome (IsDialogToDisc requests text)
+  pub disc : OnOk outcome (IsToDisc told)
   -- the input ended without one
-  pub closed : IsErrOf outcome PeerClosed → IsWholeDialog requests text × IsAtEnd input
+  pub closed : IsErrOf outcome PeerClosed → IsWhole told × IsAtEnd input
   -- a fault of the stream ended it
-  pub fault : IsErrOf outcome ProtocolEnd → IsWholeDialog requests text × IsFaulty reader
+  pub fault : IsErrOf outcome ProtocolEnd → IsWhole told × IsFaulty reader
   -- the device failed, which is told once all requests up to the end of the input are answered
-  pub device : IsErrOf outcome DeviceFault → IsDialogToDisc requests text ⊎ (IsWholeDialog requests text × (IsAtEnd input ⊎ IsFaulty reader))
+  pub device : IsErrOf outcome DeviceFault → IsToDisc told ⊎ (IsWhole told × (IsAtEnd input ⊎ IsFaulty reader))
 
 -- A pipe read a stream, however it was cut, and wrote the text that it owes. Input and output are the bytes of a reader
--- and a writer, where they tell them, before and after.
-pub record IsPiped (input input_left output output_made : Option (List ℕ)) (outcome : Result (Unit {0}) Refusal) : Type 0 where
+-- and a writer, where they tell them, before and after; `run` says what steps the answers come from.
+pub record IsPiped (input input_left output output_made : Option (List ℕ)) (outcome : Result (Unit {0}) Refusal) (run : List Exchange → Option Message → Type 0) : Type 0 where
   pub stream : List ℕ
-  pub text : List ℕ
   pub requests : List Message
   pub reader : Reader
+  pub told : Conversation
   pub read : Consumes input input_left stream
-  pub written : Appends output output_made text
   pub handed : ReadsTo stream requests reader
-  pub end : IsEnd requests reader text input_left outcome
+  pub written : Appends output output_made told.text
+  pub served : IsServed requests told
+  pub end : IsEnd told reader input_left outcome
+  pub runs : run told.exchanges told.last
 
--- An opening that was refused reads and writes nothing.
-pub record IsUnopened (input input_left output output_made : Option (List ℕ)) (outcome : Result (Unit {0}) Refusal) : Type 0 where
+-- An opening that was refused reads and writes nothing. The device counts a fault where it failed, and the other refusals
+-- but want of memory say what is bad of an honest device's content.
+pub record IsUnopened {D : Type 0} (state : D → State) (faults : D → ℕ) (honest : D → Type 0) (disk left : D)
+    (input input_left output output_made : Option (List ℕ)) (outcome : Result (Unit {0}) Refusal) : Type 0 where
   pub unread : Keeps input input_left
   pub unwritten : Keeps output output_made
   pub fault : KeeperFault
   pub told : outcome ≡ Err (of_keeper fault)
+  pub counted : faults left ≡ faults_by fault (faults disk)
+  pub bad : honest disk → IsRefused fault (state left).seen
 
 -- the exit status of a program that ends so
 abbrev pub status_of : Result (Unit {0}) Refusal → ℕ

@@ -1,11 +1,20 @@
--- What the steps of a pipe's session do to its replies and its streams.
-use Rattle.std.specs.Prelude.{ℕ, ◌≡◌, ◌≢◌, ◌⊎◌, List, ◌++◌, Option, Some, None, Result, Ok, Err}
+-- What the steps of a pipe's session do to its replies, its streams, and the world of its export.
+use Rattle.std.specs.Prelude.{ℕ, ◌≡◌, ◌≢◌, ◌⊎◌, Bool, true, List, [], ◌∷◌, ◌++◌, Option, Some, None, Result, Ok, Err}
 use Rattle.std.specs.Io.KnownBytes.{Appends}
+use Rattle.checkpoint.specs.Keeper.{KeeperState}
+use Rattle.disk_model.specs.Disk.{State}
 use Rattle.nbd_wire.specs.Request.{Message}
 use Rattle.nbd_wire.specs.Stream.{Reader}
 use Rattle.nbd_wire.specs.declared.message.Answer.{Answer}
-use Rattle.nbdj_pipe.specs.Pipe.{BeginsDialog, IsAnswerTo, IsDialogToDisc, IsFaulty, IsWholeDialog, ReadsTo, before_disc}
-use Rattle.nbdj_pipe.specs.Talk.{reply_to}
+use Rattle.order_book.specs.Order.{OrderState}
+use Rattle.request_core.specs.Bench.{ConnectionsState}
+use Rattle.request_core.specs.Life.{Trusts}
+use Rattle.request_core.specs.Parts.{IsExportOf}
+use Rattle.world.specs.World.{World}
+use Rattle.world.specs.declared.connection.Connection.TheVariants.{Idle}
+use Rattle.nbdj_pipe.specs.Export.{Follows}
+use Rattle.nbdj_pipe.specs.Pipe.{Conversation, IsFaulty, IsOrderly, IsServed, IsToDisc, IsWhole, ReadsTo}
+use Rattle.nbdj_pipe.specs.Talk.{AreAnswered, Exchange, plain, reply_to, talk_to}
 use Rattle.nbdj_pipe.specs.declared.session.Flow.{Flow}
 use Rattle.nbdj_pipe.specs.declared.refusal.Refusal.{Refusal}
 use Rattle.nbdj_pipe.specs.declared.refusal.Refusal.TheVariants.{DeviceFault, PeerClosed, ProtocolEnd}
@@ -16,44 +25,62 @@ pub record IsEarly (refusal : Refusal) : Type 0 where
   pub protocol : refusal ≢ ProtocolEnd
   pub device : refusal ≢ DeviceFault
 
--- the input of a session came to its end
-abbrev pub IsOrderly : Result (Unit {0}) Refusal → Type 0
-IsOrderly (Ok done) = Unit {0}
-IsOrderly (Err refusal) = (refusal ≡ PeerClosed) ⊎ (refusal ≡ ProtocolEnd)
-
 -- What a session answers at its end: how its input ended, or a refusal that comes before, or where the input had come to its
--- end that the device failed.
-abbrev pub IsEndOr : Result (Unit {0}) Refusal → Result (Unit {0}) Refusal → Type 0
-IsEndOr end outcome =
-    (outcome ≡ end) ⊎ ((refusal : Refusal) × IsEarly refusal × (outcome ≡ Err refusal)) ⊎ (IsOrderly end × (outcome ≡ Err DeviceFault))
+-- end that the device failed, which has stopped the order.
+abbrev pub IsEndOr : Result (Unit {0}) Refusal → Result (Unit {0}) Refusal → Bool → Type 0
+IsEndOr end outcome stopped =
+    (outcome ≡ end) ⊎ ((refusal : Refusal) × IsEarly refusal × (outcome ≡ Err refusal)) ⊎ (IsOrderly end × (outcome ≡ Err DeviceFault) × (stopped ≡ true))
 
--- one request got its reply; a DISC gets none
-abbrev pub Serves : Message → List ℕ → List ℕ → Flow → Type 0
-Serves request old new Flow.Ended = (request.head.kind ≡ 2) × (new ≡ old)
-Serves request old new Flow.Open =
-    (answer : Answer) × IsAnswerTo request answer × (new ≡ old ++ reply_to request.head.cookie answer)
+-- no request is open, on the one connection, which has agreed on nothing
+pub record IsAwaiting (world : World) : Type 0 where
+  pub idle : world.connections 0 ≡ Idle
+  pub flags : world.stage.setting.flags ≡ plain
+
+-- what became of the connection of a world once these requests were answered, and the last one perhaps was sent
+pub record HasTalked (world next : World) (exchanges : List Exchange) (last : Option Message) : Type 0 where
+  pub answered : AreAnswered world.stage.setting.geometry exchanges
+  pub idle : last ≡ None → next.connections 0 ≡ Idle
+
+-- From any world that an export is of, with no request open, steps lead to one in which these requests were sent and
+-- answered in turn, and the last one was sent. The export is given by its parts, before and after.
+abbrev pub Runs : {D : Type 0} → (D → State) → (D → ℕ) → (D → Type 0) → OrderState → KeeperState D → ConnectionsState → OrderState → KeeperState D → ConnectionsState
+    → List Exchange → Option Message → Type 0
+Runs state faults honest order keeper connections order' keeper' connections' exchanges last =
+    (world : World) (trusted : Bool) → IsExportOf world order keeper (faults keeper.disk) connections (Trusts trusted (honest keeper.disk)) (state keeper.disk)
+    → IsAwaiting world
+    → (next : World) × HasTalked world next exchanges last
+    × Follows world next (talk_to exchanges last) order' keeper' (faults keeper'.disk) connections' (Trusts trusted (honest keeper'.disk)) (state keeper.disk) (state keeper'.disk)
+
+-- A request got its reply; a DISC gets none. A refusal may come before the answer or behind it, and no reply is due then.
+abbrev pub Serves : Message → List ℕ → List ℕ → Result Flow Refusal → (List Exchange → Option Message → Type 0) → Type 0
+Serves request old new (Ok Flow.Ended) run = (request.head.kind ≡ 2) × (new ≡ old) × run [] (Some request)
+Serves request old new (Ok Flow.Open) run =
+    (answer : Answer) × (request.head.kind ≢ 2) × (new ≡ old ++ reply_to request.head.cookie answer) × run (record { request = request; answer = answer } ∷ []) None
+Serves request old new (Err refusal) run = IsEarly refusal × (new ≡ old)
+    × (run [] (Some request) ⊎ ((answer : Answer) × (request.head.kind ≢ 2) × run (record { request = request; answer = answer } ∷ []) None))
 
 -- a piece was fed to a reader that had been handed out these requests
 abbrev pub TakesOn : Reader → List ℕ → List Message → Reader → Type 0
 TakesOn old piece requests new =
     (stream : List ℕ) (before : List Message) → ReadsTo stream before old → ReadsTo (stream ++ piece) (before ++ requests) new
 
--- what requests were answered, by what a piece of the input came to
-pub record Answers (requests : List Message) (reader : Reader) (text : List ℕ) (outcome : Result Flow Refusal) : Type 0 where
-  pub begins : BeginsDialog (before_disc requests) text
-  pub going : outcome ≡ Ok Flow.Open → IsWholeDialog requests text
-  pub disc : outcome ≡ Ok Flow.Ended → IsDialogToDisc requests text
-  pub fault : outcome ≡ Err ProtocolEnd → IsWholeDialog requests text × IsFaulty reader
+-- what was answered, by what a piece of the input came to
+pub record IsTaken (told : Conversation) (reader : Reader) (outcome : Result Flow Refusal) : Type 0 where
+  pub going : outcome ≡ Ok Flow.Open → IsWhole told
+  pub disc : outcome ≡ Ok Flow.Ended → IsToDisc told
+  pub fault : outcome ≡ Err ProtocolEnd → IsWhole told × IsFaulty reader
   pub closed : outcome ≢ Err PeerClosed
   pub device : outcome ≢ Err DeviceFault
 
 -- a piece of the input was read, and its requests were answered
-pub record Takes (old : Reader) (piece : List ℕ) (new : Reader) (before after : List ℕ) (outcome : Result Flow Refusal) : Type 0 where
+pub record Takes (old : Reader) (piece : List ℕ) (new : Reader) (before after : List ℕ) (outcome : Result Flow Refusal) (run : List Exchange → Option Message → Type 0) : Type 0 where
   pub requests : List Message
-  pub text : List ℕ
+  pub told : Conversation
   pub reads : TakesOn old piece requests new
-  pub due : after ≡ before ++ text
-  pub answers : Answers requests new text outcome
+  pub due : after ≡ before ++ told.text
+  pub served : IsServed requests told
+  pub taken : IsTaken told new outcome
+  pub runs : run told.exchanges told.last
 
 -- bytes were written, all or after a fault the first of them
 abbrev pub WritesPart : Option (List ℕ) → Option (List ℕ) → List ℕ → Result (Unit {0}) Refusal → Type 0

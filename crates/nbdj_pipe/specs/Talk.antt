@@ -1,5 +1,5 @@
 -- What a connection and its export say to one another, in a log and as bytes.
-use Rattle.std.specs.Prelude.{ℕ, ◌≡◌, ◌≢◌, ◌⊎◌, false, Result, Ok, Err, List, [], ◌∷◌, ◌++◌}
+use Rattle.std.specs.Prelude.{ℕ, ◌≡◌, ◌≢◌, ◌⊎◌, false, Option, Some, None, Result, Err, List, [], ◌∷◌, ◌++◌}
 use Rattle.std.specs.List.{AllByRecursion}
 use Rattle.image_model.specs.declared.geometry.Geometry.{Geometry}
 use Rattle.nbd_wire.specs.Errno.{errno_number}
@@ -34,6 +34,11 @@ pub record Exchange : Type 0 where
 abbrev pub talk : List Exchange → List Event
 talk [] = []
 talk (exchange ∷ exchanges) = Sent 0 exchange.request ∷ Answered 0 exchange.answer ∷ talk exchanges
+
+-- the same, and at the end perhaps a request that has no answer: a DISC, or one that could not be served
+abbrev pub talk_to : List Exchange → Option Message → List Event
+talk_to exchanges None = talk exchanges
+talk_to exchanges (Some request) = talk exchanges ++ Sent 0 request ∷ []
 
 -- the requests
 abbrev pub asked : List Exchange → List Message

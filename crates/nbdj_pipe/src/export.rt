@@ -1,6 +1,6 @@
-ghost use Rattle.std.specs.Prelude.{◌≡◌, ◌↔◌, ◌++◌, Bool, [], ◌∷◌, IfErr, IfOk, IfSome, MatchBool, MatchOption, OnOk};
+ghost use Rattle.std.specs.Prelude.{◌≡◌, ◌↔◌, ◌++◌, Bool, [], ◌∷◌, IfErr, IfOk, IfSome, IsTrue, MatchBool, MatchOption, OnOk};
 ghost use Rattle.nbd_wire.specs.Request.{Message};
-ghost use Rattle.nbdj_pipe.specs.Export.{AwaitsAnswer, Follows, HasAnswer, IsGiven, IsJudged, IsOfKind, IsStoring, Settles, said_of, told, told_by};
+ghost use Rattle.nbdj_pipe.specs.Export.{AwaitsAnswer, Follows, HasAnswer, IsGiven, IsJudged, IsOfKind, IsSettled, IsStoring, Settles, said_of, told, told_by};
 ghost use Rattle.nbdj_pipe.specs.Session.{IsEarly};
 ghost use Rattle.nbdj_pipe.specs.Talk.{plain, spoken, verdict_on};
 ghost use Rattle.order_book.specs.Order.{IsInHand};
@@ -37,7 +37,8 @@ fn stored(sealed: &Event, appended: &Event) -> Result<(), Refusal>
     }
 }
 
-/// An export with one connection, which is served step by step. It is spent by `close`, since a group may be in hand.
+/// An export with one connection, which is served step by step. It is spent by `into_disk`, since a group may be in
+/// hand.
 pub(crate) struct Export<D: Disk> {
     pub(crate) alloc: Global,
     pub(crate) order: Order,
@@ -102,7 +103,9 @@ impl<D: Disk> Export<D> {
     }
 
     // Whether there is nothing to store, or nothing that can be.
-    fn is_settled(&self) -> bool {
+    fn is_settled(&self) -> bool
+        ensures { IsTrue result → IsSettled self.now.order }
+    {
         self.order.stopped() || self.order.durable() == self.order.mark()
     }
 
@@ -112,6 +115,7 @@ impl<D: Disk> Export<D> {
         ensures group { IfSome self.new.connections.group (IsInHand self.new.order) }
         ensures extent { D.extent self.new.keeper.disk ≡ D.extent self.old.keeper.disk }
         ensures honest { D.honest self.new.keeper.disk ↔ D.honest self.old.keeper.disk }
+        ensures ok { OnOk result (IsSettled self.new.order) }
         ensures early { IfErr result IsEarly }
         ensures world { (world : World) (trusted : Bool) → IsExportOf world self.old.order self.old.keeper (D.faults self.old.keeper.disk) self.old.connections (Trusts trusted (D.honest self.old.keeper.disk)) (D.state self.old.keeper.disk)
             → (next : World) × Settles world next self.new.order self.new.keeper (D.faults self.new.keeper.disk) self.new.connections

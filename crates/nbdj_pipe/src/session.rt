@@ -1,8 +1,15 @@
-ghost use Rattle.std.specs.Prelude.{◌≡◌, ◌↔◌, ◌⊎◌, ◌<◌, [], vec_len, IfErr, IfOk, IfSome, OnErr};
-ghost use Rattle.nbdj_pipe.specs.Pipe.{IsPiped, IsUnopened};
-ghost use Rattle.nbdj_pipe.specs.Session.{IsEarly, IsEndOr, Serves, Takes, WritesPart};
+ghost use Rattle.std.specs.Prelude.{◌≡◌, ◌↔◌, ◌⊎◌, ◌<◌, [], Bool, false, vec_len, IfErr, IfOk, IfSome, IsErrOf, Ok, OnErr};
+ghost use Rattle.disk_model.specs.Faults.{HasRisen};
+ghost use Rattle.nbdj_pipe.specs.Export.{Settles};
+ghost use Rattle.nbdj_pipe.specs.Life.{IsLived};
+ghost use Rattle.nbdj_pipe.specs.Pipe.{IsOrderly, IsPiped, IsUnopened};
+ghost use Rattle.nbdj_pipe.specs.Session.{IsEarly, IsEndOr, Runs, Serves, Takes, WritesPart};
 ghost use Rattle.nbdj_pipe.specs.Talk.{error_of, reply_to};
+ghost use Rattle.nbdj_pipe.specs.declared.refusal.Refusal.TheVariants as Refusal;
 ghost use Rattle.order_book.specs.Order.{IsInHand};
+ghost use Rattle.request_core.specs.Life.{Trusts};
+ghost use Rattle.request_core.specs.Parts.{IsExportOf};
+ghost use Rattle.world.specs.World.{World};
 
 use crate::export::Export;
 use crate::options::PipeOptions;
@@ -12,9 +19,10 @@ use checkpoint::Keeper;
 use disk_model::Disk;
 use nbd_wire::{Answer, Request, SessionFlags, StreamReader, encode_simple};
 use order_book::Order;
-use request_core::Connections;
+use request_core::{Connections, fresh_parts_law, leads_law};
 use std::alloc::{AllocError, Global};
 use std::io::{Read, Write};
+use world_law::schedule_law;
 
 // The most bytes that one read takes.
 const PIECE_BYTES: usize = 65_536;
@@ -41,9 +49,15 @@ pub fn pipe<D: Disk, R: Read, W: Write>(
 
     // Where the opening is refused nothing is read or written. Else what is written are the simple replies to the requests
     // read, one to each up to the first end of the stream; after an early refusal it may be the first bytes of such replies.
-    ensures dialog { IsUnopened (R.remaining input.old) (R.remaining input.new) (W.contents output.old) (W.contents output.new) result.0
-        ⊎ IsPiped (R.remaining input.old) (R.remaining input.new) (W.contents output.old) (W.contents output.new) result.0 }
+    // The answers are those of a run of the world, in which these requests were sent.
+    ensures dialog { IsUnopened D.state D.faults D.honest disk result.1 (R.remaining input.old) (R.remaining input.new) (W.contents output.old) (W.contents output.new) result.0
+        ⊎ IsPiped (R.remaining input.old) (R.remaining input.new) (W.contents output.old) (W.contents output.new) result.0
+        (IsLived D.state D.faults D.honest options.frames options.mode disk result.1 result.0) }
+    ensures device { IsErrOf result.0 Refusal.DeviceFault → HasRisen (D.faults disk) (D.faults result.1) }
 {
+    leads_law::<D>();
+    fresh_parts_law::<D>();
+    schedule_law();
     let keeper = match Keeper::open(alloc, disk) {
         Ok(keeper) => keeper,
         Err((fault, disk)) => return (Err(Refusal::from(fault)), disk),
@@ -68,7 +82,9 @@ pub fn pipe<D: Disk, R: Read, W: Write>(
         replies: Vec::new(alloc),
     };
     let end = session.run(alloc, input, output);
-    session.close(end)
+    let outcome = session.finish(end);
+    let Session { export, replies: _ } = session;
+    (outcome, export.into_disk())
 }
 
 // Whether requests of a session may follow.
@@ -98,8 +114,12 @@ impl<D: Disk> Session<D> {
         ensures group { IfSome self.new.export.connections.group (IsInHand self.new.export.order) }
         ensures extent { D.extent self.new.export.keeper.disk ≡ D.extent self.old.export.keeper.disk }
         ensures honest { D.honest self.new.export.keeper.disk ↔ D.honest self.old.export.keeper.disk }
-        ensures dialog { IsPiped (R.remaining input.old) (R.remaining input.new) (W.contents output.old) (W.contents output.new) result }
+        ensures dialog { IsPiped (R.remaining input.old) (R.remaining input.new) (W.contents output.old) (W.contents output.new) result
+            (Runs D.state D.faults D.honest self.old.export.order self.old.export.keeper self.old.export.connections
+            self.new.export.order self.new.export.keeper self.new.export.connections) }
+        ensures early { IsErrOf result Refusal.DeviceFault → ⊥ }
     {
+        leads_law::<D>();
         let mut reader = StreamReader::new(alloc);
         let mut piece = empty_piece(alloc)?;
         for _ in 0..u64::MAX {
@@ -124,8 +144,11 @@ impl<D: Disk> Session<D> {
         ensures group { IfSome self.new.export.connections.group (IsInHand self.new.export.order) }
         ensures extent { D.extent self.new.export.keeper.disk ≡ D.extent self.old.export.keeper.disk }
         ensures honest { D.honest self.new.export.keeper.disk ↔ D.honest self.old.export.keeper.disk }
-        ensures takes { Takes reader.old piece.now reader.new self.old.replies.items self.new.replies.items result }
+        ensures takes { Takes reader.old piece.now reader.new self.old.replies.items self.new.replies.items result
+            (Runs D.state D.faults D.honest self.old.export.order self.old.export.keeper self.old.export.connections
+            self.new.export.order self.new.export.keeper self.new.export.connections) }
     {
+        leads_law::<D>();
         match self.take_whole(reader, piece)? {
             Flow::Ended => Ok(Flow::Ended),
             Flow::Open => self.take_whole(reader, &[]),
@@ -138,8 +161,11 @@ impl<D: Disk> Session<D> {
         ensures group { IfSome self.new.export.connections.group (IsInHand self.new.export.order) }
         ensures extent { D.extent self.new.export.keeper.disk ≡ D.extent self.old.export.keeper.disk }
         ensures honest { D.honest self.new.export.keeper.disk ↔ D.honest self.old.export.keeper.disk }
-        ensures takes { Takes reader.old piece.now reader.new self.old.replies.items self.new.replies.items result }
+        ensures takes { Takes reader.old piece.now reader.new self.old.replies.items self.new.replies.items result
+            (Runs D.state D.faults D.honest self.old.export.order self.old.export.keeper self.old.export.connections
+            self.new.export.order self.new.export.keeper self.new.export.connections) }
     {
+        leads_law::<D>();
         let mut requests = reader.feed(piece)?;
         requests.reverse();
         while let Some(request) = requests.pop() {
@@ -157,9 +183,9 @@ impl<D: Disk> Session<D> {
         ensures group { IfSome self.new.export.connections.group (IsInHand self.new.export.order) }
         ensures extent { D.extent self.new.export.keeper.disk ≡ D.extent self.old.export.keeper.disk }
         ensures honest { D.honest self.new.export.keeper.disk ↔ D.honest self.old.export.keeper.disk }
-        ensures ok { IfOk result (Serves request self.old.replies.items self.new.replies.items) }
-        ensures err { OnErr result (self.new.replies.items ≡ self.old.replies.items) }
-        ensures early { IfErr result IsEarly }
+        ensures serves { Serves request self.old.replies.items self.new.replies.items result
+            (Runs D.state D.faults D.honest self.old.export.order self.old.export.keeper self.old.export.connections
+            self.new.export.order self.new.export.keeper self.new.export.connections) }
     {
         let cookie = request.head().cookie;
         match self.export.serve(request)? {
@@ -174,9 +200,7 @@ impl<D: Disk> Session<D> {
     // Writes the replies that are due. After a fault some of them may be written, and none is written twice.
     fn write_replies<W: Write>(&mut self, output: &mut W) -> Result<(), Refusal>
         ensures none { self.new.replies.items ≡ [] }
-        ensures group { IfSome self.old.export.connections.group (IsInHand self.old.export.order) → IfSome self.new.export.connections.group (IsInHand self.new.export.order) }
-        ensures extent { D.extent self.new.export.keeper.disk ≡ D.extent self.old.export.keeper.disk }
-        ensures honest { D.honest self.new.export.keeper.disk ↔ D.honest self.old.export.keeper.disk }
+        ensures same { self.new.export ≡ self.old.export }
         ensures written { WritesPart (W.contents output.old) (W.contents output.new) self.old.replies.items result }
         ensures early { IfErr result IsEarly }
     {
@@ -187,19 +211,20 @@ impl<D: Disk> Session<D> {
 
     // Stores what is pending. A fault of the device is told in place of an orderly end, since what was answered may be lost;
     // an early end was told for a reason of its own.
-    fn close(self, end: Result<(), Refusal>) -> (Result<(), Refusal>, D)
-        requires { IfSome self.export.connections.group (IsInHand self.export.order) }
-        ensures extent { D.extent result.1 ≡ D.extent self.export.keeper.disk }
-        ensures honest { D.honest result.1 ↔ D.honest self.export.keeper.disk }
-        ensures end { IsEndOr end result.0 }
+    fn finish(&mut self, end: Result<(), Refusal>) -> Result<(), Refusal>
+        requires group { IfSome self.old.export.connections.group (IsInHand self.old.export.order) }
+        ensures group { IfSome self.new.export.connections.group (IsInHand self.new.export.order) }
+        ensures extent { D.extent self.new.export.keeper.disk ≡ D.extent self.old.export.keeper.disk }
+        ensures honest { D.honest self.new.export.keeper.disk ↔ D.honest self.old.export.keeper.disk }
+        ensures end { IsEndOr end result self.new.export.order.stopped }
+        ensures stored { IsOrderly result → self.new.export.order.durable ≡ self.new.export.order.mark }
+        ensures world { (world : World) (trusted : Bool) → IsExportOf world self.old.export.order self.old.export.keeper (D.faults self.old.export.keeper.disk) self.old.export.connections
+            (Trusts trusted (D.honest self.old.export.keeper.disk)) (D.state self.old.export.keeper.disk)
+            → (next : World) × Settles world next self.new.export.order self.new.export.keeper (D.faults self.new.export.keeper.disk) self.new.export.connections
+            (Trusts trusted (D.honest self.new.export.keeper.disk)) (D.state self.old.export.keeper.disk) (D.state self.new.export.keeper.disk) }
     {
-        let Session {
-            mut export,
-            replies: _,
-        } = self;
-        let stored = export.store_all();
-        let outcome = outcome(end, stored, export.order.stopped());
-        (outcome, export.into_disk())
+        let stored = self.export.store_all();
+        outcome(end, stored, self.export.order.stopped())
     }
 }
 
@@ -210,7 +235,8 @@ fn outcome(
     stopped: bool,
 ) -> Result<(), Refusal>
     requires { IfErr stored IsEarly }
-    ensures { IsEndOr end result }
+    ensures end { IsEndOr end result stopped }
+    ensures stored { IsOrderly result → (stopped ≡ false) × (stored ≡ Ok tt) }
 {
     match end {
         Ok(()) | Err(Refusal::PeerClosed | Refusal::ProtocolEnd) => {

@@ -1,4 +1,5 @@
 use Rattle.std.specs.Prelude.{ℕ, ◌≡◌}
+use Rattle.nbdj_pipe.specs.declared.options.PipeOptions.{PipeOptions}
 use Rattle.nbdj_run.specs.declared.plan.Plan.{Plan}
 use Rattle.nbdj_run.specs.declared.plan.Plan.TheVariants.{Format, Pipe, Recover, Rehearse}
 use Rattle.image_model.specs.Geometry.{device_bytes_of}
@@ -10,9 +11,9 @@ Suits (Pipe path options) extent = Unit {0}
 Suits (Recover path) extent = Unit {0}
 Suits Rehearse extent = ⊥
 
--- the plan serves a connection
-abbrev pub IsPipe : Plan → Type 0
-IsPipe (Format path geometry) = ⊥
-IsPipe (Pipe path options) = Unit {0}
-IsPipe (Recover path) = ⊥
-IsPipe Rehearse = ⊥
+-- what a plan that serves a connection comes to, by its options
+abbrev pub IfPipe : Plan → (PipeOptions → Type 0) → Type 0
+IfPipe (Format path geometry) P = Unit {0}
+IfPipe (Pipe path options) P = P options
+IfPipe (Recover path) P = Unit {0}
+IfPipe Rehearse P = Unit {0}

@@ -1,8 +1,11 @@
-ghost use Rattle.std.specs.Prelude.{◌≡◌, ◌⊎◌, Result};
+ghost use Rattle.std.specs.Prelude.{◌≡◌, ◌⊎◌, Result, IsErrOf};
+ghost use Rattle.disk_model.specs.Faults.{HasRisen};
 ghost use Rattle.image_model.specs.Geometry.{device_bytes_of};
+ghost use Rattle.nbdj_pipe.specs.Life.{IsLived};
 ghost use Rattle.nbdj_pipe.specs.Pipe.{IsPiped, IsUnopened, status_of};
-ghost use Rattle.nbdj_run.specs.Plan.{IsPipe, Suits};
 ghost use Rattle.nbdj_pipe.specs.declared.refusal.Refusal.{Refusal};
+ghost use Rattle.nbdj_pipe.specs.declared.refusal.Refusal.TheVariants.{DeviceFault};
+ghost use Rattle.nbdj_run.specs.Plan.{IfPipe, Suits};
 
 use crate::plan::Plan;
 use checkpoint::Keeper;
@@ -26,10 +29,12 @@ pub fn perform<D: Disk + Drop, R: Read, W: Write, E: Write>(
     errors: &mut E,
 ) -> (u8, D)
     requires { Suits plan.now (D.extent disk) }
-    // A pipe wrote what it owes for what it read, and answers 0 where it ended with a DISC.
-    ensures { IsPipe plan.now → (outcome : Result (Unit {0}) Refusal) × (result.0 ≡ status_of outcome)
-        × (IsUnopened (R.remaining input.old) (R.remaining input.new) (W.contents output.old) (W.contents output.new) outcome
-        ⊎ IsPiped (R.remaining input.old) (R.remaining input.new) (W.contents output.old) (W.contents output.new) outcome) }
+    // A pipe wrote what it owes for what it read, by a run of the world, and answers 0 where it ended with a DISC.
+    ensures { IfPipe plan.now (λ options. (outcome : Result (Unit {0}) Refusal) × (result.0 ≡ status_of outcome)
+        × (IsUnopened D.state D.faults D.honest disk result.1 (R.remaining input.old) (R.remaining input.new) (W.contents output.old) (W.contents output.new) outcome
+        ⊎ IsPiped (R.remaining input.old) (R.remaining input.new) (W.contents output.old) (W.contents output.new) outcome
+        (IsLived D.state D.faults D.honest options.frames options.mode disk result.1 outcome))
+        × (IsErrOf outcome DeviceFault → HasRisen (D.faults disk) (D.faults result.1))) }
 {
     let (outcome, disk) = match *plan {
         Plan::Format { path: _, geometry } => format(alloc, disk, geometry, output),

@@ -1,6 +1,16 @@
-use Rattle.std.proofs.Common.{inl, inr, refl}
+use Rattle.std.proofs.Common.{◌≡◌, ◌<◌, inl, inr, ℕ, List, Option, arith, refl, sym, ap, subst, ◌∙◌}
 use Rattle.checkpoint.specs.declared.fault.KeeperFault.TheVariants as fault
+use Rattle.disk_model.specs.Faults.{HasRisen}
+use Rattle.image_model.specs.declared.geometry.Geometry.{Geometry}
+use Rattle.nbd_wire.specs.Request.{Message}
+use Rattle.order_book.specs.Order.{OrderState, new_order}
+use Rattle.request_core.specs.Bench.{ConnectionsState}
+use Rattle.nbdj_pipe.specs.Life.{IsLived}
+use Rattle.nbdj_pipe.specs.Pipe.{IsPiped}
+use Rattle.nbdj_pipe.specs.Session.{Runs}
+use Rattle.nbdj_pipe.specs.Talk.{Exchange}
 use Rattle.nbdj_pipe.proofs.Bytes.{keeps_same}
+use Rattle.nbdj_pipe.proofs.Lives.{lived, told_fault}
 use Rattle.nbdj_pipe.proofs.Sessions.{piped_or}
 use Rattle.nbdj_pipe.proofs.session.pipe.Goals as goal
 
@@ -10,9 +20,55 @@ returns-in-Err-new-clause-dialog g c = inl (record {
   unwritten = keeps_same (g.W.Write.contents c.args.output.now);
   fault = fault.NoMemory;
   told = refl;
+  counted = ap g.D.Disk.faults c.into_disk.ensures ∙ c.in-Ok.ensures.faults;
+  bad = λ is. tt;
 })
 
 pub returns-clause-dialog : goal.returns-clause-dialog
-returns-clause-dialog g c = inr
+returns-clause-dialog g c =
+    let disk = g.D.Disk in
+    let start = c.args.disk in
+    let keeper = c.in-Ok.keeper in
+    let ran = c.run-end.new.self.export in
+    let done = c.finish-outcome.new.self.export in
+    let frames = c.args.options.frames in
+    let piped = c.run-end.ensures.dialog in
+    let few : keeper.count < 18446744073709551616 = omega (arith, c.count.ensures, c.count.type_inv) in
+    let order_is : c.new-order.result ≡ new_order keeper.count frames keeper.geometry.area =
+    c.new-order.ensures ∙ ap (λ (n : ℕ). new_order n frames c.geometry.result.area) c.count.ensures ∙ ap (λ (geometry : Geometry). new_order keeper.count frames geometry.area) c.geometry.ensures in
+    let fresh_runs = λ (exchanges : List Exchange) (last : Option Message) (runs : Runs disk.state disk.faults disk.honest c.new-order.result keeper c.in-Ok-new.connections ran.order ran.keeper ran.connections exchanges last).
+    subst (λ (connections : ConnectionsState). Runs disk.state disk.faults disk.honest (new_order keeper.count frames keeper.geometry.area) keeper connections ran.order ran.keeper ran.connections exchanges last)
+    c.in-Ok-new.ensures
+    (subst (λ (order : OrderState). Runs disk.state disk.faults disk.honest order keeper c.in-Ok-new.connections ran.order ran.keeper ran.connections exchanges last) order_is runs) in
+    inr (subst (λ end. IsPiped (g.R.Read.remaining c.args.input.now) (g.R.Read.remaining c.run-end.new.input) (g.W.Write.contents c.args.output.now) (g.W.Write.contents c.run-end.new.output) c.finish-outcome.result
+    (IsLived disk.state disk.faults disk.honest frames c.args.options.mode start end c.finish-outcome.result)) (sym c.into_disk-2.ensures)
     (piped_or (g.R.Read.remaining c.args.input.now) (g.R.Read.remaining c.run-end.new.input) (g.W.Write.contents c.args.output.now) (g.W.Write.contents c.run-end.new.output)
-    c.run-end.result c.close.result.0 c.run-end.ensures.dialog c.close.ensures.end)
+    (Runs disk.state disk.faults disk.honest c.new-order.result keeper c.in-Ok-new.connections ran.order ran.keeper ran.connections)
+    (IsLived disk.state disk.faults disk.honest frames c.args.options.mode start done.keeper.disk c.finish-outcome.result)
+    (λ exchanges last runs. lived disk.state disk.faults disk.honest c.leads_law.ensures c.schedule_law.ensures.truth c.fresh_parts_law.ensures start keeper ran.keeper done.keeper ran.order done.order ran.connections done.connections
+    frames c.args.options.mode c.in-Ok.ensures.works few c.in-Ok.ensures.faults c.in-Ok.ensures.opened c.in-Ok.ensures.fixed c.in-Ok.ensures.any_moment
+    c.finish-outcome.ensures.honest.0 (λ is. c.finish-outcome.ensures.honest.1 (c.run-end.ensures.honest.1 (c.in-Ok.ensures.honest.1 is))) exchanges last
+    (fresh_runs exchanges last runs) c.finish-outcome.ensures.world c.finish-outcome.result c.finish-outcome.ensures.stored)
+    c.run-end.result c.finish-outcome.result done.order.stopped piped c.finish-outcome.ensures.end))
+
+pub returns-clause-device : goal.returns-clause-device
+returns-clause-device g c = λ is.
+    let disk = g.D.Disk in
+    let start = c.args.disk in
+    let keeper = c.in-Ok.keeper in
+    let ran = c.run-end.new.self.export in
+    let done = c.finish-outcome.new.self.export in
+    let frames = c.args.options.frames in
+    let piped = c.run-end.ensures.dialog in
+    let few : keeper.count < 18446744073709551616 = omega (arith, c.count.ensures, c.count.type_inv) in
+    let order_is : c.new-order.result ≡ new_order keeper.count frames keeper.geometry.area =
+    c.new-order.ensures ∙ ap (λ (n : ℕ). new_order n frames c.geometry.result.area) c.count.ensures ∙ ap (λ (geometry : Geometry). new_order keeper.count frames geometry.area) c.geometry.ensures in
+    let fresh_runs = λ (exchanges : List Exchange) (last : Option Message) (runs : Runs disk.state disk.faults disk.honest c.new-order.result keeper c.in-Ok-new.connections ran.order ran.keeper ran.connections exchanges last).
+    subst (λ (connections : ConnectionsState). Runs disk.state disk.faults disk.honest (new_order keeper.count frames keeper.geometry.area) keeper connections ran.order ran.keeper ran.connections exchanges last)
+    c.in-Ok-new.ensures
+    (subst (λ (order : OrderState). Runs disk.state disk.faults disk.honest order keeper c.in-Ok-new.connections ran.order ran.keeper ran.connections exchanges last) order_is runs) in
+    subst (λ end. HasRisen (disk.faults start) (disk.faults end)) (sym c.into_disk-2.ensures)
+    (told_fault disk.state disk.faults disk.honest c.leads_law.ensures c.schedule_law.ensures.truth c.fresh_parts_law.ensures start keeper ran.keeper done.keeper ran.order done.order ran.connections done.connections
+    frames c.args.options.mode c.in-Ok.ensures.works few c.in-Ok.ensures.faults c.in-Ok.ensures.opened c.in-Ok.ensures.fixed c.in-Ok.ensures.any_moment
+    c.finish-outcome.ensures.honest.0 (λ is. c.finish-outcome.ensures.honest.1 (c.run-end.ensures.honest.1 (c.in-Ok.ensures.honest.1 is))) piped.told.exchanges piped.told.last
+    (fresh_runs piped.told.exchanges piped.told.last piped.runs) c.finish-outcome.ensures.world c.run-end.result c.finish-outcome.result c.run-end.ensures.early c.finish-outcome.ensures.end is)

@@ -1,10 +1,10 @@
-use Rattle.std.proofs.Common.{◌≡◌, ℕ, List, [], ◌∷◌, Option, Some, None, MatchOption, Result, Ok, Err, ap, sym, subst, ◌∙◌}
+use Rattle.std.proofs.Common.{◌≡◌, ℕ, List, [], Option, Some, MatchOption, ap, sym, subst, ◌∙◌}
 use Rattle.nbd_wire.specs.declared.message.Answer.{Answer}
 use Rattle.request_core.specs.Life.{Trusts}
 use Rattle.world.specs.declared.connection.Connection.{Connection}
 use Rattle.world.specs.declared.connection.Connection.TheVariants.{Idle}
 use Rattle.world.specs.declared.event.Event.{Event}
-use Rattle.nbdj_pipe.specs.Export.{AwaitsAnswer, Follows, IsGiven, told, told_by}
+use Rattle.nbdj_pipe.specs.Export.{AwaitsAnswer, Follows, IsGiven, told}
 use Rattle.nbdj_pipe.proofs.Steps.{follows_on, no_ok, none_is, told_err}
 use Rattle.nbdj_pipe.proofs.export.Export.answer.Goals as goal
 

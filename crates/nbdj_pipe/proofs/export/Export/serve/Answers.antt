@@ -1,4 +1,4 @@
-use Rattle.std.proofs.Common.{◌≡◌, ℕ, List, [], ◌∷◌, Option, Some, None, Result, Ok, Err, ap, sym, subst, refl, ◌∙◌}
+use Rattle.std.proofs.Common.{◌≡◌, List, [], ◌∷◌, ap, sym, subst, refl, ◌∙◌}
 use Rattle.nbd_wire.specs.declared.head.RequestHead.{RequestHead}
 use Rattle.request_core.specs.Bench.{ConnectionsState}
 use Rattle.request_core.specs.Life.{Leads, Trusts}
@@ -7,7 +7,7 @@ use Rattle.world.specs.declared.event.Event.TheVariants.{Sent, Answered}
 use Rattle.world.specs.declared.step.Step.TheVariants.{Send}
 use Rattle.world.specs.Serve.{Fine}
 use Rattle.world.specs.Step.{sent}
-use Rattle.nbdj_pipe.specs.Export.{Follows, HasAnswer, said_of}
+use Rattle.nbdj_pipe.specs.Export.{Follows, HasAnswer}
 use Rattle.nbdj_pipe.specs.Talk.{verdict_on}
 use Rattle.nbdj_pipe.proofs.Steps.{end_kind, follows_on, has_answer, judged_awaits, no_ok, said_err, spoken_on}
 use Rattle.nbdj_pipe.proofs.export.Export.serve.Goals as goal

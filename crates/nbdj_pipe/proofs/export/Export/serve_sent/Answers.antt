@@ -1,5 +1,4 @@
-use Rattle.std.proofs.Common.{◌≡◌, Bool, [], MatchBool, Result, Ok, Err, OnOk, IsErr, ap, sym, subst, ◌∙◌}
-use Rattle.world.specs.declared.connection.Connection.{Connection}
+use Rattle.std.proofs.Common.{◌≡◌, Bool, [], MatchBool, ap, subst, ◌∙◌}
 use Rattle.world.specs.World.{Setting}
 use Rattle.nbdj_pipe.specs.Export.{IsJudged}
 use Rattle.nbdj_pipe.specs.Talk.{verdict_on}

@@ -1,6 +1,4 @@
-use Rattle.std.proofs.Common.{[], ◌∷◌, ◌++◌, List, ap, refl, ◌∙◌}
-use Rattle.request_core.specs.Life.{Leads}
-use Rattle.world.specs.declared.step.Step.{Step}
+use Rattle.std.proofs.Common.{[], ◌∷◌, ap, refl, ◌∙◌}
 use Rattle.world.specs.Step.{after_step}
 use Rattle.nbdj_pipe.specs.Talk.{spoken}
 use Rattle.nbdj_pipe.proofs.Steps.{spoken_on}

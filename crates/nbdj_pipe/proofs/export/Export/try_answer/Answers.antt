@@ -1,4 +1,4 @@
-use Rattle.std.proofs.Common.{◌≡◌, ◌⊎◌, inl, inr, ℕ, ◌++◌, List, [], ◌∷◌, ap, sym, subst, refl, ◌∙◌}
+use Rattle.std.proofs.Common.{◌≡◌, inl, inr, ℕ, ◌++◌, List, [], ◌∷◌, ap, sym, subst, ◌∙◌}
 use Rattle.nbd_wire.specs.declared.message.Answer.{Answer}
 use Rattle.request_core.specs.Life.{Trusts}
 use Rattle.world.specs.declared.connection.Connection.TheVariants.{Idle}

@@ -1,91 +1,173 @@
-use Rattle.std.proofs.Common.{subst, sym, ap, ◌∙◌, take, arith, List, ℕ, Ok, Err}
+use Rattle.std.proofs.Common.{◌≡◌, subst, sym, ap, ◌∙◌, take, arith, List, ℕ, Result, Ok, Err, refl}
+use Rattle.std.specs.Prelude.{◌↔◌, IfSome, IsErrAnd}
 use Rattle.std.specs.Io.KnownBytes.{Consumes}
-use Rattle.nbdj_pipe.specs.Session.{Takes}
-use Rattle.nbdj_pipe.specs.declared.refusal.Refusal.TheVariants.{NoMemory, StreamFault}
+use Rattle.order_book.specs.Order.{IsInHand}
+use Rattle.nbd_wire.specs.Stream.{Reader}
+use Rattle.nbdj_pipe.specs.Pipe.{IsPiped}
+use Rattle.nbdj_pipe.specs.Session.{IsEarly, Runs, Takes}
+use Rattle.nbdj_pipe.specs.declared.refusal.Refusal.{Refusal}
+use Rattle.nbdj_pipe.specs.declared.refusal.Refusal.TheVariants.{DeviceFault, NoMemory, StreamFault}
+use Rattle.nbdj_pipe.specs.declared.session.Flow.{Flow}
 use Rattle.nbdj_pipe.proofs.Bytes.{keeps_same}
-use Rattle.nbdj_pipe.proofs.Sessions.{going_first, goes_on, stopped, closed, cut, ended, refused, err_no_end}
+use Rattle.nbdj_pipe.proofs.Runs.{runs_none, runs_on}
+use Rattle.nbdj_pipe.proofs.Sessions.{IsGoing, going_first, goes_on, stopped, closed, cut, ended, refused, err_no_end, no_memory, stream_fault}
 use Rattle.nbdj_pipe.proofs.session.Session.run.Goals as goal
+
+-- an early refusal isn't a device fault
+no_fault : (outcome : Result (Unit {0}) Refusal) → IsErrAnd outcome IsEarly → outcome ≡ Err DeviceFault → ⊥
+no_fault (Ok done) early is = elim early [ ]
+no_fault (Err refusal) early is = early.device (same is)
+  where
+    same : (let outcome : Result (Unit {0}) Refusal = Err refusal in outcome ≡ Err DeviceFault) → refusal ≡ DeviceFault
+    same is = cc
+
+no_fault_of : (told : Result Flow Refusal) (outcome : Result (Unit {0}) Refusal) (refusal : Refusal) → (told ≡ Err DeviceFault → ⊥) → told ≡ Err refusal → IsErrAnd outcome (λ r. r ≡ refusal) → outcome ≡ Err DeviceFault → ⊥
+no_fault_of told (Ok done) refusal none was is fault = elim is [ ]
+no_fault_of told (Err other) refusal none was is fault = none (was ∙ ap Err (sym is ∙ same fault))
+  where
+    same : (let outcome : Result (Unit {0}) Refusal = Err other in outcome ≡ Err DeviceFault) → other ≡ DeviceFault
+    same is = cc
 
 pub returns-in_err-piece-clause-dialog : goal.returns-in_err-piece-clause-dialog
 returns-in_err-piece-clause-dialog g c =
+    let disk = g.D.Disk in
+    let a = c.args.self.now.export in
     let input = g.R.Read.remaining c.args.input.now in
     let output = g.W.Write.contents c.args.output.now in
-    stopped input input output output _ (going_first input output) input c.from_residual.result (keeps_same input)
-    (err_no_end c.from_residual.result NoMemory c.from_residual.ensures.1 (record { closed = λ e. cc; protocol = λ e. cc; device = λ e. cc }))
+    stopped (Runs disk.state disk.faults disk.honest a.order a.keeper a.connections a.order a.keeper a.connections) input input output output _ (going_first (Runs disk.state disk.faults disk.honest a.order a.keeper a.connections a.order a.keeper a.connections) input output (runs_none disk.state disk.faults disk.honest c.leads_law.ensures a.order a.keeper a.connections)) input c.from_residual.result (keeps_same input)
+    (err_no_end c.from_residual.result NoMemory c.from_residual.ensures.1 no_memory)
+
+pub returns-in_err-piece-clause-early : goal.returns-in_err-piece-clause-early
+returns-in_err-piece-clause-early g c =
+    no_fault c.from_residual.result (err_no_end c.from_residual.result NoMemory c.from_residual.ensures.1 no_memory)
 
 pub returns-in_err-count-clause-dialog : goal.returns-in_err-count-clause-dialog
 returns-in_err-count-clause-dialog g c =
+    let disk = g.D.Disk in
+    let a = c.args.self.now.export in
     let input = g.R.Read.remaining c.args.input.now in
     let output = g.W.Write.contents c.args.output.now in
-    stopped input (g.R.Read.remaining c.loop.input) output (g.W.Write.contents c.loop.output) c.loop.reader c.loop.invariant.going (g.R.Read.remaining c.read_some.new.input) c.from_residual-in_err-count.result
+    let b = c.loop.self.export in
+    stopped (Runs disk.state disk.faults disk.honest a.order a.keeper a.connections b.order b.keeper b.connections) input (g.R.Read.remaining c.loop.input) output (g.W.Write.contents c.loop.output) c.loop.reader c.loop.invariant.going (g.R.Read.remaining c.read_some.new.input) c.from_residual-in_err-count.result
     c.in_err-count.ensures.bytes (err_no_end c.from_residual-in_err-count.result c.in_err-count.field-0.0 c.from_residual-in_err-count.ensures.1 c.in_err-count.ensures.refusal)
+
+pub returns-in_err-count-clause-early : goal.returns-in_err-count-clause-early
+returns-in_err-count-clause-early g c =
+    no_fault c.from_residual-in_err-count.result (err_no_end c.from_residual-in_err-count.result c.in_err-count.field-0.0 c.from_residual-in_err-count.ensures.1 c.in_err-count.ensures.refusal)
 
 pub returns-then-count-eq0-clause-dialog : goal.returns-then-count-eq0-clause-dialog
 returns-then-count-eq0-clause-dialog g c =
+    let disk = g.D.Disk in
+    let a = c.args.self.now.export in
     let input = g.R.Read.remaining c.args.input.now in
     let output = g.W.Write.contents c.args.output.now in
+    let b = c.loop.self.export in
     let mid = g.R.Read.remaining c.loop.input in
     let left = g.R.Read.remaining c.read_some.new.input in
     let bytes = c.in_ok-count.ensures.bytes in
-    closed input mid output (g.W.Write.contents c.loop.output) c.loop.reader c.loop.invariant.going left
+    closed (Runs disk.state disk.faults disk.honest a.order a.keeper a.connections b.order b.keeper b.connections) input mid output (g.W.Write.contents c.loop.output) c.loop.reader c.loop.invariant.going left
     (subst (λ (n : ℕ). Consumes mid left (take n c.read_some.new.piece.items)) c.if-count-eq0.true bytes.0)
     (bytes.1 c.if-count-eq0.true (omega (arith, c.in_ok-count.ensures.same, c.loop.invariant.some)))
 
 pub returns-in_err-write_replies-clause-dialog : goal.returns-in_err-write_replies-clause-dialog
 returns-in_err-write_replies-clause-dialog g c =
+    let disk = g.D.Disk in
+    let a = c.args.self.now.export in
     let input = g.R.Read.remaining c.args.input.now in
     let output = g.W.Write.contents c.args.output.now in
+    let b = c.loop.self.export in
+    let t = c.take-flow.new.self.export in
+    let e = c.write_replies.new.self.export in
     let piece = take c.in_ok-count.count c.deref.result.now in
     let due = c.take-flow.new.self.replies.items in
     let read = subst (λ (bytes : List ℕ). Consumes (g.R.Read.remaining c.loop.input) (g.R.Read.remaining c.read_some.new.input) (take c.in_ok-count.count bytes)) (sym c.deref.ensures.value) c.in_ok-count.ensures.bytes.0 in
-    let takes = subst (λ (before : List ℕ). Takes c.loop.reader piece c.take-flow.new.reader before due c.take-flow.result) c.loop.invariant.none_due c.take-flow.ensures.takes in
-    cut input (g.R.Read.remaining c.loop.input) output (g.W.Write.contents c.loop.output) c.loop.reader c.loop.invariant.going
-    (g.R.Read.remaining c.read_some.new.input) (g.W.Write.contents c.write_replies.new.output) piece due c.take-flow.new.reader c.take-flow.result read takes
+    let begun = subst (λ (before : List ℕ). Takes c.loop.reader piece c.take-flow.new.reader before due c.take-flow.result (Runs disk.state disk.faults disk.honest b.order b.keeper b.connections t.order t.keeper t.connections))
+    c.loop.invariant.none_due c.take-flow.ensures.takes in
+    subst (λ x. IsPiped input (g.R.Read.remaining c.read_some.new.input) output (g.W.Write.contents c.write_replies.new.output) c.from_residual-in_err-write_replies.result (Runs disk.state disk.faults disk.honest a.order a.keeper a.connections x.order x.keeper x.connections)) (sym c.write_replies.ensures.same)
+    (cut (Runs disk.state disk.faults disk.honest a.order a.keeper a.connections b.order b.keeper b.connections) input (g.R.Read.remaining c.loop.input) output (g.W.Write.contents c.loop.output) c.loop.reader c.loop.invariant.going
+    (Runs disk.state disk.faults disk.honest b.order b.keeper b.connections t.order t.keeper t.connections) (Runs disk.state disk.faults disk.honest a.order a.keeper a.connections t.order t.keeper t.connections)
+    (runs_on disk.state disk.faults disk.honest c.leads_law.ensures a.order b.order t.order a.keeper b.keeper t.keeper a.connections b.connections t.connections c.take-flow.ensures.honest.0)
+    (g.R.Read.remaining c.read_some.new.input) (g.W.Write.contents c.write_replies.new.output) piece due c.take-flow.new.reader c.take-flow.result read begun
     c.in_err-write_replies.field-0.0 c.from_residual-in_err-write_replies.result c.in_err-write_replies.ensures.written
+    (err_no_end c.from_residual-in_err-write_replies.result c.in_err-write_replies.field-0.0 c.from_residual-in_err-write_replies.ensures.1 c.in_err-write_replies.ensures.early))
+
+pub returns-in_err-write_replies-clause-early : goal.returns-in_err-write_replies-clause-early
+returns-in_err-write_replies-clause-early g c =
+    no_fault c.from_residual-in_err-write_replies.result
     (err_no_end c.from_residual-in_err-write_replies.result c.in_err-write_replies.field-0.0 c.from_residual-in_err-write_replies.ensures.1 c.in_err-write_replies.ensures.early)
 
 pub returns-in_err-flow-clause-dialog : goal.returns-in_err-flow-clause-dialog
 returns-in_err-flow-clause-dialog g c =
+    let disk = g.D.Disk in
+    let a = c.args.self.now.export in
     let input = g.R.Read.remaining c.args.input.now in
     let output = g.W.Write.contents c.args.output.now in
+    let b = c.loop.self.export in
+    let t = c.take-flow.new.self.export in
+    let e = c.write_replies.new.self.export in
     let piece = take c.in_ok-count.count c.deref.result.now in
     let due = c.take-flow.new.self.replies.items in
     let read = subst (λ (bytes : List ℕ). Consumes (g.R.Read.remaining c.loop.input) (g.R.Read.remaining c.read_some.new.input) (take c.in_ok-count.count bytes)) (sym c.deref.ensures.value) c.in_ok-count.ensures.bytes.0 in
-    let takes = subst (λ (before : List ℕ). Takes c.loop.reader piece c.take-flow.new.reader before due c.take-flow.result) c.loop.invariant.none_due c.take-flow.ensures.takes in
-    refused input (g.R.Read.remaining c.loop.input) output (g.W.Write.contents c.loop.output) c.loop.reader c.loop.invariant.going
-    (g.R.Read.remaining c.read_some.new.input) (g.W.Write.contents c.write_replies.new.output) piece due c.take-flow.new.reader c.take-flow.result read takes
-    c.in_ok-write_replies.ensures.written c.in_err-flow.field-0.0 c.from_residual-in_err-flow.result c.in_err-flow.was c.from_residual-in_err-flow.ensures.1
+    let begun = subst (λ (before : List ℕ). Takes c.loop.reader piece c.take-flow.new.reader before due c.take-flow.result (Runs disk.state disk.faults disk.honest b.order b.keeper b.connections t.order t.keeper t.connections))
+    c.loop.invariant.none_due c.take-flow.ensures.takes in
+    subst (λ x. IsPiped input (g.R.Read.remaining c.read_some.new.input) output (g.W.Write.contents c.write_replies.new.output) c.from_residual-in_err-flow.result (Runs disk.state disk.faults disk.honest a.order a.keeper a.connections x.order x.keeper x.connections)) (sym c.write_replies.ensures.same)
+    (refused (Runs disk.state disk.faults disk.honest a.order a.keeper a.connections b.order b.keeper b.connections) input (g.R.Read.remaining c.loop.input) output (g.W.Write.contents c.loop.output) c.loop.reader c.loop.invariant.going
+    (Runs disk.state disk.faults disk.honest b.order b.keeper b.connections t.order t.keeper t.connections) (Runs disk.state disk.faults disk.honest a.order a.keeper a.connections t.order t.keeper t.connections)
+    (runs_on disk.state disk.faults disk.honest c.leads_law.ensures a.order b.order t.order a.keeper b.keeper t.keeper a.connections b.connections t.connections c.take-flow.ensures.honest.0)
+    (g.R.Read.remaining c.read_some.new.input) (g.W.Write.contents c.write_replies.new.output) piece due c.take-flow.new.reader c.take-flow.result read begun
+    c.in_ok-write_replies.ensures.written c.in_err-flow.field-0.0 c.from_residual-in_err-flow.result c.in_err-flow.was c.from_residual-in_err-flow.ensures.1)
+
+pub returns-in_err-flow-clause-early : goal.returns-in_err-flow-clause-early
+returns-in_err-flow-clause-early g c =
+    no_fault_of c.take-flow.result c.from_residual-in_err-flow.result c.in_err-flow.field-0.0 c.take-flow.ensures.takes.taken.device c.in_err-flow.was c.from_residual-in_err-flow.ensures.1
 
 pub returns-in-Ended-clause-dialog : goal.returns-in-Ended-clause-dialog
 returns-in-Ended-clause-dialog g c =
+    let disk = g.D.Disk in
+    let a = c.args.self.now.export in
     let input = g.R.Read.remaining c.args.input.now in
     let output = g.W.Write.contents c.args.output.now in
+    let b = c.loop.self.export in
+    let t = c.take-flow.new.self.export in
+    let e = c.write_replies.new.self.export in
     let piece = take c.in_ok-count.count c.deref.result.now in
     let due = c.take-flow.new.self.replies.items in
     let read = subst (λ (bytes : List ℕ). Consumes (g.R.Read.remaining c.loop.input) (g.R.Read.remaining c.read_some.new.input) (take c.in_ok-count.count bytes)) (sym c.deref.ensures.value) c.in_ok-count.ensures.bytes.0 in
-    let takes = subst (λ (before : List ℕ). Takes c.loop.reader piece c.take-flow.new.reader before due c.take-flow.result) c.loop.invariant.none_due c.take-flow.ensures.takes in
-    ended input (g.R.Read.remaining c.loop.input) output (g.W.Write.contents c.loop.output) c.loop.reader c.loop.invariant.going
-    (g.R.Read.remaining c.read_some.new.input) (g.W.Write.contents c.write_replies.new.output) piece due c.take-flow.new.reader c.take-flow.result read takes
-    c.in_ok-write_replies.ensures.written (c.in_ok-flow.was ∙ ap Ok c.in-Ended.is)
+    let begun = subst (λ (before : List ℕ). Takes c.loop.reader piece c.take-flow.new.reader before due c.take-flow.result (Runs disk.state disk.faults disk.honest b.order b.keeper b.connections t.order t.keeper t.connections))
+    c.loop.invariant.none_due c.take-flow.ensures.takes in
+    subst (λ x. IsPiped input (g.R.Read.remaining c.read_some.new.input) output (g.W.Write.contents c.write_replies.new.output) (Ok tt) (Runs disk.state disk.faults disk.honest a.order a.keeper a.connections x.order x.keeper x.connections)) (sym c.write_replies.ensures.same)
+    (ended (Runs disk.state disk.faults disk.honest a.order a.keeper a.connections b.order b.keeper b.connections) input (g.R.Read.remaining c.loop.input) output (g.W.Write.contents c.loop.output) c.loop.reader c.loop.invariant.going
+    (Runs disk.state disk.faults disk.honest b.order b.keeper b.connections t.order t.keeper t.connections) (Runs disk.state disk.faults disk.honest a.order a.keeper a.connections t.order t.keeper t.connections)
+    (runs_on disk.state disk.faults disk.honest c.leads_law.ensures a.order b.order t.order a.keeper b.keeper t.keeper a.connections b.connections t.connections c.take-flow.ensures.honest.0)
+    (g.R.Read.remaining c.read_some.new.input) (g.W.Write.contents c.write_replies.new.output) piece due c.take-flow.new.reader c.take-flow.result read begun
+    c.in_ok-write_replies.ensures.written (c.in_ok-flow.was ∙ ap Ok c.in-Ended.is))
 
 pub loop-preserved : goal.loop-preserved
 loop-preserved g c =
+    let disk = g.D.Disk in
+    let a = c.args.self.now.export in
     let input = g.R.Read.remaining c.args.input.now in
     let output = g.W.Write.contents c.args.output.now in
+    let b = c.loop.self.export in
+    let t = c.take-flow.new.self.export in
+    let e = c.write_replies.new.self.export in
     let piece = take c.in_ok-count.count c.deref.result.now in
     let due = c.take-flow.new.self.replies.items in
     let read = subst (λ (bytes : List ℕ). Consumes (g.R.Read.remaining c.loop.input) (g.R.Read.remaining c.read_some.new.input) (take c.in_ok-count.count bytes)) (sym c.deref.ensures.value) c.in_ok-count.ensures.bytes.0 in
-    let takes = subst (λ (before : List ℕ). Takes c.loop.reader piece c.take-flow.new.reader before due c.take-flow.result) c.loop.invariant.none_due c.take-flow.ensures.takes in
-    let going = goes_on input (g.R.Read.remaining c.loop.input) output (g.W.Write.contents c.loop.output) c.loop.reader c.loop.invariant.going
-    (g.R.Read.remaining c.read_some.new.input) (g.W.Write.contents c.write_replies.new.output) piece due c.take-flow.new.reader c.take-flow.result read takes
-    c.in_ok-write_replies.ensures.written (c.in_ok-flow.was ∙ ap Ok c.in-Open.is) in
+    let begun = subst (λ (before : List ℕ). Takes c.loop.reader piece c.take-flow.new.reader before due c.take-flow.result (Runs disk.state disk.faults disk.honest b.order b.keeper b.connections t.order t.keeper t.connections))
+    c.loop.invariant.none_due c.take-flow.ensures.takes in
+    let same = c.write_replies.ensures.same in
+    let going = subst (λ x. IsGoing input (g.R.Read.remaining c.read_some.new.input) output (g.W.Write.contents c.write_replies.new.output) c.take-flow.new.reader (Runs disk.state disk.faults disk.honest a.order a.keeper a.connections x.order x.keeper x.connections)) (sym same)
+    (goes_on (Runs disk.state disk.faults disk.honest a.order a.keeper a.connections b.order b.keeper b.connections) input (g.R.Read.remaining c.loop.input) output (g.W.Write.contents c.loop.output) c.loop.reader c.loop.invariant.going
+    (Runs disk.state disk.faults disk.honest b.order b.keeper b.connections t.order t.keeper t.connections) (Runs disk.state disk.faults disk.honest a.order a.keeper a.connections t.order t.keeper t.connections)
+    (runs_on disk.state disk.faults disk.honest c.leads_law.ensures a.order b.order t.order a.keeper b.keeper t.keeper a.connections b.connections t.connections c.take-flow.ensures.honest.0)
+    (g.R.Read.remaining c.read_some.new.input) (g.W.Write.contents c.write_replies.new.output) piece due c.take-flow.new.reader c.take-flow.result read begun
+    c.in_ok-write_replies.ensures.written (c.in_ok-flow.was ∙ ap Ok c.in-Open.is)) in
     record {
-      group = c.write_replies.ensures.group c.take-flow.ensures.group;
-      extent = c.write_replies.ensures.extent ∙ (c.take-flow.ensures.extent ∙ c.loop.invariant.extent);
-      honest = (
-        λ is. c.loop.invariant.honest.0 (c.take-flow.ensures.honest.0 (c.write_replies.ensures.honest.0 is)),
-        λ is. c.write_replies.ensures.honest.1 (c.take-flow.ensures.honest.1 (c.loop.invariant.honest.1 is)),
-      );
+      group = subst (λ x. IfSome x.connections.group (IsInHand x.order)) (sym same) c.take-flow.ensures.group;
+      extent = ap (λ x. disk.extent x.keeper.disk) same ∙ (c.take-flow.ensures.extent ∙ c.loop.invariant.extent);
+      honest = subst (λ x. disk.honest x.keeper.disk ↔ disk.honest a.keeper.disk) (sym same)
+          (λ is. c.loop.invariant.honest.0 (c.take-flow.ensures.honest.0 is), λ is. c.take-flow.ensures.honest.1 (c.loop.invariant.honest.1 is));
       some = omega (arith, c.in_ok-count.ensures.same, c.loop.invariant.some);
       none_due = c.in_ok-write_replies.ensures.none;
       going = going;
@@ -93,6 +175,27 @@ loop-preserved g c =
 
 pub returns-clause-dialog : goal.returns-clause-dialog
 returns-clause-dialog g c =
-    let output = g.W.Write.contents c.loop.output in
+    let disk = g.D.Disk in
+    let a = c.args.self.now.export in
+    let input = g.R.Read.remaining c.args.input.now in
+    let output = g.W.Write.contents c.args.output.now in
+    let b = c.loop.self.export in
     let left = g.R.Read.remaining c.loop.input in
-    stopped (g.R.Read.remaining c.args.input.now) left (g.W.Write.contents c.args.output.now) output c.loop.reader c.loop.invariant.going left (Err StreamFault) (keeps_same left) (record { closed = λ e. cc; protocol = λ e. cc; device = λ e. cc })
+    stopped (Runs disk.state disk.faults disk.honest a.order a.keeper a.connections b.order b.keeper b.connections) input left output (g.W.Write.contents c.loop.output) c.loop.reader c.loop.invariant.going left (Err StreamFault) (keeps_same left) stream_fault
+
+pub loop-init : goal.loop-init
+loop-init g c =
+    let disk = g.D.Disk in
+    let a = c.args.self.now.export in
+    let input = g.R.Read.remaining c.args.input.now in
+    let output = g.W.Write.contents c.args.output.now in
+    record {
+      group = c.requires.group;
+      extent = refl;
+      honest = (λ is. is, λ is. is);
+      some = c.in_ok-piece.ensures;
+      none_due = c.requires.none_due;
+      going = subst (λ (r : Reader). IsGoing input input output output r (Runs disk.state disk.faults disk.honest a.order a.keeper a.connections a.order a.keeper a.connections)) (sym c.new-reader.ensures)
+          (going_first (Runs disk.state disk.faults disk.honest a.order a.keeper a.connections a.order a.keeper a.connections) input output
+          (runs_none disk.state disk.faults disk.honest c.leads_law.ensures a.order a.keeper a.connections));
+    }

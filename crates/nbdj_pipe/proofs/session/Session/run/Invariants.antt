@@ -1,6 +1,7 @@
 use Rattle.std.proofs.Common.{◌≡◌, ◌<◌, [], vec_len}
 use Rattle.std.specs.Prelude.{IfSome, ◌↔◌}
 use Rattle.order_book.specs.Order.{IsInHand}
+use Rattle.nbdj_pipe.specs.Session.{Runs}
 use Rattle.nbdj_pipe.proofs.Sessions.{IsGoing}
 use Rattle.nbdj_pipe.proofs.session.Session.run.Given as goal
 
@@ -12,5 +13,7 @@ invariant-loop g l = record {
   honest : g.D.Disk.honest l.self.export.keeper.disk ↔ g.D.Disk.honest l.fn.self.export.keeper.disk;
   some : 0 < vec_len l.piece;
   none_due : l.self.replies.items ≡ [];
-  going : IsGoing (g.R.Read.remaining l.fn.input) (g.R.Read.remaining l.input) (g.W.Write.contents l.fn.output) (g.W.Write.contents l.output) l.reader;
+  going : IsGoing (g.R.Read.remaining l.fn.input) (g.R.Read.remaining l.input) (g.W.Write.contents l.fn.output) (g.W.Write.contents l.output) l.reader
+      (Runs g.D.Disk.state g.D.Disk.faults g.D.Disk.honest l.fn.self.export.order l.fn.self.export.keeper l.fn.self.export.connections
+      l.self.export.order l.self.export.keeper l.self.export.connections);
 }

@@ -1,55 +1,131 @@
-use Rattle.std.proofs.Common.{rules, ◌++◌, [], ◌∷◌, List, ℕ, ap, subst, ◌∙◌, append_assoc}
-use Rattle.std.specs.Prelude.{reverse, All}
-use Rattle.nbdj_pipe.specs.Talk.{reply_to}
-use Rattle.nbdj_pipe.specs.Session.{Serves}
-use Rattle.nbdj_pipe.proofs.Sessions.{takes_fault, takes_all, takes_disc, takes_some, messages_next, messages_served, messages_done, served_one, feeds_on}
+use Rattle.std.proofs.Common.{rules, ◌++◌, ◌≡◌, ◌≢◌, [], ◌∷◌, List, ℕ, Option, None, Some, Result, Ok, Err, inl, inr, ap, sym, subst, ◌∙◌, append_assoc, append-nil, refl}
+use Rattle.std.specs.Prelude.{reverse}
+use Rattle.nbd_wire.specs.Request.{Message}
+use Rattle.nbd_wire.specs.Stream.{Reader}
+use Rattle.nbdj_pipe.specs.Session.{Runs, Serves, Takes, TakesOn}
+use Rattle.nbdj_pipe.specs.Talk.{Exchange, asked, dialog, reply_to}
+use Rattle.nbdj_pipe.specs.declared.refusal.Refusal.{Refusal}
 use Rattle.nbdj_pipe.specs.declared.session.Flow.{Flow}
+use Rattle.nbdj_pipe.proofs.Dialogs.{HaveNoDisc, asked-append, dialog-append, each_append}
+use Rattle.nbdj_pipe.proofs.Runs.{runs_none, runs_on}
+use Rattle.nbdj_pipe.proofs.Sessions.{as_error, feeds_on, messages_done, messages_next, messages_served, takes_all, takes_disc, takes_fault, takes_unserved, takes_unwritten}
 use Rattle.nbdj_pipe.proofs.session.Session.take_whole.Goals as goal
+
+-- the next request wasn't served, or its reply has no memory
+unserved : (run served_run : List Exchange → Option Message → Type 0) (exchanges : List Exchange)
+    → ((more : List Exchange) (last : Option Message) → served_run more last → run (exchanges ++ more) last)
+    → (old new : Reader) (piece : List ℕ) (all : List Message) → TakesOn old piece all new → HaveNoDisc exchanges
+    → (before mid after : List ℕ) (request : Message) (more : List Message) (refusal : Refusal) → all ≡ (asked exchanges ++ request ∷ []) ++ more → mid ≡ before ++ dialog exchanges
+    → Serves request mid after (Err refusal) served_run → Takes old piece new before after (Err refusal) run
+unserved run served_run exchanges join old new piece all reads none before mid after request more refusal same due (early, is, inl ran) =
+    takes_unserved run old new piece all exchanges reads none before after request more same (is ∙ due)
+    (subst (λ (e : List Exchange). run e (Some request)) (append-nil exchanges) (join [] (Some request) ran)) refusal early
+unserved run served_run exchanges join old new piece all reads none before mid after request more refusal same due (early, is, inr (answer, kind, ran)) =
+    takes_unwritten run old new piece all exchanges reads none before after (record { request = request; answer = answer }) more refusal same (is ∙ due) kind
+    (join (record { request = request; answer = answer } ∷ []) None ran) early
 
 pub returns-in_err-requests-clause-takes : goal.returns-in_err-requests-clause-takes
 returns-in_err-requests-clause-takes g c =
-    takes_fault c.args.reader.now c.feed.new.self c.args.piece.now c.args.self.now.replies.items c.in_err-requests.field-0.0 c.from_residual.result
-    (feeds_on c.args.reader.now c.args.piece.now [] c.feed.new.self c.in_err-requests.ensures.stream) c.in_err-requests.ensures.fault c.from_residual.ensures.1
+    let disk = g.D.Disk in
+    let a = c.args.self.now.export in
+    takes_fault (Runs disk.state disk.faults disk.honest a.order a.keeper a.connections a.order a.keeper a.connections)
+    (runs_none disk.state disk.faults disk.honest c.leads_law.ensures a.order a.keeper a.connections)
+    c.args.reader.now c.feed.new.self c.args.piece.now c.args.self.now.replies.items
+    (feeds_on c.args.reader.now c.args.piece.now [] c.feed.new.self c.in_err-requests.ensures.stream) c.in_err-requests.field-0.0 c.from_residual.result c.in_err-requests.ensures.fault c.from_residual.ensures.1
 
 pub returns-in_err-serve-clause-takes : goal.returns-in_err-serve-clause-takes
 returns-in_err-serve-clause-takes g c =
+    let disk = g.D.Disk in
+    let a = c.args.self.now.export in
+    let b = c.loop-request.self.export in
+    let e = c.serve.new.self.export in
     let i = c.loop-request.invariant in
-    let next = messages_next c.in_ok-requests.requests.items c.reverse.new.self.items c.loop-request.requests.items i.served c.reverse.ensures.items i.whole c.pop.new.self.items c.in-Some.request c.in-Some.ensures.items in
-    takes_some c.args.reader.now c.feed.new.self c.args.piece.now c.in_ok-requests.requests.items i.served (feeds_on c.args.reader.now c.args.piece.now c.in_ok-requests.requests.items c.feed.new.self c.in_ok-requests.ensures.stream)
-    c.args.self.now.replies.items c.serve.new.self.replies.items i.text c.in-Some.request (reverse c.pop.new.self.items) c.in_err-serve.field-0.0 c.from_residual-in_err-serve.result
-    next c.in_err-serve.ensures.early c.from_residual-in_err-serve.ensures.1 (c.in_err-serve.ensures.err ∙ i.due) i.answered
+    let all = c.in_ok-requests.requests.items in
+    let before = c.args.self.now.replies.items in
+    let after = c.serve.new.self.replies.items in
+    let request = c.in-Some.request in
+    let next = messages_next all c.reverse.new.self.items c.loop-request.requests.items (asked i.exchanges) c.reverse.ensures.items i.whole c.pop.new.self.items request c.in-Some.ensures.items in
+    let serves = subst (λ (r : Result Flow Refusal). Serves request c.loop-request.self.replies.items after r (Runs disk.state disk.faults disk.honest b.order b.keeper b.connections e.order e.keeper e.connections))
+    c.in_err-serve.was c.serve.ensures.serves in
+    as_error (λ (r : Result Flow Refusal). Takes c.args.reader.now c.args.piece.now c.feed.new.self before after r (Runs disk.state disk.faults disk.honest a.order a.keeper a.connections e.order e.keeper e.connections))
+    c.in_err-serve.field-0.0 c.from_residual-in_err-serve.result c.from_residual-in_err-serve.ensures.1
+    (unserved (Runs disk.state disk.faults disk.honest a.order a.keeper a.connections e.order e.keeper e.connections)
+    (Runs disk.state disk.faults disk.honest b.order b.keeper b.connections e.order e.keeper e.connections) i.exchanges
+    (λ more last ran. runs_on disk.state disk.faults disk.honest c.leads_law.ensures a.order b.order e.order a.keeper b.keeper e.keeper a.connections b.connections e.connections c.serve.ensures.honest.0 i.exchanges more last i.runs ran)
+    c.args.reader.now c.feed.new.self c.args.piece.now all (feeds_on c.args.reader.now c.args.piece.now all c.feed.new.self c.in_ok-requests.ensures.stream) i.no_disc
+    before c.loop-request.self.replies.items after request (reverse c.pop.new.self.items) c.in_err-serve.field-0.0 next i.due serves)
 
 pub returns-in-Ended-clause-takes : goal.returns-in-Ended-clause-takes
 returns-in-Ended-clause-takes g c =
+    let disk = g.D.Disk in
+    let a = c.args.self.now.export in
+    let b = c.loop-request.self.export in
+    let e = c.serve.new.self.export in
     let i = c.loop-request.invariant in
-    let next = messages_next c.in_ok-requests.requests.items c.reverse.new.self.items c.loop-request.requests.items i.served c.reverse.ensures.items i.whole c.pop.new.self.items c.in-Some.request c.in-Some.ensures.items in
-    let ended : Serves c.in-Some.request c.loop-request.self.replies.items c.serve.new.self.replies.items Flow.Ended =
-    subst (Serves c.in-Some.request c.loop-request.self.replies.items c.serve.new.self.replies.items) c.in-Ended.is c.in_ok-serve.ensures.ok in
-    takes_disc c.args.reader.now c.feed.new.self c.args.piece.now c.in_ok-requests.requests.items i.served (feeds_on c.args.reader.now c.args.piece.now c.in_ok-requests.requests.items c.feed.new.self c.in_ok-requests.ensures.stream)
-    c.args.self.now.replies.items c.serve.new.self.replies.items i.text c.in-Some.request (reverse c.pop.new.self.items)
-    next ended.0 (ended.1 ∙ i.due) i.answered
+    let all = c.in_ok-requests.requests.items in
+    let before = c.args.self.now.replies.items in
+    let after = c.serve.new.self.replies.items in
+    let request = c.in-Some.request in
+    let next = messages_next all c.reverse.new.self.items c.loop-request.requests.items (asked i.exchanges) c.reverse.ensures.items i.whole c.pop.new.self.items request c.in-Some.ensures.items in
+    let ended = subst (λ (r : Result Flow Refusal). Serves request c.loop-request.self.replies.items after r (Runs disk.state disk.faults disk.honest b.order b.keeper b.connections e.order e.keeper e.connections))
+    (c.in_ok-serve.was ∙ ap Ok c.in-Ended.is) c.serve.ensures.serves in
+    takes_disc (Runs disk.state disk.faults disk.honest a.order a.keeper a.connections e.order e.keeper e.connections)
+    c.args.reader.now c.feed.new.self c.args.piece.now all i.exchanges (feeds_on c.args.reader.now c.args.piece.now all c.feed.new.self c.in_ok-requests.ensures.stream) i.no_disc
+    before after request (reverse c.pop.new.self.items) next (ended.1 ∙ i.due)
+    (subst (λ (l : List Exchange). Runs disk.state disk.faults disk.honest a.order a.keeper a.connections e.order e.keeper e.connections l (Some request)) (append-nil i.exchanges)
+    (runs_on disk.state disk.faults disk.honest c.leads_law.ensures a.order b.order e.order a.keeper b.keeper e.keeper a.connections b.connections e.connections c.serve.ensures.honest.0 i.exchanges [] (Some request) i.runs ended.2))
+    ended.0
 
 pub loop-request-preserved : goal.loop-request-preserved
 loop-request-preserved g c =
+    let disk = g.D.Disk in
+    let a = c.args.self.now.export in
+    let b = c.loop-request.self.export in
+    let e = c.serve.new.self.export in
     let i = c.loop-request.invariant in
+    let before = c.args.self.now.replies.items in
+    let after = c.serve.new.self.replies.items in
     let request = c.in-Some.request in
-    let going : Serves request c.loop-request.self.replies.items c.serve.new.self.replies.items Flow.Open =
-    subst (Serves request c.loop-request.self.replies.items c.serve.new.self.replies.items) c.in-Open.is c.in_ok-serve.ensures.ok in
+    let going = subst (λ (r : Result Flow Refusal). Serves request c.loop-request.self.replies.items after r (Runs disk.state disk.faults disk.honest b.order b.keeper b.connections e.order e.keeper e.connections))
+    (c.in_ok-serve.was ∙ ap Ok c.in-Open.is) c.serve.ensures.serves in
+    let exchange : Exchange = record { request = request; answer = going.0 } in
     let reply = reply_to request.head.cookie going.0 in
     record {
       group = c.serve.ensures.group;
       extent = c.serve.ensures.extent ∙ i.extent;
       honest = (λ is. i.honest.0 (c.serve.ensures.honest.0 is), λ is. c.serve.ensures.honest.1 (i.honest.1 is));
-      served = i.served ++ request ∷ [];
-      text = i.text ++ reply;
-      whole = messages_served c.in_ok-requests.requests.items c.reverse.new.self.items c.loop-request.requests.items i.served c.reverse.ensures.items i.whole c.pop.new.self.items c.in-Some.request c.in-Some.ensures.items;
-      due = going.2 ∙ ap (λ (t : List ℕ). t ++ reply) i.due ∙ append_assoc c.args.self.now.replies.items i.text reply;
-      answered = served_one i.served i.text request going.0 i.answered going.1;
+      exchanges = i.exchanges ++ exchange ∷ [];
+      whole = messages_served c.in_ok-requests.requests.items c.reverse.new.self.items c.loop-request.requests.items (asked i.exchanges) c.reverse.ensures.items i.whole c.pop.new.self.items request c.in-Some.ensures.items
+          ∙ ap (λ (r : List Message). r ++ reverse c.pop.new.self.items) (sym (asked-append i.exchanges (exchange ∷ [])));
+      due = going.2 ∙ ap (λ (t : List ℕ). t ++ reply) i.due ∙ append_assoc before (dialog i.exchanges) reply
+          ∙ ap (λ (t : List ℕ). before ++ t) (ap (λ (t : List ℕ). dialog i.exchanges ++ t) (sym (append-nil reply)) ∙ sym (dialog-append i.exchanges (exchange ∷ [])));
+      no_disc = each_append (λ (x : Exchange). x.request.head.kind ≢ 2) i.exchanges (exchange ∷ []) i.no_disc (going.1, tt);
+      runs = runs_on disk.state disk.faults disk.honest c.leads_law.ensures a.order b.order e.order a.keeper b.keeper e.keeper a.connections b.connections e.connections c.serve.ensures.honest.0 i.exchanges (exchange ∷ []) None i.runs going.3;
     }
 
 pub returns-clause-takes : goal.returns-clause-takes
 returns-clause-takes g c =
+    let disk = g.D.Disk in
+    let a = c.args.self.now.export in
+    let b = c.loop-request.self.export in
     let i = c.loop-request.invariant in
-    let done = messages_done c.in_ok-requests.requests.items c.reverse.new.self.items c.loop-request.requests.items i.served c.reverse.ensures.items i.whole (search rules) in
-    takes_all c.args.reader.now c.feed.new.self c.args.piece.now c.in_ok-requests.requests.items i.served (feeds_on c.args.reader.now c.args.piece.now c.in_ok-requests.requests.items c.feed.new.self c.in_ok-requests.ensures.stream)
-    c.args.self.now.replies.items c.loop-request.self.replies.items i.text done i.due i.answered
+    let all = c.in_ok-requests.requests.items in
+    let done = messages_done all c.reverse.new.self.items c.loop-request.requests.items (asked i.exchanges) c.reverse.ensures.items i.whole (search rules) in
+    takes_all (Runs disk.state disk.faults disk.honest a.order a.keeper a.connections b.order b.keeper b.connections)
+    c.args.reader.now c.feed.new.self c.args.piece.now all i.exchanges (feeds_on c.args.reader.now c.args.piece.now all c.feed.new.self c.in_ok-requests.ensures.stream) i.no_disc
+    c.args.self.now.replies.items c.loop-request.self.replies.items done i.due i.runs
+
+pub loop-request-init : goal.loop-request-init
+loop-request-init g c =
+    let disk = g.D.Disk in
+    let a = c.args.self.now.export in
+    record {
+      group = c.requires.group;
+      extent = refl;
+      honest = (λ is. is, λ is. is);
+      exchanges = [];
+      whole = refl;
+      due = sym (append-nil c.args.self.now.replies.items);
+      no_disc = tt;
+      runs = runs_none disk.state disk.faults disk.honest c.leads_law.ensures a.order a.keeper a.connections;
+    }

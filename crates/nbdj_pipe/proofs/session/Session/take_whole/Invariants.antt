@@ -1,8 +1,9 @@
-use Rattle.std.proofs.Common.{◌≡◌, ◌++◌, List, ℕ, length}
+use Rattle.std.proofs.Common.{◌≡◌, ◌++◌, List, length, None}
 use Rattle.std.specs.Prelude.{IfSome, ◌↔◌, reverse}
-use Rattle.nbd_wire.specs.Request.{Message}
 use Rattle.order_book.specs.Order.{IsInHand}
-use Rattle.nbdj_pipe.specs.Pipe.{IsWholeDialog}
+use Rattle.nbdj_pipe.specs.Session.{Runs}
+use Rattle.nbdj_pipe.specs.Talk.{Exchange, asked, dialog}
+use Rattle.nbdj_pipe.proofs.Dialogs.{HaveNoDisc}
 use Rattle.nbdj_pipe.proofs.session.Session.take_whole.Given as goal
 
 -- the first of the requests were answered
@@ -11,11 +12,12 @@ invariant-loop-request g l = record {
   group : IfSome l.self.export.connections.group (IsInHand l.self.export.order);
   extent : g.D.Disk.extent l.self.export.keeper.disk ≡ g.D.Disk.extent l.fn.self.export.keeper.disk;
   honest : g.D.Disk.honest l.self.export.keeper.disk ↔ g.D.Disk.honest l.fn.self.export.keeper.disk;
-  served : List Message;
-  text : List ℕ;
-  whole : (reverse l.initial.requests.items) ≡ served ++ (reverse l.requests.items);
-  due : l.self.replies.items ≡ l.initial.self.replies.items ++ text;
-  answered : IsWholeDialog served text;
+  exchanges : List Exchange;
+  whole : (reverse l.initial.requests.items) ≡ asked exchanges ++ (reverse l.requests.items);
+  due : l.self.replies.items ≡ l.initial.self.replies.items ++ dialog exchanges;
+  no_disc : HaveNoDisc exchanges;
+  runs : Runs g.D.Disk.state g.D.Disk.faults g.D.Disk.honest l.fn.self.export.order l.fn.self.export.keeper l.fn.self.export.connections
+      l.self.export.order l.self.export.keeper l.self.export.connections exchanges None;
 }
 
 abbrev pub decreases-loop-request : goal.decreases-loop-request

@@ -1,0 +1,177 @@
+-- the run of a pipe, from the opening of its device to the end
+use Rattle.std.proofs.Common.{◌≡◌, inl, inr, ℕ, suc, ◌<◌, Bool, true, false, List, [], ◌∷◌, ◌++◌, length, arith, Option, Some, None, Result, Err, refl, sym, ap, subst, ◌∙◌}
+use Rattle.std.proofs.lemmas.List.{append-nil}
+use Rattle.std.specs.List.{AllByRecursion}
+use Rattle.checkpoint.specs.Keeper.{KeeperState}
+use Rattle.checkpoint.specs.Keeps.{Keeps}
+use Rattle.checkpoint.specs.Stands.{holes}
+use Rattle.disk_model.specs.Disk.{State, LeavesOnly, MayLeave}
+use Rattle.disk_model.specs.Faults.{HasRisen}
+use Rattle.image_model.specs.Image.{Image}
+use Rattle.nbd_wire.specs.Request.{Message}
+use Rattle.nbd_wire.specs.declared.error.Errno.TheVariants.{Io}
+use Rattle.nbd_wire.specs.declared.message.Answer.TheVariants.{Refused}
+use Rattle.nbd_wire.specs.declared.message.SessionFlags.{SessionFlags}
+use Rattle.order_book.specs.Order.{OrderState, new_order}
+use Rattle.request_core.specs.Bench.{ConnectionsState, new_connections}
+use Rattle.request_core.specs.Life.{LeadsLaw, Trusts, first_world}
+use Rattle.request_core.specs.Parts.{IsExportOf}
+use Rattle.world.specs.Log.{StandsAt}
+use Rattle.world.specs.Run.{IsReached, Fresh}
+use Rattle.world.specs.World.{Setting, World}
+use Rattle.world.specs.declared.event.Event.{Event}
+use Rattle.world.specs.declared.event.Event.TheVariants.{Sent, Answered, Numbered, Took, Held, Failed}
+use Rattle.world.specs.declared.step.Mode.{Mode}
+use Rattle.world_law.specs.Law.{HasFailed, TellsFault, TellsTruth}
+use Rattle.nbdj_pipe.specs.Export.{Follows, Settles}
+use Rattle.nbdj_pipe.specs.Life.{IsFound, IsLife, IsLived}
+use Rattle.nbdj_pipe.specs.Pipe.{IsOrderly}
+use Rattle.nbdj_pipe.specs.Session.{HasTalked, IsEndOr, Runs}
+use Rattle.nbdj_pipe.specs.Talk.{Exchange, plain, spoken, talk, talk_to}
+use Rattle.nbdj_pipe.specs.declared.refusal.Refusal.{Refusal}
+use Rattle.nbdj_pipe.specs.declared.refusal.Refusal.TheVariants.{DeviceFault}
+use Rattle.nbdj_pipe.proofs.Steps.{follows_on}
+
+-- what holds of each event of a log, by its place, holds of all that was said
+module _ (P : Event → Type 0) where
+  each_said : (log : List Event) → ((place : ℕ) (event : Event) → StandsAt log place event → P event) → AllByRecursion P (spoken log)
+  each_said [] each = tt
+  each_said (Sent c request ∷ log) each = (each 0 (Sent c request) refl, each_said log (λ place event at. each (suc place) event at))
+  each_said (Answered c answer ∷ log) each = (each 0 (Answered c answer) refl, each_said log (λ place event at. each (suc place) event at))
+  each_said (Numbered c number ∷ log) each = each_said log (λ place event at. each (suc place) event at)
+  each_said (Took ∷ log) each = each_said log (λ place event at. each (suc place) event at)
+  each_said (Held ∷ log) each = each_said log (λ place event at. each (suc place) event at)
+  each_said (Failed fault ∷ log) each = each_said log (λ place event at. each (suc place) event at)
+
+-- what each answer tells, of the exchanges of a talk
+told_exchanges : (Q : Type 0) (exchanges : List Exchange) → AllByRecursion (λ event. TellsFault event → Q) (talk exchanges)
+    → AllByRecursion (λ (exchange : Exchange). exchange.answer ≡ Refused Io → Q) exchanges
+told_exchanges Q [] each = tt
+told_exchanges Q (exchange ∷ exchanges) each = (each.1.0, told_exchanges Q exchanges each.1.1)
+
+front_of : {X : Type 0} (P : X → Type 0) (xs ys : List X) → AllByRecursion P (xs ++ ys) → AllByRecursion P xs
+front_of P [] ys each = tt
+front_of P (x ∷ xs) ys each = (each.0, front_of P xs ys each.1)
+
+told_talk : (Q : Type 0) (exchanges : List Exchange) (last : Option Message) → AllByRecursion (λ event. TellsFault event → Q) (talk_to exchanges last)
+    → AllByRecursion (λ (exchange : Exchange). exchange.answer ≡ Refused Io → Q) exchanges
+told_talk Q exchanges None each = told_exchanges Q exchanges each
+told_talk Q exchanges (Some request) each = told_exchanges Q exchanges (front_of (λ event. TellsFault event → Q) (talk exchanges) (Sent 0 request ∷ []) each)
+
+module _ {D : Type 0} (state : D → State) (faults : D → ℕ) (honest : D → Type 0) (law : LeadsLaw state faults honest) (truth : (world : World) → IsReached world → TellsTruth world)
+    (fresh_law : (trusted : Bool) (keeper : KeeperState D) (found : Image) (frames connections : ℕ) (flags : SessionFlags) (mode : Mode) → keeper.failed ≡ false → keeper.count < 18446744073709551616
+    → (Trusts trusted (honest keeper.disk) → Keeps keeper (state keeper.disk) found keeper.count)
+    → IsExportOf (first_world keeper found (faults keeper.disk) frames connections flags mode) (new_order keeper.count frames keeper.geometry.area)
+    keeper (faults keeper.disk) (new_connections connections flags mode) (Trusts trusted (honest keeper.disk)) (state keeper.disk))
+    (start : D) (keeper keeper' keeper'' : KeeperState D) (order' order'' : OrderState) (connections' connections'' : ConnectionsState) (frames : ℕ) (mode : Mode)
+    (works : keeper.failed ≡ false) (few : keeper.count < 18446744073709551616) (count_same : faults keeper.disk ≡ faults start)
+    (found : honest start → (image : Image) × Keeps keeper (state keeper.disk) image keeper.count)
+    (fixed : honest start → MayLeave (state start) (state keeper.disk).seen)
+    (any_moment : honest start → LeavesOnly (state start) (state keeper.disk) (MayLeave (state start)))
+    (back : honest keeper''.disk → honest keeper'.disk) (on : honest start → honest keeper''.disk)
+    (exchanges : List Exchange) (last : Option Message)
+    (runs : Runs state faults honest (new_order keeper.count frames keeper.geometry.area) keeper (new_connections 1 plain mode) order' keeper' connections' exchanges last)
+    (settles : (world : World) (trusted : Bool) → IsExportOf world order' keeper' (faults keeper'.disk) connections' (Trusts trusted (honest keeper'.disk)) (state keeper'.disk)
+    → (next : World) × Settles world next order'' keeper'' (faults keeper''.disk) connections'' (Trusts trusted (honest keeper''.disk)) (state keeper'.disk) (state keeper''.disk)) where
+  -- the image that the life begins with; on a device that isn't trusted any
+  abbrev image_of : (trusted : Bool) → (trusted ≡ true → honest start) → Image
+  image_of true given = (found (given refl)).0
+  image_of false given = holes
+
+  keeps_of : (trusted : Bool) (given : trusted ≡ true → honest start) → Trusts trusted (honest keeper.disk) → Keeps keeper (state keeper.disk) (image_of trusted given) keeper.count
+  keeps_of true given is = (found (given refl)).1
+  keeps_of false given is = absurd is
+
+  trusts_of : (trusted : Bool) → trusted ≡ true → (trusted ≡ true → honest start) → Trusts trusted (honest keeper''.disk)
+  trusts_of true is given = on (given is)
+  trusts_of false is given = cc
+
+  found_of : (trusted : Bool) (given : trusted ≡ true → honest start) → trusted ≡ true
+      → IsFound ((first_world keeper (image_of trusted given) (faults keeper.disk) frames 1 plain mode).stage.setting) (state start) (state keeper.disk)
+  found_of true given is = record { fixed = fixed (given refl); stands = (found (given refl)).1.stands; any_moment = any_moment (given refl) }
+  found_of false given is = cc
+
+  -- the device has failed since the life began
+  abbrev HasFailedSince : Type 0
+  HasFailedSince = HasRisen (faults start) (faults keeper''.disk)
+
+  module _ (trusted : Bool) (given : trusted ≡ true → honest start) where
+    abbrev image : Image
+    image = image_of trusted given
+
+    abbrev first : World
+    first = first_world keeper image (faults keeper.disk) frames 1 plain mode
+
+    begun : (next : World) × HasTalked first next exchanges last × Follows first next (talk_to exchanges last) order' keeper' (faults keeper'.disk) connections' (Trusts trusted (honest keeper'.disk)) (state keeper.disk) (state keeper'.disk)
+    begun =
+        runs first trusted (fresh_law trusted keeper image frames 1 plain mode works few (keeps_of trusted given)) (record { idle = refl; flags = refl })
+
+    abbrev mid : World
+    mid = begun.0
+
+    settled : (next : World) × Settles mid next order'' keeper'' (faults keeper''.disk) connections'' (Trusts trusted (honest keeper''.disk)) (state keeper'.disk) (state keeper''.disk)
+    settled = settles mid trusted begun.2.leads.of_export
+
+    abbrev next : World
+    next = settled.0
+
+    whole : Follows first next (talk_to exchanges last) order'' keeper'' (faults keeper''.disk) connections'' (Trusts trusted (honest keeper''.disk)) (state keeper.disk) (state keeper''.disk)
+    whole = subst (λ (said : List Event). Follows first next said order'' keeper'' (faults keeper''.disk) connections'' (Trusts trusted (honest keeper''.disk)) (state keeper.disk) (state keeper''.disk))
+        (append-nil (talk_to exchanges last))
+        (follows_on state faults honest law first mid next trusted (talk_to exchanges last) [] order' order'' keeper' keeper'' connections' connections'' keeper.disk back begun.2 settled.1.follows)
+
+    same_count : first.stage.setting.failures ≡ faults start
+    same_count = count_same
+
+    failed_since : HasFailed next.stage → HasFailedSince
+    failed_since is =
+        subst (λ (n : ℕ). HasRisen n (faults keeper''.disk)) (ap (λ (s : Setting). s.failures) whole.setting ∙ same_count)
+        (subst (λ (n : ℕ). HasRisen next.stage.setting.failures n) (sym whole.leads.of_export.of_keeper.faults) is)
+
+    tells : TellsTruth next
+    tells = truth next whole.leads.of_export.reached
+
+    each_told : AllByRecursion (λ event. TellsFault event → HasFailedSince) (talk_to exchanges last)
+    each_told = subst (AllByRecursion (λ event. TellsFault event → HasFailedSince)) whole.said_is
+        (each_said (λ event. TellsFault event → HasFailedSince) next.log (λ place event at is. failed_since (tells.told place event at is)))
+
+    all_stored : order''.durable ≡ order''.mark → next.stage.durable ≡ length next.stage.order
+    all_stored is =
+        let of = whole.leads.of_export.of_order in
+        omega (arith, is, of.durable, of.mark)
+
+    life : (outcome : Result (Unit {0}) Refusal) → (IsOrderly outcome → order''.durable ≡ order''.mark) → IsLife state faults frames mode start keeper''.disk outcome trusted exchanges last
+    life outcome stored = record {
+      opened = keeper.disk;
+      setting = first.stage.setting;
+      used = keeper.used;
+      next = next;
+      steps = whole.steps;
+      run = whole.leads.run;
+      said = whole.said_is;
+      flags = refl;
+      kept = refl;
+      most = refl;
+      one = refl;
+      answered = begun.1.answered;
+      truth = told_talk HasFailedSince exchanges last each_told;
+      stored = λ is. all_stored (stored is);
+      found = found_of trusted given;
+      durable = λ is. law.durable first next trusted whole.steps order'' keeper'' connections'' keeper.disk (Fresh first.stage.setting keeper.used) whole.leads (trusts_of trusted is given);
+    }
+
+    -- the order is stopped only where the device has failed
+    stopped_since : order''.stopped ≡ true → HasFailedSince
+    stopped_since is = failed_since (tells.stopped (sym whole.leads.of_export.of_order.stopped ∙ is))
+
+  pub lived : (outcome : Result (Unit {0}) Refusal) → (IsOrderly outcome → order''.durable ≡ order''.mark) → IsLived state faults honest frames mode start keeper''.disk outcome exchanges last
+  lived outcome stored trusted given = life trusted given outcome stored
+
+  -- a device fault that is told is one that the device has counted
+  pub told_fault : (end outcome : Result (Unit {0}) Refusal) → (end ≡ Err DeviceFault → ⊥) → IsEndOr end outcome order''.stopped → outcome ≡ Err DeviceFault → HasRisen (faults start) (faults keeper''.disk)
+  told_fault end outcome none (inl same) is = absurd (none (sym same ∙ is))
+  told_fault end outcome none (inr (inl (refusal, early, same))) is = absurd (early.device (refusal_is (sym same ∙ is)))
+    where
+      refusal_is : (let other : Result (Unit {0}) Refusal = Err refusal in other ≡ Err DeviceFault) → refusal ≡ DeviceFault
+      refusal_is is = cc
+  told_fault end outcome none (inr (inr (is_orderly, same, stopped))) is = stopped_since false (λ e. cc) stopped

@@ -1,0 +1,55 @@
+-- the run of a pipe, from the opening of its device to the end
+use Rattle.std.specs.Prelude.{ℕ, ◌≡◌, Bool, true, List, length, Option, Result}
+use Rattle.std.specs.List.{AllByRecursion}
+use Rattle.checkpoint.specs.Stands.{StandsFor}
+use Rattle.disk_model.specs.Disk.{State, LeavesOnly, MayLeave}
+use Rattle.disk_model.specs.Faults.{HasRisen}
+use Rattle.nbd_wire.specs.Request.{Message}
+use Rattle.nbd_wire.specs.declared.error.Errno.TheVariants.{Io}
+use Rattle.nbd_wire.specs.declared.message.Answer.TheVariants.{Refused}
+use Rattle.request_core.specs.Life.{IsDurable}
+use Rattle.world.specs.Run.{IsRun}
+use Rattle.world.specs.World.{Setting, World, fresh}
+use Rattle.world.specs.declared.step.Mode.{Mode}
+use Rattle.world.specs.declared.step.Step.{Step}
+use Rattle.nbdj_pipe.specs.Pipe.{IsOrderly}
+use Rattle.nbdj_pipe.specs.Talk.{AreAnswered, Exchange, plain, spoken, talk_to}
+use Rattle.nbdj_pipe.specs.declared.refusal.Refusal.{Refusal}
+
+-- What an opening found on an honest device: the content that it fixed, one that a crash at its start may leave, stands for
+-- the image and the number with which the life begins, and it wrote nothing else.
+pub record IsFound (setting : Setting) (start opened : State) : Type 0 where
+  pub fixed : MayLeave start opened.seen
+  pub stands : StandsFor opened.seen setting.image setting.opening
+  pub any_moment : LeavesOnly start opened (MayLeave start)
+
+-- The run of a pipe is one of a world, from the opening of its device to the end, in which the requests were sent and
+-- answered in turn. What is said of a device's content has its honesty as a premise.
+pub record IsLife {D : Type 0} (state : D → State) (faults : D → ℕ) (frames : ℕ) (mode : Mode) (start end : D) (outcome : Result (Unit {0}) Refusal) (trusted : Bool)
+    (exchanges : List Exchange) (last : Option Message) : Type 0 where
+  pub opened : D
+  -- the world at the begin and at the end, and the steps between them
+  pub setting : Setting
+  pub used : ℕ
+  pub next : World
+  pub steps : List Step
+  pub run : IsRun (fresh setting used) steps next
+  pub said : spoken next.log ≡ talk_to exchanges last
+  -- what was agreed on, and how much may wait for the checkpoint
+  pub flags : setting.flags ≡ plain
+  pub kept : setting.mode ≡ mode
+  pub most : setting.frames ≡ frames
+  pub one : setting.connections ≡ 1
+  -- each answer is one that its request may have, and EIO comes only where the device failed
+  pub answered : AreAnswered setting.geometry exchanges
+  pub truth : AllByRecursion (λ (exchange : Exchange). exchange.answer ≡ Refused Io → HasRisen (faults start) (faults end)) exchanges
+  -- where the input came to its end and the device didn't fail, all is durable that was ordered
+  pub stored : IsOrderly outcome → next.stage.durable ≡ length next.stage.order
+  -- on an honest device
+  pub found : trusted ≡ true → IsFound setting (state start) (state opened)
+  pub durable : trusted ≡ true → IsDurable (fresh setting used) next (state opened) (state end)
+
+-- the run of a pipe, on any device, and with what its content keeps on an honest one
+abbrev pub IsLived : {D : Type 0} → (D → State) → (D → ℕ) → (D → Type 0) → ℕ → Mode → D → D → Result (Unit {0}) Refusal → List Exchange → Option Message → Type 0
+IsLived state faults honest frames mode start end outcome exchanges last =
+    (trusted : Bool) → (trusted ≡ true → honest start) → IsLife state faults frames mode start end outcome trusted exchanges last
