@@ -1,14 +1,17 @@
-ghost use Rattle.std.specs.Prelude.{◌≡◌, ◌<◌, ℕ, Bool, false};
+ghost use Rattle.std.specs.Prelude.{◌≡◌, ◌<◌, ℕ, Bool, false, List};
 ghost use Rattle.checkpoint.specs.Keeper.{KeeperState};
 ghost use Rattle.checkpoint.specs.Keeps.{Keeps};
+ghost use Rattle.disk_model.specs.Disk.{IsFound, MayLeave};
 ghost use Rattle.image_model.specs.Image.{Image};
 ghost use Rattle.nbd_wire.specs.declared.message.SessionFlags.{SessionFlags};
-ghost use Rattle.order_book.specs.Order.{new_order};
-ghost use Rattle.request_core.specs.Bench.{new_connections};
-ghost use Rattle.request_core.specs.Life.{LeadsLaw, Trusts, first_world};
+ghost use Rattle.order_book.specs.Order.{OrderState, new_order};
+ghost use Rattle.request_core.specs.Bench.{ConnectionsState, new_connections};
+ghost use Rattle.request_core.specs.Life.{IsNextLife, LeadsLaw, Trusts, first_world};
 ghost use Rattle.request_core.specs.Parts.{IsExportOf};
+ghost use Rattle.world.specs.World.{World};
 ghost use Rattle.world.specs.declared.step.Mode.{Mode};
 
+use checkpoint::stands_laws;
 use disk_model::Disk;
 use world_law::schedule_law;
 
@@ -28,4 +31,17 @@ pub fn leads_law<D: Disk>()
     ensures { LeadsLaw D.state D.faults D.honest }
 {
     schedule_law();
+}
+
+/// One life follows another: what a crash may leave of the device of an export, found and opened again, begins a next life
+/// with the image after some first commands of the order, and with the number of the last of these. All that the log
+/// covers is among them. With `Order::new` and `Connections::new` the keeper that was opened is of a next world
+/// ([`fresh_parts_law`]).
+pub fn next_life_law<D: Disk>()
+    ensures { (world : World) (order : OrderState) (keeper next : KeeperState D) (connections : ConnectionsState) (crashed : D) (content : List ℕ) (found : Image) → D.honest keeper.disk
+        → IsExportOf world order keeper (D.faults keeper.disk) connections (D.honest keeper.disk) (D.state keeper.disk) → MayLeave (D.state keeper.disk) content → IsFound content (D.state crashed)
+        → MayLeave (D.state crashed) (D.state next.disk).seen → Keeps next (D.state next.disk) found next.count → IsNextLife world next found }
+{
+    leads_law::<D>();
+    stands_laws();
 }

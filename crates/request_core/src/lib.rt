@@ -12,7 +12,7 @@ mod storing;
 pub use bench::{Bench, Connections};
 pub use engine::take_step;
 pub use judgement::judge;
-pub use laws::{fresh_parts_law, leads_law};
+pub use laws::{fresh_parts_law, leads_law, next_life_law};
 pub use rehearsal::rehearse;
 pub use serving::{Served, Terms, serve_held};
 pub use world::{Action, Connection, Event, Mode, Step, StepFault};
