@@ -30,6 +30,7 @@ use Rattle.nbdj_pipe.specs.Session.{HasTalked, IsEndOr, Runs}
 use Rattle.nbdj_pipe.specs.Talk.{Exchange, plain, spoken, talk, talk_to}
 use Rattle.nbdj_pipe.specs.declared.refusal.Refusal.{Refusal}
 use Rattle.nbdj_pipe.specs.declared.refusal.Refusal.TheVariants.{DeviceFault}
+use Rattle.nbdj_pipe.proofs.Sessions.{not_device}
 use Rattle.nbdj_pipe.proofs.Steps.{follows_on}
 
 -- what holds of each event of a log, by its place, holds of all that was said
@@ -170,7 +171,7 @@ module _ {D : Type 0} (state : D → State) (faults : D → ℕ) (honest : D →
   -- a device fault that is told is one that the device has counted
   pub told_fault : (end outcome : Result (Unit {0}) Refusal) → (end ≡ Err DeviceFault → ⊥) → IsEndOr end outcome order''.stopped → outcome ≡ Err DeviceFault → HasRisen (faults start) (faults keeper''.disk)
   told_fault end outcome none (inl same) is = absurd (none (sym same ∙ is))
-  told_fault end outcome none (inr (inl (refusal, early, same))) is = absurd (early.device (refusal_is (sym same ∙ is)))
+  told_fault end outcome none (inr (inl (refusal, early, same))) is = absurd (not_device refusal early (refusal_is (sym same ∙ is)))
     where
       refusal_is : (let other : Result (Unit {0}) Refusal = Err refusal in other ≡ Err DeviceFault) → refusal ≡ DeviceFault
       refusal_is is = cc

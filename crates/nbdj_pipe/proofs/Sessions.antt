@@ -14,7 +14,7 @@ use Rattle.nbdj_pipe.specs.Pipe.{Conversation, ReadsTo, IsEnd, IsFaulty, IsOrder
 use Rattle.nbdj_pipe.specs.Session.{IsTaken, Takes, TakesOn, IsEndOr, IsEarly, WritesPart}
 use Rattle.nbdj_pipe.specs.declared.session.Flow.{Flow}
 use Rattle.nbdj_pipe.specs.declared.refusal.Refusal.{Refusal}
-use Rattle.nbdj_pipe.specs.declared.refusal.Refusal.TheVariants.{PeerClosed}
+use Rattle.nbdj_pipe.specs.declared.refusal.Refusal.TheVariants.{DeviceFault, PeerClosed, ProtocolEnd}
 use Rattle.nbdj_pipe.proofs.Bytes.{appends_none, appends_on, consumes_kept, consumes_none, consumes_on}
 use Rattle.nbdj_pipe.proofs.Dialogs.{HaveNoDisc, all_of, asked-append, asked_whole, behind, dialog-append, disc_behind, each_append, nothing, served_all, served_behind, served_cut, served_nothing, whole_all, whole_behind, whole_nothing}
 
@@ -22,21 +22,31 @@ use Rattle.nbdj_pipe.proofs.Dialogs.{HaveNoDisc, all_of, asked-append, asked_who
 abbrev Run : Type 1
 Run = List Exchange → Option Message → Type 0
 
+-- an early refusal isn't one that tells how the input ended, or of the device
+not_closed : (refusal : Refusal) → IsEarly refusal → refusal ≡ PeerClosed → ⊥
+not_closed refusal early is = subst IsEarly is early
+
+not_protocol : (refusal : Refusal) → IsEarly refusal → refusal ≡ ProtocolEnd → ⊥
+not_protocol refusal early is = subst IsEarly is early
+
+pub not_device : (refusal : Refusal) → IsEarly refusal → refusal ≡ DeviceFault → ⊥
+not_device refusal early is = subst IsEarly is early
+
 -- what an outcome that is a refusal of its own says of a piece: nothing
 taken_early : (told : Conversation) (reader : Reader) (refusal : Refusal) → IsEarly refusal → IsTaken told reader (Err refusal)
 taken_early told reader refusal early = record {
   going = λ e. cc;
   disc = λ e. cc;
-  fault = λ e. absurd (early.protocol (cc));
-  closed = λ e. early.closed (cc);
-  device = λ e. early.device (cc);
+  fault = λ e. absurd (not_protocol refusal early (cc));
+  closed = λ e. not_closed refusal early (cc);
+  device = λ e. not_device refusal early (cc);
 }
 
 pub no_memory : IsEarly Refusal.NoMemory
-no_memory = record { closed = λ e. cc; protocol = λ e. cc; device = λ e. cc }
+no_memory = tt
 
 pub stream_fault : IsEarly Refusal.StreamFault
-stream_fault = record { closed = λ e. cc; protocol = λ e. cc; device = λ e. cc }
+stream_fault = tt
 
 -- two pieces, one after the other
 pub takes-on : (run more_run all_run : Run) → ((first more : List Exchange) (last : Option Message) → run first None → more_run more last → all_run (first ++ more) last)
@@ -242,9 +252,9 @@ err_no_end (Ok done) refusal same no_end = elim same [ ]
 end_early : (told : Conversation) (reader : Reader) (left : Option (List ℕ)) (refusal : Refusal) → IsEarly refusal → IsEnd told reader left (Err refusal)
 end_early told reader left refusal early = record {
   disc = tt;
-  closed = λ e. absurd (early.closed cc);
-  fault = λ e. absurd (early.protocol cc);
-  device = λ e. absurd (early.device cc);
+  closed = λ e. absurd (not_closed refusal early cc);
+  fault = λ e. absurd (not_protocol refusal early cc);
+  device = λ e. absurd (not_device refusal early cc);
 }
 
 pub going_first : (run : Run) (input output : Option (List ℕ)) → run [] None → IsGoing input input output output (reading (in_head [])) run

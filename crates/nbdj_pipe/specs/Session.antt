@@ -17,13 +17,23 @@ use Rattle.nbdj_pipe.specs.Pipe.{Conversation, IsFaulty, IsOrderly, IsServed, Is
 use Rattle.nbdj_pipe.specs.Talk.{AreAnswered, Exchange, plain, reply_to, talk_to}
 use Rattle.nbdj_pipe.specs.declared.session.Flow.{Flow}
 use Rattle.nbdj_pipe.specs.declared.refusal.Refusal.{Refusal}
-use Rattle.nbdj_pipe.specs.declared.refusal.Refusal.TheVariants.{DeviceFault, PeerClosed, ProtocolEnd}
+use Rattle.nbdj_pipe.specs.declared.refusal.Refusal.TheVariants.{NoMemory, DeviceFault, BadMap, NoHeader, BadHeader, AreaFull, OutOfOrder, DamagedGroup, Failed, NoRoom, PeerClosed, ProtocolEnd, StreamFault}
 
--- a refusal that ends a session before its input does
-pub record IsEarly (refusal : Refusal) : Type 0 where
-  pub closed : refusal ≢ PeerClosed
-  pub protocol : refusal ≢ ProtocolEnd
-  pub device : refusal ≢ DeviceFault
+-- a refusal that ends a session before its input does: memory, room, and what the streams refuse
+abbrev pub IsEarly : Refusal → Type 0
+IsEarly NoMemory = Unit {0}
+IsEarly DeviceFault = ⊥
+IsEarly BadMap = ⊥
+IsEarly NoHeader = ⊥
+IsEarly BadHeader = ⊥
+IsEarly AreaFull = Unit {0}
+IsEarly OutOfOrder = ⊥
+IsEarly DamagedGroup = ⊥
+IsEarly Failed = Unit {0}
+IsEarly NoRoom = Unit {0}
+IsEarly PeerClosed = ⊥
+IsEarly ProtocolEnd = ⊥
+IsEarly StreamFault = Unit {0}
 
 -- What a session answers at its end: how its input ended, or a refusal that comes before, or where the input had come to its
 -- end that the device failed, which has stopped the order.

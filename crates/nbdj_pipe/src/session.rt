@@ -202,7 +202,7 @@ impl<D: Disk> Session<D> {
         ensures none { self.new.replies.items ≡ [] }
         ensures same { self.new.export ≡ self.old.export }
         ensures written { WritesPart (W.contents output.old) (W.contents output.new) self.old.replies.items result }
-        ensures early { IfErr result IsEarly }
+        ensures refusal { IfErr result (λ refusal. refusal ≡ Refusal.StreamFault) }
     {
         let written = write_whole(output, &self.replies);
         self.replies.clear();

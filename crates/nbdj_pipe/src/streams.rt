@@ -1,6 +1,7 @@
 ghost use Rattle.std.specs.Prelude.{◌≤◌, ◌<◌, ◌≡◌, length, vec_len, IfOk, IfErr, OnOk, OnErr};
 ghost use Rattle.std.specs.Io.KnownBytes.{Keeps, ReadConsumes, WriteAppends};
-ghost use Rattle.nbdj_pipe.specs.Session.{IsEarly, WritesPart};
+ghost use Rattle.nbdj_pipe.specs.Session.{WritesPart};
+ghost use Rattle.nbdj_pipe.specs.declared.refusal.Refusal.TheVariants.{StreamFault};
 
 use crate::refusal::Refusal;
 use std::io::{ErrorKind, Read, Write};
@@ -10,7 +11,7 @@ pub fn read_some<R: Read>(input: &mut R, piece: &mut Vec<u8>) -> Result<usize, R
     ensures within { IfOk result (λ count. count ≤ vec_len piece.new) }
     ensures same { vec_len piece.new ≡ vec_len piece.old }
     ensures bytes { ReadConsumes (R.remaining input.old) (R.remaining input.new) result piece.new.items }
-    ensures refusal { IfErr result IsEarly }
+    ensures refusal { IfErr result (λ refusal. refusal ≡ StreamFault) }
 {
     for _ in 0..u64::MAX {
         match input.read(piece) {
@@ -25,7 +26,7 @@ pub fn read_some<R: Read>(input: &mut R, piece: &mut Vec<u8>) -> Result<usize, R
 // Writes all of the bytes and hands them on; after a fault the first of them may be written.
 pub fn write_whole<W: Write>(output: &mut W, bytes: &[u8]) -> Result<(), Refusal>
     ensures written { WritesPart (W.contents output.old) (W.contents output.new) bytes.now result }
-    ensures refusal { IfErr result IsEarly }
+    ensures refusal { IfErr result (λ refusal. refusal ≡ StreamFault) }
 {
     write_each(output, bytes)?;
     output.flush().map_err(|_| Refusal::StreamFault)
@@ -33,7 +34,7 @@ pub fn write_whole<W: Write>(output: &mut W, bytes: &[u8]) -> Result<(), Refusal
 
 fn write_each<W: Write>(output: &mut W, bytes: &[u8]) -> Result<(), Refusal>
     ensures written { WritesPart (W.contents output.old) (W.contents output.new) bytes.now result }
-    ensures refusal { IfErr result IsEarly }
+    ensures refusal { IfErr result (λ refusal. refusal ≡ StreamFault) }
 {
     let mut rest = bytes;
     while !rest.is_empty() {
@@ -49,7 +50,7 @@ fn write_some<W: Write>(output: &mut W, bytes: &[u8]) -> Result<usize, Refusal>
     ensures some { IfOk result (λ count. (0 < count) × (count ≤ length bytes.now)) }
     ensures written { OnOk result (WriteAppends (W.contents output.old) (W.contents output.new) result bytes.now) }
     ensures none { OnErr result (Keeps (W.contents output.old) (W.contents output.new)) }
-    ensures refusal { IfErr result IsEarly }
+    ensures refusal { IfErr result (λ refusal. refusal ≡ StreamFault) }
 {
     for _ in 0..u64::MAX {
         match output.write(bytes) {

@@ -1,17 +1,23 @@
-ghost use Rattle.std.specs.Prelude.{◌≡◌, ◌<◌, ◌≤◌, ◌*◌, length, vec_len, IfOk, IfSome};
+ghost use Rattle.std.specs.Prelude.{◌≡◌, ◌↔◌, ◌<◌, ◌≤◌, ◌*◌, ℕ, [], ◌∷◌, false, length, take, vec_len, IfErr, IfOk, OnOk};
+ghost use Rattle.std.specs.Option.{ForSome};
+ghost use Rattle.checkpoint.specs.Keeps.{Keeps};
+ghost use Rattle.image_model.specs.Image.{Image};
+ghost use Rattle.nbdj_script.specs.Life.{IsLifeOf, IsOpened, LeavesNoMore};
+ghost use Rattle.order_book.specs.Order.{IsInHand};
+ghost use Rattle.request_core.specs.Life.{IsRehearsed};
+ghost use Rattle.world.specs.World.{World};
 
 use crate::script_line::{BlockWrite, CONNECTIONS, Setup};
 use bitflags::Flags;
 use checkpoint::{Keeper, KeeperFault};
-use disk_model::{CallKind, CrashChoice, SimDisk};
+use disk_model::{CallKind, Disk, SimDisk};
 use image_model::{BLOCK_BYTES, Kind};
 use nbd_wire::{
     Answer, CommandFlags, Errno, FLUSH, MAX_PAYLOAD, Request, RequestHead, SessionFlags, WRITE,
 };
 use order_book::Order;
-use request_core::{Bench, Event, Step, StepFault, rehearse};
+use request_core::{Bench, Event, Step, StepFault, fresh_parts_law, rehearse};
 use std::alloc::{AllocError, Global};
-use std::marker::Model;
 
 // What a script's connections have agreed on.
 const FLAGS: SessionFlags = SessionFlags {
@@ -38,46 +44,74 @@ pub struct BlockRun {
     pub byte: u8,
 }
 
+/// Opens the device, and reads what its blocks hold.
+pub fn open<D: Disk>(alloc: Global, disk: D) -> Result<(Keeper<D>, Vec<BlockRun>), (KeeperFault, D)>
+    ensures works { IfOk result (λ opened. opened.0.failed ≡ false) }
+    ensures honest { D.honest disk → IfOk result (λ opened. D.honest opened.0.disk) }
+    ensures opened { D.honest disk → IfOk result (λ opened. IsOpened (D.state disk) opened.0 (D.state opened.0.disk)) }
+    ensures refused { D.honest disk → IfErr result (λ refused. LeavesNoMore (D.state disk) (D.state refused.1)) }
+{
+    match Keeper::open(alloc, disk) {
+        Ok(mut keeper) => match runs(alloc, &mut keeper) {
+            Ok(runs) => Ok((keeper, runs)),
+            Err(fault) => Err((fault, keeper.into_disk())),
+        },
+        Err((fault, disk)) => Err((fault, disk)),
+    }
+}
+
+// The longest runs of blocks with equal state and equal first byte.
+fn runs<D: Disk>(alloc: Global, keeper: &mut Keeper<D>) -> Result<Vec<BlockRun>, KeeperFault>
+    ensures ok { OnOk result (keeper.new ≡ record keeper.old { disk = keeper.new.disk }) }
+    ensures honest { D.honest keeper.new.disk ↔ D.honest keeper.old.disk }
+    ensures kept { D.honest keeper.old.disk → (image : Image) (number : ℕ) → Keeps keeper.old (D.state keeper.old.disk) image number
+        → OnOk result (Keeps keeper.new (D.state keeper.new.disk) image number) }
+    ensures left { D.honest keeper.old.disk → LeavesNoMore (D.state keeper.old.disk) (D.state keeper.new.disk) }
+{
+    let mut block = [0u8; BLOCK_BYTES as usize];
+    let mut runs: Vec<BlockRun> = Vec::new(alloc);
+    let geometry = keeper.geometry();
+    for first in 0..geometry.blocks {
+        let kind = keeper.read_stored(first, &mut block)?;
+        add_block(&mut runs, first, kind, block[0])?;
+    }
+    Ok(runs)
+}
+
 /// A device from one opening to the next crash. It can't be let go, since a group may be in hand: it is spent by `end`.
-pub struct Life {
-    keeper: Keeper<SimDisk>,
-    order: Order,
-    bench: Bench,
+///
+/// On a device that keeps to the model it is always one of a world.
+pub struct Life<D: Disk> {
+    pub(crate) keeper: Keeper<D>,
+    pub(crate) order: Order,
+    pub(crate) bench: Bench,
+    ghost in_hand: { ForSome bench.connections.group (IsInHand order) },
+    ghost of_world: { ∥ (D.honest keeper.disk → (world : World) × IsLifeOf D.state D.faults D.honest world order keeper bench) ∥₁ },
 }
 
-impl Model for Life {
-    ghost use Rattle.std.specs.Prelude.{IfSome};
-    ghost use Rattle.order_book.specs.Order.{IsInHand};
-    ghost use Rattle.request_core.specs.Bench.{BenchState};
-
-    ghost Value = { BenchState };
-
-    ghost view = { λ life. life.bench };
-
-    ghost invariant = { λ life. IfSome life.bench.connections.group (IsInHand life.order) };
-}
-
-impl Life {
-    /// Opens the device.
-    pub fn begin(
-        alloc: Global,
-        disk: SimDisk,
-        setup: Setup,
-    ) -> Result<Life, (KeeperFault, SimDisk)> {
-        let keeper = Keeper::open(alloc, disk)?;
-        let order = Order::new(alloc, keeper.count(), setup.frames, setup.geometry.area);
+impl<D: Disk> Life<D> {
+    /// A life of the device of a keeper that was opened. Where memory is refused the device is handed back.
+    pub fn begin(alloc: Global, keeper: Keeper<D>, setup: Setup) -> Result<Life<D>, D>
+        requires works { keeper.failed ≡ false }
+        requires keeps { D.honest keeper.disk → (image : Image) × Keeps keeper (D.state keeper.disk) image keeper.count }
+        ensures { IfOk result (λ life. life.keeper ≡ keeper) }
+    {
+        fresh_parts_law::<D>();
+        let order = Order::new(alloc, keeper.count(), setup.frames, keeper.geometry().area);
         match Bench::new(alloc, CONNECTIONS, FLAGS, setup.mode) {
             Ok(bench) => Ok(Life {
                 keeper,
                 order,
                 bench,
             }),
-            Err(_) => Err((KeeperFault::NoMemory, keeper.into_disk())),
+            Err(_) => Err(keeper.into_disk()),
         }
     }
 
     /// Ends it, and gives the device as it is.
-    pub fn end(self) -> SimDisk {
+    pub fn end(self) -> D
+        ensures { result ≡ self.keeper.disk }
+    {
         let Life {
             keeper,
             mut order,
@@ -88,10 +122,28 @@ impl Life {
     }
 
     /// The number of the last command stored.
-    pub fn count(&self) -> u64 {
+    pub fn count(&self) -> u64
+        ensures { result ≡ self.now.keeper.count }
+    {
         self.keeper.count()
     }
 
+    /// Carries out one step, which is one of the world.
+    pub fn step(&mut self, step: Step) -> Told
+        ensures honest { D.honest self.new.keeper.disk ↔ D.honest self.old.keeper.disk }
+        ensures world { D.honest self.old.keeper.disk → (world : World) → IsLifeOf D.state D.faults D.honest world self.old.order self.old.keeper self.old.bench → (next : World) × (done : ℕ)
+            × IsRehearsed world next (take done (step ∷ [])) self.new.order self.new.keeper (D.faults self.new.keeper.disk) self.new.bench
+            (D.honest self.new.keeper.disk) (D.state self.old.keeper.disk) (D.state self.new.keeper.disk) }
+    {
+        let steps = [step];
+        match rehearse(&steps, &mut self.order, &mut self.keeper, &mut self.bench) {
+            Ok(()) => last_event(self.bench.log()),
+            Err(_) => Told::Failed(StepFault::NoMemory),
+        }
+    }
+}
+
+impl Life<SimDisk> {
     /// Whether a stop of the device was met.
     pub fn stopped(&self) -> bool {
         self.keeper.stopped()
@@ -105,27 +157,6 @@ impl Life {
     /// The device stops at the `k`-th call from now on.
     pub fn stop_at(&mut self, k: u64) {
         self.keeper.stop_at(k);
-    }
-
-    /// Carries out one step.
-    pub fn step(&mut self, step: Step) -> Told {
-        let steps = [step];
-        match rehearse(&steps, &mut self.order, &mut self.keeper, &mut self.bench) {
-            Ok(()) => last_event(self.bench.log()),
-            Err(_) => Told::Failed(StepFault::NoMemory),
-        }
-    }
-
-    /// The longest runs of blocks with equal state and equal first byte.
-    pub fn runs(&mut self, alloc: Global) -> Result<Vec<BlockRun>, KeeperFault> {
-        let mut block = [0u8; BLOCK_BYTES as usize];
-        let mut runs: Vec<BlockRun> = Vec::new(alloc);
-        let geometry = self.keeper.geometry();
-        for first in 0..geometry.blocks {
-            let kind = self.keeper.read_stored(first, &mut block)?;
-            add_block(&mut runs, first, kind, block[0])?;
-        }
-        Ok(runs)
     }
 }
 

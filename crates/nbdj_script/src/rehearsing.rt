@@ -1,10 +1,17 @@
-use crate::life::{BlockRun, Life, Told, flush, write};
+ghost use Rattle.std.specs.Prelude.{◌≡◌, false, IfOk};
+ghost use Rattle.checkpoint.specs.Keeps.{Keeps};
+ghost use Rattle.image_model.specs.Image.{Image};
+ghost use Rattle.nbdj_script.specs.Life.{IsFoundFrom, IsLifeOf};
+ghost use Rattle.request_core.specs.Life.{IsNextLife};
+ghost use Rattle.world.specs.World.{World};
+
+use crate::life::{BlockRun, Life, Told, flush, open, write};
 use crate::script_line::{Line, Setup, StepLine, parse};
 use checkpoint::{Keeper, KeeperFault};
-use disk_model::{CrashChoice, SimDisk};
+use disk_model::{CrashChoice, Disk, SimDisk};
 use image_model::Kind;
 use nbdj_pipe::Refusal;
-use request_core::{Step, StepFault};
+use request_core::{Step, StepFault, next_life_law};
 use std::alloc::{AllocError, Global};
 use std::fmt::Display;
 use std::io::{BufRead, BufReader, ErrorKind, Read, Write};
@@ -120,7 +127,7 @@ fn stream_refusal(error: std::io::Error) -> Refusal {
 // A script on its way.
 struct Rehearsal {
     setup: Setup,
-    life: Life,
+    life: Life<SimDisk>,
     // What unsynced bytes become at an armed crash.
     armed: CrashChoice,
     // The cookie of the last request.
@@ -200,13 +207,17 @@ impl Rehearsal {
         }
     }
 
-    // The device crashes and is opened again.
+    // The device crashes and is opened again. The next life begins with what the one before it covers, and more at most.
     fn crash<W: Write>(
         self,
         alloc: Global,
         choice: CrashChoice,
         output: &mut W,
-    ) -> Result<Rehearsal, End> {
+    ) -> Result<Rehearsal, End>
+        ensures { IfOk result (λ next. (world : World) → IsLifeOf ⟦<SimDisk as Disk>⟧.state ⟦<SimDisk as Disk>⟧.faults ⟦<SimDisk as Disk>⟧.honest world self.life.order self.life.keeper self.life.bench
+            → (found : Image) × IsNextLife world found next.life.keeper.count) }
+    {
+        next_life_law::<SimDisk>();
         let Rehearsal {
             setup,
             life,
@@ -247,10 +258,16 @@ impl Rehearsal {
 }
 
 // The first life of a new device.
-fn begin(alloc: Global, setup: Setup) -> Result<Life, KeeperFault> {
+fn begin(alloc: Global, setup: Setup) -> Result<Life<SimDisk>, KeeperFault> {
     let mut disk = SimDisk::new(alloc, setup.geometry.device_bytes())?;
     Keeper::format(alloc, &mut disk, setup.geometry)?;
-    Life::begin(alloc, disk, setup).map_err(|(fault, _disk)| fault)
+    match Keeper::open(alloc, disk) {
+        Ok(keeper) => match Life::begin(alloc, keeper, setup) {
+            Ok(life) => Ok(life),
+            Err(_disk) => Err(KeeperFault::NoMemory),
+        },
+        Err((fault, _disk)) => Err(fault),
+    }
 }
 
 // Prints that an opening or a format is refused.
@@ -269,40 +286,41 @@ fn open_again<W: Write>(
     setup: Setup,
     armed: CrashChoice,
     output: &mut W,
-) -> Result<Life, End> {
-    match open(alloc, disk, setup) {
-        Err((_fault, mut disk)) if disk.stopped() => {
+) -> Result<Life<SimDisk>, End>
+    ensures { IfOk result (λ life. (image : Image) × IsFoundFrom (⟦<SimDisk as Disk>⟧.state disk) image life.keeper.count) }
+{
+    match open(alloc, disk) {
+        Ok((keeper, runs)) => tell(alloc, keeper, &runs, setup, output),
+        Err((fault, mut disk)) => {
+            if !disk.stopped() {
+                return Err(failed(fault, output));
+            }
             print(output, "stopped")?;
             disk.crash(armed);
-            tell(open(alloc, disk, setup), output)
-        }
-        opened => tell(opened, output),
-    }
-}
-
-// An opened device, and the runs of its blocks.
-type Opening = Result<(Life, Vec<BlockRun>), (KeeperFault, SimDisk)>;
-
-// Opens a device and reads its blocks.
-fn open(alloc: Global, disk: SimDisk, setup: Setup) -> Opening {
-    let mut life = Life::begin(alloc, disk, setup)?;
-    match life.runs(alloc) {
-        Ok(runs) => Ok((life, runs)),
-        Err(fault) => Err((fault, life.end())),
-    }
-}
-
-// Prints what an opening found.
-fn tell<W: Write>(opened: Opening, output: &mut W) -> Result<Life, End> {
-    match opened {
-        Ok((life, runs)) => match print_opened(life.count(), &runs, output) {
-            Ok(()) => Ok(life),
-            Err(refusal) => {
-                let _disk = life.end();
-                Err(End::Refused(refusal))
+            match open(alloc, disk) {
+                Ok((keeper, runs)) => tell(alloc, keeper, &runs, setup, output),
+                Err((fault, _disk)) => Err(failed(fault, output)),
             }
-        },
-        Err((fault, _disk)) => Err(failed(fault, output)),
+        }
+    }
+}
+
+// Prints what an opening found, and begins its life.
+fn tell<W: Write>(
+    alloc: Global,
+    keeper: Keeper<SimDisk>,
+    runs: &[BlockRun],
+    setup: Setup,
+    output: &mut W,
+) -> Result<Life<SimDisk>, End>
+    requires works { keeper.failed ≡ false }
+    requires keeps { (image : Image) × Keeps keeper (⟦<SimDisk as Disk>⟧.state keeper.disk) image keeper.count }
+    ensures { IfOk result (λ life. life.keeper ≡ keeper) }
+{
+    print_opened(keeper.count(), runs, output)?;
+    match Life::begin(alloc, keeper, setup) {
+        Ok(life) => Ok(life),
+        Err(_disk) => Err(failed(KeeperFault::NoMemory, output)),
     }
 }
 

@@ -84,14 +84,14 @@ pub record IsRehearsed {D : Type 0} (world next : World) (done : List Step) (ord
   pub legal : IsLegal bench.log next.stage.order next.paired
   pub durable : honest → IsDurable world next before after
 
--- A next life: a keeper that was opened over what a crash left of the device of an export. It begins with the image after
--- some first commands of the order, all that the log covers among them, and with the number of the last of these.
-pub record IsNextLife {D : Type 0} (world : World) (keeper : KeeperState D) (found : Image) : Type 0 where
+-- The image and the number with which a next life begins: those after some first commands of the order, all that the log
+-- covers among them.
+pub record IsNextLife (world : World) (found : Image) (number : ℕ) : Type 0 where
   pub count : ℕ
   pub within : count ≤ length world.stage.order
   pub covers : Covers world count
   pub image : found ≡ image_after world.stage.order count world.stage.setting.image
-  pub number : keeper.count ≡ world.stage.setting.opening + count
+  pub last : number ≡ world.stage.setting.opening + count
 
 -- How steps go together into runs, of keepers whose devices have these states, counts of faults, and honesty.
 pub record LeadsLaw {D : Type 0} (state : D → State) (faults : D → ℕ) (honest : D → Type 0) : Type 0 where

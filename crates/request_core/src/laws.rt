@@ -1,7 +1,8 @@
 ghost use Rattle.std.specs.Prelude.{◌≡◌, ◌<◌, ℕ, Bool, false, List};
 ghost use Rattle.checkpoint.specs.Keeper.{KeeperState};
 ghost use Rattle.checkpoint.specs.Keeps.{Keeps};
-ghost use Rattle.disk_model.specs.Disk.{IsFound, MayLeave};
+ghost use Rattle.checkpoint.specs.Stands.{StandsFor};
+ghost use Rattle.disk_model.specs.Disk.{MayLeave};
 ghost use Rattle.image_model.specs.Image.{Image};
 ghost use Rattle.nbd_wire.specs.declared.message.SessionFlags.{SessionFlags};
 ghost use Rattle.order_book.specs.Order.{OrderState, new_order};
@@ -33,14 +34,13 @@ pub fn leads_law<D: Disk>()
     schedule_law();
 }
 
-/// One life follows another: what a crash may leave of the device of an export, found and opened again, begins a next life
-/// with the image after some first commands of the order, and with the number of the last of these. All that the log
-/// covers is among them. With `Order::new` and `Connections::new` the keeper that was opened is of a next world
-/// ([`fresh_parts_law`]).
+/// One life follows another: what a crash may leave of the device of an export stands for the image after some first
+/// commands of the order, and for the number of the last of these; all that the log covers is among them. The keeper that
+/// finds it is, with `Order::new` and `Connections::new`, of a next world ([`fresh_parts_law`]).
 pub fn next_life_law<D: Disk>()
-    ensures { (world : World) (order : OrderState) (keeper next : KeeperState D) (connections : ConnectionsState) (crashed : D) (content : List ℕ) (found : Image) → D.honest keeper.disk
-        → IsExportOf world order keeper (D.faults keeper.disk) connections (D.honest keeper.disk) (D.state keeper.disk) → MayLeave (D.state keeper.disk) content → IsFound content (D.state crashed)
-        → MayLeave (D.state crashed) (D.state next.disk).seen → Keeps next (D.state next.disk) found next.count → IsNextLife world next found }
+    ensures { (world : World) (order : OrderState) (keeper : KeeperState D) (connections : ConnectionsState) (content : List ℕ) (found : Image) (number : ℕ) → D.honest keeper.disk
+        → IsExportOf world order keeper (D.faults keeper.disk) connections (D.honest keeper.disk) (D.state keeper.disk)
+        → MayLeave (D.state keeper.disk) content → StandsFor content found number → IsNextLife world found number }
 {
     leads_law::<D>();
     stands_laws();

@@ -10,13 +10,13 @@ use Rattle.nbdj_pipe.specs.declared.refusal.Refusal.TheVariants.{DeviceFault, No
 use Rattle.nbdj_pipe.specs.declared.session.Flow.{Flow}
 use Rattle.nbdj_pipe.proofs.Bytes.{keeps_same}
 use Rattle.nbdj_pipe.proofs.Runs.{runs_none, runs_on}
-use Rattle.nbdj_pipe.proofs.Sessions.{IsGoing, going_first, goes_on, stopped, closed, cut, ended, refused, err_no_end, no_memory, stream_fault}
+use Rattle.nbdj_pipe.proofs.Sessions.{IsGoing, going_first, goes_on, stopped, closed, cut, ended, refused, err_no_end, no_memory, not_device, stream_fault}
 use Rattle.nbdj_pipe.proofs.session.Session.run.Goals as goal
 
 -- an early refusal isn't a device fault
 no_fault : (outcome : Result (Unit {0}) Refusal) → IsErrAnd outcome IsEarly → outcome ≡ Err DeviceFault → ⊥
 no_fault (Ok done) early is = elim early [ ]
-no_fault (Err refusal) early is = early.device (same is)
+no_fault (Err refusal) early is = not_device refusal early (same is)
   where
     same : (let outcome : Result (Unit {0}) Refusal = Err refusal in outcome ≡ Err DeviceFault) → refusal ≡ DeviceFault
     same is = cc
@@ -49,11 +49,11 @@ returns-in_err-count-clause-dialog g c =
     let output = g.W.Write.contents c.args.output.now in
     let b = c.loop.self.export in
     stopped (Runs disk.state disk.faults disk.honest a.order a.keeper a.connections b.order b.keeper b.connections) input (g.R.Read.remaining c.loop.input) output (g.W.Write.contents c.loop.output) c.loop.reader c.loop.invariant.going (g.R.Read.remaining c.read_some.new.input) c.from_residual-in_err-count.result
-    c.in_err-count.ensures.bytes (err_no_end c.from_residual-in_err-count.result c.in_err-count.field-0.0 c.from_residual-in_err-count.ensures.1 c.in_err-count.ensures.refusal)
+    c.in_err-count.ensures.bytes (err_no_end c.from_residual-in_err-count.result c.in_err-count.field-0.0 c.from_residual-in_err-count.ensures.1 (subst IsEarly (sym c.in_err-count.ensures.refusal) stream_fault))
 
 pub returns-in_err-count-clause-early : goal.returns-in_err-count-clause-early
 returns-in_err-count-clause-early g c =
-    no_fault c.from_residual-in_err-count.result (err_no_end c.from_residual-in_err-count.result c.in_err-count.field-0.0 c.from_residual-in_err-count.ensures.1 c.in_err-count.ensures.refusal)
+    no_fault c.from_residual-in_err-count.result (err_no_end c.from_residual-in_err-count.result c.in_err-count.field-0.0 c.from_residual-in_err-count.ensures.1 (subst IsEarly (sym c.in_err-count.ensures.refusal) stream_fault))
 
 pub returns-then-count-eq0-clause-dialog : goal.returns-then-count-eq0-clause-dialog
 returns-then-count-eq0-clause-dialog g c =
@@ -89,12 +89,12 @@ returns-in_err-write_replies-clause-dialog g c =
     (runs_on disk.state disk.faults disk.honest c.leads_law.ensures a.order b.order t.order a.keeper b.keeper t.keeper a.connections b.connections t.connections c.take-flow.ensures.honest.0)
     (g.R.Read.remaining c.read_some.new.input) (g.W.Write.contents c.write_replies.new.output) piece due c.take-flow.new.reader c.take-flow.result read begun
     c.in_err-write_replies.field-0.0 c.from_residual-in_err-write_replies.result c.in_err-write_replies.ensures.written
-    (err_no_end c.from_residual-in_err-write_replies.result c.in_err-write_replies.field-0.0 c.from_residual-in_err-write_replies.ensures.1 c.in_err-write_replies.ensures.early))
+    (err_no_end c.from_residual-in_err-write_replies.result c.in_err-write_replies.field-0.0 c.from_residual-in_err-write_replies.ensures.1 (subst IsEarly (sym c.in_err-write_replies.ensures.refusal) stream_fault)))
 
 pub returns-in_err-write_replies-clause-early : goal.returns-in_err-write_replies-clause-early
 returns-in_err-write_replies-clause-early g c =
     no_fault c.from_residual-in_err-write_replies.result
-    (err_no_end c.from_residual-in_err-write_replies.result c.in_err-write_replies.field-0.0 c.from_residual-in_err-write_replies.ensures.1 c.in_err-write_replies.ensures.early)
+    (err_no_end c.from_residual-in_err-write_replies.result c.in_err-write_replies.field-0.0 c.from_residual-in_err-write_replies.ensures.1 (subst IsEarly (sym c.in_err-write_replies.ensures.refusal) stream_fault))
 
 pub returns-in_err-flow-clause-dialog : goal.returns-in_err-flow-clause-dialog
 returns-in_err-flow-clause-dialog g c =

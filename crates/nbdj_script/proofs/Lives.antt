@@ -1,0 +1,69 @@
+-- what a crash leaves of a device that was only read, and lives whose device counts other calls
+use Rattle.std.proofs.Common.{◌≡◌, ◌∙◌, ℕ, List, Option, Some, Result, Ok, Err, IfOk, subst}
+use Rattle.std.specs.Prelude.{IfSome}
+use Rattle.checkpoint.specs.Keeper.{KeeperState}
+use Rattle.checkpoint.specs.Keeps.{Keeps}
+use Rattle.disk_model.specs.Disk.{IsKept, IsSound, MayLeave, State}
+use Rattle.image_model.specs.Image.{Image}
+use Rattle.order_book.specs.Order.{OrderState}
+use Rattle.request_core.specs.Bench.{BenchState}
+use Rattle.request_core.specs.Parts.{IsWorldOf}
+use Rattle.world.specs.World.{World}
+
+pub read_leaves : (extent : ℕ) (before after : State) → IsSound extent before → IsKept before after → (content : List ℕ) → MayLeave after content → MayLeave before content
+read_leaves extent before after sound kept content may = record {
+  size = may.size ∙ kept.seen.size;
+  bytes = may.bytes;
+  same = λ place synced. may.same place (λ unsynced. synced (kept.unsynced place unsynced)) ∙ kept.seen.same place (λ loose. synced (sound.loose place loose));
+}
+
+-- what holds of what there is, if anything, holds of whatever is there
+pub some_has : {X : Type 0} (P : X → Type 0) (o : Option X) → IfSome o P → (x : X) → o ≡ Some x → P x
+some_has P o holds x is = subst (λ (o : Option _). IfSome o P) is holds
+
+module _ {D : Type 0} (keeper : KeeperState D) (disk : D) (state : State) where
+  keeps_with : (image : Image) (number : ℕ) → Keeps keeper state image number → Keeps (record keeper { disk = disk }) state image number
+  keeps_with image number keeps = record {
+    works = keeps.works;
+    synced = keeps.synced;
+    stands = keeps.stands;
+    sizes = keeps.sizes;
+    from_base = keeps.from_base;
+    counted = keeps.counted;
+    taken = keeps.taken;
+    mapped = keeps.mapped;
+    first_touched = keeps.first_touched;
+    placed = keeps.placed;
+    held = keeps.held;
+  }
+
+  -- a device in the same state takes the place of the one that there was
+  pub life_with : (world : World) (order : OrderState) (failures : ℕ) (bench : BenchState) (honest : Type 0) → IsWorldOf world order keeper failures bench honest state
+      → IsWorldOf world order (record keeper { disk = disk }) failures bench honest state
+  life_with world order failures bench honest of =
+      let parts = of.of_export in
+      let kept = parts.of_keeper in
+      record {
+        of_export = record {
+          of_order = parts.of_order;
+          of_keeper = record {
+            geometry = kept.geometry;
+            count = kept.count;
+            base = kept.base;
+            used = kept.used;
+            failed = kept.failed;
+            faults = kept.faults;
+            takes = kept.takes;
+          };
+          of_states = parts.of_states;
+          flags = parts.flags;
+          mode = parts.mode;
+          reached = parts.reached;
+          disk = λ is. record { keeps = λ works. keeps_with _ _ ((parts.disk is).keeps works); leaves = (parts.disk is).leaves };
+        };
+        log = of.log;
+      }
+
+pub ok_so : {X E : Type 0} (P Q : X → Type 0) (r : Result X E) → ((x : X) → P x → Q x) → IfOk r P → IfOk r Q
+ok_so P Q (Ok x) so holds = so x holds
+ok_so P Q (Err e) so holds = tt

@@ -1,0 +1,24 @@
+use Rattle.std.proofs.Common.{true}
+use Rattle.std.proofs.Math.Logic.{∥∥₁_map}
+use Rattle.order_book.specs.Order.{IsInHand}
+use Rattle.nbdj_script.proofs.Lives.{some_has}
+use Rattle.nbdj_script.proofs.life.Life.step.Goals as goal
+
+pub invariant_of-self : goal.invariant_of-self
+invariant_of-self g c = record {
+  in_hand = some_has (IsInHand c.rehearse.new.order) c.rehearse.new.bench.connections.group c.rehearse.ensures.group;
+  of_world = ∥∥₁_map c.args.self.now.of_world (λ is honest.
+      let (world, of) = is (c.rehearse.ensures.honest.0 honest) in
+      let ran = c.rehearse.ensures.world world true of in
+      (ran.0, ran.4.of_world));
+}
+
+pub returns-in-Ok-clause-world : goal.returns-in-Ok-clause-world
+returns-in-Ok-clause-world g c = λ honest world of.
+    let ran = c.rehearse.ensures.world world true of in
+    (ran.0, ran.1, ran.4)
+
+pub returns-clause-world : goal.returns-clause-world
+returns-clause-world g c = λ honest world of.
+    let ran = c.rehearse.ensures.world world true of in
+    (ran.0, ran.1, ran.4)
