@@ -1,0 +1,20 @@
+use Rattle.std.proofs.Common.{◌≡◌, ◌+◌, ◌<◌, ◌^◌, None, replicate, arith, rules}
+use Rattle.std.proofs.lemmas.List.{length-replicate}
+use Rattle.std.proofs.lemmas.List.Elements.{same_from_all_zip}
+use Rattle.frame_pool.proofs.Fresh.{AreNumbered-fresh, pool_of-fresh}
+use Rattle.frame_pool.proofs.pool.FramePool.new.Goals as goal
+
+-- the parts of a new pool
+numbers_made : (c : goal.In_ok-vec-2) → c.in_ok-vec.field-0.items ≡ replicate c.args.frames None
+numbers_made c = c.in_ok-vec.ensures.items_if_clones_equal (λ o same. search rules)
+
+bytes_made : (c : goal.In_ok-vec-2) → c.in_ok-vec-2.field-0.items ≡ replicate c.args.frames (replicate 4096 0)
+bytes_made c = c.in_ok-vec-2.ensures.items_if_clones_equal (λ list same. same_from_all_zip _ _ list same.whole (λ x y equal. equal))
+
+pub invariant_of-result : goal.invariant_of-result
+invariant_of-result c =
+    let few : c.args.frames + 3 < 2 ^ 32 = omega (arith, c.requires) in
+    rw (bytes_made c, c.in_ok-new.ensures, numbers_made c, length-replicate) (AreNumbered-fresh c.args.frames few)
+
+pub returns : goal.returns
+returns c = pool_of-fresh c.args.frames _ _ _ _ c.in_ok-new.ensures (bytes_made c)

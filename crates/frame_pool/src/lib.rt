@@ -1,0 +1,13 @@
+//! Frames of 4,096 bytes, each of which is free, clean or dirty. Their memory is taken once.
+#![tactic(auto)]
+
+mod fault;
+mod links;
+mod lists;
+mod place;
+mod pool;
+#[cfg(test)]
+mod tests;
+
+pub use fault::NoFrame;
+pub use pool::FramePool;

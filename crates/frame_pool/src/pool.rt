@@ -1,0 +1,195 @@
+ghost use Rattle.std.specs.Prelude.{◌≡◌, ◌+◌, ◌<◌, ◌≤◌, ◌^◌, ◌↔◌, [], All, length, replicate, slice_get, slice_set, IfOk, IfNone, IfSome, IsErr, OnErr, Some};
+ghost use Rattle.std.specs.List.{range_with_len};
+ghost use Rattle.frame_pool.specs.Numbers.{kept_at, one_if_kept};
+ghost use Rattle.frame_pool.specs.Pool.{DirtyFrame, IsPool, front_through, is_dirty, with_bytes, with_clean, with_dirty, with_free};
+
+use crate::fault::NoFrame;
+use crate::lists::FrameLists;
+use crate::place::Place;
+use std::alloc::{AllocError, Global};
+use std::marker::Model;
+use std::mem;
+
+/// Frames of 4,096 bytes, named by their numbers from 0 on. Each is in one of three lists: free, clean, or dirty with a
+/// number. Every call but `new` takes the same few steps however many frames there are, beside the copy of a frame's
+/// bytes, and no memory; a pool takes 4,096 bytes a frame and 24 more.
+#[derive(Drop)]
+pub struct FramePool {
+    lists: FrameLists,
+    numbers: Vec<Option<u64>>,
+    dirty: u32,
+    frames: Vec<[u8; 4096]>,
+}
+
+// In contracts a pool is its three lists, each from front to back, and the bytes of each frame.
+impl Model for FramePool {
+    ghost use Rattle.std.specs.Prelude.{length};
+    ghost use Rattle.frame_pool.specs.Pool.{PoolState};
+    ghost use Rattle.frame_pool.specs.Numbers.{AreNumbered, pool_of};
+
+    ghost Value = { PoolState };
+
+    ghost view = { λ pool. pool_of pool.lists pool.numbers.items pool.frames.items };
+
+    ghost invariant = { λ pool. AreNumbered (length pool.frames.items) pool.lists pool.numbers.items pool.dirty };
+}
+
+// Keeps this number, or none, for a frame, and counts the numbers that are kept.
+fn keep(numbers: &mut Vec<Option<u64>>, count: &mut u32, frame: u32, number: Option<u64>)
+    requires frame { frame < length numbers.old.items }
+    requires counted { one_if_kept (kept_at numbers.old.items frame) ≤ count.old }
+    requires few { count.old + 1 < 2 ^ 32 }
+    ensures numbers { numbers.new.items ≡ slice_set numbers.old.items frame number }
+    ensures count { count.new + one_if_kept (kept_at numbers.old.items frame) ≡ count.old + one_if_kept number }
+{
+    if number.is_some() {
+        *count += 1;
+    }
+    let before = mem::replace(&mut numbers[frame as usize], number);
+    if before.is_some() {
+        *count -= 1;
+    }
+}
+
+impl FramePool {
+    /// So many frames, which are free, in ascending order, and hold zero bytes.
+    pub fn new(alloc: Global, frames: u32) -> Result<FramePool, AllocError>
+        requires { frames + 3 < 2 ^ 31 }
+        ensures { IfOk result (λ pool. pool ≡ record {
+          free = range_with_len 0 frames;
+          clean = [];
+          dirty = [];
+          bytes = replicate frames (replicate 4096 0);
+        }) }
+    {
+        Ok(FramePool {
+            lists: FrameLists::new(alloc, frames)?,
+            numbers: vec![in alloc; None; frames as usize]?,
+            dirty: 0,
+            frames: vec![in alloc; [0; 4096]; frames as usize]?,
+        })
+    }
+
+    /// How many frames there are.
+    pub fn frames(&self) -> u32
+        ensures frames { result ≡ length self.now.bytes }
+        ensures pool { IsPool self.now }
+    {
+        self.lists.total()
+    }
+
+    /// How many frames are dirty.
+    pub fn dirty_frames(&self) -> u32
+        ensures { result ≡ length self.now.dirty }
+    {
+        self.dirty
+    }
+
+    /// Whether a frame is dirty.
+    pub fn is_dirty(&self, frame: u32) -> bool
+        requires { frame < length self.now.bytes }
+        ensures { result ≡ is_dirty frame self.now.dirty }
+    {
+        self.numbers[frame as usize].is_some()
+    }
+
+    /// The bytes that were last written to a frame.
+    pub fn bytes(&self, frame: u32) -> &[u8; 4096]
+        requires { frame < length self.now.bytes }
+        ensures { slice_get self.now.bytes frame ≡ Some result.now }
+    {
+        &self.frames[frame as usize]
+    }
+
+    /// The front of the free frames, which stays there until it is written. It is refused with 13 where none is free.
+    pub fn take_free(&self) -> Result<u32, NoFrame>
+        ensures front { IfOk result (λ frame. slice_get self.now.free 0 ≡ Some frame) }
+        ensures inside { IfOk result (λ frame. frame < length self.now.bytes) }
+        ensures no_frame { IsErr result ↔ (self.now.free ≡ []) }
+    {
+        self.lists.front(Place::Free).ok_or(NoFrame)
+    }
+
+    /// Moves the front of the clean frames to the back of the free ones, and names it. It is refused with 13 where none
+    /// is clean, and then nothing has changed.
+    pub fn evict_front(&mut self) -> Result<u32, NoFrame>
+        ensures front { IfOk result (λ frame. slice_get self.old.clean 0 ≡ Some frame) }
+        ensures inside { IfOk result (λ frame. frame < length self.old.bytes) }
+        ensures moved { IfOk result (λ frame. self.new ≡ with_free frame self.old) }
+        ensures no_frame { IsErr result ↔ (self.old.clean ≡ []) }
+        ensures err { OnErr result (self.new ≡ self.old) }
+        ensures pool { IsPool self.new }
+    {
+        let frame = self.lists.front(Place::Clean).ok_or(NoFrame)?;
+        self.release(frame);
+        Ok(frame)
+    }
+
+    /// Moves a frame from where it is to the back of the free ones. Its bytes stay until it is written.
+    pub fn release(&mut self, frame: u32)
+        requires { frame < length self.old.bytes }
+        ensures moved { self.new ≡ with_free frame self.old }
+        ensures pool { IsPool self.new }
+    {
+        self.lists.move_to(frame, Place::Free);
+        keep(&mut self.numbers, &mut self.dirty, frame, None);
+    }
+
+    /// Writes a frame, and moves it from where it is to the back of the clean ones.
+    pub fn write_clean(&mut self, frame: u32, bytes: &[u8; 4096])
+        requires { frame < length self.old.bytes }
+        ensures written { self.new ≡ with_bytes frame bytes.now (with_clean frame self.old) }
+        ensures pool { IsPool self.new }
+    {
+        self.frames[frame as usize] = *bytes;
+        self.move_to_clean(frame);
+    }
+
+    /// Writes a frame, and moves it from where it is to the back of the dirty ones, with this number, which is no
+    /// smaller than the others there.
+    pub fn write_dirty(&mut self, frame: u32, number: u64, bytes: &[u8; 4096])
+        requires frame { frame < length self.old.bytes }
+        requires order { All (λ (held : DirtyFrame). held.number ≤ number) self.old.dirty }
+        ensures written { self.new ≡ with_bytes frame bytes.now (with_dirty frame number self.old) }
+        ensures pool { IsPool self.new }
+    {
+        self.lists.move_to(frame, Place::Dirty);
+        keep(&mut self.numbers, &mut self.dirty, frame, Some(number));
+        self.frames[frame as usize] = *bytes;
+    }
+
+    /// Moves the front of the dirty frames to the back of the clean ones where its number is at most this one, and names
+    /// it.
+    pub fn pop_clean_through(&mut self, number: u64) -> Option<u32>
+        ensures front { result ≡ front_through number self.old.dirty }
+        ensures inside { IfSome result (λ frame. frame < length self.old.bytes) }
+        ensures moved { IfSome result (λ frame. self.new ≡ with_clean frame self.old) }
+        ensures none { IfNone result (self.new ≡ self.old) }
+        ensures pool { IsPool self.new }
+    {
+        let frame = self.front_through(number)?;
+        self.move_to_clean(frame);
+        Some(frame)
+    }
+
+    // The front of the dirty frames, where its number is at most this one.
+    fn front_through(&self, number: u64) -> Option<u32>
+        ensures front { result ≡ front_through number self.now.dirty }
+        ensures inside { IfSome result (λ frame. frame < length self.now.bytes) }
+        ensures pool { IsPool self.now }
+    {
+        let frame = self.lists.front(Place::Dirty)?;
+        let kept = self.numbers[frame as usize].unwrap_or(0);
+        if kept <= number { Some(frame) } else { None }
+    }
+
+    // Moves a frame from where it is to the back of the clean ones.
+    fn move_to_clean(&mut self, frame: u32)
+        requires { frame < length self.old.bytes }
+        ensures moved { self.new ≡ with_clean frame self.old }
+        ensures pool { IsPool self.new }
+    {
+        self.lists.move_to(frame, Place::Clean);
+        keep(&mut self.numbers, &mut self.dirty, frame, None);
+    }
+}
