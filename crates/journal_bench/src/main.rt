@@ -1,0 +1,68 @@
+//! What a journal costs: the last touches of an area that is full of commands, and a scan of it.
+#![tactic(auto)]
+
+ghost use Rattle.std.specs.Prelude.{◌≤◌};
+ghost use Rattle.last_touches.specs.Touches.{AreWithin};
+
+mod scanning;
+mod touches;
+
+use anyhow::Result;
+use last_touches::{LastTouches, TouchedRange};
+use std::alloc::Global;
+use std::env;
+use std::time::Instant;
+
+/// The blocks of the largest image.
+const BLOCKS: u32 = 16_777_216;
+
+// Resolves the touches, and asks for each put in turn. What both took is printed, in milliseconds.
+fn measure_touches(
+    rt: &HostRuntime,
+    alloc: Global,
+    name: &str,
+    touched: &[TouchedRange],
+) -> Result<()>
+    requires { AreWithin 4294967295 touched.now }
+{
+    let begin = Instant::now(rt)?;
+    let touches = LastTouches::resolve(alloc, touched, BLOCKS)?;
+    let resolving = begin.elapsed(rt)?.as_millis();
+    let begin = Instant::now(rt)?;
+    let (puts, blocks) = touches::copied(&touches);
+    let asking = begin.elapsed(rt)?.as_millis();
+    let (commands, ranges) = (touched.len(), touches.ranges().len());
+    println!(rt; "{name}: {commands} commands, {ranges} ranges resolved in {resolving} ms")?;
+    println!(rt; "{name}: {puts} puts of {blocks} blocks asked for in {asking} ms")?;
+    Ok(())
+}
+
+fn measure(rt: &HostRuntime, alloc: Global) -> Result<()> {
+    let puts = touches::random_puts(alloc, &[])?;
+    measure_touches(rt, alloc, "puts at random places", &puts)?;
+    let over = touches::random_puts(alloc, &[touches::clear()])?;
+    measure_touches(rt, alloc, "puts over a clear", &over)?;
+    let clears = touches::clears_and_puts(alloc)?;
+    measure_touches(rt, alloc, "clears with a put each", &clears)
+}
+
+// Scans of an area in a new file at the path, of 4 KiB puts and of 1 MiB puts.
+fn measure_scans(rt: &HostRuntime, alloc: Global, path: &str) -> Result<()> {
+    scanning::measure_scan(rt, alloc, path, 256, 1)?;
+    scanning::measure_scan(rt, alloc, path, 7, 256)
+}
+
+fn main(rt: HostRuntime) -> Result<()> {
+    let alloc = rt.alloc();
+    let words: Vec<String> = env::args(&rt)?.collect(alloc)?;
+    match words.as_slice() {
+        [_, word] if word.as_str() == "--measure" => return measure(&rt, alloc),
+        [_, word, path] if word.as_str() == "--scan" => return measure_scans(
+            &rt,
+            alloc,
+            path.as_str(),
+        ),
+        _ => {}
+    }
+    touches::print_example(&rt, alloc)
+}

@@ -1,0 +1,7 @@
+pub mod Said
+pub mod Laid
+pub mod Joined
+pub mod Halves
+pub mod Copied
+pub mod Found
+pub mod Within

@@ -1,0 +1,18 @@
+use Rattle.std.proofs.Common.{ap, sym, ◌∙◌, Option}
+use Rattle.last_touches.specs.declared.touch.Touch.{Touch}
+use Rattle.last_touches.specs.Ranges.{touch_at}
+use Rattle.last_touches.specs.Touches.{later}
+use Rattle.last_touches.proofs.Said.{AreRanges-later}
+use Rattle.last_touches.proofs.overlay.overlay.Goals as goal
+
+pub join-requires-clause-apart : goal.join-requires-clause-apart
+join-requires-clause-apart c = AreRanges-later 0 c.loop-range.laid.done c.in-Some.range.first c.loop-range.ranges.items c.in-Some.ensures.next.behind c.loop-range.invariant.apart
+
+pub returns : goal.returns
+returns c =
+    let known = c.loop-range.invariant in
+    record {
+      apart = AreRanges-later 0 c.loop-range.laid.done 4294967295 c.loop-range.ranges.items known.fits known.apart;
+      longest = known.longest;
+      exact = λ block. sym (known.exact block ∙ ap (λ (t : Option Touch). later (touch_at block c.loop-range.ranges.items) t) (c.in_default.ensures.none block));
+    }

@@ -1,0 +1,4 @@
+pub mod Touches
+pub mod Ranges
+pub mod Puts
+pub mod Resolved

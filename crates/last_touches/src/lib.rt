@@ -1,0 +1,13 @@
+//! The last touches of a journal's area: which of its commands made each block of the image what it is.
+#![tactic(auto)]
+
+mod last_touches;
+mod laws;
+mod overlay;
+mod range;
+mod touch;
+
+pub use last_touches::LastTouches;
+pub use laws::last_puts_within;
+pub use range::{LastRange, PutRange};
+pub use touch::{Touch, TouchedRange};
