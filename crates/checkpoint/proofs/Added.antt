@@ -5,6 +5,7 @@ use Rattle.std.proofs.lemmas.List.{append-nil}
 use Rattle.disk_model.specs.Disk.{State, InRange, MayLeave, MayLeaveTorn}
 use Rattle.disk_model.proofs.Contents.{leaves_seen}
 use Rattle.image_model.specs.Image.{Image, apply_all}
+use Rattle.image_model.specs.declared.geometry.Geometry.{Geometry}
 use Rattle.checkpoint.specs.declared.fault.KeeperFault.TheVariants.{OutOfOrder}
 use Rattle.journal.specs.declared.fault.JournalFault.{JournalFault}
 use Rattle.journal.specs.declared.fault.JournalFault.TheVariants as journals
@@ -16,13 +17,20 @@ use Rattle.checkpoint.specs.Keeper.{KeeperState}
 use Rattle.checkpoint.specs.Keeps.{Keeps}
 use Rattle.checkpoint.specs.Stored.{touched_in}
 use Rattle.checkpoint.specs.Stands.{StandsFor, next_number, stored_image}
-use Rattle.checkpoint.proofs.Frame.{last_of, first_number, moved_list, stands_with, apply_all-append, changes-append}
+use Rattle.checkpoint.proofs.Frame.{last_of, first_number, moved_list, stands_with, apply_all-append, blocks-apply_all, changes-append}
 
 pub kept_content : {D : Type 0} (keeper : KeeperState D) (state : State) (image : Image) (number : ℕ) (content : List ℕ)
     → Keeps keeper state image number → MayLeave state content → StandsFor content image number
 kept_content keeper state image number content keeps left =
     let same = leaves_seen state content keeps.synced left in
     subst (λ (bytes : List ℕ). StandsFor bytes image number) (sym same) keeps.stands
+
+-- the image has the blocks of the keeper's geometry
+pub kept_size : {D : Type 0} (keeper : KeeperState D) (state : State) (image : Image) (number : ℕ) → Keeps keeper state image number → image.blocks ≡ keeper.geometry.blocks
+kept_size keeper state image number keeps =
+    ap (λ (i : Image). i.blocks) keeps.stands.shows
+    ∙ blocks-apply_all (changes_of (keeps.stands.earlier ++ keeps.stands.groups)) (stored_image state.seen keeps.stands.header.geometry keeps.stands.states)
+    ∙ ap (λ (size : Geometry). size.blocks) (sym keeps.sizes)
 
 -- the changes with one group more
 pub changes-push : (earlier groups : List StoredGroup) (group : StoredGroup) → changes_of (earlier ++ (groups ++ group ∷ [])) ≡ changes_of (earlier ++ groups) ++ group.changes

@@ -6,7 +6,7 @@ use Rattle.alloc_map.specs.Codes.{state_at}
 use Rattle.alloc_map.proofs.States.{byte_of_zeroes, map_of_zeroes, own_states, states_of-zeroes}
 use Rattle.disk_model.specs.Disk.{State, InRange, IsSound, IsSteady, IsSynced, IsWritten, LeavesOnly, MayLeave, MayLeaveTorn}
 use Rattle.disk_model.proofs.Moments.{goes_on, weakens}
-use Rattle.header_slots.specs.Slots.{HoldsNone, IsBodyWritten, IsOpen}
+use Rattle.header_slots.specs.Slots.{HoldsHeader, HoldsNone, IsBodyWritten, IsOpen}
 use Rattle.image_model.specs.declared.side.Side.{Side}
 use Rattle.image_model.specs.declared.side.Side.TheVariants.{Zero, One}
 use Rattle.header_slots.proofs.Frame.{moved_spelling}
@@ -14,7 +14,7 @@ use Rattle.image_model.specs.Geometry.{device_bytes_of, map_bytes_of}
 use Rattle.image_model.specs.declared.command.Kind.TheVariants.{Hole}
 use Rattle.image_model.specs.declared.geometry.Geometry.{Geometry}
 use Rattle.regions.specs.Layout.{area_at, map_at, block_at}
-use Rattle.checkpoint.specs.Format.{AreClosed, IsFresh, LeavesButGates, first_header}
+use Rattle.checkpoint.specs.Format.{AreClosed, IsFormatted, IsFresh, LeavesButGates, first_header}
 use Rattle.checkpoint.specs.Stands.{StandsFor, holes, is_data, stored_image}
 
 -- a block of an image of holes is a hole
@@ -24,15 +24,26 @@ hole_at blocks block = ⊎_elim
     (λ past. sym (get_or_past (replicate blocks Hole) block Hole (omega (arith, past, length-replicate blocks Hole))))
     (cases_lt block blocks)
 
-holes_stored : (content : List ℕ) (geometry : Geometry) → holes ≡ stored_image content geometry (replicate geometry.blocks Hole)
+holes_stored : (content : List ℕ) (geometry : Geometry) → holes geometry.blocks ≡ stored_image content geometry (replicate geometry.blocks Hole)
 holes_stored content geometry = λ i. record {
+  blocks = geometry.blocks;
   byte = λ place. if is_data (hole_at geometry.blocks (place / 4096) i) then slice_index content (block_at geometry 0 + place) else 0;
   kind = λ block. hole_at geometry.blocks block i;
 }
 
--- a fresh device with the gate of its header open stands for an image of holes
-pub fresh_stands : (content : List ℕ) (geometry : Geometry) → length content ≡ device_bytes_of geometry.blocks geometry.area → slice_index content 0 ≡ 1 → slice_index content 4096 ≡ 0 → IsFresh content geometry
-    → StandsFor content holes 0
+-- a fresh device with the gate of its header open has its header in force
+fresh_holds : (content : List ℕ) (geometry : Geometry) → length content ≡ device_bytes_of geometry.blocks geometry.area → slice_index content 0 ≡ 1 → slice_index content 4096 ≡ 0 → IsFresh content geometry
+    → HoldsHeader content (length content) (first_header geometry) Zero
+fresh_holds content geometry size zero_open one_closed fresh = record {
+  room = omega (arith, size);
+  in_force = record { gate = zero_open; greatest = λ is_open. absurd (omega (arith, one_closed, is_open)) };
+  spelled = fresh.spelled;
+  whole = size;
+}
+
+-- and stands for an image of holes
+fresh_stands : (content : List ℕ) (geometry : Geometry) → length content ≡ device_bytes_of geometry.blocks geometry.area → slice_index content 0 ≡ 1 → slice_index content 4096 ≡ 0 → IsFresh content geometry
+    → StandsFor content (holes geometry.blocks) 0
 fresh_stands content geometry size zero_open one_closed fresh =
     let zeroes = replicate (map_bytes_of geometry.blocks) 0 in
     record {
@@ -41,12 +52,7 @@ fresh_stands content geometry size zero_open one_closed fresh =
       states = replicate geometry.blocks Hole;
       earlier = [];
       groups = [];
-      in_force = record {
-        room = omega (arith, size);
-        in_force = record { gate = zero_open; greatest = λ is_open. absurd (omega (arith, one_closed, is_open)) };
-        spelled = fresh.spelled;
-        whole = size;
-      };
+      in_force = fresh_holds content geometry size zero_open one_closed fresh;
       map = record {
         bytes = zeroes;
         slot = record {
@@ -61,6 +67,13 @@ fresh_stands content geometry size zero_open one_closed fresh =
       count = refl;
       shows = holes_stored content geometry;
     }
+
+fresh_formatted : (content : List ℕ) (geometry : Geometry) → length content ≡ device_bytes_of geometry.blocks geometry.area → slice_index content 0 ≡ 1 → slice_index content 4096 ≡ 0 → IsFresh content geometry
+    → IsFormatted content geometry
+fresh_formatted content geometry size zero_open one_closed fresh = record {
+  header = fresh_holds content geometry size zero_open one_closed fresh;
+  stands = fresh_stands content geometry size zero_open one_closed fresh;
+}
 
 none_open : (content : List ℕ) → slice_index content 0 ≡ 0 → slice_index content 4096 ≡ 0 → (slot : Side) → ¬ (IsOpen content slot)
 none_open content zero one Zero = λ is_open. omega (arith, zero, is_open)
@@ -169,13 +182,13 @@ module _ (extent : ℕ) (geometry : Geometry) (before synced : State) (sound : I
   stays place = good.seen.same place (closed.steady place)
 
   -- a crash leaves its byte as it was, or torn in any way
-  pub opened_torn : (content : List ℕ) → MayLeaveTorn synced 0 1 content → HoldsNone content (length content) ⊎ StandsFor content holes 0
+  pub opened_torn : (content : List ℕ) → MayLeaveTorn synced 0 1 content → HoldsNone content (length content) ⊎ IsFormatted content geometry
   opened_torn content left =
       let same : (place : ℕ) → 1 ≤ place → slice_index content place ≡ slice_index before.seen place =
       λ place behind. left.same place (good.synced place) (λ within. omega (arith, within.1, behind)) ∙ stays place in
       let one : slice_index content 4096 ≡ 0 = same 4096 (omega arith) ∙ closed.one_closed in
       ⊎_elim
-      (λ is_open. inr (fresh_stands content geometry (left.size ∙ sound_synced.size ∙ size) is_open one (fresh_kept before.seen content geometry same fresh)))
+      (λ is_open. inr (fresh_formatted content geometry (left.size ∙ sound_synced.size ∙ size) is_open one (fresh_kept before.seen content geometry same fresh)))
       (λ shut. inl (inr (none_but content one shut)))
       (cases_eq (slice_index content 0) 1)
     where
@@ -190,11 +203,11 @@ module _ (extent : ℕ) (geometry : Geometry) (before synced : State) (sound : I
     kept : (place : ℕ) → slice_index after.seen place ≡ slice_index written.seen place
     kept place = done.seen.same place (λ loose. sure place (gate.loose place loose))
 
-    pub opened_stands : StandsFor after.seen holes 0
-    opened_stands =
+    pub opened_formatted : IsFormatted after.seen geometry
+    opened_formatted =
         let same : (place : ℕ) → 1 ≤ place → slice_index after.seen place ≡ slice_index before.seen place =
         λ place behind. kept place ∙ gate.others place (λ within. omega (arith, within.1, behind)) (sure place) ∙ stays place in
-        fresh_stands after.seen geometry (sound_after.size ∙ size) (kept 0 ∙ gate.written 0 (omega arith) (sure 0)) (same 4096 (omega arith) ∙ closed.one_closed) (fresh_kept before.seen after.seen geometry same fresh)
+        fresh_formatted after.seen geometry (sound_after.size ∙ size) (kept 0 ∙ gate.written 0 (omega arith) (sure 0)) (same 4096 (omega arith) ∙ closed.one_closed) (fresh_kept before.seen after.seen geometry same fresh)
 
 -- the moments at which the gates of the headers are closed
 pub gates_moments : {extent : ℕ} {before mid both : State} → IsSound extent before → IsSound extent mid → LeavesOnly before mid (MayLeaveTorn before 0 1) → IsWritten before 0 (0 ∷ []) mid

@@ -77,6 +77,7 @@ module _ (old content : List ℕ) (geometry : Geometry) (same : (place : ℕ) �
   -- where all behind the areas stays, the stored image stays
   pub image_kept : (states : List Kind) → stored_image content geometry states ≡ stored_image old geometry states
   image_kept states = λ i. record {
+    blocks = geometry.blocks;
     byte = λ place. if is_data (state_at states (place / 4096)) then same (block_at geometry 0 + place) (omega arith) i else 0;
     kind = λ block. state_at states block;
   }
@@ -123,6 +124,11 @@ stands_with old content image other number count stands groups size same list co
 pub apply_all-append : (changes more : List Change) (image : Image) → apply_all (changes ++ more) image ≡ apply_all more (apply_all changes image)
 apply_all-append [] more image = refl
 apply_all-append (change ∷ changes) more image = apply_all-append changes more (apply change image)
+
+-- changes leave the size of an image
+pub blocks-apply_all : (changes : List Change) (image : Image) → (apply_all changes image).blocks ≡ image.blocks
+blocks-apply_all [] image = refl
+blocks-apply_all (change ∷ changes) image = blocks-apply_all changes (apply change image)
 
 pub changes-append : (groups more : List StoredGroup) → changes_of (groups ++ more) ≡ changes_of groups ++ changes_of more
 changes-append groups more = flat_map-append (λ (group : StoredGroup). group.changes) groups more

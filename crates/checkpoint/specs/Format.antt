@@ -2,7 +2,7 @@
 use Rattle.std.specs.Prelude.{ℕ, ◌≡◌, ◌≢◌, ◌+◌, ◌<◌, ◌⊎◌, List, length, slice_index}
 use Rattle.disk_model.specs.Disk.{State, IsSteady}
 use Rattle.header_slots.specs.Header.{SpellsAt}
-use Rattle.header_slots.specs.Slots.{HoldsNone}
+use Rattle.header_slots.specs.Slots.{HoldsHeader, HoldsNone}
 use Rattle.header_slots.specs.declared.header.Areas.{Areas}
 use Rattle.header_slots.specs.declared.header.Header.{Header}
 use Rattle.image_model.specs.declared.side.Side.TheVariants.{Zero}
@@ -17,11 +17,6 @@ pub record LeavesButGates (state : State) (content : List ℕ) : Type 0 where
   pub bytes : (place : ℕ) → slice_index content place < 256
   pub same : (place : ℕ) → (state.unsynced place → ⊥) → place ≢ 0 → place ≢ 4096 → slice_index content place ≡ slice_index state.seen place
 
--- What a crash leaves while a device is formatted: at first what it might have left before, but for the gates of the
--- headers; then no header is in force; at last an image of holes.
-abbrev pub LeavesFormat : State → List ℕ → Type 0
-LeavesFormat state content = LeavesButGates state content ⊎ (HoldsNone content (length content) ⊎ StandsFor content holes 0)
-
 -- The gates of both headers are closed, which is stable, and no place is loose.
 pub record AreClosed (state : State) : Type 0 where
   pub zero_closed : slice_index state.seen 0 ≡ 0
@@ -33,6 +28,16 @@ pub record AreClosed (state : State) : Type 0 where
 -- the header of a device that was just formatted
 abbrev pub first_header : Geometry → Header
 first_header geometry = record { generation = 1; geometry = geometry; areas = Areas.One; first_area = Zero; map_slot = Zero; base = 0 }
+
+-- A device that was just formatted: its header is in force, in slot 0, and it stands for an image of holes of that size.
+pub record IsFormatted (content : List ℕ) (geometry : Geometry) : Type 0 where
+  pub header : HoldsHeader content (length content) (first_header geometry) Zero
+  pub stands : StandsFor content (holes geometry.blocks) 0
+
+-- What a crash leaves while a device is formatted: at first what it might have left before, but for the gates of the
+-- headers; then no header is in force; at last the formatted device.
+abbrev pub LeavesFormat : State → Geometry → List ℕ → Type 0
+LeavesFormat state geometry content = LeavesButGates state content ⊎ (HoldsNone content (length content) ⊎ IsFormatted content geometry)
 
 -- All that is written of a fresh device but for the gates of the headers: the header in slot 0, a closed gate that begins
 -- the first area, and a map of zeroes.

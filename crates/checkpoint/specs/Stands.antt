@@ -16,9 +16,9 @@ use Rattle.journal.specs.Spelling.{StoredGroup}
 use Rattle.regions.specs.Layout.{area_at, map_at, block_at}
 use Rattle.regions.specs.Map.{HoldsMap}
 
--- an image of which nothing was written
-abbrev pub holes : Image
-holes = record { byte = λ place. 0; kind = λ block. Hole }
+-- an image of so many blocks of which nothing was written
+abbrev pub holes : ℕ → Image
+holes count = record { blocks = count; byte = λ place. 0; kind = λ block. Hole }
 
 abbrev pub is_data : Kind → Bool
 is_data Data = true
@@ -28,6 +28,7 @@ is_data Hole = false
 -- the image that map and data hold: a block that isn't data reads as zero, whatever stands in the data region
 abbrev pub stored_image : List ℕ → Geometry → List Kind → Image
 stored_image content geometry states = record {
+  blocks = geometry.blocks;
   byte = λ place. if is_data (state_at states (place / 4096)) then slice_index content (block_at geometry 0 + place) else 0;
   kind = λ block. state_at states block;
 }

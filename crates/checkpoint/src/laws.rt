@@ -19,8 +19,10 @@ pub fn stands_laws()
         (IsPassing fault → ⊥) → StandsFor content image number → ⊥ }
 {}
 
-/// A crash leaves what the keeper keeps.
+/// The image that a keeper keeps has the blocks of its geometry, and a crash leaves it.
 pub fn keeper_laws<D: Disk>()
+    ensures size { (keeper : KeeperState D) (image : Image) (number : ℕ) → Keeps keeper (D.state keeper.disk) image number →
+        image.blocks ≡ keeper.geometry.blocks }
     ensures left { (keeper : KeeperState D) (image : Image) (number : ℕ) (content : List ℕ) →
         Keeps keeper (D.state keeper.disk) image number → MayLeave (D.state keeper.disk) content → StandsFor content image number }
 {}

@@ -4,8 +4,9 @@ use Rattle.image_model.specs.declared.command.Kind.{Kind}
 use Rattle.image_model.specs.declared.command.Kind.TheVariants.{Data, Hole}
 use Rattle.image_model.specs.Change.{Change, Written, Cleared}
 
--- which byte stands at each place, and the state of each block; past the end they are 0 and a hole
+-- how many blocks there are, which byte stands at each place, and the state of each block; past the end they are 0 and a hole
 pub record Image : Type 0 where
+  pub blocks : ℕ
   pub byte : ℕ → ℕ
   pub kind : ℕ → Kind
 
@@ -16,7 +17,11 @@ pub record PlainState : Type 0 where
 
 -- the image that they are
 abbrev pub image_of : PlainState → Image
-image_of state = record { byte = λ place. slice_index state.bytes place; kind = λ block. slice_index_or state.kinds block Hole }
+image_of state = record {
+  blocks = length state.kinds;
+  byte = λ place. slice_index state.bytes place;
+  kind = λ block. slice_index_or state.kinds block Hole;
+}
 
 -- whether `count` places from `first` on cover this one
 abbrev pub covers : ℕ → ℕ → ℕ → Bool
@@ -42,9 +47,10 @@ abbrev pub kind_given : Change → Kind
 kind_given (Written first bytes) = Data
 kind_given (Cleared first blocks kind) = kind
 
--- the image after a change: a covered block has the change's state, another keeps its own
+-- the image after a change, as large as before: a covered block has the change's state, another keeps its own
 abbrev pub apply : Change → Image → Image
 apply change image = record {
+  blocks = image.blocks;
   byte = λ place. byte_after change image place;
   kind = λ block. if covers (first_of change) (blocks_of change) block then kind_given change else image.kind block;
 }

@@ -2,7 +2,7 @@ use Rattle.std.proofs.Common.{inl, subst, ◌∙◌}
 use Rattle.std.proofs.lemmas.Result.{on_ok_weaker}
 use Rattle.disk_model.specs.Disk.{IsSound}
 use Rattle.disk_model.proofs.Moments.{goes_on, stays_on, weakens}
-use Rattle.checkpoint.proofs.Formatted.{closed_left, opened_stands, opened_torn}
+use Rattle.checkpoint.proofs.Formatted.{closed_left, opened_formatted, opened_torn}
 use Rattle.checkpoint.proofs.format.open_header.Goals as goal
 
 pub returns-in_err-sync-clause-any_moment : goal.returns-in_err-sync-clause-any_moment
@@ -28,7 +28,7 @@ returns-clause-opened g c honest closed geometry size fresh =
     let extent = c.sync-2.ensures.extent ∙ second.extent ∙ first.extent in
     let after = subst (λ e. IsSound e (g.D.Disk.state c.sync-2.new.self)) extent (g.met.D.Disk.sound c.sync-2.new.self (c.sync-2.ensures.honest.1 open_honest)) in
     on_ok_weaker c.sync-2.result
-    (λ done. opened_stands _ geometry _ _ (g.met.D.Disk.sound c.args.disk.now honest) synced size closed fresh (first.synced honest) _ _ (second.written synced_honest) done after)
+    (λ done. opened_formatted _ geometry _ _ (g.met.D.Disk.sound c.args.disk.now honest) synced size closed fresh (first.synced honest) _ _ (second.written synced_honest) done after)
     (c.sync-2.ensures.synced open_honest)
 
 pub returns-clause-any_moment : goal.returns-clause-any_moment

@@ -1,9 +1,9 @@
-use Rattle.std.proofs.Common.{◌≡◌, ℕ, [], ◌∷◌, replicate, subst, ◌∙◌, ap, arith, rules}
+use Rattle.std.proofs.Common.{◌≡◌, ℕ, [], ◌∷◌, subst, ◌∙◌, ap, arith}
+use Rattle.std.proofs.lemmas.Result.{on_ok_weaker}
 use Rattle.disk_model.specs.Disk.{IsWritten}
 use Rattle.header_slots.specs.Slots.{IsBodyWritten}
 use Rattle.header_slots.specs.declared.header.Header.{Header}
 use Rattle.image_model.specs.declared.side.Side.TheVariants.{Zero}
-use Rattle.image_model.specs.Geometry.{map_bytes_of}
 use Rattle.image_model.specs.declared.geometry.Geometry.{Geometry}
 use Rattle.journal.specs.Area.{AreaState}
 use Rattle.regions.specs.Layout.{area_at, map_at}
@@ -22,14 +22,6 @@ returns-in_err-write_at-clause-any_moment g c honest closed =
     map_moments _ closed c.new-area.result.from (omega (arith, c.area_from.ensures.place, from)) _ (gate.written honest) c.map_from.result (omega (arith, c.map_from.ensures.place)) _
     (gate.any_moment honest) (c.write_at.ensures.any_moment (gate.honest.1 honest))
 
-pub returns-in_err-fill_slot-clause-any_moment : goal.returns-in_err-fill_slot-clause-any_moment
-returns-in_err-fill_slot-clause-any_moment g c honest closed =
-    let from : c.new-area.result.from ≡ c.area_from.result = ap (λ (area : AreaState). area.from) c.new-area.ensures in
-    let gate = c.in_ok-close_first.ensures in
-    let map = c.in_ok-write_at.ensures in
-    body_moments _ closed c.new-area.result.from (omega (arith, c.area_from.ensures.place, from)) _ (gate.written honest) c.map_from.result (omega (arith, c.map_from.ensures.place)) _
-    (gate.any_moment honest) (map.any_moment (gate.honest.1 honest)) (map.written (gate.honest.1 honest)) (c.fill_slot.ensures.any_moment (map.honest.1 (gate.honest.1 honest)))
-
 pub returns-clause-any_moment : goal.returns-clause-any_moment
 returns-clause-any_moment g c honest closed =
     let from : c.new-area.result.from ≡ c.area_from.result = ap (λ (area : AreaState). area.from) c.new-area.ensures in
@@ -43,33 +35,26 @@ returns-clause-fresh g c honest closed =
     let geometry = c.args.geometry in
     let gate = c.in_ok-close_first.ensures in
     let map = c.in_ok-write_at.ensures in
-    let body = c.in_ok-fill_slot.ensures in
     let one_honest = gate.honest.1 honest in
     let same = c.of-regions.ensures in
     let from : c.new-area.result.from ≡ area_at geometry Zero = ap (λ (area : AreaState). area.from) c.new-area.ensures ∙ c.area_from.ensures.place ∙ ap (λ (size : Geometry). area_at size Zero) same in
     let map_is : c.map_from.result ≡ map_at geometry Zero = c.map_from.ensures.place ∙ ap (λ (size : Geometry). map_at size Zero) same in
-    let zeroes : c.deref.result.now ≡ replicate (map_bytes_of geometry.blocks) 0 = search rules in
     let before = g.D.Disk.state c.args.disk.now in
     let one = g.D.Disk.state c.close_first.new.disk in
     let two = g.D.Disk.state c.write_at.new.self in
     let three = g.D.Disk.state c.fill_slot.new.disk in
-    parts_written geometry before one two three closed.steady c.deref.result.now zeroes
+    on_ok_weaker c.fill_slot.result
+    (λ written. parts_written geometry before one two three closed.steady c.args.map.now c.requires.zeroes
     (subst (λ (place : ℕ). IsWritten before place (0 ∷ []) one) from (gate.written honest))
-    (subst (λ (place : ℕ). IsWritten one place c.deref.result.now two) map_is (map.written one_honest))
-    (subst (λ (header : Header). IsBodyWritten two Zero header three) c.first_header.ensures (body.written (map.honest.1 one_honest)))
+    (subst (λ (place : ℕ). IsWritten one place c.args.map.now two) map_is (map.written one_honest))
+    (subst (λ (header : Header). IsBodyWritten two Zero header three) c.first_header.ensures written))
+    (c.fill_slot.ensures.written (map.honest.1 one_honest))
 
 pub returns-in_err-write_at-clause-honest : goal.returns-in_err-write_at-clause-honest
 returns-in_err-write_at-clause-honest g c =
     let first = c.in_ok-close_first.ensures in
     let second = c.write_at.ensures in
     (λ honest. first.honest.0 (second.honest.0 honest), λ honest. second.honest.1 (first.honest.1 honest))
-
-pub returns-in_err-fill_slot-clause-honest : goal.returns-in_err-fill_slot-clause-honest
-returns-in_err-fill_slot-clause-honest g c =
-    let first = c.in_ok-close_first.ensures in
-    let second = c.in_ok-write_at.ensures in
-    let third = c.fill_slot.ensures in
-    (λ honest. first.honest.0 (second.honest.0 (third.honest.0 honest)), λ honest. third.honest.1 (second.honest.1 (first.honest.1 honest)))
 
 pub returns-clause-honest : goal.returns-clause-honest
 returns-clause-honest g c =

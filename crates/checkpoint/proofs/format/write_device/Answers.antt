@@ -1,0 +1,33 @@
+use Rattle.std.proofs.Common.{inl, inr, ◌∙◌}
+use Rattle.disk_model.proofs.Moments.{goes_on, weakens}
+use Rattle.checkpoint.proofs.format.write_device.Goals as goal
+
+pub returns-in_err-write_parts-clause-any_moment : goal.returns-in_err-write_parts-clause-any_moment
+returns-in_err-write_parts-clause-any_moment g c honest steady =
+    let first = c.in_ok-close_headers.ensures in
+    goes_on (weakens (first.any_moment honest) (λ content left. inl left))
+    (c.write_parts.ensures.any_moment (first.honest.1 honest) (first.closed honest steady)) (λ content left. inr (inl left))
+
+pub returns-clause-any_moment : goal.returns-clause-any_moment
+returns-clause-any_moment g c honest steady =
+    let first = c.in_ok-close_headers.ensures in
+    let second = c.in_ok-write_parts.ensures in
+    let one_honest = first.honest.1 honest in
+    let closed = first.closed honest steady in
+    goes_on
+    (goes_on (weakens (first.any_moment honest) (λ content left. inl left)) (second.any_moment one_honest closed) (λ content left. inr (inl left)))
+    (c.open_header.ensures.any_moment (second.honest.1 one_honest) (second.closed one_honest closed) c.args.geometry (second.extent ∙ first.extent ∙ c.requires.size) (second.fresh one_honest closed))
+    (λ content left. inr left)
+
+pub returns-in_err-write_parts-clause-honest : goal.returns-in_err-write_parts-clause-honest
+returns-in_err-write_parts-clause-honest g c =
+    let first = c.in_ok-close_headers.ensures in
+    let second = c.in_err-write_parts.ensures in
+    (λ honest. first.honest.0 (second.honest.0 honest), λ honest. second.honest.1 (first.honest.1 honest))
+
+pub returns-clause-honest : goal.returns-clause-honest
+returns-clause-honest g c =
+    let first = c.in_ok-close_headers.ensures in
+    let second = c.in_ok-write_parts.ensures in
+    let third = c.open_header.ensures in
+    (λ honest. first.honest.0 (second.honest.0 (third.honest.0 honest)), λ honest. third.honest.1 (second.honest.1 (first.honest.1 honest)))
