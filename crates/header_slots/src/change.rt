@@ -8,9 +8,9 @@ ghost use Rattle.header_slots.specs.declared.header.Header.{Header};
 
 use crate::fault::ChangeFault;
 use crate::header::{Areas, Header};
-use crate::slots::{CLOSED, OPEN, read_current, slot_from};
+use crate::slots::{read_current, slot_from};
 use disk_model::{DeviceFault, Disk, write_synced};
-use image_model::Side;
+use image_model::{CLOSED, OPEN, Side};
 
 /// What a new header says anew. Its generation is one greater than that of the header in force, and the sizes stay.
 #[derive(Clone, Copy, Debug, PartialEq, Eq)]

@@ -9,15 +9,10 @@ ghost use Rattle.image_model.specs.Geometry.{device_bytes_of};
 use crate::fault::HeaderFault;
 use crate::header::{HEADER_BYTES, Header, u64_at};
 use disk_model::{DeviceFault, Disk};
-use image_model::Side;
+use image_model::{CLOSED, OPEN, Side};
 
 /// The bytes of a header slot.
 pub const SLOT_BYTES: u64 = 4096;
-
-// A gate that is open; every other byte is a closed one.
-pub(crate) const OPEN: u8 = 1;
-
-pub(crate) const CLOSED: u8 = 0;
 
 // The bytes of a slot behind its gate.
 const BODY_BYTES: usize = 4095;

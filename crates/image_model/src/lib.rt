@@ -2,6 +2,7 @@
 #![tactic(auto)]
 
 mod command;
+mod gate;
 mod geometry;
 mod plain_image;
 mod side;
@@ -9,6 +10,7 @@ mod side;
 mod tests;
 
 pub use command::{Command, Kind};
+pub use gate::{CLOSED, OPEN};
 pub use geometry::{BLOCK_BYTES, Geometry, LEAST_AREA_BYTES, MOST_AREA_BYTES, MOST_BLOCKS};
 pub use plain_image::{OutOfRange, PlainImage};
 pub use side::Side;

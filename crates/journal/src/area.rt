@@ -15,13 +15,9 @@ use crate::group::Group;
 use crate::scan::Place;
 use crate::touch::{Touch, TouchedRange, next_touched};
 use disk_model::{DeviceFault, Disk, write_synced};
+use image_model::{CLOSED, OPEN};
 use std::alloc::Global;
 use std::marker::Model;
-
-// A gate that is open; every other byte is a closed one.
-pub const OPEN: u8 = 1;
-
-pub const CLOSED: u8 = 0;
 
 // The gate of a group, the length of its body, its first number and its count of commands.
 pub const GROUP_HEAD_BYTES: u32 = 17;

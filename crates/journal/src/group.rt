@@ -6,10 +6,9 @@ ghost use Rattle.journal.specs.Scanning.{AreWithin};
 ghost use Rattle.journal.specs.Touches.{touched_by, touched_by_changes};
 ghost use Rattle.journal.specs.Spelling.{stored_of, clear_byte, change_head, change_bytes, group_head, group_bytes};
 
-use crate::area::CLOSED;
 use crate::scan::COMMAND_HEAD_BYTES;
 use crate::touch::{Touch, TouchedRange, note};
-use image_model::{BLOCK_BYTES, Command, Kind};
+use image_model::{BLOCK_BYTES, CLOSED, Command, Kind};
 use std::alloc::AllocError;
 use std::marker::Model;
 

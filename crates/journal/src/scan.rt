@@ -7,23 +7,24 @@ ghost use Rattle.journal.specs.Scanning.{AreWithin, FoundChange, FoundChanges, F
 ghost use Rattle.journal.specs.Spelling.{change_head, group_head};
 ghost use Rattle.journal.specs.Touches.{EndsWithin};
 
-use crate::area::{GROUP_HEAD_BYTES, OPEN};
+use crate::area::GROUP_HEAD_BYTES;
 use crate::fault::JournalFault;
 use crate::group::{ALLOCATED_ZERO, HOLE, PUT};
 use crate::touch::{Touch, TouchedRange, note};
 use crate::window::Window;
 use byteorder::{BigEndian, ByteOrder};
 use disk_model::{DeviceFault, Disk};
-use image_model::{BLOCK_BYTES, Kind};
+use image_model::{BLOCK_BYTES, Kind, OPEN};
 use std::alloc::Global;
 
 // The bytes of a command in front of a put's data: its kind, its first block and its blocks.
 pub const COMMAND_HEAD_BYTES: u32 = 13;
 
-// The most blocks of a put, and the most bytes of a group's body.
+// The most blocks of a put.
 const MOST_PUT_BLOCKS: u32 = 256;
 
-const MOST_BODY_BYTES: u32 = 8_388_608;
+/// The most bytes of a group's body.
+pub const MOST_BODY_BYTES: u32 = 8_388_608;
 
 // A part of a device that is read as an area: where it begins, its bytes, the image's blocks.
 #[derive(Clone, Copy)]

@@ -4,6 +4,7 @@ ghost use Rattle.nbdj_line.specs.Commands.{area_rule, bare_app, blocks_rule, cac
 
 use clap::builder::ValueParser;
 use clap::{Arg, Command, value_parser};
+use nbdj_pipe::{LEAST_FRAMES, MOST_FRAMES};
 use std::alloc::{AllocError, Global};
 
 // The whole command line; the modes are the values that `--cache` takes.
@@ -90,7 +91,7 @@ fn frames<'a>(alloc: Global) -> Arg<'a>
 {
     option(alloc, "frames", "F")
         .default_value("4096")
-        .value_parser(value_parser!(u64).range(512..=65_536))
+        .value_parser(value_parser!(u64).range(LEAST_FRAMES as i64..=MOST_FRAMES as i64))
         .help("Blocks that may be written and not yet copied to the image: 512 to 65536")
 }
 

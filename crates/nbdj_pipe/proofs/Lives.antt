@@ -77,7 +77,7 @@ module _ {D : Type 0} (state : D → State) (faults : D → ℕ) (honest : D →
   -- the image that the life begins with; on a device that isn't trusted any
   abbrev image_of : (trusted : Bool) → (trusted ≡ true → honest start) → Image
   image_of true given = (found (given refl)).0
-  image_of false given = holes
+  image_of false given = holes keeper.geometry.blocks
 
   keeps_of : (trusted : Bool) (given : trusted ≡ true → honest start) → Trusts trusted (honest keeper.disk) → Keeps keeper (state keeper.disk) (image_of trusted given) keeper.count
   keeps_of true given is = (found (given refl)).1

@@ -8,6 +8,6 @@ mod refusal;
 mod session;
 mod streams;
 
-pub use options::PipeOptions;
+pub use options::{LEAST_FRAMES, MOST_FRAMES, PipeOptions};
 pub use refusal::Refusal;
 pub use session::pipe;

@@ -2,6 +2,12 @@ ghost use Rattle.std.specs.Prelude.{◌≡◌, ◌≤◌, MatchOption};
 
 use world::Mode;
 
+/// The fewest blocks that may be allowed to wait for the checkpoint.
+pub const LEAST_FRAMES: u64 = 512;
+
+/// The most of them.
+pub const MOST_FRAMES: u64 = 65_536;
+
 /// How a connection is served.
 #[derive(Clone, Copy, Debug, PartialEq, Eq)]
 pub struct PipeOptions {
@@ -17,7 +23,7 @@ impl PipeOptions {
     pub fn new(frames: u64, mode: Mode) -> Option<PipeOptions>
         ensures { MatchOption result ((512 ≤ frames) × (frames ≤ 65536) → ⊥) (λ options. (options.frames ≡ frames) × (options.mode ≡ mode)) }
     {
-        if !(512..=65_536).contains(&frames) {
+        if !(LEAST_FRAMES..=MOST_FRAMES).contains(&frames) {
             return None;
         }
         Some(PipeOptions {

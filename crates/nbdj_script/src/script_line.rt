@@ -2,6 +2,7 @@ ghost use Rattle.std.specs.Prelude.{◌≡◌, ◌≤◌, ◌<◌, ◌*◌, ◌^
 
 use disk_model::{CallKind, CrashChoice};
 use image_model::Geometry;
+use nbdj_pipe::PipeOptions;
 use request_core::Mode;
 use std::alloc::{AllocError, Global};
 use std::str;
@@ -105,15 +106,11 @@ fn step_of(words: &[&str]) -> Option<StepLine> {
 fn format(blocks: &str, area: &str, frames: &str, mode: Mode) -> Option<Line> {
     let area = u32::try_from(number_of(area)?).ok()?;
     let geometry = Geometry::new(number_of(blocks)?, area)?;
-    let frames = number_of(frames)?;
-    if !(512..=65_536).contains(&frames) {
-        return None;
-    }
-    let frames = frames as u32;
+    let options = PipeOptions::new(number_of(frames)?, mode)?;
     Some(Line::Format(Setup {
         geometry,
-        frames,
-        mode,
+        frames: options.frames,
+        mode: options.mode,
     }))
 }
 

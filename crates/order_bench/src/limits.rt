@@ -68,10 +68,16 @@ pub fn cut_group(alloc: Global) -> Result<Shape> {
     next_group(&mut order)
 }
 
-// A put of a block that isn't dirty, where each of the frames holds one that is.
+// An order whose 512 frames all hold a dirty block.
+fn full_order(alloc: Global) -> Result<Order> {
+    let mut order = Order::new(alloc, 0, 512, LEAST_AREA_BYTES);
+    let _first = accept(&mut order, put(alloc, 0, 256)?)?;
+    let _second = accept(&mut order, put(alloc, 256, 256)?)?;
+    Ok(order)
+}
+
+// A put of a block that isn't dirty, where no frame is left.
 fn refused_put(alloc: Global, order: &mut Order) -> Result<(OrderFault, Command)> {
-    let _first = accept(order, put(alloc, 0, 256)?)?;
-    let _second = accept(order, put(alloc, 256, 256)?)?;
     match order.accept(put(alloc, 512, 1)?) {
         Ok(_) => bail!("accepted"),
         Err(refused) => Ok(refused),
@@ -80,11 +86,10 @@ fn refused_put(alloc: Global, order: &mut Order) -> Result<(OrderFault, Command)
 
 /// Why 512 full frames refuse a put, its block, and the numbers of a put of a dirty block and of a clear after it.
 pub fn full_frames(alloc: Global) -> Result<(OrderFault, u64, u64, u64)> {
-    let mut order = Order::new(alloc, 0, 512, LEAST_AREA_BYTES);
+    let mut order = full_order(alloc)?;
     let (fault, command) = refused_put(alloc, &mut order)?;
-    let block = match command {
-        Command::Put { first, .. } => first,
-        Command::Clear { .. } => bail!("another command"),
+    let Command::Put { first: block, .. } = command else {
+        bail!("another command")
     };
     let again = accept(&mut order, put(alloc, 511, 1)?)?;
     let cleared = accept(&mut order, clear(0, 1 << 24))?;
@@ -107,33 +112,51 @@ fn free_frames(alloc: Global, order: &mut Order, first: u64) -> Result<u64>
 
 /// How many of 512 full frames are free after a clear of ten blocks, and of all blocks from the twentieth on.
 pub fn cleared_frames(alloc: Global) -> Result<(u64, u64)> {
-    let mut order = Order::new(alloc, 0, 512, LEAST_AREA_BYTES);
-    let _first = accept(&mut order, put(alloc, 0, 256)?)?;
-    let _second = accept(&mut order, put(alloc, 256, 256)?)?;
+    let mut order = full_order(alloc)?;
     let _few = accept(&mut order, clear(0, 10))?;
     let after_few = free_frames(alloc, &mut order, 1_000)?;
     let _many = accept(&mut order, clear(20, (1 << 24) - 20))?;
     Ok((after_few, free_frames(alloc, &mut order, 2_000)?))
 }
 
+// Commands that take 67,108,864 bytes in groups.
+fn fill_backlog(alloc: Global, order: &mut Order) -> Result<()> {
+    for _ in 0..63 {
+        let _number = accept(order, put(alloc, 0, 256)?)?;
+    }
+    let _number = accept(order, put(alloc, 0, 243)?)?;
+    clear_often(order, 4_032)
+}
+
+fn clear_often(order: &mut Order, times: u32) -> Result<()> {
+    for _ in 0..times {
+        let _number = accept(order, clear(9, 1))?;
+    }
+    Ok(())
+}
+
+// Why a clear is refused.
+fn refused_clear(order: &mut Order) -> Result<OrderFault> {
+    match accept(order, clear(9, 1)) {
+        Ok(_) => bail!("accepted"),
+        Err(fault) => Ok(fault),
+    }
+}
+
+// The number of a clear once a group is durable.
+fn number_after_store(alloc: Global, order: &mut Order) -> Result<u64> {
+    let mut keeper = keeper(alloc, 256, ROOMY_AREA_BYTES)?;
+    store(order, &mut keeper)?;
+    Ok(accept(order, clear(9, 1))?)
+}
+
 /// The last number that 67,108,864 bytes take, why the next command is refused, and its number once a group is durable.
 pub fn full_backlog(alloc: Global) -> Result<(u64, OrderFault, u64)> {
-    let mut keeper = keeper(alloc, 256, ROOMY_AREA_BYTES)?;
     let mut order = Order::new(alloc, 0, 4_096, ROOMY_AREA_BYTES);
-    for _ in 0..63 {
-        let _number = accept(&mut order, put(alloc, 0, 256)?)?;
-    }
-    let _number = accept(&mut order, put(alloc, 0, 243)?)?;
-    for _ in 0..4_032 {
-        let _number = accept(&mut order, clear(9, 1))?;
-    }
+    fill_backlog(alloc, &mut order)?;
     let full = order.mark();
-    let Err(fault) = accept(&mut order, clear(9, 1)) else {
-        bail!("accepted")
-    };
-    store(&mut order, &mut keeper)?;
-    let next = accept(&mut order, clear(9, 1))?;
-    Ok((full, fault, next))
+    let fault = refused_clear(&mut order)?;
+    Ok((full, fault, number_after_store(alloc, &mut order)?))
 }
 
 /// The last number of an order that was stopped before its first command, and why it refuses that command.
@@ -143,8 +166,6 @@ pub fn stopped_order(alloc: Global) -> Result<(u64, OrderFault)> {
     if !order.stopped() {
         bail!("not stopped");
     }
-    let Err(fault) = accept(&mut order, clear(0, 1)) else {
-        bail!("accepted")
-    };
+    let fault = refused_clear(&mut order)?;
     Ok((order.opening(), fault))
 }

@@ -36,22 +36,51 @@ fn order_with(alloc: Global, dirty: u64, keeper: &mut Keeper<SimDisk>) -> Result
     Ok(order)
 }
 
-// The time that the accepts of all batches take.
+// The time that the accepts of a batch take.
+fn timed_batch(
+    rt: &HostRuntime,
+    alloc: Global,
+    start: u64,
+    dirty: u64,
+    order: &mut Order,
+) -> Result<Duration>
+    requires some { 0 < dirty }
+    requires few { dirty < 2 ^ 32 }
+    requires batches { start < 2 ^ 32 }
+{
+    let commands = load::batch(alloc, start, dirty)?;
+    let begin = Instant::now(rt)?;
+    load::accept_all(order, commands)?;
+    Ok(begin.elapsed(rt)?)
+}
+
+// The time that the accepts of all batches take, each of which is then stored.
+fn timed_batches(
+    rt: &HostRuntime,
+    alloc: Global,
+    dirty: u64,
+    order: &mut Order,
+    keeper: &mut Keeper<SimDisk>,
+) -> Result<Duration>
+    requires some { 0 < dirty }
+    requires few { dirty < 2 ^ 32 }
+{
+    let mut time = Duration::ZERO;
+    for start in 0..BATCHES {
+        time = time.saturating_add(timed_batch(rt, alloc, start, dirty, order)?);
+        load::store(order, keeper)?;
+    }
+    Ok(time)
+}
+
+// The time that accepts take with so many dirty blocks.
 fn accepts(rt: &HostRuntime, alloc: Global, dirty: u64) -> Result<Duration>
     requires some { 0 < dirty }
     requires few { dirty < 2 ^ 32 }
 {
     let mut keeper = load::keeper(alloc, FRAMES as u64, AREA_BYTES)?;
     let mut order = order_with(alloc, dirty, &mut keeper)?;
-    let mut time = Duration::ZERO;
-    for start in 0..BATCHES {
-        let commands = load::batch(alloc, start, dirty)?;
-        let begin = Instant::now(rt)?;
-        load::accept_all(&mut order, commands)?;
-        time = time.saturating_add(begin.elapsed(rt)?);
-        load::store(&mut order, &mut keeper)?;
-    }
-    Ok(time)
+    timed_batches(rt, alloc, dirty, &mut order, &mut keeper)
 }
 
 fn measure(rt: &HostRuntime, alloc: Global) -> Result<()> {
@@ -85,14 +114,19 @@ fn print_limits(rt: &impl Print, alloc: Global) -> Result<()> {
     Ok(())
 }
 
+// How many commands were accepted, and how many are durable, where each batch was stored.
+fn print_stored(rt: &impl Print, alloc: Global) -> Result<()> {
+    let mut keeper = load::keeper(alloc, 1_000, 8_388_608)?;
+    let order = order_with(alloc, 1_000, &mut keeper)?;
+    println!(rt; "{} accepted, {} durable", order.mark(), order.durable())?;
+    Ok(())
+}
+
 fn main(rt: HostRuntime) -> Result<()> {
     let alloc = rt.alloc();
     if env::args(&rt)?.any(|word| word.as_str() == "--measure") {
         return measure(&rt, alloc);
     }
-    let mut keeper = load::keeper(alloc, 1_000, 8_388_608)?;
-    let order = order_with(alloc, 1_000, &mut keeper)?;
-    let (accepted, durable) = (order.mark(), order.durable());
-    println!(rt; "{accepted} accepted, {durable} durable")?;
+    print_stored(&rt, alloc)?;
     print_limits(&rt, alloc)
 }

@@ -9,15 +9,12 @@ use crate::pending::PendingCommands;
 use checkpoint::Keeper;
 use disk_model::Disk;
 use image_model::Command;
-use journal::Group;
+use journal::{Group, MOST_BODY_BYTES};
 use std::alloc::{AllocError, Global};
 use std::marker::Model;
 
 /// The most bytes that the commands which aren't durable take in groups.
 const MOST_BACKLOG_BYTES: u64 = 67_108_864;
-
-/// The most bytes of a group's body.
-const MOST_BODY_BYTES: u64 = 8_388_608;
 
 /// The bytes of an area round a group's body: what stands before it, and the gate behind it.
 const BYTES_ROUND_BODY: u64 = 18;
@@ -221,7 +218,7 @@ impl Order {
     fn body_limit(&self) -> u64
         ensures { result ≡ body_limit self.now.area }
     {
-        (self.area as u64 - BYTES_ROUND_BODY).min(MOST_BODY_BYTES)
+        (self.area as u64 - BYTES_ROUND_BODY).min(MOST_BODY_BYTES as u64)
     }
 
     /// Makes the group in hand, the last that was sealed, pending again: the list is as it was before that `seal`, with what was accepted since.
