@@ -9,6 +9,6 @@ mod side;
 mod tests;
 
 pub use command::{Command, Kind};
-pub use geometry::{BLOCK_BYTES, Geometry, LEAST_AREA_BYTES, MOST_AREA_BYTES, MOST_BLOCKS};
+pub use geometry::{AREAS, BLOCK_BYTES, Geometry, LEAST_AREA_BYTES, MOST_AREA_BYTES, MOST_BLOCKS};
 pub use plain_image::{OutOfRange, PlainImage};
 pub use side::Side;
