@@ -15,7 +15,7 @@ use Rattle.image_model.specs.declared.command.Kind.TheVariants.{Hole}
 use Rattle.image_model.specs.declared.geometry.Geometry.{Geometry}
 use Rattle.regions.specs.Layout.{area_at, map_at, block_at}
 use Rattle.checkpoint.specs.Format.{AreClosed, IsFormatted, IsFresh, LeavesButGates, first_header}
-use Rattle.checkpoint.specs.Stands.{StandsFor, holes, is_data, stored_image}
+use Rattle.device_image.specs.Stands.{StandsFor, holes, is_data, stored_image}
 
 -- a block of an image of holes is a hole
 hole_at : (blocks block : ℕ) → Hole ≡ state_at (replicate blocks Hole) block
@@ -50,8 +50,7 @@ fresh_stands content geometry size zero_open one_closed fresh =
       header = first_header geometry;
       slot = Zero;
       states = replicate geometry.blocks Hole;
-      earlier = [];
-      groups = [];
+      lists = [] ∷ [];
       in_force = fresh_holds content geometry size zero_open one_closed fresh;
       map = record {
         bytes = zeroes;
@@ -62,8 +61,7 @@ fresh_stands content geometry size zero_open one_closed fresh =
         count = length-replicate geometry.blocks Hole;
         map = own_states geometry.blocks zeroes (replicate geometry.blocks Hole) (map_of_zeroes geometry.blocks geometry.not_too_many) (states_of-zeroes geometry.blocks (map_bytes_of geometry.blocks) zeroes refl);
       };
-      first_list = refl;
-      last_list = record { stand = λ is_open. absurd (omega (arith, fresh.gate, is_open)); inside = omega (arith, geometry.area_not_too_small) };
+      held = (record { stand = λ is_open. absurd (omega (arith, fresh.gate, is_open)); inside = omega (arith, geometry.area_not_too_small) }, tt);
       count = refl;
       shows = holes_stored content geometry;
     }

@@ -1,8 +1,7 @@
-pub mod Frame
 pub mod Added
-pub mod Sole
-pub mod Formatted
-pub mod Readings
 pub mod Areas
-pub mod Opened
+pub mod Formatted
 pub mod Located
+pub mod Opened
+pub mod Readings
+pub mod Refused

@@ -1,23 +1,30 @@
 -- What is read of a good device, as what a keeper keeps.
-use Rattle.std.proofs.Common.{◌≡◌, ℕ, ◌+◌, ◌%◌, ◌<◌, List, [], ◌∷◌, ◌++◌, length, Option, false, refl, sym, ◌∙◌, ap, subst, arith, length-append}
-use Rattle.disk_model.specs.Disk.{State, IsAllSynced, MayLeave}
+use Rattle.std.proofs.Common.{◌≡◌, ℕ, ◌+◌, ◌%◌, ◌<◌, List, [], ◌∷◌, ◌++◌, length, false, refl, sym, ◌∙◌, ap, subst, arith, length-append}
+use Rattle.std.proofs.lemmas.List.{append-nil}
+use Rattle.disk_model.specs.Disk.{State, IsAllSynced, IsSound, MayLeave}
 use Rattle.disk_model.proofs.Contents.{leaves_seen}
+use Rattle.header_slots.specs.Header.{mode_of}
 use Rattle.header_slots.specs.declared.header.Areas.{Areas}
 use Rattle.header_slots.specs.declared.header.Header.{Header}
+use Rattle.image_model.specs.Change.{Change}
+use Rattle.image_model.specs.declared.geometry.Geometry.{Geometry}
+use Rattle.image_model.specs.declared.side.Side.{Side}
 use Rattle.image_model.specs.Image.{Image, apply_all}
 use Rattle.image_model.specs.declared.command.Kind.{Kind}
 use Rattle.journal.specs.Area.{AreaState}
 use Rattle.journal.specs.GroupList.{IsHeld, Stand, next_behind, number_behind, size_of, changes_of}
 use Rattle.journal.specs.Spelling.{StoredGroup}
-use Rattle.checkpoint.specs.Keeper.{KeeperState}
-use Rattle.checkpoint.specs.Keeps.{IsPlaced, Keeps}
+use Rattle.journal.specs.Touches.{touched_by_groups}
+use Rattle.regions.specs.Layout.{area_at, behind, ring}
+use Rattle.device_image.specs.Keeper.{KeeperState, Phase, count_puts, phase_of}
+use Rattle.device_image.specs.Keeps.{AreHeld, IsPhase, IsPlaced, Keeps, behind_lists, touched_first}
 use Rattle.checkpoint.specs.Opening.{IsOpened, IsPassing, IsRefused}
-use Rattle.checkpoint.specs.Stored.{touched_in}
-use Rattle.checkpoint.specs.Stands.{StandsFor, HoldsEarlier, area_of, last_area, next_number, stored_image}
+use Rattle.device_image.specs.Stands.{StandsFor, HoldLists, all_changes, area_of, in_use, next_number, stored_image}
 use Rattle.checkpoint.specs.declared.fault.KeeperFault.{KeeperFault}
 use Rattle.checkpoint.specs.declared.fault.KeeperFault.TheVariants.{NoMemory, DeviceFault, BadMap, NoHeader, BadHeader, AreaFull, OutOfOrder, DamagedGroup, Failed}
-use Rattle.checkpoint.proofs.Frame.{changes-append, moved_list}
-use Rattle.checkpoint.proofs.Sole.{never_refused, one_image, one_number}
+use Rattle.device_image.proofs.Frame.{all_changes-append, held_lists, moved_list, ring-last, with_last}
+use Rattle.device_image.proofs.Sole.{one_image, one_number}
+use Rattle.checkpoint.proofs.Refused.{never_refused}
 
 -- behind groups that follow the number `last` the next number is the one that follows the last of them
 pub record Follows (last next : ℕ) (groups : List StoredGroup) : Type 0 where
@@ -37,55 +44,94 @@ follows image content place next last (group ∷ groups) fits is stand =
       fits = omega (arith, rest.fits, same);
     }
 
-earlier_follows : (areas : Areas) (content : List ℕ) (area : AreaState) (last : ℕ) (groups : List StoredGroup) → last < 18446744073709551616 → HoldsEarlier areas content area (next_number last) groups
-    → Follows last (next_number last) groups
-earlier_follows Areas.One content area last groups fits none =
-    subst (λ (list : List StoredGroup). Follows last (next_number last) list) (sym none) (record { following = omega arith; fits = omega (arith, fits) })
-earlier_follows Areas.Two content area last groups fits list = follows area.blocks content area.from (next_number last) last groups fits refl list.stand
+-- and the same behind lists of such groups
+pub record FollowsLists (last next : ℕ) (lists : List (List StoredGroup)) : Type 0 where
+  pub following : behind_lists next lists ≡ next_number (last + length (all_changes lists))
+  pub fits : last + length (all_changes lists) < 18446744073709551616
 
-module _ (state : State) (header : Header) (states : List Kind) (first : Option AreaState) (area : AreaState) (opened : IsOpened state header states first area) (placed : IsPlaced area header.geometry (last_area header.areas header.first_area)) (fits : header.base < 18446744073709551616) where
-  all_changes : length (changes_of (opened.areas.earlier ++ opened.areas.groups)) ≡ length (changes_of opened.areas.earlier) + length (changes_of opened.areas.groups)
-  all_changes = ap length (changes-append opened.areas.earlier opened.areas.groups) ∙ length-append (changes_of opened.areas.earlier) (changes_of opened.areas.groups)
+follows_lists : (areas : List Side) (content : List ℕ) (geometry : Geometry) (next last : ℕ) (lists : List (List StoredGroup)) → last < 18446744073709551616 → next ≡ next_number last
+    → HoldLists areas content geometry next lists → FollowsLists last next lists
+follows_lists [] content geometry next last [] fits is holds = record { following = omega (arith, is); fits = omega (arith, fits) }
+follows_lists [] content geometry next last (groups ∷ lists) fits is holds = absurd holds
+follows_lists (area ∷ areas) content geometry next last [] fits is holds = absurd holds
+follows_lists (area ∷ areas) content geometry next last (groups ∷ lists) fits is holds =
+    let first = follows geometry.blocks content (area_at geometry area) next last groups fits is holds.0.stand in
+    let all : length (all_changes (groups ∷ lists)) ≡ length (changes_of groups) + length (all_changes lists) = length-append (changes_of groups) (all_changes lists) in
+    let rest = follows_lists areas content geometry (next_behind next groups) (last + length (changes_of groups)) lists first.fits first.following holds.1 in
+    let same : last + length (changes_of groups) + length (all_changes lists) ≡ last + length (all_changes (groups ∷ lists)) = omega (arith, all) in
+    record {
+      following = rest.following ∙ ap next_number same;
+      fits = omega (arith, rest.fits, same);
+    }
+
+-- what is remembered of the areas in front of the last tells the phase
+phase_sound : (areas : Areas) (header : Header) (next : ℕ) (front : List (List StoredGroup)) (earlier : List AreaState) (state : State) (blocks : ℕ)
+    → AreHeld (ring (mode_of areas) header.first_area) header.geometry next front earlier state → IsPhase (phase_of earlier blocks) areas (count_puts blocks (touched_first header front))
+phase_sound Areas.One header next [] [] state blocks held = refl
+phase_sound Areas.One header next [] (area ∷ earlier) state blocks held = absurd held
+phase_sound Areas.One header next (groups ∷ front) earlier state blocks held = absurd held
+phase_sound Areas.Two header next [] earlier state blocks held = absurd held
+phase_sound Areas.Two header next (groups ∷ front) [] state blocks held = absurd held
+phase_sound Areas.Two header next (groups ∷ front) (area ∷ earlier) state blocks held =
+    (refl, ap (count_puts blocks) (held.1.touched ∙ ap (λ (place : ℕ). touched_by_groups place groups) held.0.from))
+
+module _ (state : State) (header : Header) (states : List Kind) (earlier : List AreaState) (area : AreaState) (opened : IsOpened state header states earlier area) (fits : header.base < 18446744073709551616) where
+  pub held : HoldLists (ring (mode_of header.areas) header.first_area) state.seen header.geometry (next_number header.base) opened.areas.front
+  held = held_lists _ _ _ _ earlier state opened.areas.earlier_held
 
   -- the number in front of the area's next is that of the last command
-  pub last_number : (count : ℕ) → count ≡ (area.next + 18446744073709551615) % 18446744073709551616 → count ≡ header.base + length (changes_of (opened.areas.earlier ++ opened.areas.groups))
+  pub last_number : (count : ℕ) → count ≡ (area.next + 18446744073709551615) % 18446744073709551616 → count ≡ header.base + length (all_changes opened.lists)
   last_number count is =
-      let first = earlier_follows header.areas state.seen _ header.base opened.areas.earlier fits opened.areas.first_list in
-      let last = follows area.blocks state.seen area.from _ (header.base + length (changes_of opened.areas.earlier)) opened.areas.groups first.fits first.following opened.areas.held.list.stand in
-      omega (arith, is, opened.areas.held.next, last.following, last.fits, all_changes)
+      let first = follows_lists _ state.seen header.geometry _ header.base opened.areas.front fits refl held in
+      let last = follows area.blocks state.seen area.from _ (header.base + length (all_changes opened.areas.front)) opened.areas.groups first.fits first.following opened.areas.held.list.stand in
+      let all = ap (λ (lists : List (List StoredGroup)). length (all_changes lists)) opened.areas.are
+      ∙ ap length (all_changes-append opened.areas.front (opened.areas.groups ∷ []) ∙ ap (λ (more : List Change). all_changes opened.areas.front ++ more) (append-nil (changes_of opened.areas.groups)))
+      ∙ length-append (all_changes opened.areas.front) (changes_of opened.areas.groups) in
+      omega (arith, is, opened.areas.held.next, last.following, last.fits, all)
 
   abbrev pub opened_image : Image
-  opened_image = apply_all (changes_of (opened.areas.earlier ++ opened.areas.groups)) (stored_image state.seen header.geometry states)
+  opened_image = apply_all (all_changes opened.lists) (stored_image state.seen header.geometry states)
 
-  abbrev pub opened_stands : (count : ℕ) → count ≡ header.base + length (changes_of (opened.areas.earlier ++ opened.areas.groups)) → StandsFor state.seen opened_image count
+  abbrev pub opened_stands : (count : ℕ) → count ≡ header.base + length (all_changes opened.lists) → StandsFor state.seen opened_image count
   opened_stands count is = record {
     header = header;
     slot = opened.slot;
     states = states;
-    earlier = opened.areas.earlier;
-    groups = opened.areas.groups;
+    lists = opened.lists;
     in_force = opened.in_force;
     map = opened.map;
-    first_list = opened.areas.first_list;
-    last_list = moved_list area (area_of header.geometry (last_area header.areas header.first_area)) _ _ state.seen placed.from placed.bytes placed.blocks opened.areas.held.list;
+    held = subst (λ (lists : List (List StoredGroup)). HoldLists (in_use header) state.seen header.geometry (next_number header.base) lists) (sym opened.areas.are)
+        (subst (λ (areas : List Side). HoldLists areas state.seen header.geometry (next_number header.base) (opened.areas.front ++ opened.areas.groups ∷ [])) (sym (ring-last (mode_of header.areas) header.first_area))
+        (with_last _ (behind (mode_of header.areas) header.first_area) state.seen header.geometry (next_number header.base) opened.areas.front opened.areas.groups held
+        (moved_list area (area_of header.geometry (behind (mode_of header.areas) header.first_area)) _ _ state.seen opened.areas.placed.from opened.areas.placed.bytes opened.areas.placed.blocks opened.areas.held.list)));
     count = is;
     shows = refl;
   }
 
-  pub opened_keeps : {D : Type 0} (keeper : KeeperState D) → keeper.failed ≡ false → keeper.geometry ≡ header.geometry → keeper.base ≡ header.base → keeper.map ≡ states → keeper.first ≡ first → keeper.area ≡ area → keeper.used ≡ area.gate
+  pub opened_keeps : {D : Type 0} (keeper : KeeperState D) {extent : ℕ} → IsSound extent state → keeper.failed ≡ false → keeper.geometry ≡ header.geometry → keeper.generation ≡ header.generation → keeper.base ≡ header.base
+      → keeper.phase ≡ phase_of earlier header.geometry.blocks → keeper.memory.map ≡ states → keeper.memory.earlier ≡ earlier → keeper.memory.area ≡ area → keeper.used ≡ area.gate
       → keeper.count ≡ (area.next + 18446744073709551615) % 18446744073709551616 → Keeps keeper state opened_image keeper.count
-  opened_keeps keeper works sizes base map first_is area_is used counted = record {
+  opened_keeps keeper sound works sizes generation base phase map front_is area_is used counted = record {
     works = works;
-    synced = opened.synced;
+    steady = λ place loose. opened.synced place (sound.loose place loose);
     stands = opened_stands keeper.count (last_number keeper.count counted);
     sizes = sizes;
+    generation = generation;
     from_base = base;
     counted = refl;
-    taken = used ∙ opened.areas.held.gate;
     mapped = map;
-    first_touched = ap touched_in first_is ∙ opened.areas.touched;
-    placed = subst (λ (a : AreaState). IsPlaced a header.geometry (last_area header.areas header.first_area)) (sym area_is) placed;
-    held = subst (λ (a : AreaState). IsHeld a (next_behind (next_number header.base) opened.areas.earlier) opened.areas.groups state) (sym area_is) opened.areas.held;
+    areas = record {
+      front = opened.areas.front;
+      groups = opened.areas.groups;
+      are = opened.areas.are;
+      earlier_held = subst (λ (list : List AreaState). AreHeld (ring (mode_of header.areas) header.first_area) header.geometry (next_number header.base) opened.areas.front list state) (sym front_is) opened.areas.earlier_held;
+      placed = subst (λ (a : AreaState). IsPlaced a header.geometry (behind (mode_of header.areas) header.first_area)) (sym area_is) opened.areas.placed;
+      held = subst (λ (a : AreaState). IsHeld a (behind_lists (next_number header.base) opened.areas.front) opened.areas.groups state) (sym area_is) opened.areas.held;
+    };
+    taken = used ∙ opened.areas.held.gate;
+    phased = subst (λ (p : Phase). IsPhase p header.areas (count_puts header.geometry.blocks (touched_first header opened.areas.front))) (sym phase)
+        (phase_sound header.areas header (next_number header.base) opened.areas.front earlier state header.geometry.blocks opened.areas.earlier_held);
+    unsynced = λ place unsynced. absurd (opened.synced place unsynced);
   }
 
 -- where nothing was unsynced, what stood is what is kept

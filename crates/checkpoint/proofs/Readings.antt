@@ -2,7 +2,7 @@
 use Rattle.std.proofs.Common.{◌≡◌, ℕ, List, length, Result, Ok, Err, sym, ◌∙◌, subst}
 use Rattle.std.proofs.lemmas.List.{ext_get_or}
 use Rattle.std.specs.Result.{IsErrAnd, MatchResult}
-use Rattle.disk_model.specs.Disk.{State, IsAllSynced, IsSound}
+use Rattle.disk_model.specs.Disk.{State, IsAllSynced, IsSound, IsSteady}
 use Rattle.header_slots.specs.Slots.{HoldsHeader, IsReading}
 use Rattle.header_slots.specs.declared.fault.HeaderFault.{HeaderFault}
 use Rattle.header_slots.specs.declared.fault.HeaderFault.TheVariants as headers
@@ -15,14 +15,19 @@ use Rattle.regions.specs.Map.{HoldsMap, IsMapReading}
 use Rattle.regions.specs.declared.fault.RegionFault.{RegionFault}
 use Rattle.regions.specs.declared.fault.RegionFault.TheVariants as regions
 use Rattle.checkpoint.specs.Faults.{of_header, of_region}
-use Rattle.checkpoint.specs.Opening.{IsAreaDamaged, IsGroupsRefused, IsRefused}
+use Rattle.device_image.specs.Damage.{IsAreaDamaged}
+use Rattle.checkpoint.specs.Opening.{IsGroupsRefused, IsRefused}
 use Rattle.checkpoint.specs.declared.fault.KeeperFault.{KeeperFault}
 use Rattle.checkpoint.specs.declared.fault.KeeperFault.TheVariants.{NoMemory, DeviceFault, BadMap, NoHeader, BadHeader, AreaFull, OutOfOrder, DamagedGroup, Failed}
 
--- reads change nothing of a device that is synced
+-- reads change nothing where no place is loose
+pub seen_steady : {before after : State} → IsSteady before → IsOnlyRead before after → before.seen ≡ after.seen
+seen_steady {before = before} {after = after} steady read =
+    ext_get_or 0 before.seen after.seen (sym read.kept.seen.size) (λ place below. sym (read.kept.seen.same place (steady place)))
+
+-- so it is on a device that is synced
 pub seen_same : {extent : ℕ} {before after : State} → IsSound extent before → IsAllSynced before → IsOnlyRead before after → before.seen ≡ after.seen
-seen_same {before = before} {after = after} sound synced read =
-    ext_get_or 0 before.seen after.seen (sym read.kept.seen.size) (λ place below. sym (read.kept.seen.same place (λ loose. synced place (sound.loose place loose))))
+seen_same sound synced read = seen_steady (λ place loose. synced place (sound.loose place loose)) read
 
 pub still_synced : {before after : State} → IsAllSynced before → IsOnlyRead before after → IsAllSynced after
 still_synced synced read place unsynced = synced place (read.kept.unsynced place unsynced)

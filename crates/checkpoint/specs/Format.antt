@@ -9,7 +9,7 @@ use Rattle.image_model.specs.declared.side.Side.TheVariants.{Zero}
 use Rattle.image_model.specs.Geometry.{map_bytes_of}
 use Rattle.image_model.specs.declared.geometry.Geometry.{Geometry}
 use Rattle.regions.specs.Layout.{area_at, map_at}
-use Rattle.checkpoint.specs.Stands.{StandsFor, holes}
+use Rattle.device_image.specs.Stands.{StandsFor, holes}
 
 -- What a crash may leave that differs in the gates of the two headers alone: any bytes there and at unsynced places.
 pub record LeavesButGates (state : State) (content : List ℕ) : Type 0 where

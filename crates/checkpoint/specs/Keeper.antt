@@ -1,43 +1,23 @@
--- keepers as callers see them, and what a call makes of one
-use Rattle.std.specs.Prelude.{ℕ, ◌+◌, Bool, true, List, length, Option}
+-- what a call makes of a keeper
+use Rattle.std.specs.Prelude.{ℕ, ◌+◌, true, length}
+use Rattle.device_image.specs.Keeper.{KeeperState, Memory}
 use Rattle.disk_model.specs.Faults.{counted}
 use Rattle.image_model.specs.Command.{bodies_of}
-use Rattle.image_model.specs.declared.command.Kind.{Kind}
-use Rattle.image_model.specs.declared.geometry.Geometry.{Geometry}
-use Rattle.journal.specs.Append.{grown}
-use Rattle.journal.specs.Area.{AreaState}
 use Rattle.journal.specs.Group.{Numbered}
 use Rattle.checkpoint.specs.declared.fault.KeeperFault.{KeeperFault}
 use Rattle.checkpoint.specs.declared.fault.KeeperFault.TheVariants.{NoMemory, DeviceFault, BadMap, NoHeader, BadHeader, AreaFull, OutOfOrder, DamagedGroup, Failed}
-
-pub record KeeperState (D : Type 0) : Type 0 where
-  pub disk : D
-  pub geometry : Geometry
-  -- the number of the last command stored
-  pub count : ℕ
-  -- the number of the last command in map and data
-  pub base : ℕ
-  -- the bytes of its journal area that its groups take
-  pub used : ℕ
-  -- whether a call of the device has failed
-  pub failed : Bool
-  -- what it remembers of the map, of the area that groups are added to, and of the one in front of it where two are in
-  -- use; no caller needs it
-  pub map : List Kind
-  pub first : Option AreaState
-  pub area : AreaState
 
 -- the bytes of an area that are taken once the group is added and a gate stands behind it
 abbrev pub end_after : {D : Type 0} → KeeperState D → Numbered → ℕ
 end_after keeper group = keeper.used + 18 + bodies_of group.commands
 
--- the keeper with the group added, and its device as it then is
-abbrev pub grown_by : {D : Type 0} → KeeperState D → Numbered → D → KeeperState D
-grown_by keeper group disk = record keeper {
+-- the keeper with the group added, its device as it then is, and what it then remembers
+abbrev pub grown_by : {D : Type 0} → KeeperState D → Numbered → D → Memory → KeeperState D
+grown_by keeper group disk memory = record keeper {
   disk = disk;
   count = keeper.count + length group.commands;
   used = keeper.used + 17 + bodies_of group.commands;
-  area = grown keeper.area group;
+  memory = memory;
 }
 
 -- the keeper after a refusal, and its device as it then is: a device fault stops it, and any other leaves it as it was

@@ -1,20 +1,19 @@
 -- where a block's bytes stand, by what a keeper remembers
-use Rattle.std.specs.Prelude.{ℕ, ◌+◌, List, [], slice_index, Option, Some, None}
+use Rattle.std.specs.Prelude.{ℕ, ◌+◌, List, [], ◌∷◌, slice_index, Option, Some, None}
 use Rattle.alloc_map.specs.Codes.{state_at}
 use Rattle.image_model.specs.declared.command.Kind.{Kind}
 use Rattle.image_model.specs.declared.command.Kind.TheVariants.{Data, Zero, Hole}
 use Rattle.journal.specs.Area.{AreaState}
-use Rattle.journal.specs.Touches.{last_touch}
+use Rattle.journal.specs.Touches.{last_touch, later}
 use Rattle.journal.specs.declared.touch.Touch.{Touch}
 use Rattle.journal.specs.declared.touch.Touch.TheVariants.{Put, Clear}
-use Rattle.journal.specs.declared.touch.TouchedRange.{TouchedRange}
 use Rattle.regions.specs.Layout.{block_at}
-use Rattle.checkpoint.specs.Keeper.{KeeperState}
+use Rattle.device_image.specs.Keeper.{KeeperState}
 
--- what the commands of an area touched, if there is one
-abbrev pub touched_in : Option AreaState → List TouchedRange
-touched_in None = []
-touched_in (Some area) = area.touched
+-- the last touch of a block in areas that stand in the ring one after another
+abbrev pub last_touch_in : ℕ → List AreaState → Option Touch
+last_touch_in block [] = None
+last_touch_in block (area ∷ areas) = later (last_touch block area.touched) (last_touch_in block areas)
 
 -- a block in this state whose data stand at this place, as a touch
 abbrev pub touch_of : Kind → ℕ → Touch
@@ -29,8 +28,8 @@ found (Some touch) other = touch
 
 -- what made a block what it is: its last touch in the journal, or else map and data
 abbrev pub stored_touch : {D : Type 0} → KeeperState D → ℕ → Touch
-stored_touch keeper block = found (last_touch block keeper.area.touched)
-    (found (last_touch block (touched_in keeper.first)) (touch_of (state_at keeper.map block) (block_at keeper.geometry block)))
+stored_touch keeper block = found (last_touch block keeper.memory.area.touched)
+    (found (last_touch_in block keeper.memory.earlier) (touch_of (state_at keeper.memory.map block) (block_at keeper.geometry block)))
 
 -- the state of the block that was touched so
 abbrev pub kind_of : Touch → Kind

@@ -1,8 +1,8 @@
-ghost use Rattle.std.specs.Prelude.{◌≡◌, ◌≢◌, ℕ, ◌+◌, ◌≤◌, ◌<◌, ◌⊎◌, ◌↔◌, length, map, IfErr, IfOk, OnOk, IsErrAnd, IsTrue, false};
+ghost use Rattle.std.specs.Prelude.{◌≡◌, ◌≢◌, ℕ, ◌+◌, ◌≤◌, ◌<◌, ◌⊎◌, ◌↔◌, List, length, map, IfErr, IfOk, OnOk, IsErrAnd, IsTrue, false};
 ghost use Rattle.checkpoint.specs.Keeper.{end_after, faults_by, grown_by, refused_by, IsAppendFault};
-ghost use Rattle.checkpoint.specs.Keeps.{Keeps};
-ghost use Rattle.checkpoint.specs.Opening.{disk_after, faults_after_opening, IsPassing, IsRefused};
-ghost use Rattle.checkpoint.specs.Stands.{StandsFor};
+ghost use Rattle.device_image.specs.Keeps.{Keeps};
+ghost use Rattle.checkpoint.specs.Opening.{disk_after, faults_after_opening, IsOpening, IsPassing};
+ghost use Rattle.device_image.specs.Stands.{StandsFor};
 ghost use Rattle.checkpoint.specs.declared.fault.KeeperFault.TheVariants as KeeperFault;
 ghost use Rattle.disk_model.specs.Disk.{IsAllSynced, LeavesOnly, MayLeave};
 ghost use Rattle.image_model.specs.Change.{AreChanges, change_of};
@@ -12,6 +12,7 @@ use crate::fault::KeeperFault;
 use crate::opening::{Opened, read_device};
 use alloc_map::AllocMap;
 use disk_model::Disk;
+use header_slots::Header;
 use image_model::Geometry;
 use journal::{Area, Group};
 use std::alloc::Global;
@@ -21,42 +22,43 @@ use std::marker::Model;
 #[derive(Drop)]
 pub struct Keeper<D: Disk> {
     pub(crate) disk: D,
-    pub(crate) geometry: Geometry,
-    base: u64,
+    // The header in force.
+    pub(crate) header: Header,
     count: u64,
     // The states of the blocks at the base.
     pub(crate) map: AllocMap,
-    // The area in front of the last one in use, where two are in use.
-    pub(crate) first: Option<Area>,
+    // The areas in use in front of the last one, in the order of the ring.
+    pub(crate) earlier: Vec<Area>,
     // The area that the next group goes to.
     pub(crate) area: Area,
     pub(crate) failed: bool,
 }
 
 impl<D: Disk> Model for Keeper<D> {
-    ghost use Rattle.std.specs.Prelude.{◌≡◌, ◌+◌, ◌≤◌, length, IfSome};
+    ghost use Rattle.std.specs.Prelude.{◌≡◌, ◌+◌, ◌≤◌, length, All};
     ghost use Rattle.image_model.specs.Geometry.{device_bytes_of};
-    ghost use Rattle.checkpoint.specs.Keeper.{KeeperState};
-    ghost use Rattle.checkpoint.specs.Stands.{next_number};
+    ghost use Rattle.device_image.specs.Keeper.{KeeperState, phase_of};
+    ghost use Rattle.device_image.specs.Stands.{next_number};
 
     ghost Value = { KeeperState D };
 
     ghost view = { λ keeper. record {
       disk = keeper.disk;
-      geometry = keeper.geometry;
+      geometry = keeper.header.geometry;
+      generation = keeper.header.generation;
       count = keeper.count;
-      base = keeper.base;
+      base = keeper.header.base;
       used = keeper.area.gate;
+      phase = phase_of keeper.earlier.items keeper.header.geometry.blocks;
       failed = keeper.failed;
-      map = keeper.map;
-      first = keeper.first;
-      area = keeper.area;
+      memory = record { map = keeper.map; earlier = keeper.earlier.items; area = keeper.area };
     } };
 
-    ghost invariant = { λ keeper. (D.extent keeper.disk ≡ device_bytes_of keeper.geometry.blocks keeper.geometry.area)
-        × (length keeper.map ≡ keeper.geometry.blocks) × IfSome keeper.first (λ area. area.from + area.bytes ≤ D.extent keeper.disk)
+    ghost invariant = { λ keeper. (D.extent keeper.disk ≡ device_bytes_of keeper.header.geometry.blocks keeper.header.geometry.area)
+        × (length keeper.map ≡ keeper.header.geometry.blocks)
+        × All (λ area. area.from + area.bytes ≤ D.extent keeper.disk) keeper.earlier.items
         × (keeper.area.from + keeper.area.bytes ≤ D.extent keeper.disk)
-        × (keeper.area.bytes ≡ keeper.geometry.area) × (keeper.area.next ≡ next_number keeper.count) };
+        × (keeper.area.bytes ≡ keeper.header.geometry.area) × (keeper.area.next ≡ next_number keeper.count) };
 }
 
 impl<D: Disk> Keeper<D> {
@@ -71,11 +73,9 @@ impl<D: Disk> Keeper<D> {
         ensures honest { D.honest (disk_after result) ↔ D.honest disk }
         ensures works { IfOk result (λ keeper. keeper.failed ≡ false) }
 
-        // On an honest device: the content that is fixed is one that a crash at the start may leave; at `Ok` it stands
+        // On an honest device there is a content, one that a crash at the start may leave, that is found: at `Ok` it stands
         // for an image, which the keeper keeps, and a refusal says what is bad of it.
-        ensures fixed { D.honest disk → MayLeave (D.state disk) (D.state (disk_after result)).seen }
-        ensures opened { D.honest disk → IfOk result (λ keeper. (image : Image) × Keeps keeper (D.state keeper.disk) image keeper.count) }
-        ensures refused { D.honest disk → IfErr result (λ refused. IsRefused refused.0 (D.state refused.1).seen) }
+        ensures found { D.honest disk → (content : List ℕ) × MayLeave (D.state disk) content × IsOpening D.state result content }
         ensures any_moment { D.honest disk → LeavesOnly (D.state disk) (D.state (disk_after result)) (MayLeave (D.state disk)) }
 
         // Where nothing is unsynced at the start and the content stands for an image, the keeper keeps that one, and
@@ -90,16 +90,15 @@ impl<D: Disk> Keeper<D> {
                 Opened {
                     header,
                     map,
-                    first,
+                    earlier,
                     area,
                 },
             ) => Ok(Keeper {
                 disk,
-                geometry: header.geometry,
-                base: header.base,
+                header,
                 count: area.next().wrapping_sub(1),
                 map,
-                first,
+                earlier,
                 area,
                 failed: false,
             }),
@@ -113,11 +112,10 @@ impl<D: Disk> Keeper<D> {
     {
         let Keeper {
             disk,
-            geometry: _,
-            base: _,
+            header: _,
             count: _,
             map: _,
-            first: _,
+            earlier: _,
             area: _,
             failed: _,
         } = self;
@@ -128,7 +126,14 @@ impl<D: Disk> Keeper<D> {
     pub fn geometry(&self) -> Geometry
         ensures { result ≡ self.now.geometry }
     {
-        self.geometry
+        self.header.geometry
+    }
+
+    /// The generation of the header in force.
+    pub fn generation(&self) -> u64
+        ensures { result ≡ self.now.generation }
+    {
+        self.header.generation
     }
 
     /// The number of the last command stored.
@@ -142,7 +147,7 @@ impl<D: Disk> Keeper<D> {
     pub fn base(&self) -> u64
         ensures { result ≡ self.now.base }
     {
-        self.base
+        self.header.base
     }
 }
 
@@ -152,7 +157,7 @@ impl<D: Disk> Keeper<D> {
     /// A group that is refused comes back. After 1 every later group is refused with 16, until the device is opened
     /// again; 0, 10 and 11 leave everything as it was.
     pub fn append(&mut self, group: Group) -> Result<(), (KeeperFault, Group)>
-        ensures ok { OnOk result (self.new ≡ grown_by self.old group self.new.disk) }
+        ensures ok { OnOk result (self.new ≡ grown_by self.old group self.new.disk self.new.memory) }
         ensures err { IfErr result (λ refused. self.new ≡ refused_by refused.0 self.old self.new.disk) }
         ensures group_back { IfErr result (λ refused. refused.1 ≡ group) }
         ensures extent { D.extent self.new.disk ≡ D.extent self.old.disk }

@@ -11,4 +11,4 @@ mod stored;
 
 pub use fault::KeeperFault;
 pub use keeper::Keeper;
-pub use laws::{keeper_laws, stands_laws};
+pub use laws::refusal_law;

@@ -1,12 +1,12 @@
 ghost use Rattle.std.specs.Prelude.{◌≡◌, ◌⊎◌, ℕ, ◌+◌, ◌*◌, ◌<◌, ◌≤◌, ◌↔◌, length, slice_index, IfErr, IfOk, IfSome, IsTrue, OnOk};
 ghost use Rattle.alloc_map.specs.Codes.{state_at};
 ghost use Rattle.checkpoint.specs.Keeper.{faults_by, refused_by};
-ghost use Rattle.checkpoint.specs.Keeps.{Keeps};
-ghost use Rattle.checkpoint.specs.Stored.{stored_touch, touch_of, touched_in};
+ghost use Rattle.device_image.specs.Keeps.{Keeps};
+ghost use Rattle.checkpoint.specs.Stored.{last_touch_in, stored_touch, touch_of};
 ghost use Rattle.checkpoint.specs.declared.fault.KeeperFault.TheVariants as KeeperFault;
 ghost use Rattle.image_model.specs.Image.{Image};
 ghost use Rattle.journal.specs.Reading.{IsOnlyRead};
-ghost use Rattle.journal.specs.Touches.{HasBytesWithin, last_touch};
+ghost use Rattle.journal.specs.Touches.{HasBytesWithin};
 ghost use Rattle.regions.specs.Layout.{block_at};
 
 use crate::fault::KeeperFault;
@@ -68,31 +68,35 @@ impl<D: Disk> Keeper<D> {
         if let Some(touch) = self.area.last_touch(block) {
             return touch;
         }
-        if let Some(touch) = self.first_touch(block) {
+        if let Some(touch) = self.earlier_touch(block) {
             return touch;
         }
         self.base_touch(block)
     }
 
-    // The last touch of the block in the first of two areas in use.
-    fn first_touch(&self, block: u64) -> Option<Touch>
-        ensures exact { result ≡ last_touch block (touched_in self.now.first) }
+    // The last touch of the block in the areas in use in front of the last.
+    fn earlier_touch(&self, block: u64) -> Option<Touch>
+        ensures exact { result ≡ last_touch_in block self.now.memory.earlier }
         ensures readable { IfSome result (HasBytesWithin (D.extent self.now.disk) 1) }
     {
-        match &self.first {
-            Some(area) => area.last_touch(block),
-            None => None,
+        let mut index = self.earlier.len();
+        while index > 0 {
+            index -= 1;
+            if let Some(touch) = self.earlier[index].last_touch(block) {
+                return Some(touch);
+            }
         }
+        None
     }
 
     // The block by map and data.
     fn base_touch(&self, block: u64) -> Touch
         requires { block < self.now.geometry.blocks }
-        ensures exact { result ≡ touch_of (state_at self.now.map block) (block_at self.now.geometry block) }
+        ensures exact { result ≡ touch_of (state_at self.now.memory.map block) (block_at self.now.geometry block) }
         ensures readable { HasBytesWithin (D.extent self.now.disk) 1 result }
     {
         match self.map.state(block) {
-            Kind::Data => Touch::Put(Regions::of(&self.geometry).block_from(block)),
+            Kind::Data => Touch::Put(Regions::of(&self.header.geometry).block_from(block)),
             Kind::Zero => Touch::Clear(Kind::Zero),
             Kind::Hole => Touch::Clear(Kind::Hole),
         }

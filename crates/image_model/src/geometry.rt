@@ -12,6 +12,9 @@ pub const LEAST_AREA_BYTES: u32 = 2_097_152;
 
 pub const MOST_AREA_BYTES: u32 = 1_073_741_824;
 
+/// The journal areas of a device.
+pub const AREAS: u64 = 2;
+
 /// The size of an image in blocks, and of a journal area in bytes, within their limits.
 #[derive(Clone, Copy, Debug, PartialEq, Eq)]
 pub struct Geometry {
@@ -51,6 +54,6 @@ impl Geometry {
     pub fn device_bytes(&self) -> u64
         ensures { result ≡ device_bytes_of self.now.blocks self.now.area }
     {
-        8192 + 2 * self.area as u64 + 2 * self.map_bytes() + BLOCK_BYTES * self.blocks
+        8192 + AREAS * self.area as u64 + 2 * self.map_bytes() + BLOCK_BYTES * self.blocks
     }
 }

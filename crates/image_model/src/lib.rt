@@ -11,6 +11,6 @@ mod tests;
 
 pub use command::{Command, Kind};
 pub use gate::{CLOSED, OPEN};
-pub use geometry::{BLOCK_BYTES, Geometry, LEAST_AREA_BYTES, MOST_AREA_BYTES, MOST_BLOCKS};
+pub use geometry::{AREAS, BLOCK_BYTES, Geometry, LEAST_AREA_BYTES, MOST_AREA_BYTES, MOST_BLOCKS};
 pub use plain_image::{OutOfRange, PlainImage};
 pub use side::Side;

@@ -2,9 +2,9 @@
 use Rattle.std.proofs.Common.{◌≡◌, inl, inr, ℕ, suc, ◌<◌, Bool, true, false, List, [], ◌∷◌, ◌++◌, length, arith, Option, Some, None, Result, Err, refl, sym, ap, subst, ◌∙◌}
 use Rattle.std.proofs.lemmas.List.{append-nil}
 use Rattle.std.specs.List.{AllByRecursion}
-use Rattle.checkpoint.specs.Keeper.{KeeperState}
-use Rattle.checkpoint.specs.Keeps.{Keeps}
-use Rattle.checkpoint.specs.Stands.{holes}
+use Rattle.device_image.specs.Keeper.{KeeperState}
+use Rattle.device_image.specs.Keeps.{Keeps}
+use Rattle.device_image.specs.Stands.{StandsFor, holes}
 use Rattle.disk_model.specs.Disk.{State, LeavesOnly, MayLeave}
 use Rattle.disk_model.specs.Faults.{HasRisen}
 use Rattle.image_model.specs.Image.{Image}
@@ -66,8 +66,7 @@ module _ {D : Type 0} (state : D → State) (faults : D → ℕ) (honest : D →
     keeper (faults keeper.disk) (new_connections connections flags mode) (Trusts trusted (honest keeper.disk)) (state keeper.disk))
     (start : D) (keeper keeper' keeper'' : KeeperState D) (order' order'' : OrderState) (connections' connections'' : ConnectionsState) (frames : ℕ) (mode : Mode)
     (works : keeper.failed ≡ false) (few : keeper.count < 18446744073709551616) (count_same : faults keeper.disk ≡ faults start)
-    (found : honest start → (image : Image) × Keeps keeper (state keeper.disk) image keeper.count)
-    (fixed : honest start → MayLeave (state start) (state keeper.disk).seen)
+    (found : honest start → (content : List ℕ) × MayLeave (state start) content × ((image : Image) × StandsFor content image keeper.count × Keeps keeper (state keeper.disk) image keeper.count))
     (any_moment : honest start → LeavesOnly (state start) (state keeper.disk) (MayLeave (state start)))
     (back : honest keeper''.disk → honest keeper'.disk) (on : honest start → honest keeper''.disk)
     (exchanges : List Exchange) (last : Option Message)
@@ -76,11 +75,11 @@ module _ {D : Type 0} (state : D → State) (faults : D → ℕ) (honest : D →
     → (next : World) × Settles world next order'' keeper'' (faults keeper''.disk) connections'' (Trusts trusted (honest keeper''.disk)) (state keeper'.disk) (state keeper''.disk)) where
   -- the image that the life begins with; on a device that isn't trusted any
   abbrev image_of : (trusted : Bool) → (trusted ≡ true → honest start) → Image
-  image_of true given = (found (given refl)).0
+  image_of true given = (found (given refl)).2.0
   image_of false given = holes keeper.geometry.blocks
 
   keeps_of : (trusted : Bool) (given : trusted ≡ true → honest start) → Trusts trusted (honest keeper.disk) → Keeps keeper (state keeper.disk) (image_of trusted given) keeper.count
-  keeps_of true given is = (found (given refl)).1
+  keeps_of true given is = (found (given refl)).2.2
   keeps_of false given is = absurd is
 
   trusts_of : (trusted : Bool) → trusted ≡ true → (trusted ≡ true → honest start) → Trusts trusted (honest keeper''.disk)
@@ -89,7 +88,7 @@ module _ {D : Type 0} (state : D → State) (faults : D → ℕ) (honest : D →
 
   found_of : (trusted : Bool) (given : trusted ≡ true → honest start) → trusted ≡ true
       → IsFound ((first_world keeper (image_of trusted given) (faults keeper.disk) frames 1 plain mode).stage.setting) (state start) (state keeper.disk)
-  found_of true given is = record { fixed = fixed (given refl); stands = (found (given refl)).1.stands; any_moment = any_moment (given refl) }
+  found_of true given is = record { content = (found (given refl)).0; fixed = (found (given refl)).1; stands = (found (given refl)).2.1; any_moment = any_moment (given refl) }
   found_of false given is = cc
 
   -- the device has failed since the life began

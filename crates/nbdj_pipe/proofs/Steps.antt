@@ -1,6 +1,6 @@
 -- how steps of an export follow one another
 use Rattle.std.proofs.Common.{◌≡◌, ◌⊎◌, inl, inr, ℕ, ◌+◌, ◌*◌, ◌==◌, ◌&&◌, ◌||◌, not, bit_and, Bool, true, false, if◌then◌else◌, nat_le, nat_lt, Option, Some, None, Result, Ok, Err, IfOk, IsErrAnd, List, [], ◌∷◌, ◌++◌, append_assoc, append-nil, length, sym, ◌∙◌, ap, subst, refl}
-use Rattle.checkpoint.specs.Keeper.{KeeperState}
+use Rattle.device_image.specs.Keeper.{KeeperState}
 use Rattle.disk_model.specs.Disk.{State}
 use Rattle.nbd_wire.specs.Request.{Message}
 use Rattle.nbd_wire.specs.declared.error.Errno.{Errno}

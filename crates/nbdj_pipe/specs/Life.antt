@@ -1,7 +1,7 @@
 -- the run of a pipe, from the opening of its device to the end
 use Rattle.std.specs.Prelude.{ℕ, ◌≡◌, Bool, true, List, length, Option, Result}
 use Rattle.std.specs.List.{AllByRecursion}
-use Rattle.checkpoint.specs.Stands.{StandsFor}
+use Rattle.device_image.specs.Stands.{StandsFor}
 use Rattle.disk_model.specs.Disk.{State, LeavesOnly, MayLeave}
 use Rattle.disk_model.specs.Faults.{HasRisen}
 use Rattle.nbd_wire.specs.Request.{Message}
@@ -16,11 +16,12 @@ use Rattle.nbdj_pipe.specs.Pipe.{IsOrderly}
 use Rattle.nbdj_pipe.specs.Talk.{AreAnswered, Exchange, plain, spoken, talk_to}
 use Rattle.nbdj_pipe.specs.declared.refusal.Refusal.{Refusal}
 
--- What an opening found on an honest device: the content that it fixed, one that a crash at its start may leave, stands for
--- the image and the number with which the life begins, and it wrote nothing else.
+-- What an opening found on an honest device: a content that a crash at its start may leave stands for the image and the
+-- number with which the life begins. A crash in the opening leaves what it could leave before.
 pub record IsFound (setting : Setting) (start opened : State) : Type 0 where
-  pub fixed : MayLeave start opened.seen
-  pub stands : StandsFor opened.seen setting.image setting.opening
+  pub content : List ℕ
+  pub fixed : MayLeave start content
+  pub stands : StandsFor content setting.image setting.opening
   pub any_moment : LeavesOnly start opened (MayLeave start)
 
 -- The run of a pipe is one of a world, from the opening of its device to the end, in which the requests were sent and

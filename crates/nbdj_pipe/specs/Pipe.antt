@@ -5,7 +5,7 @@ use Rattle.std.specs.List.{AllByRecursion}
 use Rattle.checkpoint.specs.Keeper.{faults_by}
 use Rattle.checkpoint.specs.Opening.{IsRefused}
 use Rattle.checkpoint.specs.declared.fault.KeeperFault.{KeeperFault}
-use Rattle.disk_model.specs.Disk.{State}
+use Rattle.disk_model.specs.Disk.{State, MayLeave}
 use Rattle.nbd_wire.specs.Request.{Message}
 use Rattle.nbd_wire.specs.Stream.{Begins, Reader, Reads, failed, reading, starved}
 use Rattle.nbd_wire.specs.declared.error.RequestFault.{RequestFault}
@@ -91,7 +91,7 @@ pub record IsPiped (input input_left output output_made : Option (List ℕ)) (ou
   pub runs : run told.exchanges told.last
 
 -- An opening that was refused reads and writes nothing. The device counts a fault where it failed, and the other refusals
--- but want of memory say what is bad of an honest device's content.
+-- but want of memory say what is bad of a content that a crash at the start may leave of an honest device.
 pub record IsUnopened {D : Type 0} (state : D → State) (faults : D → ℕ) (honest : D → Type 0) (disk left : D)
     (input input_left output output_made : Option (List ℕ)) (outcome : Result (Unit {0}) Refusal) : Type 0 where
   pub unread : Keeps input input_left
@@ -99,7 +99,7 @@ pub record IsUnopened {D : Type 0} (state : D → State) (faults : D → ℕ) (h
   pub fault : KeeperFault
   pub told : outcome ≡ Err (of_keeper fault)
   pub counted : faults left ≡ faults_by fault (faults disk)
-  pub bad : honest disk → IsRefused fault (state left).seen
+  pub bad : honest disk → (content : List ℕ) × MayLeave (state disk) content × IsRefused fault content
 
 -- the exit status of a program that ends so
 abbrev pub status_of : Result (Unit {0}) Refusal → ℕ

@@ -1,8 +1,8 @@
 -- what a crash leaves of a device that was only read, and lives whose device counts other calls
 use Rattle.std.proofs.Common.{◌≡◌, ◌∙◌, ℕ, List, Option, Some, Result, Ok, Err, IfOk, subst}
 use Rattle.std.specs.Prelude.{IfSome}
-use Rattle.checkpoint.specs.Keeper.{KeeperState}
-use Rattle.checkpoint.specs.Keeps.{Keeps}
+use Rattle.device_image.specs.Keeper.{KeeperState}
+use Rattle.device_image.specs.Keeps.{Keeps}
 use Rattle.disk_model.specs.Disk.{IsKept, IsSound, MayLeave, State}
 use Rattle.image_model.specs.Image.{Image}
 use Rattle.order_book.specs.Order.{OrderState}
@@ -25,16 +25,17 @@ module _ {D : Type 0} (keeper : KeeperState D) (disk : D) (state : State) where
   keeps_with : (image : Image) (number : ℕ) → Keeps keeper state image number → Keeps (record keeper { disk = disk }) state image number
   keeps_with image number keeps = record {
     works = keeps.works;
-    synced = keeps.synced;
+    steady = keeps.steady;
     stands = keeps.stands;
     sizes = keeps.sizes;
+    generation = keeps.generation;
     from_base = keeps.from_base;
     counted = keeps.counted;
-    taken = keeps.taken;
     mapped = keeps.mapped;
-    first_touched = keeps.first_touched;
-    placed = keeps.placed;
-    held = keeps.held;
+    areas = keeps.areas;
+    taken = keeps.taken;
+    phased = keeps.phased;
+    unsynced = keeps.unsynced;
   }
 
   -- a device in the same state takes the place of the one that there was

@@ -1,6 +1,6 @@
 ghost use Rattle.std.specs.Prelude.{◌≡◌, ◌↔◌, ◌<◌, ◌≤◌, ◌*◌, ℕ, [], ◌∷◌, false, length, take, vec_len, IfErr, IfOk, OnOk};
 ghost use Rattle.std.specs.Option.{ForSome};
-ghost use Rattle.checkpoint.specs.Keeps.{Keeps};
+ghost use Rattle.device_image.specs.Keeps.{Keeps};
 ghost use Rattle.image_model.specs.Image.{Image};
 ghost use Rattle.nbdj_script.specs.Life.{IsLifeOf, IsOpened, LeavesNoMore};
 ghost use Rattle.order_book.specs.Order.{IsInHand};

@@ -1,5 +1,5 @@
 ghost use Rattle.std.specs.Prelude.{◌≡◌, false, IfOk};
-ghost use Rattle.checkpoint.specs.Keeps.{Keeps};
+ghost use Rattle.device_image.specs.Keeps.{Keeps};
 ghost use Rattle.image_model.specs.Image.{Image};
 ghost use Rattle.nbdj_script.specs.Life.{IsFoundFrom, IsLifeOf};
 ghost use Rattle.request_core.specs.Life.{IsNextLife};

@@ -10,7 +10,7 @@ ghost use Rattle.regions.specs.Writes.{IsMapWritten, IsSameOutside, IsSteadyIn};
 use crate::fault::RegionFault;
 use alloc_map::AllocMap;
 use disk_model::{DeviceFault, Disk};
-use image_model::{BLOCK_BYTES, Geometry, Side};
+use image_model::{AREAS, BLOCK_BYTES, Geometry, Side};
 use std::alloc::Global;
 
 /// Where the map slots and the data of a device stand.
@@ -42,7 +42,7 @@ impl Regions {
         ensures place { result ≡ map_at self.now.geometry slot }
         ensures inside { result + map_bytes_of self.now.geometry.blocks ≤ block_at self.now.geometry 0 }
     {
-        8192 + 2 * self.geometry.area as u64 + self.geometry.map_bytes() * slot.index() as u64
+        8192 + AREAS * self.geometry.area as u64 + self.geometry.map_bytes() * slot.index() as u64
     }
 
     /// The first byte of a block's data.
@@ -51,7 +51,9 @@ impl Regions {
         ensures place { result ≡ block_at self.now.geometry block }
         ensures inside { result + 4096 ≤ device_bytes_of self.now.geometry.blocks self.now.geometry.area }
     {
-        8192 + 2 * self.geometry.area as u64 + 2 * self.geometry.map_bytes() + BLOCK_BYTES * block
+        8192 + AREAS * self.geometry.area as u64
+            + 2 * self.geometry.map_bytes()
+            + BLOCK_BYTES * block
     }
 
     /// Reads the map of a map slot, in one call of the device. It takes memory for one map, and refuses with 0, 1 or 6.

@@ -1,13 +1,13 @@
 -- what the keeper's answer to a group makes of the world and of its device
-use Rattle.std.proofs.Common.{◌≡◌, ◌≢◌, ◌⊎◌, inl, inr, ℕ, ◌+◌, ◌<◌, ◌≤◌, ◌↔◌, true, false, IsTrue, Option, Some, None, length, map, sym, ◌∙◌, subst, refl, arith}
+use Rattle.std.proofs.Common.{◌≡◌, ◌≢◌, ◌⊎◌, inl, inr, ℕ, ◌+◌, ◌<◌, ◌≤◌, ◌↔◌, true, false, IsTrue, Option, Some, None, List, length, map, sym, ◌∙◌, subst, refl, arith}
 use Rattle.std.proofs.lemmas.Bool.{cases_lt}
-use Rattle.checkpoint.specs.Keeper.{KeeperState, end_after, grown_by, refused_by, faults_by, IsAppendFault}
-use Rattle.checkpoint.specs.Keeps.{Keeps}
-use Rattle.checkpoint.proofs.Added.{kept_content}
-use Rattle.checkpoint.specs.Stands.{StandsFor}
+use Rattle.device_image.specs.Keeper.{KeeperState}
+use Rattle.checkpoint.specs.Keeper.{end_after, grown_by, refused_by, faults_by, IsAppendFault}
+use Rattle.device_image.specs.Keeps.{Keeps}
+use Rattle.device_image.specs.Stands.{StandsFor}
 use Rattle.checkpoint.specs.declared.fault.KeeperFault.{KeeperFault}
 use Rattle.checkpoint.specs.declared.fault.KeeperFault.TheVariants as fault
-use Rattle.disk_model.specs.Disk.{State, LeavesOnly, IsSound}
+use Rattle.disk_model.specs.Disk.{State, LeavesOnly, IsSound, MayLeave}
 use Rattle.disk_model.specs.Faults.{counted}
 use Rattle.disk_model.proofs.Moments.{begins, ends, weakens}
 use Rattle.image_model.specs.Change.{AreChanges, change_of}
@@ -104,7 +104,9 @@ module _ {D : Type 0} (state : D → State) (faults extent : D → ℕ) (honest 
         works_unlike : true ≡ false → ⊥
         works_unlike is = cc
 
-    pub appended : (new : KeeperState D) → old.failed ≡ false → end_after old group ≤ old.geometry.area → new ≡ grown_by old group new.disk
+    pub appended : (new : KeeperState D)
+        → ((keeper : KeeperState D) (image : Image) (number : ℕ) (content : List ℕ) → Keeps keeper (state keeper.disk) image number → MayLeave (state keeper.disk) content → StandsFor content image number)
+        → old.failed ≡ false → end_after old group ≤ old.geometry.area → new ≡ grown_by old group new.disk new.memory
         → faults new.disk ≡ faults old.disk → (honest old.disk → honest new.disk)
         → (honest old.disk → (image : Image) (number : ℕ) → Keeps old (state old.disk) image number → AreChanges old.geometry.blocks (map change_of group.commands)
         → Keeps new (state new.disk) (apply_all (map change_of group.commands) image) (number + length group.commands))
@@ -112,13 +114,13 @@ module _ {D : Type 0} (state : D → State) (faults extent : D → ℕ) (honest 
         → LeavesOnly (state old.disk) (state new.disk) (λ content. StandsFor content image number
         ⊎ StandsFor content (apply_all (map change_of group.commands) image) (number + length group.commands)))
         → IsAppended world (append Fine world) Took order None old new (faults new.disk) (honest old.disk) (state old.disk) (state new.disk)
-    appended new failed fit same level stays_honest stored any =
+    appended new crash failed fit same level stays_honest stored any =
         goes_on_to world old (faults old.disk) kept order group of Fine
         (λ next. IsAppended world next Took order None old new (faults new.disk) (honest old.disk) (state old.disk) (state new.disk)) failed fit
         (record {
           kept = subst (λ (k : KeeperState D). IsKept world (stored_more Fine world) Took order None k (faults new.disk)) (sym same)
-              (subst (λ (n : ℕ). IsKept world (stored_more Fine world) Took order None (grown_by old group new.disk) n) (sym level)
-              (kept_stored world old (faults old.disk) kept order group of new.disk));
+              (subst (λ (n : ℕ). IsKept world (stored_more Fine world) Took order None (grown_by old group new.disk new.memory) n) (sym level)
+              (kept_stored world old (faults old.disk) kept order group of new.disk new.memory));
           disk = λ is_honest disk.
               let works = disk.keeps (sym kept.failed ∙ failed) in
               let takes = group_takes world.stage order group of within.sealed old (faults old.disk) kept in
@@ -131,7 +133,7 @@ module _ {D : Type 0} (state : D → State) (faults extent : D → ℕ) (honest 
                     count = world.stage.sealed;
                     reaches = omega arith;
                     within = within.sealed;
-                    stands = kept_content new (state new.disk) (image_after world.stage.order world.stage.sealed world.stage.setting.image) (world.stage.setting.opening + world.stage.sealed) content keeps left;
+                    stands = crash new (image_after world.stage.order world.stage.sealed world.stage.setting.image) (world.stage.setting.opening + world.stage.sealed) content keeps left;
                   };
                 },
                 chain new of (any is_honest) failed disk,

@@ -1,12 +1,12 @@
 -- the parts that a life begins with
-use Rattle.std.proofs.Common.{◌≡◌, ◌⊎◌, inl, inr, ℕ, ◌+◌, ◌<◌, ◌≤◌, Bool, false, if◌then◌else◌, nat_lt, get_or, replicate, sym, ◌∙◌, ap, subst, refl, arith}
+use Rattle.std.proofs.Common.{◌≡◌, ◌⊎◌, inl, inr, ℕ, ◌+◌, ◌<◌, ◌≤◌, Bool, false, List, if◌then◌else◌, nat_lt, get_or, replicate, sym, ◌∙◌, ap, subst, refl, arith}
 use Rattle.std.proofs.lemmas.Bool.{cases_lt, le-ltb, lt-ltb}
 use Rattle.std.proofs.lemmas.List.{get_or-replicate, length-replicate}
 use Rattle.std.proofs.Math.ListN.{get_or-eq_default}
-use Rattle.checkpoint.specs.Keeper.{KeeperState}
-use Rattle.checkpoint.specs.Keeps.{Keeps}
-use Rattle.checkpoint.proofs.Added.{kept_content}
-use Rattle.disk_model.specs.Disk.{State}
+use Rattle.device_image.specs.Keeper.{KeeperState}
+use Rattle.device_image.specs.Keeps.{Keeps}
+use Rattle.device_image.specs.Stands.{StandsFor}
+use Rattle.disk_model.specs.Disk.{State, MayLeave}
 use Rattle.image_model.specs.Image.{Image}
 use Rattle.nbd_wire.specs.declared.message.SessionFlags.{SessionFlags}
 use Rattle.order_book.specs.Order.{new_order}
@@ -28,9 +28,10 @@ idle_here count connection = by_case (cases_lt connection count)
         get_or-eq_default (replicate count Idle) Closed (omega (arith, long, outside)) ∙ sym (ap (λ (b : Bool). if b then Idle else Closed) (le-ltb connection count outside))
 
 pub fresh_parts : {D : Type 0} (keeper : KeeperState D) (found : Image) (failures frames connections : ℕ) (flags : SessionFlags) (mode : Mode) (honest : Type 0) (state : State)
+    → ((number : ℕ) (content : List ℕ) → Keeps keeper state found number → MayLeave state content → StandsFor content found number)
     → keeper.failed ≡ false → keeper.count < 18446744073709551616 → (honest → Keeps keeper state found keeper.count)
     → IsExportOf (first_world keeper found failures frames connections flags mode) (new_order keeper.count frames keeper.geometry.area) keeper failures (new_connections connections flags mode) honest state
-fresh_parts keeper found failures frames connections flags mode honest state works fits keeps = record {
+fresh_parts keeper found failures frames connections flags mode honest state crash works fits keeps = record {
   of_order = record {
     opening = refl;
     durable = omega arith;
@@ -66,7 +67,7 @@ fresh_parts keeper found failures frames connections flags mode honest state wor
       count = 0;
       reaches = omega arith;
       within = omega arith;
-      stands = kept_content keeper state found (keeper.count + 0) content (here (keeps is_honest)) left;
+      stands = crash (keeper.count + 0) content (here (keeps is_honest)) left;
     };
   };
 }

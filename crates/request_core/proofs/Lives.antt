@@ -2,9 +2,9 @@
 use Rattle.std.proofs.Common.{◌≡◌, ◌⊎◌, inl, inr, ℕ, ◌+◌, ◌≤◌, Some, List, [], ◌∷◌, ◌++◌, append_assoc, length, length-append, map, take, drop, sym, ◌∙◌, ap, subst, refl, arith}
 use Rattle.std.proofs.lemmas.List.{take-append-le, take_at, take-append-drop, length-take-le}
 use Rattle.std.specs.List.{AllByRecursion}
-use Rattle.checkpoint.specs.Keeper.{KeeperState}
-use Rattle.checkpoint.specs.Keeps.{Keeps}
-use Rattle.checkpoint.specs.Stands.{StandsFor}
+use Rattle.device_image.specs.Keeper.{KeeperState}
+use Rattle.device_image.specs.Keeps.{Keeps}
+use Rattle.device_image.specs.Stands.{StandsFor}
 use Rattle.disk_model.specs.Disk.{State, LeavesOnly, MayLeave, IsSound}
 use Rattle.disk_model.proofs.Moments.{begins}
 use Rattle.image_model.specs.Change.{Change, AreChanges, change_of}

@@ -1,6 +1,6 @@
 -- what a step of each kind makes of all the parts
 use Rattle.std.proofs.Common.{◌≡◌, ℕ, ◌&&◌, ◌==◌, Bool, true, false, if◌then◌else◌, nat_lt, List, [], ◌∷◌, ◌++◌, length, sym, ◌∙◌, ap, subst, arith}
-use Rattle.checkpoint.specs.Keeper.{KeeperState}
+use Rattle.device_image.specs.Keeper.{KeeperState}
 use Rattle.disk_model.specs.Disk.{State, IsSound}
 use Rattle.disk_model.proofs.Moments.{begins}
 use Rattle.image_model.specs.Change.{Change, AreChanges}

@@ -1,6 +1,6 @@
 -- steps one after another
 use Rattle.std.proofs.Common.{◌≡◌, ℕ, ◌+◌, ◌≤◌, Bool, true, false, List, [], ◌∷◌, ◌++◌, sym, ◌∙◌, ap, subst, refl, arith}
-use Rattle.checkpoint.specs.Keeper.{KeeperState}
+use Rattle.device_image.specs.Keeper.{KeeperState}
 use Rattle.disk_model.specs.Disk.{State, LeavesOnly, MayLeave, IsSound}
 use Rattle.disk_model.proofs.Moments.{begins, goes_on, weakens}
 use Rattle.image_model.specs.Change.{Change}

@@ -2,7 +2,8 @@
 use Rattle.std.proofs.Common.{◌≡◌, ◌⊎◌, inl, inr, ℕ, ◌+◌, ◌-◌, ◌<◌, ◌≤◌, ◌&&◌, ◌==◌, Bool, true, false, IsTrue, nat_lt, Option, Some, None, List, [], ◌∷◌, length, length-drop, sym, ◌∙◌, ap, subst, refl, arith}
 use Rattle.std.proofs.lemmas.Bool.{and_from, and_left, and_right, cases_lt, eq-eqb, le-leb, le-ltb, lt-leb, lt-ltb, ne_eqb}
 use Rattle.std.proofs.lemmas.List.{length-map}
-use Rattle.checkpoint.specs.Keeper.{KeeperState, end_after, grown_by}
+use Rattle.device_image.specs.Keeper.{KeeperState, Memory}
+use Rattle.checkpoint.specs.Keeper.{end_after, grown_by}
 use Rattle.disk_model.specs.Faults.{counted}
 use Rattle.image_model.specs.Change.{change_of}
 use Rattle.image_model.specs.Command.{bodies_of}
@@ -196,8 +197,8 @@ module _ {D : Type 0} (world : World) (keeper : KeeperState D) (failures : ℕ) 
     }
 
     -- the group is stored
-    pub kept_stored : (disk : D) → IsKept world (stored_more Fine world) Took order None (grown_by keeper group disk) failures
-    kept_stored disk = record {
+    pub kept_stored : (disk : D) (memory : Memory) → IsKept world (stored_more Fine world) Took order None (grown_by keeper group disk memory) failures
+    kept_stored disk memory = record {
       connections = refl;
       log = refl;
       of_order = order_stores world.stage order group of (world.stage.at + 17 + bodies_bytes (in_hand world));

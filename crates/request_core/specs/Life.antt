@@ -1,8 +1,8 @@
 -- What steps make of an export and its device. A crash ends a life; the next one begins with the image and the number that
 -- its content stands for.
 use Rattle.std.specs.Prelude.{ℕ, ◌≡◌, ◌+◌, ◌≤◌, Bool, true, false, List, [], ◌∷◌, ◌++◌, length}
-use Rattle.checkpoint.specs.Keeper.{KeeperState}
-use Rattle.checkpoint.specs.Stands.{StandsFor}
+use Rattle.device_image.specs.Keeper.{KeeperState}
+use Rattle.device_image.specs.Stands.{StandsFor}
 use Rattle.disk_model.specs.Disk.{State, LeavesOnly, MayLeave}
 use Rattle.image_model.specs.Change.{Change}
 use Rattle.image_model.specs.Image.{Image}

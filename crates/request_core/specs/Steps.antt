@@ -1,6 +1,6 @@
 -- what the functions that carry out a step hand to one another
 use Rattle.std.specs.Prelude.{ℕ, ◌≡◌, Option, [], ◌∷◌, ◌++◌}
-use Rattle.checkpoint.specs.Keeper.{KeeperState}
+use Rattle.device_image.specs.Keeper.{KeeperState}
 use Rattle.disk_model.specs.Disk.{State, LeavesOnly}
 use Rattle.journal.specs.Group.{Numbered}
 use Rattle.order_book.specs.Order.{OrderState}

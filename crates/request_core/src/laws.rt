@@ -1,7 +1,7 @@
 ghost use Rattle.std.specs.Prelude.{◌≡◌, ◌<◌, ℕ, Bool, false, List};
-ghost use Rattle.checkpoint.specs.Keeper.{KeeperState};
-ghost use Rattle.checkpoint.specs.Keeps.{Keeps};
-ghost use Rattle.checkpoint.specs.Stands.{StandsFor};
+ghost use Rattle.device_image.specs.Keeper.{KeeperState};
+ghost use Rattle.device_image.specs.Keeps.{Keeps};
+ghost use Rattle.device_image.specs.Stands.{StandsFor};
 ghost use Rattle.disk_model.specs.Disk.{MayLeave};
 ghost use Rattle.image_model.specs.Image.{Image};
 ghost use Rattle.nbd_wire.specs.declared.message.SessionFlags.{SessionFlags};
@@ -12,7 +12,7 @@ ghost use Rattle.request_core.specs.Parts.{IsExportOf};
 ghost use Rattle.world.specs.World.{World};
 ghost use Rattle.world.specs.declared.step.Mode.{Mode};
 
-use checkpoint::stands_laws;
+use device_image::{keeper_laws, stands_laws};
 use disk_model::Disk;
 use world_law::schedule_law;
 
@@ -23,7 +23,9 @@ pub fn fresh_parts_law<D: Disk>()
         → (Trusts trusted (D.honest keeper.disk) → Keeps keeper (D.state keeper.disk) found keeper.count)
         → IsExportOf (first_world keeper found (D.faults keeper.disk) frames connections flags mode) (new_order keeper.count frames keeper.geometry.area)
         keeper (D.faults keeper.disk) (new_connections connections flags mode) (Trusts trusted (D.honest keeper.disk)) (D.state keeper.disk) }
-{}
+{
+    keeper_laws::<D>();
+}
 
 /// Steps go together into runs: no step leads from a world to itself, one step leads as it does, a request that is sent
 /// leads too, and where one run leads to a world from which another leads on, both together lead. What the log of a world

@@ -10,6 +10,7 @@ ghost use Rattle.order_book.specs.Order.{IsInHand};
 ghost use Rattle.request_core.specs.Serving.{IsSameHand};
 
 use checkpoint::{Keeper, KeeperFault};
+use device_image::keeper_laws;
 use disk_model::Disk;
 use journal::Group;
 use order_book::Order;
@@ -60,6 +61,7 @@ pub(crate) fn append<D: Disk>(
         → (luck : Luck) × IsAppended world (append_of luck world) result order.new hand.new keeper.old keeper.new (D.faults keeper.new.disk)
         (D.honest keeper.old.disk) (D.state keeper.old.disk) (D.state keeper.new.disk) }
 {
+    keeper_laws::<D>();
     let Some(group) = hand.take() else {
         return Event::Held;
     };

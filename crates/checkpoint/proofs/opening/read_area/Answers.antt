@@ -3,7 +3,7 @@ use Rattle.image_model.specs.declared.geometry.Geometry.{Geometry}
 use Rattle.journal.specs.Area.{AreaState}
 use Rattle.journal.specs.GroupList.{HoldsList, IsDamaged}
 use Rattle.regions.specs.Layout.{area_at}
-use Rattle.checkpoint.specs.Stands.{area_of}
+use Rattle.device_image.specs.Stands.{area_of}
 use Rattle.checkpoint.proofs.Areas.{moved_damage, scan_refused}
 use Rattle.checkpoint.proofs.Readings.{at_refusal, seen_same}
 use Rattle.checkpoint.proofs.opening.read_area.Goals as goal

@@ -21,7 +21,7 @@ returns-in-Err-new-clause-dialog g c = inl (record {
   fault = fault.NoMemory;
   told = refl;
   counted = ap g.D.Disk.faults c.into_disk.ensures ∙ c.in-Ok.ensures.faults;
-  bad = λ is. tt;
+  bad = λ is. let found = c.in-Ok.ensures.found is in (found.0, found.1, tt);
 })
 
 pub returns-clause-dialog : goal.returns-clause-dialog
@@ -46,7 +46,7 @@ returns-clause-dialog g c =
     (Runs disk.state disk.faults disk.honest c.new-order.result keeper c.in-Ok-new.connections ran.order ran.keeper ran.connections)
     (IsLived disk.state disk.faults disk.honest frames c.args.options.mode start done.keeper.disk c.finish-outcome.result)
     (λ exchanges last runs. lived disk.state disk.faults disk.honest c.leads_law.ensures c.schedule_law.ensures.truth c.fresh_parts_law.ensures start keeper ran.keeper done.keeper ran.order done.order ran.connections done.connections
-    frames c.args.options.mode c.in-Ok.ensures.works few c.in-Ok.ensures.faults c.in-Ok.ensures.opened c.in-Ok.ensures.fixed c.in-Ok.ensures.any_moment
+    frames c.args.options.mode c.in-Ok.ensures.works few c.in-Ok.ensures.faults c.in-Ok.ensures.found c.in-Ok.ensures.any_moment
     c.finish-outcome.ensures.honest.0 (λ is. c.finish-outcome.ensures.honest.1 (c.run-end.ensures.honest.1 (c.in-Ok.ensures.honest.1 is))) exchanges last
     (fresh_runs exchanges last runs) c.finish-outcome.ensures.world c.finish-outcome.result c.finish-outcome.ensures.stored)
     c.run-end.result c.finish-outcome.result done.order.stopped piped c.finish-outcome.ensures.end))
@@ -69,6 +69,6 @@ returns-clause-device g c = λ is.
     (subst (λ (order : OrderState). Runs disk.state disk.faults disk.honest order keeper c.in-Ok-new.connections ran.order ran.keeper ran.connections exchanges last) order_is runs) in
     subst (λ end. HasRisen (disk.faults start) (disk.faults end)) (sym c.into_disk-2.ensures)
     (told_fault disk.state disk.faults disk.honest c.leads_law.ensures c.schedule_law.ensures.truth c.fresh_parts_law.ensures start keeper ran.keeper done.keeper ran.order done.order ran.connections done.connections
-    frames c.args.options.mode c.in-Ok.ensures.works few c.in-Ok.ensures.faults c.in-Ok.ensures.opened c.in-Ok.ensures.fixed c.in-Ok.ensures.any_moment
+    frames c.args.options.mode c.in-Ok.ensures.works few c.in-Ok.ensures.faults c.in-Ok.ensures.found c.in-Ok.ensures.any_moment
     c.finish-outcome.ensures.honest.0 (λ is. c.finish-outcome.ensures.honest.1 (c.run-end.ensures.honest.1 (c.in-Ok.ensures.honest.1 is))) piped.told.exchanges piped.told.last
     (fresh_runs piped.told.exchanges piped.told.last piped.runs) c.finish-outcome.ensures.world c.run-end.result c.finish-outcome.result c.run-end.ensures.early c.finish-outcome.ensures.end is)

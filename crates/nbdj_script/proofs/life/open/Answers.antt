@@ -1,8 +1,7 @@
 use Rattle.std.proofs.Common.{◌≡◌, ap, sym, subst, ℕ}
-use Rattle.checkpoint.specs.Keeps.{Keeps}
-use Rattle.checkpoint.specs.Stands.{StandsFor}
+use Rattle.device_image.specs.Keeps.{Keeps}
+use Rattle.device_image.specs.Stands.{StandsFor}
 use Rattle.disk_model.specs.Disk.{MayLeave}
-use Rattle.disk_model.proofs.Contents.{leaves_seen}
 use Rattle.nbdj_script.proofs.life.open.Goals as goal
 
 pub returns-in-Ok-runs-clause-opened : goal.returns-in-Ok-runs-clause-opened
@@ -10,15 +9,13 @@ returns-in-Ok-runs-clause-opened g c = λ honest.
     let disk = g.D.Disk in
     let old = c.in-Ok.keeper in
     let new = c.runs.new.keeper in
-    let opened = c.in-Ok.ensures.opened honest in
-    let image = opened.0 in
-    let keeps = opened.1 in
+    let (content, may, image, stands, keeps) = c.in-Ok.ensures.found honest in
     let count : old.count ≡ new.count = sym (ap (λ keeper. keeper.count) c.in-Ok-runs.ensures.ok) in
     record {
       image = image;
-      content = (disk.state old.disk).seen;
-      fixed = c.in-Ok.ensures.fixed honest;
-      stands = subst (λ (n : ℕ). StandsFor (disk.state old.disk).seen image n) count keeps.stands;
+      content = content;
+      fixed = may;
+      stands = subst (λ (n : ℕ). StandsFor content image n) count stands;
       keeps = subst (λ (n : ℕ). Keeps new (disk.state new.disk) image n) count (c.in-Ok-runs.ensures.kept (c.in-Ok.ensures.honest.1 honest) image old.count keeps);
     }
 
@@ -27,6 +24,7 @@ returns-in-Err-runs-clause-refused g c = λ honest content may.
     let disk = g.D.Disk in
     let old = c.in-Ok.keeper in
     let new = c.runs.new.keeper in
-    let keeps = (c.in-Ok.ensures.opened honest).1 in
-    let earlier = c.runs.ensures.left (c.in-Ok.ensures.honest.1 honest) content (subst (λ d. MayLeave (disk.state d) content) c.into_disk.ensures may) in
-    subst (MayLeave (disk.state c.args.disk)) (sym (leaves_seen (disk.state old.disk) content keeps.synced earlier)) (c.in-Ok.ensures.fixed honest)
+    let there = c.in-Ok.ensures.honest.1 honest in
+    let any_moment = c.in-Ok.ensures.any_moment honest in
+    let earlier = c.runs.ensures.left there content (subst (λ d. MayLeave (disk.state d) content) c.into_disk.ensures may) in
+    any_moment.each content ((g.met.D.Disk.sound old.disk there).counts_now (disk.state c.args.disk).moment content any_moment.later earlier)

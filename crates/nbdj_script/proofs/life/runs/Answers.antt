@@ -1,5 +1,5 @@
 use Rattle.std.proofs.Common.{◌∙◌, ap}
-use Rattle.checkpoint.specs.Keeper.{KeeperState}
+use Rattle.device_image.specs.Keeper.{KeeperState}
 use Rattle.nbdj_script.proofs.Lives.{read_leaves}
 use Rattle.nbdj_script.proofs.life.runs.Goals as goal
 

@@ -1,6 +1,6 @@
 use Rattle.std.proofs.Common.{◌≡◌, ℕ}
 use Rattle.std.specs.Prelude.{◌↔◌}
-use Rattle.checkpoint.specs.Keeps.{Keeps}
+use Rattle.device_image.specs.Keeps.{Keeps}
 use Rattle.image_model.specs.Image.{Image}
 use Rattle.nbdj_script.specs.Life.{LeavesNoMore}
 use Rattle.nbdj_script.proofs.life.runs.Given as goal

@@ -1,6 +1,6 @@
 use Rattle.std.proofs.Common.{◌≡◌, ◌∙◌, ap, sym, subst, ℕ}
-use Rattle.checkpoint.specs.Keeper.{KeeperState}
-use Rattle.checkpoint.specs.Stands.{StandsFor}
+use Rattle.device_image.specs.Keeper.{KeeperState}
+use Rattle.device_image.specs.Stands.{StandsFor}
 use Rattle.disk_model.specs.Disk.{MayLeave}
 use Rattle.disk_model.specs.SimDisk.{seen_bytes, state_now}
 use Rattle.disk_model.specs.declared.sim.SimDisk.{SimDisk}

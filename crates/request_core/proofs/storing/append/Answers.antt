@@ -51,7 +51,7 @@ returns-in-Ok-clause-world g c = λ world within of kept.
       subst (λ (hand : Option Numbered). IsAppended world (append Fine world) Took order hand old new (g.D.Disk.faults new.disk) (g.D.Disk.honest old.disk) (g.D.Disk.state old.disk) (g.D.Disk.state new.disk))
           (sym c.take.ensures.after)
           (appended g.D.Disk.state g.D.Disk.faults g.D.Disk.extent g.D.Disk.honest g.met.D.Disk.sound world order group old within
-          (subst (λ (hand : Option Numbered). IsOrderOf world.stage order hand) has of) kept new works fit c.in-Ok.ensures.ok c.in-Ok.ensures.faults_ok c.append.ensures.honest.1
+          (subst (λ (hand : Option Numbered). IsOrderOf world.stage order hand) has of) kept new c.keeper_laws.ensures.left works fit c.in-Ok.ensures.ok c.in-Ok.ensures.faults_ok c.append.ensures.honest.1
           c.in-Ok.ensures.stored c.in-Ok.ensures.any_moment),
     )
 

@@ -11,24 +11,24 @@ use Rattle.journal.specs.GroupList.{IsHeld, LeavesEither}
 use Rattle.journal.specs.Spelling.{StoredGroup, stored_of}
 use Rattle.journal.proofs.Added.{size-stored}
 use Rattle.checkpoint.specs.Faults.{of_journal}
-use Rattle.checkpoint.specs.Keeper.{KeeperState}
-use Rattle.checkpoint.specs.Keeps.{Keeps}
-use Rattle.checkpoint.specs.Stands.{StandsFor}
-use Rattle.checkpoint.proofs.Frame.{first_number}
+use Rattle.device_image.specs.Keeper.{KeeperState}
+use Rattle.device_image.specs.Keeps.{Keeps}
+use Rattle.device_image.specs.Stands.{StandsFor}
+use Rattle.device_image.proofs.Kept.{first}
 use Rattle.checkpoint.proofs.Added.{leaves_either, keeps_more, count_below, count_above, count_on, is_next, ordered}
 use Rattle.checkpoint.proofs.keeper.Keeper.append.Goals as goal
 
 -- the area takes what the keeper's sizes take
 taken : {D : Type 0} (keeper : KeeperState D) (state : State) (image : Image) (number : ℕ) (group : Numbered) → Keeps keeper state image number
-    → AreChanges keeper.geometry.blocks (map change_of group.commands) → AreChanges keeper.area.blocks (map change_of group.commands)
+    → AreChanges keeper.geometry.blocks (map change_of group.commands) → AreChanges keeper.memory.area.blocks (map change_of group.commands)
 taken keeper state image number group keeps changes =
-    let blocks : keeper.geometry.blocks ≡ keeper.area.blocks = ap (λ (size : Geometry). size.blocks) keeps.sizes ∙ sym keeps.placed.blocks in
+    let blocks : keeper.geometry.blocks ≡ keeper.memory.area.blocks = ap (λ (size : Geometry). size.blocks) keeps.sizes ∙ sym keeps.areas.placed.blocks in
     subst (λ (n : ℕ). AreChanges n (map change_of group.commands)) blocks changes
 
 -- the journal's clause on any moment as the keeper's
 any_moment : {D : Type 0} (state : D → State) (honest : D → Type 0) (inside now : KeeperState D) (group : Numbered) (after : State) (image : Image) (number : ℕ) → inside ≡ now
-    → (honest inside.disk → (first : ℕ) (groups : List StoredGroup) → IsHeld inside.area first groups (state inside.disk) → AreChanges inside.area.blocks (map change_of group.commands)
-    → LeavesOnly (state inside.disk) after (LeavesEither inside.area first groups (stored_of group) (state inside.disk)))
+    → (honest inside.disk → (number : ℕ) (groups : List StoredGroup) → IsHeld inside.memory.area number groups (state inside.disk) → AreChanges inside.memory.area.blocks (map change_of group.commands)
+    → LeavesOnly (state inside.disk) after (LeavesEither inside.memory.area number groups (stored_of group) (state inside.disk)))
     → honest now.disk → Keeps now (state now.disk) image number → AreChanges now.geometry.blocks (map change_of group.commands)
     → LeavesOnly (state now.disk) after (λ content. StandsFor content image number ⊎ StandsFor content (apply_all (map change_of group.commands) image) (number + length group.commands))
 any_moment {D} state honest inside now group after image number same clause =
@@ -36,7 +36,7 @@ any_moment {D} state honest inside now group after image number same clause =
     → LeavesOnly (state k.disk) after (λ content. StandsFor content image number ⊎ StandsFor content (apply_all (map change_of group.commands) image) (number + length group.commands))) same
     (λ is_honest keeps changes.
     let long : length (map change_of group.commands) ≡ length group.commands = length-map group.commands change_of in
-    weakens (clause is_honest (first_number keeps.stands) keeps.stands.groups keeps.held (taken inside (state inside.disk) image number group keeps changes))
+    weakens (clause is_honest (first inside (state inside.disk) image number keeps) keeps.areas.groups keeps.areas.held (taken inside (state inside.disk) image number group keeps changes))
     (λ content left. leaves_either inside (state inside.disk) image number keeps (stored_of group) (number + length group.commands) content (omega (arith, long)) left))
 
 pub returns-in-Ok-clause-stored : goal.returns-in-Ok-clause-stored
@@ -51,11 +51,13 @@ returns-in-Ok-clause-stored g c honest image number keeps changes =
     let grown_is = c.in-Ok.ensures.ok in
     let full = c.in-Ok.ensures.full in
     let next = is_next keeper.area.next group.first (λ not. c.in-Ok.ensures.out_of_order.1 (omega (arith, full.1), not)) in
+    let honest_after = c.in-Ok.ensures.honest.1 sound in
     keeps_more _ (g.D.Disk.state keeper.disk) image number inside (stored_of group) (g.D.Disk.state c.append.new.disk) _ (number + length group.commands)
+    (g.met.D.Disk.sound c.append.new.disk honest_after)
     (omega (arith, long))
-    (c.in-Ok.ensures.stored sound (first_number inside.stands) inside.stands.groups inside.held (taken _ _ image number group inside sizes))
+    (c.in-Ok.ensures.stored sound (first _ (g.D.Disk.state keeper.disk) image number inside) inside.areas.groups inside.areas.held (taken _ _ image number group inside sizes))
     (ap (λ (area : AreaState). area.from) grown_is) (ap (λ (area : AreaState). area.bytes) grown_is) (ap (λ (area : AreaState). area.blocks) grown_is)
-    refl refl refl refl
+    refl refl refl refl refl refl
     (count_on keeper.area.next group.first (length group.commands) keeper.count number c.next.result c.self.invariant.5 (omega arith) next whole.some whole.numbers (c.next.ensures ∙ ap (λ (area : AreaState). area.next) grown_is) inside.counted)
     (omega (arith, ap (λ (area : AreaState). area.gate) grown_is, size-stored group)) refl
 
@@ -71,7 +73,7 @@ returns-in-Err-clause-out_of_order g c =
     let working : c.args.self.now.failed ≡ false = sym (ap (λ (k : KeeperState g.row.D.Denot). k.failed) c.self.view_is) ∙ c.if-self.false in
     let count : keeper.count ≡ c.args.self.now.count = ap (λ (k : KeeperState g.row.D.Denot). k.count) c.self.view_is in
     let used : keeper.area.gate ≡ c.args.self.now.used = ap (λ (k : KeeperState g.row.D.Denot). k.used) c.self.view_is in
-    let size : keeper.geometry.area ≡ c.args.self.now.geometry.area = ap (λ (k : KeeperState g.row.D.Denot). k.geometry.area) c.self.view_is in
+    let size : keeper.header.geometry.area ≡ c.args.self.now.geometry.area = ap (λ (k : KeeperState g.row.D.Denot). k.geometry.area) c.self.view_is in
     let invariant = c.self.invariant in (
       λ is.
           let given = c.in-Err.ensures.out_of_order.0 (ordered c.in-Err.fault (sym c.from-fault.ensures ∙ is)) in

@@ -1,18 +1,17 @@
 use Rattle.std.proofs.Common.{ℕ, ◌+◌, List, slice_index, refl, sym, ◌∙◌, ap, subst, arith}
 use Rattle.journal.specs.declared.touch.Touch.{Touch}
-use Rattle.checkpoint.specs.Keeper.{KeeperState}
-use Rattle.checkpoint.specs.Keeps.{Keeps}
+use Rattle.device_image.specs.Keeper.{KeeperState}
+use Rattle.device_image.specs.Keeps.{Keeps}
 use Rattle.checkpoint.specs.Stored.{byte_of, kind_of}
 use Rattle.checkpoint.proofs.Located.{keeps_reading, located_byte, located_kind}
-use Rattle.checkpoint.proofs.Readings.{seen_same}
+use Rattle.checkpoint.proofs.Readings.{seen_steady}
 use Rattle.checkpoint.proofs.keeper.Keeper.read_stored.Goals as goal
 
 pub returns-in_ok-read_at-in-Put-clause-kept : goal.returns-in_ok-read_at-in-Put-clause-kept
 returns-in_ok-read_at-in-Put-clause-kept g c honest image number keeps =
     let read = c.in_ok-read_at-in-Put.ensures in
     subst (λ (k : KeeperState g.row.D.Denot). Keeps k (g.D.Disk.state k.disk) image number) (sym read.ok)
-    (keeps_reading c.args.self.now c.read_at.new.self.disk (g.D.Disk.state c.args.self.now.disk) (g.D.Disk.state c.read_at.new.self.disk) image number
-    (g.met.D.Disk.sound c.args.self.now.disk honest) (read.only_read honest) keeps)
+    (keeps_reading c.args.self.now c.read_at.new.self.disk (g.D.Disk.state c.args.self.now.disk) (g.D.Disk.state c.read_at.new.self.disk) image number (read.only_read honest) keeps)
 
 pub returns-in_ok-read_at-in-Put-clause-kind : goal.returns-in_ok-read_at-in-Put-clause-kind
 returns-in_ok-read_at-in-Put-clause-kind g c honest image number keeps =
@@ -22,7 +21,7 @@ pub returns-in_ok-read_at-in-Put-clause-bytes : goal.returns-in_ok-read_at-in-Pu
 returns-in_ok-read_at-in-Put-clause-bytes g c honest image number keeps k below =
     let read = c.in_ok-read_at-in-Put.ensures in
     let before = g.D.Disk.state c.args.self.now.disk in
-    let same = seen_same (g.met.D.Disk.sound c.args.self.now.disk honest) keeps.synced (read.only_read honest) in
+    let same = seen_steady keeps.steady (read.only_read honest) in
     read.bytes honest k (omega arith)
     ∙ ap (λ (content : List ℕ). slice_index content (c.in-Put.place + k)) (sym same)
     ∙ ap (λ (touch : Touch). byte_of touch before.seen k) (sym c.in-Put.is ∙ c.locate.ensures.exact)

@@ -1,6 +1,6 @@
 use Rattle.std.proofs.Common.{sym, subst}
 use Rattle.std.proofs.Math.Logic.{∥∥₁_map}
-use Rattle.checkpoint.specs.Keeper.{KeeperState}
+use Rattle.device_image.specs.Keeper.{KeeperState}
 use Rattle.disk_model.specs.SimDisk.{plan_of, state_now, with_plan}
 use Rattle.disk_model.specs.declared.sim.SimDisk.{SimDisk}
 use Rattle.request_core.specs.Parts.{IsWorldOf}

@@ -1,10 +1,11 @@
 -- What the content of a device stands for: an image, and the number of the last command in it.
-use Rattle.std.specs.Prelude.{ℕ, ◌≡◌, ◌+◌, ◌%◌, ◌/◌, Bool, true, false, if◌then◌else◌, List, [], ◌++◌, length, slice_index}
+use Rattle.std.specs.Prelude.{ℕ, suc, ◌≡◌, ◌+◌, ◌%◌, ◌/◌, Bool, true, false, if◌then◌else◌, List, [], ◌∷◌, ◌++◌, length, slice_index}
+use Rattle.std.specs.List.{flat_map}
 use Rattle.alloc_map.specs.Codes.{state_at}
+use Rattle.header_slots.specs.Header.{mode_of}
 use Rattle.header_slots.specs.Slots.{HoldsHeader}
-use Rattle.image_model.specs.Side.{other_of}
-use Rattle.header_slots.specs.declared.header.Areas.{Areas}
 use Rattle.header_slots.specs.declared.header.Header.{Header}
+use Rattle.image_model.specs.Change.{Change}
 use Rattle.image_model.specs.declared.side.Side.{Side}
 use Rattle.image_model.specs.Image.{Image, apply_all}
 use Rattle.image_model.specs.declared.command.Kind.{Kind}
@@ -13,7 +14,7 @@ use Rattle.image_model.specs.declared.geometry.Geometry.{Geometry}
 use Rattle.journal.specs.Area.{AreaState}
 use Rattle.journal.specs.GroupList.{IsList, changes_of, next_behind}
 use Rattle.journal.specs.Spelling.{StoredGroup}
-use Rattle.regions.specs.Layout.{area_at, map_at, block_at}
+use Rattle.regions.specs.Layout.{area_at, block_at, map_at, ring}
 use Rattle.regions.specs.Map.{HoldsMap}
 
 -- an image of so many blocks of which nothing was written
@@ -41,15 +42,22 @@ next_number number = (number + 1) % 18446744073709551616
 abbrev pub area_of : Geometry → Side → AreaState
 area_of geometry side = record { from = area_at geometry side; bytes = geometry.area; blocks = geometry.blocks; next = 0; gate = 0; touched = [] }
 
--- the last area in use, to which groups are added
-abbrev pub last_area : Areas → Side → Side
-last_area Areas.One first = first
-last_area Areas.Two first = other_of first
+-- the areas in use, in the order of the ring
+abbrev pub in_use : Header → List Side
+in_use header = ring (suc (mode_of header.areas)) header.first_area
 
--- the groups in front of those of the last area in use: where two areas are in use the list of the first
-abbrev pub HoldsEarlier : Areas → List ℕ → AreaState → ℕ → List StoredGroup → Type 0
-HoldsEarlier Areas.One content area next groups = groups ≡ []
-HoldsEarlier Areas.Two content area next groups = IsList area next groups content
+-- These areas hold these lists of groups: that of the first begins with the number `next`, and each further one with the
+-- number behind those in front of it.
+abbrev pub HoldLists : List Side → List ℕ → Geometry → ℕ → List (List StoredGroup) → Type 0
+HoldLists [] content geometry next [] = Unit {0}
+HoldLists [] content geometry next (groups ∷ lists) = ⊥
+HoldLists (area ∷ areas) content geometry next [] = ⊥
+HoldLists (area ∷ areas) content geometry next (groups ∷ lists) =
+    IsList (area_of geometry area) next groups content × HoldLists areas content geometry (next_behind next groups) lists
+
+-- the changes of lists of groups, one after another
+abbrev pub all_changes : List (List StoredGroup) → List Change
+all_changes lists = flat_map changes_of lists
 
 -- The content stands for this image, whose last command has this number: the header in force isn't bad, its map slot
 -- holds a map, its areas in use hold lists of groups, numbered from the base on, and the image is what map and data hold
@@ -58,11 +66,9 @@ pub record StandsFor (content : List ℕ) (image : Image) (number : ℕ) : Type 
   pub header : Header
   pub slot : Side
   pub states : List Kind
-  pub earlier : List StoredGroup
-  pub groups : List StoredGroup
+  pub lists : List (List StoredGroup)
   pub in_force : HoldsHeader content (length content) header slot
   pub map : HoldsMap content (map_at header.geometry header.map_slot) header.geometry.blocks states
-  pub first_list : HoldsEarlier header.areas content (area_of header.geometry header.first_area) (next_number header.base) earlier
-  pub last_list : IsList (area_of header.geometry (last_area header.areas header.first_area)) (next_behind (next_number header.base) earlier) groups content
-  pub count : number ≡ header.base + length (changes_of (earlier ++ groups))
-  pub shows : image ≡ apply_all (changes_of (earlier ++ groups)) (stored_image content header.geometry states)
+  pub held : HoldLists (in_use header) content header.geometry (next_number header.base) lists
+  pub count : number ≡ header.base + length (all_changes lists)
+  pub shows : image ≡ apply_all (all_changes lists) (stored_image content header.geometry states)

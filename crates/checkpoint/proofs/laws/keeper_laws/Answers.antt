@@ -1,8 +1,0 @@
-use Rattle.checkpoint.proofs.Added.{kept_content, kept_size}
-use Rattle.checkpoint.proofs.laws.keeper_laws.Goals as goal
-
-pub returns : goal.returns
-returns g c = record {
-  size = λ keeper image number keeps. kept_size keeper (g.D.Disk.state keeper.disk) image number keeps;
-  left = λ keeper image number content keeps left. kept_content keeper (g.D.Disk.state keeper.disk) image number content keeps left;
-}

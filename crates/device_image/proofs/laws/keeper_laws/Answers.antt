@@ -1,0 +1,8 @@
+use Rattle.device_image.proofs.Kept.{kept_content, kept_size}
+use Rattle.device_image.proofs.laws.keeper_laws.Goals as goal
+
+pub returns : goal.returns
+returns g c = record {
+  size = λ keeper image number keeps. kept_size keeper (g.D.Disk.state keeper.disk) image number keeps;
+  left = λ keeper image number content keeps left. kept_content keeper (g.D.Disk.state keeper.disk) image number keeps content left;
+}

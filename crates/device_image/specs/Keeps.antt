@@ -1,0 +1,81 @@
+-- that a keeper keeps an image
+use Rattle.std.specs.Prelude.{ℕ, suc, ◌≡◌, ◌+◌, ◌<◌, IsTrue, false, List, [], ◌∷◌, ◌++◌}
+use Rattle.disk_model.specs.Disk.{State, InRange, IsSteady}
+use Rattle.header_slots.specs.Header.{mode_of}
+use Rattle.header_slots.specs.declared.header.Areas.{Areas}
+use Rattle.header_slots.specs.declared.header.Header.{Header}
+use Rattle.image_model.specs.declared.side.Side.{Side}
+use Rattle.image_model.specs.Image.{Image}
+use Rattle.image_model.specs.declared.geometry.Geometry.{Geometry}
+use Rattle.journal.specs.Area.{AreaState}
+use Rattle.journal.specs.GroupList.{IsHeld, next_behind, sizes_of}
+use Rattle.journal.specs.Spelling.{StoredGroup}
+use Rattle.journal.specs.Touches.{last_touch, touched_by_groups}
+use Rattle.journal.specs.declared.touch.TouchedRange.{TouchedRange}
+use Rattle.regions.specs.Layout.{area_at, behind, block_at, ring}
+use Rattle.device_image.specs.Keeper.{KeeperState, Phase, One, Copying, count_puts, is_put}
+use Rattle.device_image.specs.Stands.{StandsFor, next_number}
+
+-- the area is this one of a device with these sizes
+pub record IsPlaced (area : AreaState) (geometry : Geometry) (side : Side) : Type 0 where
+  pub from : area.from ≡ area_at geometry side
+  pub bytes : area.bytes ≡ geometry.area
+  pub blocks : area.blocks ≡ geometry.blocks
+
+-- These areas hold these lists, the first with the number `next` on: each is at the end of its list and knows what its
+-- commands touched, and nothing in it is unsynced.
+abbrev pub AreHeld : List Side → Geometry → ℕ → List (List StoredGroup) → List AreaState → State → Type 0
+AreHeld [] geometry next [] [] state = Unit {0}
+AreHeld [] geometry next [] (area ∷ areas) state = ⊥
+AreHeld [] geometry next (groups ∷ lists) areas state = ⊥
+AreHeld (side ∷ sides) geometry next [] areas state = ⊥
+AreHeld (side ∷ sides) geometry next (groups ∷ lists) [] state = ⊥
+AreHeld (side ∷ sides) geometry next (groups ∷ lists) (area ∷ areas) state =
+    IsPlaced area geometry side × IsHeld area next groups state × AreHeld sides geometry (next_behind next groups) lists areas state
+
+-- the number that follows lists of groups, where the first of them has to begin with `next`
+abbrev pub behind_lists : ℕ → List (List StoredGroup) → ℕ
+behind_lists next [] = next
+behind_lists next (groups ∷ lists) = behind_lists (next_behind next groups) lists
+
+-- The areas in use hold these lists: those in front of the last, in the order of the ring, and the last.
+pub record HoldsAreas (state : State) (header : Header) (lists : List (List StoredGroup)) (earlier : List AreaState) (area : AreaState) : Type 0 where
+  pub front : List (List StoredGroup)
+  pub groups : List StoredGroup
+  pub are : lists ≡ front ++ groups ∷ []
+  pub earlier_held : AreHeld (ring (mode_of header.areas) header.first_area) header.geometry (next_number header.base) front earlier state
+  pub placed : IsPlaced area header.geometry (behind (mode_of header.areas) header.first_area)
+  pub held : IsHeld area (behind_lists (next_number header.base) front) groups state
+
+-- what the first of several areas in use touched, by the lists in front of the last; nothing where one area is in use
+abbrev pub touched_first : Header → List (List StoredGroup) → List TouchedRange
+touched_first header [] = []
+touched_first header (groups ∷ lists) = touched_by_groups (area_at header.geometry header.first_area) groups
+
+-- the place is one of a block's data, where the last touch of that block in the first of several areas in use is a put
+pub record IsCopyPlace (header : Header) (front : List (List StoredGroup)) (place : ℕ) : Type 0 where
+  pub block : ℕ
+  pub inside : InRange (block_at header.geometry block) 4096 place
+  pub put : IsTrue (is_put (last_touch block (touched_first header front)))
+
+-- the phase is that of so many areas in use, and nothing was copied yet of what is to be copied
+abbrev pub IsPhase : Phase → Areas → ℕ → Type 0
+IsPhase One areas puts = areas ≡ Areas.One
+IsPhase (Copying left) areas puts = (areas ≡ Areas.Two) × (left ≡ puts)
+
+-- The keeper, whose device is in this state, keeps this image with this last number: it works, the content stands for
+-- them, and what it shows and remembers is what stands there. No place is loose. Where one area is in use nothing is
+-- unsynced, and where more are only data that a checkpoint writes again: blocks whose last touch in the first is a put.
+pub record Keeps {D : Type 0} (keeper : KeeperState D) (state : State) (image : Image) (number : ℕ) : Type 0 where
+  pub works : keeper.failed ≡ false
+  pub steady : IsSteady state
+  pub stands : StandsFor state.seen image number
+  pub sizes : keeper.geometry ≡ stands.header.geometry
+  pub generation : keeper.generation ≡ stands.header.generation
+  pub from_base : keeper.base ≡ stands.header.base
+  pub counted : keeper.count ≡ number
+  pub mapped : keeper.memory.map ≡ stands.states
+  pub areas : HoldsAreas state stands.header stands.lists keeper.memory.earlier keeper.memory.area
+  pub taken : keeper.used ≡ sizes_of areas.groups
+  pub phased : IsPhase keeper.phase stands.header.areas (count_puts stands.header.geometry.blocks (touched_first stands.header areas.front))
+  pub unsynced : (place : ℕ) → state.unsynced place → IsCopyPlace stands.header areas.front place

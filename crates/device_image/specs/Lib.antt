@@ -1,0 +1,4 @@
+pub mod Damage
+pub mod Keeper
+pub mod Keeps
+pub mod Stands
