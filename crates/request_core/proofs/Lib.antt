@@ -7,3 +7,4 @@ pub mod Runs
 pub mod Serves
 pub mod Stored
 pub mod Talks
+pub mod Lifted

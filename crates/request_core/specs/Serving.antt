@@ -1,18 +1,23 @@
 -- what serving and answering a connection do
-use Rattle.std.specs.Prelude.{ℕ, ◌≡◌, ◌⊎◌, MatchBool, MatchOption, slice_index_or, slice_set, Bool, true, false, nat_le, nat_lt, Result, Ok, Err, if◌then◌else◌, Option, Some, None, List, [], ◌∷◌, ◌++◌, vec_len}
-use Rattle.image_model.specs.Change.{Change, AreChanges}
+use Rattle.std.specs.Prelude.{ℕ, ◌≡◌, ◌+◌, ◌<◌, ◌⊎◌, MatchBool, MatchOption, slice_index_or, slice_set, Bool, true, false, nat_le, nat_lt, Result, Ok, Err, if◌then◌else◌, Option, Some, None, List, [], ◌∷◌, ◌++◌, vec_len}
+use Rattle.image_model.specs.Change.{Change, AreChanges, IsChange, change_of}
 use Rattle.image_model.specs.declared.command.Command.{Command}
 use Rattle.image_model.specs.declared.command.Command.TheVariants.{Put, Clear}
 use Rattle.image_model.specs.declared.geometry.Geometry.{Geometry}
 use Rattle.journal.specs.Group.{Numbered}
 use Rattle.nbd_wire.specs.Request.{Message, handed_len}
+use Rattle.nbd_wire.specs.declared.error.Errno.{Errno}
+use Rattle.nbd_wire.specs.declared.error.Errno.TheVariants as errno
 use Rattle.nbd_wire.specs.declared.error.Errno.TheVariants.{Io}
 use Rattle.nbd_wire.specs.declared.head.RequestHead.{RequestHead}
 use Rattle.nbd_wire.specs.declared.message.SessionFlags.{SessionFlags}
-use Rattle.order_book.specs.Order.{OrderState}
+use Rattle.order_book.specs.Order.{OrderState, has_room, with_command}
 use Rattle.request_core.specs.declared.serving.Served.{Served}
 use Rattle.request_core.specs.declared.serving.Served.TheVariants as served
 use Rattle.request_core.specs.Parts.{AreConnectionsOf, IsOrderOf}
+use Rattle.world.specs.Log.{command_of, is_flush, waits_for_store}
+use Rattle.world.specs.declared.action.Action.{Action}
+use Rattle.world.specs.declared.action.Action.TheVariants as Action
 use Rattle.world.specs.declared.connection.Connection.{Connection}
 use Rattle.world.specs.declared.connection.Connection.TheVariants.{Idle, Requested, Waiting, Ready, Closed}
 use Rattle.world.specs.declared.event.Event.{Event}
@@ -42,11 +47,33 @@ abbrev pub served_after : Bool → ℕ → ℕ → Served
 served_after true cookie number = served.Wait number
 served_after false cookie number = ready_for cookie Done
 
--- an answer has the request's cookie
-abbrev pub CarriesCookie : ℕ → Served → Type 0
-CarriesCookie cookie (served.Ready reply) = reply.cookie ≡ cookie
-CarriesCookie cookie (served.Wait number) = Unit {0}
-CarriesCookie cookie (served.NoRoom request) = Unit {0}
+-- What a write command makes of an order that has a number left for it: it has no room and the request comes back, memory is
+-- refused, or it goes to the end of the order.
+abbrev pub IsCommandServed : Message → Mode → Command → OrderState → OrderState → Served → Type 0
+IsCommandServed request kept command old new result =
+    ((has_room old command ≡ false) × (new ≡ old) × (result ≡ served.NoRoom request))
+    ⊎ ((has_room old command ≡ true) × (new ≡ old) × (result ≡ ready_for request.head.cookie (Refused errno.NoMemory)))
+    ⊎ ((has_room old command ≡ true) × (new ≡ with_command old command) × (result ≡ served_after (waits_for_store kept request) request.head.cookie (old.mark + 1)))
+
+-- what a WRITE that passes judgement makes of an order that isn't stopped
+abbrev pub IsWriteServed : Message → Geometry → Mode → OrderState → OrderState → Served → Type 0
+IsWriteServed request geometry kept old new result =
+    ((old.mark ≡ 18446744073709551615) × (new ≡ old) × (result ≡ ready_for request.head.cookie (Refused errno.NoSpace)))
+    ⊎ ((command : Command) × (change_of command ≡ command_of request) × IsChange geometry.blocks (command_of request) × (old.mark < 18446744073709551615)
+    × IsCommandServed request kept command old new result)
+
+-- What a request that passes judgement makes of an order: after a device fault EIO, a FLUSH waits for the last number.
+abbrev pub IsPassed : Message → Geometry → Mode → OrderState → OrderState → Served → Type 0
+IsPassed request geometry kept old new result =
+    ((old.stopped ≡ true) × (new ≡ old) × (result ≡ ready_for request.head.cookie (Refused Io)))
+    ⊎ ((old.stopped ≡ false) × (is_flush request ≡ true) × (new ≡ old) × (result ≡ served.Wait old.mark))
+    ⊎ ((old.stopped ≡ false) × (is_flush request ≡ false) × IsWriteServed request geometry kept old new result)
+
+-- what a request on which this is the verdict makes of an order, and what it comes to
+abbrev pub IsServedBy : Result Action Errno → Message → Geometry → Mode → OrderState → OrderState → Served → Type 0
+IsServedBy (Ok Action.End) request geometry kept old new result = ⊥
+IsServedBy (Ok Action.Serve) request geometry kept old new result = IsPassed request geometry kept old new result
+IsServedBy (Err errno) request geometry kept old new result = (new ≡ old) × (result ≡ ready_for request.head.cookie (Refused errno))
 
 -- what a connection comes to whose request was served
 abbrev pub state_of : Served → Connection

@@ -1,12 +1,14 @@
-ghost use Rattle.std.specs.Prelude.{◌≡◌, ◌≢◌, ◌<◌, ℕ, false, [], Some, IfSome, MatchOption, IfNone, Option, slice_index_or, slice_set, vec_len};
+ghost use Rattle.std.specs.Prelude.{◌≡◌, ◌≢◌, ◌<◌, ℕ, false, [], Some, IfSome, MatchOption, IfNone, Option, Result, slice_index_or, slice_set, vec_len};
 ghost use Rattle.journal.specs.Group.{Numbered};
 ghost use Rattle.nbd_wire.specs.Request.{Message};
+ghost use Rattle.nbd_wire.specs.declared.error.Errno.{Errno};
 ghost use Rattle.request_core.specs.Parts.{AreConnectionsOf, IsOrderOf};
-ghost use Rattle.request_core.specs.Serving.{AreTermsOf, CarriesCookie, IsAnsweredBy, IsHandedBack, IsSameHand, IsSentBy, IsServed, IsTalked, answer_due, event_for, is_idle, ready_for, request_again, request_in, sent_state, served_after, state_of};
+ghost use Rattle.request_core.specs.Serving.{AreTermsOf, IsAnsweredBy, IsHandedBack, IsSameHand, IsSentBy, IsServed, IsServedBy, IsTalked, IsWriteServed, answer_due, event_for, is_idle, ready_for, request_again, request_in, sent_state, served_after, state_of};
 ghost use Rattle.world.specs.Log.{waits_for_store};
-ghost use Rattle.world.specs.Serve.{Luck, answer as answer_of, serve as serve_of, write_served};
+ghost use Rattle.world.specs.Serve.{Luck, answer as answer_of, serve as serve_of};
 ghost use Rattle.world.specs.Step.{send as send_of};
-ghost use Rattle.world.specs.Verdict.{IsServedWrite};
+ghost use Rattle.world.specs.Verdict.{IsServedWrite, verdict};
+ghost use Rattle.world.specs.declared.action.Action.{Action};
 ghost use Rattle.world.specs.World.{World};
 ghost use Rattle.world.specs.declared.connection.Connection.TheVariants as Connection;
 ghost use Rattle.world_law.specs.Law.{IsWithin};
@@ -174,25 +176,19 @@ fn state_of(served: Served) -> Connection
 
 /// Serves a request that isn't a DISC: it is judged, and a command gets its place in the order.
 ///
-/// A WRITE for which there is no room comes back; the order is then as it was, and so it is after every answer but those
-/// that say or wait for it that a command was taken. No request needs the device so far.
+/// A WRITE for which there is no room comes back. No request needs the device so far.
 pub fn serve_held(request: Request, order: &mut Order, terms: Terms) -> Served
     requires { request.head.kind ≢ 2 }
-    ensures hand { IsSameHand order.old order.new }
-    ensures cookie { CarriesCookie request.head.cookie result }
-
-    // In each world that order and request are of this is the step that serves the connection.
-    ensures world { (world : World) (group : Option Numbered) (connection : ℕ) → IsWithin world → IsOrderOf world.stage order.old group
-        → AreTermsOf world terms.geometry terms.flags terms.mode → world.connections connection ≡ Connection.Requested request
-        → (luck : Luck) × IsServed world (serve_of luck world connection (Connection.Requested request)) connection (state_of result)
-        (event_for connection order.old.mark order.new.mark result) order.new group }
+    ensures serves { (given : Result Action Errno) × (given ≡ verdict request.head terms.geometry terms.flags)
+        × IsServedBy given request terms.geometry terms.mode order.old order.new result }
 {
     let head = request.head();
+    let last = order.mark();
     match judge(&head, &terms.geometry, &terms.flags) {
         Ok(Action::End) => unreachable!(),
         Err(errno) => refused(head.cookie, errno),
         Ok(Action::Serve) if order.stopped() => refused(head.cookie, Errno::Io),
-        Ok(Action::Serve) if head.kind == FLUSH => Served::Wait(order.mark()),
+        Ok(Action::Serve) if head.kind == FLUSH => Served::Wait(last),
         Ok(Action::Serve) => serve_write(request, order, terms),
     }
 }
@@ -206,15 +202,12 @@ fn refused(cookie: u64, errno: Errno) -> Served
     })
 }
 
-// Gives a WRITE that passes judgement its place in the order.
+// Gives a WRITE that passes judgement its place in the order, which isn't stopped.
 fn serve_write(request: Request, order: &mut Order, terms: Terms) -> Served
-    requires { IsServedWrite request.head terms.geometry }
-    ensures hand { IsSameHand order.old order.new }
-    ensures cookie { CarriesCookie request.head.cookie result }
-    ensures world { (world : World) (group : Option Numbered) (connection : ℕ) → IsWithin world → IsOrderOf world.stage order.old group
-        → AreTermsOf world terms.geometry terms.flags terms.mode → order.old.stopped ≡ false → world.connections connection ≡ Connection.Requested request
-        → (luck : Luck) × IsServed world (write_served luck world connection request) connection (state_of result)
-        (event_for connection order.old.mark order.new.mark result) order.new group }
+    requires write { IsServedWrite request.head terms.geometry }
+    requires works { order.old.stopped ≡ false }
+    requires fits { order.old.mark < 18446744073709551616 }
+    ensures { IsWriteServed request terms.geometry terms.mode order.old order.new result }
 {
     let (head, bytes) = request.into_parts();
     let command = Command::Put {
