@@ -1,4 +1,4 @@
-ghost use Rattle.std.specs.Prelude.{◌≡◌, ◌≢◌, ◌⊎◌, ℕ, ◌+◌, ◌≤◌, ◌<◌, ◌^◌, ◌==◌, ◌↔◌, List, [], ◌∷◌, ◌++◌, length, take, drop, Option, Some, None, OnOk, IfErr, IfSome, IfNone, OnErr, IsErr, IsErrOf, IsErrAnd};
+ghost use Rattle.std.specs.Prelude.{◌≡◌, ◌≢◌, ◌⊎◌, ℕ, ◌+◌, ◌≤◌, ◌<◌, ◌^◌, ◌==◌, ◌↔◌, List, [], ◌∷◌, ◌++◌, length, take, drop, Option, Some, None, OnOk, IfErr, IfSome, IfNone, OnErr, IsErr, IsErrOf, IsErrAnd, vec_capacity};
 ghost use Rattle.disk_model.specs.Disk.{IsSyncedIn, IsWritten, IsWriteFailed, LeavesOnly, MayLeaveTorn};
 ghost use Rattle.disk_model.specs.Faults.{faults_after};
 ghost use Rattle.image_model.specs.Change.{AreChanges};
@@ -21,6 +21,9 @@ use std::marker::Model;
 
 // The gate of a group, the length of its body, its first number and its count of commands.
 pub const GROUP_HEAD_BYTES: u32 = 17;
+
+// The most bytes of memory that are kept for the next group.
+const MOST_KEPT_BYTES: usize = 1_048_576;
 
 /// A part of a device that holds a list of groups.
 ///
@@ -154,7 +157,9 @@ impl Area {
             → LeavesOnly (D.state disk.old) (D.state disk.new) (LeavesEither self.old first groups (stored_of group) (D.state disk.old)) }
     {
         let held = self.touched.len();
-        match self.store(disk, &group) {
+        let stored = self.store(disk, &group);
+        let_go(&mut self.buffer);
+        match stored {
             Ok(()) => {
                 self.gate += GROUP_HEAD_BYTES + group.body_bytes();
                 self.next = group.number_after();
@@ -292,6 +297,16 @@ impl Area {
             return Err(JournalFault::OutOfOrder);
         }
         Ok(())
+    }
+}
+
+// Keeps the memory of the buffer for the next group only where that is little.
+fn let_go(buffer: &mut Vec<u8>)
+    ensures { vec_capacity buffer.new ≤ 1048576 }
+{
+    if buffer.capacity() > MOST_KEPT_BYTES {
+        buffer.clear();
+        buffer.shrink_to(0);
     }
 }
 

@@ -4,6 +4,9 @@ ghost use Rattle.journal.specs.Touches.{EndsWithin, HasBytesWithin, IsNextTouche
 use image_model::{BLOCK_BYTES, Kind};
 use std::alloc::AllocError;
 
+// By how many ranges a short list grows.
+const LEAST_GROWTH: usize = 64;
+
 /// What a command of an area made of a block.
 #[derive(Clone, Copy, Debug, PartialEq, Eq)]
 pub enum Touch {
@@ -74,11 +77,14 @@ pub fn next_touched(touched: &[TouchedRange], from: u64) -> Option<u64>
     next
 }
 
-// One more range at the end.
+// One more range at the end. The list grows by a quarter, so that it takes at most 40 bytes a range.
 pub fn note(touched: &mut Vec<TouchedRange>, range: TouchedRange) -> Result<(), AllocError>
     ensures ok { OnOk result (touched.new.items ≡ touched.old.items ++ range ∷ []) }
     ensures err { OnErr result (touched.new.items ≡ touched.old.items) }
 {
+    if touched.len() == touched.capacity() {
+        touched.reserve_exact(touched.len() / 4 + LEAST_GROWTH)?;
+    }
     touched.push(range)?;
     Ok(())
 }

@@ -8,7 +8,7 @@ use std::alloc::{AllocError, Global};
 use std::marker::Model;
 
 // The most bytes that one read takes.
-const WINDOW_BYTES: u32 = 65_536;
+const WINDOW_BYTES: u32 = 1_048_576;
 
 // A part of an area that is held in memory, so that small pieces of it cost few reads.
 #[derive(Drop)]
@@ -26,7 +26,7 @@ impl Model for Window {
 
     ghost view = { λ window. record { from = window.from; held = window.held; buffer = window.buffer.items } };
 
-    ghost invariant = { λ window. (length window.buffer.items ≡ 65536) × (window.held ≤ 65536) };
+    ghost invariant = { λ window. (length window.buffer.items ≡ 1048576) × (window.held ≤ 1048576) };
 }
 
 impl Window {
@@ -95,7 +95,7 @@ impl Window {
     ) -> Result<(), DeviceFault>
         requires inside { place ≤ area_bytes }
         requires on_disk { area + area_bytes ≤ D.extent disk.old }
-        ensures held { OnOk result ((self.new.from ≡ place) × (self.new.held ≡ min 65536 (area_bytes - place))) }
+        ensures held { OnOk result ((self.new.from ≡ place) × (self.new.held ≡ min 1048576 (area_bytes - place))) }
         ensures extent { D.extent disk.new ≡ D.extent disk.old }
         ensures faults { D.faults disk.new ≡ faults_after result (D.faults disk.old) }
         ensures honest { D.honest disk.new ↔ D.honest disk.old }

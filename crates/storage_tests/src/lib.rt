@@ -5,3 +5,7 @@
 mod journal_tests;
 #[cfg(test)]
 mod keeper_tests;
+#[cfg(test)]
+mod scrambling;
+#[cfg(test)]
+mod scrambling_tests;
