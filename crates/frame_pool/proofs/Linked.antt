@@ -1,12 +1,12 @@
 -- links that stand for three lists, and those once a frame was moved
-use Rattle.std.proofs.Common.{◌≡◌, ◌≢◌, ◌<◌, ◌≤◌, ◌+◌, ◌^◌, ◌⊎◌, inl, inr, ℕ, cond, List, [], ◌∷◌, ◌++◌, length, get_or, set, refl, ap, ◌∙◌, sym, subst, arith, slice_get, Some, None}
+use Rattle.std.proofs.Common.{◌≡◌, ◌≢◌, ◌<◌, ◌≤◌, ◌+◌, ℕ, List, [], ◌∷◌, ◌++◌, length, get_or, set, refl, ap, ◌∙◌, sym, subst, arith, slice_get, Some, None}
 use Rattle.std.proofs.lemmas.List.{append_assoc, length-set}
 use Rattle.std.proofs.lemmas.List.Elements.{All-set, filter-append}
 use Rattle.std.proofs.lemmas.Bool.{ne_eqb, eq-eqb}
 use Rattle.frame_pool.specs.declared.place.Place.{Place}
 use Rattle.frame_pool.specs.declared.place.Place.TheVariants.{Free, Clean, Dirty}
-use Rattle.frame_pool.specs.Lists.{ListsState, HoldEach, total, times, without, moved, list_at}
-use Rattle.frame_pool.specs.Ring.{IsPath, AreLinks, AreLinked, start_of, end_of, ring_of, walk, linked as linked_list, lists_of}
+use Rattle.frame_pool.specs.Lists.{ListsState, total, times, without, moved, list_at}
+use Rattle.frame_pool.specs.Ring.{IsPath, AreLinks, AreLinked, start_of, end_of, ring_of, linked as linked_list, lists_of}
 use Rattle.frame_pool.proofs.Times.{times-append, times-without_same, times-without_other, times_other, head_other}
 use Rattle.frame_pool.proofs.Moved.{times_in, times_once, times_none, total-moved, HoldEach-moved}
 use Rattle.frame_pool.proofs.RingMoves.{next-previous, previous-next, path-unlinked, path-linked, walk_path}

@@ -1,7 +1,6 @@
 -- how often a frame stands in three lists, once one was moved to another list
-use Rattle.std.proofs.Common.{◌≡◌, ◌≢◌, ◌<◌, ◌≤◌, ◌+◌, ◌⊎◌, inl, inr, ℕ, cond, List, [], ◌∷◌, ◌++◌, length, refl, ap, ◌∙◌, sym, arith, length-append, slice_get, Some}
+use Rattle.std.proofs.Common.{◌≡◌, ◌≢◌, ◌<◌, ◌≤◌, ◌+◌, inl, inr, ℕ, List, [], ◌∷◌, ◌++◌, length, refl, ◌∙◌, sym, arith, length-append, slice_get, Some}
 use Rattle.std.proofs.lemmas.Bool.{cases_eq, cases_lt, eq-eqb, lt-ltb, le-ltb}
-use Rattle.std.proofs.Math.Dec.{ltb}
 use Rattle.frame_pool.specs.declared.place.Place.{Place}
 use Rattle.frame_pool.specs.declared.place.Place.TheVariants.{Free, Clean, Dirty}
 use Rattle.frame_pool.specs.Lists.{ListsState, HoldEach, total, times, without, moved, list_at}

@@ -1,19 +1,19 @@
 -- frames with the numbers that are kept for them
-use Rattle.std.proofs.Common.{◌≡◌, ◌≢◌, ◌<◌, ◌≤◌, ◌+◌, ◌-◌, ◌⊎◌, inl, inr, ℕ, cond, not, true, false, Bool, List, [], ◌∷◌, ◌++◌, length, get_or, set, map, filter, refl, ap, ◌∙◌, sym, subst, arith, Option, None, Some, if◌then◌else◌, slice_get, is_some}
-use Rattle.std.specs.List.{All, list_any}
+use Rattle.std.proofs.Common.{◌≡◌, ◌≢◌, ◌<◌, ◌≤◌, ◌+◌, ◌-◌, inl, inr, ℕ, not, List, [], ◌∷◌, length, get_or, set, refl, ap, ◌∙◌, sym, subst, arith, Option, None, Some, if◌then◌else◌, slice_get, is_some}
+use Rattle.std.specs.List.{All}
 use Rattle.std.specs.List.Sorted.{IsNonDecreasingBy}
 use Rattle.std.proofs.lemmas.Bool.{cases_eq, eqb-false, not-true, lt-ltb}
 use Rattle.std.proofs.lemmas.Bool.Decides.{eqb_tells}
 use Rattle.std.proofs.lemmas.List.{get_or-set_same, get_or-set_other, length-set, length-map, get_or-map, map_push}
-use Rattle.std.proofs.lemmas.List.Elements.{All-filter, filter_passes, All-get_or}
+use Rattle.std.proofs.lemmas.List.Elements.{All-filter, filter_passes}
 use Rattle.std.proofs.lemmas.List.Kept.{IsNonDecreasingBy-filter}
 use Rattle.std.proofs.lemmas.List.Sorted.{IsNonDecreasingBy-push}
 use Rattle.std.proofs.Math.Dec.{eqb, leb, ltb}
 use Rattle.frame_pool.specs.declared.place.Place.{Place}
 use Rattle.frame_pool.specs.declared.place.Place.TheVariants.{Free, Clean, Dirty}
-use Rattle.frame_pool.specs.Lists.{ListsState, HoldEach, total, times, without, moved}
+use Rattle.frame_pool.specs.Lists.{ListsState, total, times, without, moved}
 use Rattle.frame_pool.specs.Numbers.{AreNumbered, kept_at, number_at, numbered, one_if_kept, pool_of}
-use Rattle.frame_pool.specs.Pool.{DirtyFrame, PoolState, IsPool, frames_of, lists_in, others, is_dirty, front_through, with_free, with_clean, with_dirty}
+use Rattle.frame_pool.specs.Pool.{DirtyFrame, PoolState, IsPool, frames_of, others, is_dirty, front_through, with_free, with_clean, with_dirty}
 use Rattle.frame_pool.proofs.Times.{times-without_same, times-without_other, length-without}
 use Rattle.frame_pool.proofs.Moved.{total-moved, HoldEach-moved, times-last_same, times-last_other, length-last}
 

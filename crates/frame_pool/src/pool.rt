@@ -55,12 +55,13 @@ impl FramePool {
     /// So many frames, which are free, in ascending order, and hold zero bytes.
     pub fn new(alloc: Global, frames: u32) -> Result<FramePool, AllocError>
         requires { frames + 3 < 2 ^ 31 }
-        ensures { IfOk result (λ pool. pool ≡ record {
+        ensures made { IfOk result (λ pool. pool ≡ record {
           free = range_with_len 0 frames;
           clean = [];
           dirty = [];
           bytes = replicate frames (replicate 4096 0);
         }) }
+        ensures pool { IfOk result (λ made. IsPool made) }
     {
         Ok(FramePool {
             lists: FrameLists::new(alloc, frames)?,

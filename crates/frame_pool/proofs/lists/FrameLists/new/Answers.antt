@@ -1,4 +1,3 @@
-use Rattle.std.proofs.Common.{◌∙◌, ap, sym}
 use Rattle.frame_pool.proofs.Fresh.{AreLinked-fresh}
 use Rattle.frame_pool.proofs.Linked.{linked_shown, lists_linked}
 use Rattle.frame_pool.proofs.lists.FrameLists.new.Goals as goal

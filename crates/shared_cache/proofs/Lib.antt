@@ -1,0 +1,5 @@
+pub mod Indexed
+pub mod Kept
+pub mod Lookups
+pub mod Ranges
+pub mod FrameBytes

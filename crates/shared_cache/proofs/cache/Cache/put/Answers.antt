@@ -1,0 +1,9 @@
+use Rattle.std.proofs.Common.{ap}
+use Rattle.shared_cache.specs.Cache.{CacheState}
+use Rattle.shared_cache.proofs.FrameBytes.{order_seen}
+use Rattle.shared_cache.proofs.cache.Cache.put.Goals as goal
+
+pub put_all-requires-clause-order : goal.put_all-requires-clause-order
+put_all-requires-clause-order c =
+    rw c.in_ok-reserve.ensures.pool
+    (order_seen c.self.inside.held.pool c.self.inside.held.blocks c.args.number _ (ap (λ (cache : CacheState). cache.blocks.dirty) c.self.view_is) c.requires.order)

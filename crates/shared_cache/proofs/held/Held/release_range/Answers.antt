@@ -1,0 +1,12 @@
+use Rattle.std.proofs.Common.{◌∙◌, refl}
+use Rattle.shared_cache.proofs.Ranges.{release_next, without_empty}
+use Rattle.shared_cache.proofs.held.Held.release_range.Goals as goal
+
+pub loop-offset-init : goal.loop-offset-init
+loop-offset-init c = record { left = without_empty c.args.first _; held = c.requires.held }
+
+pub loop-offset-preserved : goal.loop-offset-preserved
+loop-offset-preserved c = record {
+  left = c.release.ensures.blocks ∙ release_next c.args.first c.loop-offset.offset _ _ _ refl c.loop-offset.invariant.left;
+  held = c.release.ensures.held;
+}

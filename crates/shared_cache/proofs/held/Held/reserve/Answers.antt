@@ -1,0 +1,8 @@
+use Rattle.std.proofs.Common.{ℕ, Option, nat_eq}
+use Rattle.std.specs.HashMap as hash
+use Rattle.shared_cache.specs.Held.{IsIndexed}
+use Rattle.shared_cache.proofs.Indexed.{indexed_agree}
+use Rattle.shared_cache.proofs.held.Held.reserve.Goals as goal
+
+pub invariant_of-self : goal.invariant_of-self
+invariant_of-self c = indexed_agree _ _ _ _ c.self.invariant c.reserve.ensures.entries.2

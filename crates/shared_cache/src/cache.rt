@@ -1,0 +1,157 @@
+ghost use Rattle.std.specs.Prelude.{◌≡◌, ◌≢◌, ◌+◌, ◌<◌, ◌≤◌, ◌^◌, ◌↔◌, [], ℕ, All, length, replicate, List, Some, IfOk, IsErr, OnOk, OnErr, slice_index_or};
+ghost use Rattle.std.specs.Option.{option_copied};
+ghost use Rattle.alloc_map.specs.Codes.{state_at};
+ghost use Rattle.image_model.specs.Image.{covers};
+ghost use Rattle.image_model.specs.Patched.{patched};
+ghost use Rattle.image_model.specs.declared.command.Kind.TheVariants as Kind;
+ghost use Rattle.shared_cache.specs.Blocks.{DirtyBlock, HasNoFrame, at_hand, cleaned, count_missing, with_fill, with_puts, without};
+ghost use Rattle.shared_cache.specs.Cache.{LacksBytes, bytes_seen};
+ghost use Rattle.shared_cache.specs.declared.fault.KeepFault.TheVariants as KeepFault;
+
+use crate::fault::{KeepFault, Missing};
+use crate::held::Held;
+use alloc_map::AllocMap;
+use frame_pool::NoFrame;
+use image_model::Kind;
+use std::alloc::{AllocError, Global};
+use std::marker::Model;
+
+// A block of zero bytes.
+static ZERO_BLOCK: [u8; 4096] = [0; 4096];
+
+/// The current state of each block of an image, and the bytes of those that frames hold. A frame is free, or holds a
+/// block that is clean, as the image has it, or dirty, with the number of the command that wrote it.
+#[derive(Drop)]
+pub struct Cache {
+    held: Held,
+    map: AllocMap,
+}
+
+impl Model for Cache {
+    ghost use Rattle.shared_cache.specs.Cache.{CacheState, IsCache};
+    ghost use Rattle.shared_cache.specs.Held.{blocks_of};
+
+    ghost Value = { CacheState };
+
+    ghost view = { λ cache. record { states = cache.map; blocks = blocks_of cache.held.pool cache.held.blocks } };
+
+    ghost invariant = { λ cache. IsCache cache.map cache.held };
+}
+
+impl Cache {
+    /// A cache of so many frames, which are free, over an image with these states.
+    pub fn new(alloc: Global, map: AllocMap, frames: u32) -> Result<Cache, AllocError>
+        requires frames { frames + 3 < 2 ^ 31 }
+        requires few { length map ≤ 16777216 }
+        ensures { IfOk result (λ cache. cache ≡ record { states = map; blocks = record { free = frames; clean = []; dirty = [] } }) }
+    {
+        Ok(Cache {
+            held: Held::new(alloc, frames)?,
+            map,
+        })
+    }
+
+    /// The current state of each block.
+    pub fn map(&self) -> &AllocMap
+        ensures { result.now ≡ self.now.states }
+    {
+        &self.map
+    }
+
+    /// Writes blocks from the first one on, with the number of their command, which is no smaller than those of the
+    /// blocks that are dirty; they become data. Each takes the frame that it has, else a free one, else that of the
+    /// clean front. It is refused with 13 exactly where these don't suffice, and where it is refused nothing has changed.
+    pub fn put(&mut self, number: u64, first: u64, blocks: &[[u8; 4096]]) -> Result<(), KeepFault>
+        requires range { first + length blocks.now ≤ length self.old.states }
+        requires order { All (λ (held : DirtyBlock). held.number ≤ number) self.old.blocks.dirty }
+        ensures ok { OnOk result (self.new ≡ record {
+          states = patched self.old.states first (replicate (length blocks.now) Kind.Data);
+          blocks = with_puts number first blocks.now self.old.blocks;
+        }) }
+        ensures no_frame { (result ≡ Err KeepFault.NoFrame) ↔ (at_hand self.old.blocks < count_missing first (length blocks.now) self.old.blocks) }
+        ensures err { OnErr result (self.new ≡ self.old) }
+    {
+        let count = blocks.len() as u64;
+        if self.held.at_hand() < self.held.count_missing(first, count) {
+            return Err(KeepFault::NoFrame);
+        }
+        self.held.reserve(blocks.len())?;
+        self.map.set_range(first, count, Kind::Data);
+        self.held.put_all(number, first, blocks);
+        Ok(())
+    }
+
+    /// Gives so many blocks from the first one on this state, and frees their frames, by as many steps as there are
+    /// blocks in the range, or frames.
+    pub fn clear(&mut self, first: u64, count: u64, kind: Kind)
+        requires range { first + count ≤ length self.old.states }
+        requires kind { kind ≢ Kind.Data }
+        ensures { self.new ≡ record {
+          states = patched self.old.states first (replicate count kind);
+          blocks = without (covers first count) self.old.blocks;
+        } }
+    {
+        if count <= u64::from(self.held.frames()) {
+            self.held.release_range(first, count);
+        } else {
+            self.held.release_frames(first, count);
+        }
+        self.map.set_range(first, count, kind);
+    }
+
+    /// Keeps a block of data that was read from the image, in a free frame, else in that of the clean front; one that
+    /// is held already stays as it is. It is refused with 13 exactly where neither is there, and where it is refused
+    /// nothing has changed.
+    pub fn fill(&mut self, block: u64, bytes: &[u8; 4096]) -> Result<(), KeepFault>
+        requires range { block < length self.old.states }
+        requires data { state_at self.old.states block ≡ Kind.Data }
+        ensures ok { OnOk result (self.new ≡ record { states = self.old.states; blocks = with_fill block bytes.now self.old.blocks }) }
+        ensures no_frame { (result ≡ Err KeepFault.NoFrame) ↔ HasNoFrame block self.old.blocks }
+        ensures err { OnErr result (self.new ≡ self.old) }
+    {
+        if self.held.at_hand() == 0 && !self.held.is_dirty(block) {
+            return Err(KeepFault::NoFrame);
+        }
+        self.held.reserve(1)?;
+        match self.held.fill(block, bytes) {
+            Ok(()) => Ok(()),
+            Err(NoFrame) => Err(KeepFault::NoFrame),
+        }
+    }
+
+    /// Makes the dirty blocks up to this number clean, in their order.
+    pub fn clean_through(&mut self, number: u64)
+        ensures { self.new ≡ record { states = self.old.states; blocks = cleaned number self.old.blocks } }
+    {
+        self.held.clean_through(number);
+    }
+
+    /// Reads blocks from the first one on: the bytes of its frame for one that is data, else zero. It is refused with
+    /// 14 exactly where one that is data has no frame; the slice then holds any bytes.
+    pub fn read_cached(&self, first: u64, into: &mut [[u8; 4096]]) -> Result<(), Missing>
+        requires range { first + length into.old ≤ length self.now.states }
+        ensures ok { OnOk result ((k : ℕ) (d : List ℕ) → k < length into.new → bytes_seen self.now (first + k) ≡ Some (slice_index_or into.new k d)) }
+        ensures missing { IsErr result ↔ LacksBytes self.now first (length into.old) }
+    {
+        let _ = &self.map;
+        for (offset, block) in into.iter_mut().enumerate() {
+            let Some(bytes) = self.read(first + offset as u64) else {
+                return Err(Missing);
+            };
+            *block = *bytes;
+        }
+        Ok(())
+    }
+
+    // The bytes of a block, where they are in memory.
+    fn read(&self, block: u64) -> Option<&[u8; 4096]>
+        requires { block < length self.now.states }
+        ensures { option_copied result ≡ bytes_seen self.now block }
+    {
+        match self.map.state(block) {
+            Kind::Data => self.held.bytes(block),
+            Kind::Zero => Some(&ZERO_BLOCK),
+            Kind::Hole => Some(&ZERO_BLOCK),
+        }
+    }
+}

@@ -1,0 +1,12 @@
+//! The blocks of an image that are in memory, in frames that are taken once, and the state of each block.
+#![tactic(auto)]
+
+mod cache;
+mod fault;
+mod held;
+mod index;
+#[cfg(test)]
+mod tests;
+
+pub use cache::Cache;
+pub use fault::{KeepFault, Missing};
