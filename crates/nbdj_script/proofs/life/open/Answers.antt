@@ -9,7 +9,7 @@ returns-in-Ok-runs-clause-opened g c = λ honest.
     let disk = g.D.Disk in
     let old = c.in-Ok.keeper in
     let new = c.runs.new.keeper in
-    let (content, may, image, stands, keeps) = c.in-Ok.ensures.found honest in
+    let (content, may, (image, stands, keeps)) = c.in-Ok.ensures.found honest in
     let count : old.count ≡ new.count = sym (ap (λ keeper. keeper.count) c.in-Ok-runs.ensures.ok) in
     record {
       image = image;
