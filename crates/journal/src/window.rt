@@ -7,8 +7,10 @@ use disk_model::{DeviceFault, Disk};
 use std::alloc::{AllocError, Global};
 use std::marker::Model;
 
-// The most bytes that one read takes.
+// The most bytes that one read takes, and those of a read behind a jump.
 const WINDOW_BYTES: u32 = 1_048_576;
+
+const LEAST_WINDOW_BYTES: u32 = 65_536;
 
 // A part of an area that is held in memory, so that small pieces of it cost few reads.
 #[derive(Drop)]
@@ -85,6 +87,17 @@ impl Window {
         self.from <= place && count <= self.held && place - self.from <= self.held - count
     }
 
+    // How many bytes the next read takes: twice as many as the last one where it goes on behind it, so that a list of short
+    // commands is read in long pieces, and of one of long puts little more than their heads.
+    fn next_bytes(&self, place: u32) -> u32
+        ensures { (65536 ≤ result) × (result ≤ 1048576) }
+    {
+        if place < self.from || place - self.from > self.held + LEAST_WINDOW_BYTES {
+            return LEAST_WINDOW_BYTES;
+        }
+        (2 * self.held).clamp(LEAST_WINDOW_BYTES, WINDOW_BYTES)
+    }
+
     // Reads the part of the area from this place on.
     fn fill<D: Disk>(
         &mut self,
@@ -95,7 +108,7 @@ impl Window {
     ) -> Result<(), DeviceFault>
         requires inside { place ≤ area_bytes }
         requires on_disk { area + area_bytes ≤ D.extent disk.old }
-        ensures held { OnOk result ((self.new.from ≡ place) × (self.new.held ≡ min 1048576 (area_bytes - place))) }
+        ensures held { OnOk result ((self.new.from ≡ place) × (min 65536 (area_bytes - place) ≤ self.new.held)) }
         ensures extent { D.extent disk.new ≡ D.extent disk.old }
         ensures faults { D.faults disk.new ≡ faults_after result (D.faults disk.old) }
         ensures honest { D.honest disk.new ↔ D.honest disk.old }
@@ -103,9 +116,10 @@ impl Window {
         ensures read_as { D.honest disk.old → (content : List ℕ) → IsReadAs content (D.state disk.old) area area_bytes self.old
             → IsReadAs content (D.state disk.new) area area_bytes self.new }
     {
+        let most = self.next_bytes(place);
         self.from = place;
         self.held = 0;
-        let held = WINDOW_BYTES.min(area_bytes - place);
+        let held = most.min(area_bytes - place);
         read_front(disk, area + place as u64, &mut self.buffer, held)?;
         self.held = held;
         Ok(())

@@ -10,7 +10,7 @@ returns-clause-read_as g c honest content known =
     record {
       scanned = scanned;
       held = λ k below.
-          let room : k < length c.self.inside.buffer.items = omega (arith, below, c.min-held.ensures, c.self.invariant.0) in
+          let room : k < length c.self.inside.buffer.items = omega (arith, below, c.min-held.ensures, c.next_bytes-most.ensures, c.self.invariant.0) in
           get_or-take c.self.inside.buffer.len _ k 0 (omega arith)
           ∙ get_or_append_left c.read_front.new.buffer _ 0 k (omega (arith, room, c.read_front.auto.buffer))
           ∙ read.bytes honest k below
