@@ -1,24 +1,21 @@
 -- What a keeper keeps while a group is added, and then.
-use Rattle.std.proofs.Common.{◌≡◌, inl, inr, ℕ, ◌+◌, ◌*◌, ◌%◌, ◌<◌, ◌≤◌, ◌⊎◌, ⊎_elim, List, [], ◌∷◌, ◌++◌, length, slice_index, refl, sym, ◌∙◌, ap, subst, arith, append_assoc, length-append}
+use Rattle.std.proofs.Common.{◌≡◌, inl, inr, ℕ, ◌+◌, ◌%◌, ◌<◌, ◌≤◌, ◌⊎◌, ⊎_elim, List, [], ◌∷◌, ◌++◌, length, slice_index, refl, sym, ◌∙◌, subst, arith}
 use Rattle.std.proofs.lemmas.Bool.{cases_eq, cases_lt}
-use Rattle.std.proofs.lemmas.List.{append-nil}
-use Rattle.disk_model.specs.Disk.{State, InRange, IsSound, MayLeave, MayLeaveTorn}
+use Rattle.disk_model.specs.Disk.{State, InRange, IsSound, MayLeaveTorn}
 use Rattle.header_slots.specs.Header.{mode_of}
-use Rattle.image_model.specs.Change.{Change}
 use Rattle.image_model.specs.Image.{Image, apply_all}
-use Rattle.image_model.specs.declared.geometry.Geometry.{Geometry}
 use Rattle.checkpoint.specs.declared.fault.KeeperFault.TheVariants.{OutOfOrder}
 use Rattle.journal.specs.declared.fault.JournalFault.{JournalFault}
 use Rattle.journal.specs.declared.fault.JournalFault.TheVariants as journals
 use Rattle.journal.specs.Area.{AreaState}
-use Rattle.journal.specs.GroupList.{IsList, IsListStored, LeavesEither, size_of, changes_of}
+use Rattle.journal.specs.GroupList.{IsListStored, LeavesEither, size_of}
 use Rattle.journal.specs.Spelling.{StoredGroup}
 use Rattle.journal.proofs.Spelled.{sizes-push}
-use Rattle.regions.specs.Layout.{area_at, behind, block_at}
+use Rattle.regions.specs.Layout.{behind}
 use Rattle.checkpoint.specs.Faults.{of_journal}
 use Rattle.device_image.specs.Keeper.{KeeperState, Phase, count_puts}
-use Rattle.device_image.specs.Keeps.{AreHeld, IsCopyPlace, IsPhase, Keeps, behind_lists, touched_first}
-use Rattle.device_image.specs.Stands.{StandsFor, HoldLists, all_changes, next_number, stored_image}
+use Rattle.device_image.specs.Keeps.{AreHeld, IsCopyPlace, IsPhase, Keeps, touched_first}
+use Rattle.device_image.specs.Stands.{StandsFor, next_number}
 use Rattle.device_image.proofs.Frame.{fronts_of, held_kept, last_of, moved_list, others_in_use}
 use Rattle.device_image.proofs.Kept.{first, in_area, stands_more, stands_same}
 

@@ -1,5 +1,5 @@
 -- The areas in use, read one after the other.
-use Rattle.std.proofs.Common.{◌≡◌, inl, inr, ℕ, suc, ◌+◌, ◌<◌, List, [], ◌∷◌, slice_index, refl, sym, ◌∙◌, ap, subst, arith}
+use Rattle.std.proofs.Common.{◌≡◌, inl, inr, ℕ, suc, ◌+◌, ◌<◌, List, [], ◌∷◌, slice_index, refl, sym, ◌∙◌, ap, subst}
 use Rattle.disk_model.specs.Disk.{State, IsAllSynced}
 use Rattle.image_model.specs.Side.{other_of}
 use Rattle.header_slots.specs.Header.{mode_of}

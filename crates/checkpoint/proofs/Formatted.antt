@@ -45,7 +45,7 @@ fresh_holds content geometry size zero_open one_closed fresh = record {
 fresh_stands : (content : List ℕ) (geometry : Geometry) → length content ≡ device_bytes_of geometry.blocks geometry.area → slice_index content 0 ≡ 1 → slice_index content 4096 ≡ 0 → IsFresh content geometry
     → StandsFor content (holes geometry.blocks) 0
 fresh_stands content geometry size zero_open one_closed fresh =
-    let zeroes = replicate (map_bytes_of geometry.blocks) 0 in
+    let zeroes : List ℕ = replicate (map_bytes_of geometry.blocks) 0 in
     record {
       header = first_header geometry;
       slot = Zero;

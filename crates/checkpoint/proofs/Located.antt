@@ -79,22 +79,12 @@ in_area block (a ∷ areas) zero area touch below is none found =
 in_area block (a ∷ areas) (suc index) area touch below is none found =
     ap (λ t. later (last_touch block a.touched) t) (in_area block areas index area touch (omega arith) is none found)
 
-not_in_area : (block : ℕ) (areas : List AreaState) (index : ℕ) (area : AreaState) → index < length areas → area ≡ get_or areas index area
-    → last_touch_in block (drop (suc index) areas) ≡ None → last_touch block area.touched ≡ None → last_touch_in block (drop index areas) ≡ None
-not_in_area block [] index area below is none found = absurd (omega arith)
-not_in_area block (a ∷ areas) zero area below is none found =
-    ap (λ t. later (last_touch block a.touched) t) none ∙ ap (λ (q : AreaState). last_touch block q.touched) (sym is) ∙ found
-not_in_area block (a ∷ areas) (suc index) area below is none found = not_in_area block areas index area (omega arith) is none found
-
 module _ (block : ℕ) (areas : List AreaState) (index : ℕ) (area : AreaState) (below : index < length areas) (is : area ≡ get_or areas index area) (none : last_touch_in block (drop (index + 1) areas) ≡ None) where
   none_later : last_touch_in block (drop (suc index) areas) ≡ None
   none_later = let next : suc index ≡ index + 1 = omega arith in ap (λ (n : ℕ). last_touch_in block (drop n areas)) next ∙ none
 
   pub found_here : (touch : Touch) → last_touch block area.touched ≡ Some touch → last_touch_in block areas ≡ Some touch
   found_here touch found = in_area block areas index area touch below is none_later found
-
-  pub none_here : last_touch block area.touched ≡ None → last_touch_in block (drop index areas) ≡ None
-  none_here found = not_in_area block areas index area below is none_later found
 
 -- the lists of the areas in front of the last
 front_kind : (sides : List Side) (geometry : Geometry) (next : ℕ) (lists : List (List StoredGroup)) (areas : List AreaState) (state : State) → AreHeld sides geometry next lists areas state → (image : Image) (block : ℕ)

@@ -7,7 +7,7 @@ use Rattle.header_slots.specs.Header.{SpellsAt}
 use Rattle.header_slots.specs.Slots.{HoldsHeader, slot_at}
 use Rattle.header_slots.specs.declared.header.Header.{Header}
 use Rattle.image_model.specs.declared.side.Side.{Side}
-use Rattle.header_slots.proofs.Sole.{one_slot, one_header, held_or_none, held_or_bad}
+use Rattle.header_slots.proofs.Sole.{one_slot, one_header}
 use Rattle.image_model.specs.Geometry.{map_bytes_of}
 use Rattle.image_model.specs.Image.{Image, apply_all}
 use Rattle.image_model.specs.declared.command.Kind.{Kind}

@@ -1,5 +1,5 @@
 -- that a keeper keeps an image
-use Rattle.std.specs.Prelude.{ℕ, suc, ◌≡◌, ◌+◌, ◌<◌, IsTrue, false, List, [], ◌∷◌, ◌++◌}
+use Rattle.std.specs.Prelude.{ℕ, ◌≡◌, IsTrue, false, List, [], ◌∷◌, ◌++◌}
 use Rattle.disk_model.specs.Disk.{State, InRange, IsSteady}
 use Rattle.header_slots.specs.Header.{mode_of}
 use Rattle.header_slots.specs.declared.header.Areas.{Areas}

@@ -1,7 +1,7 @@
 use Rattle.std.proofs.Common.{◌≡◌, ℕ, Err, List, ◌∙◌, ap, subst}
 use Rattle.image_model.specs.declared.geometry.Geometry.{Geometry}
 use Rattle.journal.specs.Area.{AreaState}
-use Rattle.journal.specs.GroupList.{HoldsList, IsDamaged}
+use Rattle.journal.specs.GroupList.{IsDamaged}
 use Rattle.regions.specs.Layout.{area_at}
 use Rattle.device_image.specs.Stands.{area_of}
 use Rattle.checkpoint.proofs.Areas.{moved_damage, scan_refused}
@@ -23,8 +23,3 @@ returns-in_err-scan-clause-read g c honest synced =
     moved_damage area (area_of c.args.geometry.now c.args.side) c.args.next after.seen from (ap (λ (a : AreaState). a.bytes) new) (ap (λ (a : AreaState). a.blocks) new)
     (subst (λ (content : List ℕ). IsDamaged area c.args.next content) same
     (subst (λ (n : ℕ). IsDamaged area n before.seen) first (call.damaged honest (λ place within. synced place) (ap Err is))))))
-
-pub returns-clause-read : goal.returns-clause-read
-returns-clause-read g c honest synced =
-    let first : c.new-area.result.next ≡ c.args.next = ap (λ (a : AreaState). a.next) c.new-area.ensures in
-    subst (λ (n : ℕ). HoldsList c.scan.new.self n (g.D.Disk.state c.scan.new.disk)) first (c.in_ok-scan.ensures.held honest (λ place within. synced place))

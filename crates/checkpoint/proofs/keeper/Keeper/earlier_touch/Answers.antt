@@ -1,9 +1,8 @@
-use Rattle.std.proofs.Common.{◌≡◌, ℕ, ◌+◌, ◌-◌, ◌<◌, List, length, drop, Option, Some, None, sym, ◌∙◌, ap, arith}
+use Rattle.std.proofs.Common.{◌≡◌, ℕ, ◌+◌, ◌-◌, List, drop, sym, ◌∙◌, ap, arith}
 use Rattle.journal.specs.Area.{AreaState}
-use Rattle.journal.specs.declared.touch.Touch.{Touch}
 use Rattle.device_image.specs.Keeper.{KeeperState}
 use Rattle.checkpoint.specs.Stored.{last_touch_in}
-use Rattle.checkpoint.proofs.Located.{found_here, none_here}
+use Rattle.checkpoint.proofs.Located.{found_here}
 use Rattle.checkpoint.proofs.keeper.Keeper.earlier_touch.Goals as goal
 
 pub returns-in-Some-clause-exact : goal.returns-in-Some-clause-exact

@@ -1,5 +1,4 @@
 use Rattle.std.proofs.Common.{◌+◌, ◌%◌, ◌<◌, refl, ap, rules}
-use Rattle.disk_model.specs.Disk.{IsSound}
 use Rattle.checkpoint.proofs.Opened.{last_number, opened_image, opened_keeps, opened_stands, keeps_same, passes, stood}
 use Rattle.checkpoint.proofs.keeper.Keeper.open.Goals as goal
 
