@@ -305,7 +305,7 @@ fn open_again<W: Write>(
     }
 }
 
-// Prints what an opening found, and begins its life.
+// Begins the life of an opened device, and prints what the opening found.
 fn tell<W: Write>(
     alloc: Global,
     keeper: Keeper<SimDisk>,
@@ -317,10 +317,17 @@ fn tell<W: Write>(
     requires keeps { (image : Image) × Keeps keeper (⟦<SimDisk as Disk>⟧.state keeper.disk) image keeper.count }
     ensures { IfOk result (λ life. life.keeper ≡ keeper) }
 {
-    print_opened(keeper.count(), runs, output)?;
-    match Life::begin(alloc, keeper, setup) {
-        Ok(life) => Ok(life),
-        Err(_disk) => Err(failed(KeeperFault::NoMemory, output)),
+    let count = keeper.count();
+    let life = match Life::begin(alloc, keeper, setup) {
+        Ok(life) => life,
+        Err(_disk) => return Err(failed(KeeperFault::NoMemory, output)),
+    };
+    match print_opened(count, runs, output) {
+        Ok(()) => Ok(life),
+        Err(refusal) => {
+            let _disk = life.end();
+            Err(End::Refused(refusal))
+        }
     }
 }
 
