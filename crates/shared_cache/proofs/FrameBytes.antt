@@ -1,5 +1,5 @@
 -- the bytes of blocks, as their frames hold them
-use Rattle.std.proofs.Common.{◌≡◌, ◌≢◌, ◌<◌, ◌≤◌, ◌+◌, ◌⊎◌, inl, inr, ℕ, zero, suc, cond, List, [], ◌∷◌, length, map, get_or, slice_get, refl, ap, ◌∙◌, sym, subst, arith, Option, None, Some, if◌then◌else◌}
+use Rattle.std.proofs.Common.{◌≡◌, ◌≢◌, ◌<◌, ◌≤◌, ◌+◌, inl, inr, ℕ, zero, suc, List, [], ◌∷◌, length, map, get_or, slice_get, refl, ap, ◌∙◌, sym, subst, arith, None, Some, if◌then◌else◌}
 use Rattle.std.specs.List.{All}
 use Rattle.std.proofs.lemmas.Bool.{cases_lt, ne_eqb, eq-eqb, lt-ltb, le-ltb}
 use Rattle.std.proofs.lemmas.Bool.Decides.{eqb_tells}
@@ -8,7 +8,7 @@ use Rattle.std.proofs.Math.Dec.{ltb}
 use Rattle.frame_pool.specs.Lists.{times}
 use Rattle.frame_pool.specs.Pool.{DirtyFrame, PoolState, frames_of}
 use Rattle.frame_pool.proofs.Times.{times_head}
-use Rattle.shared_cache.specs.Blocks.{DirtyBlock, bytes_of, clean_bytes, dirty_bytes, option_or}
+use Rattle.shared_cache.specs.Blocks.{DirtyBlock, bytes_of, clean_bytes, dirty_bytes}
 use Rattle.shared_cache.specs.Held.{HeldState, IsHeld, IsMissing, block_at, bytes_at, blocks_of, clean_block, dirty_block, held_times}
 
 found_clean : (pool : PoolState) (blocks : List ℕ) (frame : ℕ) (frames : List ℕ)

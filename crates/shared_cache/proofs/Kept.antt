@@ -1,16 +1,15 @@
 -- the blocks that frames hold, once a frame was moved or written
-use Rattle.std.proofs.Common.{◌≡◌, ◌≢◌, ◌<◌, ◌≤◌, ◌+◌, ◌-◌, ◌==◌, ◌⊎◌, inl, inr, ℕ, Bool, true, false, cond, not, List, [], ◌∷◌, ◌++◌, length, get_or, set, map, filter, take, drop, refl, ap, ◌∙◌, sym, subst, arith, Option, None, Some, length-append, slice_get}
+use Rattle.std.proofs.Common.{◌≡◌, ◌≢◌, ◌≤◌, ◌+◌, ◌-◌, ◌==◌, inl, inr, ℕ, List, [], ◌∷◌, ◌++◌, length, get_or, set, map, drop, refl, ap, ◌∙◌, sym, arith, Some, length-append, slice_get}
 use Rattle.std.specs.List.{range_with_len}
 use Rattle.std.proofs.lemmas.List.FromFn.{length-range_with_len}
-use Rattle.std.proofs.lemmas.Bool.{cases_eq, cases_lt, cases_Bool, ne_eqb, eq-eqb, lt-ltb, le-ltb}
+use Rattle.std.proofs.lemmas.Bool.{cases_lt, ne_eqb, eq-eqb, lt-ltb, le-ltb}
 use Rattle.std.proofs.lemmas.Bool.Decides.{eqb_tells}
-use Rattle.std.proofs.lemmas.List.{get_or-set_same, get_or-set_other, get_or_default, length-set, length-map, map-append}
-use Rattle.std.proofs.Math.Dec.{eqb, leb, ltb}
+use Rattle.std.proofs.lemmas.List.{get_or-set_same, get_or-set_other, length-map, map-append}
 use Rattle.frame_pool.specs.Lists.{times, without as without_frame, total}
-use Rattle.frame_pool.specs.Pool.{DirtyFrame, PoolState, IsPool, frames_of, lists_in, others, front_through, with_bytes, with_free, with_clean, with_dirty}
-use Rattle.frame_pool.proofs.Times.{times-append, times-without_same, times-without_other, length-without, without_absent, times_head, times_other}
-use Rattle.shared_cache.specs.Blocks.{BlocksState, CleanBlock, DirtyBlock, clean_outside, dirty_outside, without, evicted, taken, with_put}
-use Rattle.shared_cache.specs.Held.{HeldState, IsHeld, IsMissing, block_at, bytes_at, blocks_of, clean_block, dirty_block, held_times}
+use Rattle.frame_pool.specs.Pool.{DirtyFrame, PoolState, IsPool, frames_of, lists_in, others, with_bytes, with_free, with_clean, with_dirty}
+use Rattle.frame_pool.proofs.Times.{times-without_same, length-without, without_absent, times_head}
+use Rattle.shared_cache.specs.Blocks.{BlocksState, CleanBlock, DirtyBlock, clean_outside, dirty_outside, without, evicted, with_put}
+use Rattle.shared_cache.specs.Held.{HeldState, IsHeld, block_at, bytes_at, blocks_of, clean_block, dirty_block, held_times}
 use Rattle.shared_cache.proofs.Indexed.{frames_of-others, free_apart, frame_below}
 
 -- the blocks of frames without one frame are those without its block

@@ -1,12 +1,12 @@
 -- blocks of ranges
-use Rattle.std.proofs.Common.{◌≡◌, ◌≢◌, ◌<◌, ◌≤◌, ◌+◌, ◌-◌, ◌==◌, ◌||◌, ◌⊎◌, inl, inr, ℕ, zero, suc, Bool, true, false, cond, not, ◌&&◌, List, [], ◌∷◌, ◌++◌, length, map, filter, take, drop, get_or, refl, ap, ◌∙◌, sym, subst, arith, if◌then◌else◌, None, Some}
+use Rattle.std.proofs.Common.{◌≡◌, ◌≢◌, ◌<◌, ◌≤◌, ◌+◌, ◌-◌, ◌==◌, ◌||◌, inl, inr, ℕ, zero, suc, Bool, true, false, ◌&&◌, List, [], ◌∷◌, ◌++◌, length, map, filter, take, drop, get_or, refl, ap, ◌∙◌, sym, arith, if◌then◌else◌, None, Some}
 use Rattle.std.specs.List.{list_any}
 use Rattle.std.proofs.lemmas.Bool.{cases_Bool, cases_eq, cases_lt, ne_eqb, eq-eqb, le-leb, lt-leb, lt-ltb, le-ltb, leb-true, leb-false}
 use Rattle.std.proofs.lemmas.Bool.Decides.{eqb_tells}
 use Rattle.std.proofs.lemmas.List.{append-nil, append_assoc, get_or_default, take_more, length-take-le, length-drop}
 use Rattle.std.proofs.Math.Dec.{eqb, leb, ltb}
 use Rattle.image_model.specs.Image.{covers}
-use Rattle.shared_cache.specs.Blocks.{BlocksState, CleanBlock, DirtyBlock, at_hand, cleaned, clean_outside, dirty_outside, count_missing, is_dirty, taken, with_put, with_puts, without}
+use Rattle.shared_cache.specs.Blocks.{BlocksState, CleanBlock, DirtyBlock, at_hand, cleaned, clean_outside, dirty_outside, count_missing, is_dirty, with_put, with_puts, without}
 use Rattle.std.specs.List.{All}
 use Rattle.std.specs.List.Sorted.{IsNonDecreasingBy}
 use Rattle.std.proofs.lemmas.List.Elements.{All-head, All-nil, All-tail}

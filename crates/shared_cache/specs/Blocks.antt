@@ -1,7 +1,6 @@
 -- the blocks that frames hold
 use Rattle.std.specs.Prelude.{ℕ, zero, suc, ◌≡◌, ◌≤◌, ◌+◌, ◌-◌, ◌==◌, ◌||◌, not, nat_le, nat_lt, if◌then◌else◌, Bool, false, Option, None, Some, List, [], ◌∷◌, ◌++◌, length, map, filter, drop}
 use Rattle.std.specs.List.{list_any}
-use Rattle.image_model.specs.Image.{covers}
 
 -- a block whose frame is clean, and one whose frame is dirty, with the number of the command that wrote it
 pub record CleanBlock : Type 0 where

@@ -58,7 +58,7 @@ impl Held {
     }
 
     // The frame that holds a block.
-    pub fn frame_of(&self, block: u64) -> Option<u32>
+    fn frame_of(&self, block: u64) -> Option<u32>
         ensures found { IfSome result (λ frame. (1 ≤ held_times frame self.now.pool) × (block_at self.now.blocks frame ≡ block)) }
         ensures missing { IfNone result (IsMissing block self.now) }
         ensures held { IsHeld self.now }
@@ -67,7 +67,7 @@ impl Held {
     }
 
     // Frees a frame, and lets go of its block.
-    pub fn let_go(&mut self, frame: u32)
+    fn let_go(&mut self, frame: u32)
         requires { 1 ≤ held_times frame self.old.pool }
         ensures pool { self.new.pool ≡ with_free frame self.old.pool }
         ensures blocks { self.new.blocks ≡ self.old.blocks }
@@ -79,7 +79,7 @@ impl Held {
     }
 
     // Holds a block in a frame that is free; it is dirty.
-    pub fn hold_dirty(&mut self, frame: u32, block: u64, number: u64, bytes: &[u8; 4096])
+    fn hold_dirty(&mut self, frame: u32, block: u64, number: u64, bytes: &[u8; 4096])
         requires free { 1 ≤ times frame self.old.pool.free }
         requires missing { IsMissing block self.old }
         requires order { All (λ (held : DirtyFrame). held.number ≤ number) self.old.pool.dirty }
@@ -95,7 +95,7 @@ impl Held {
     }
 
     // Writes the block that a frame holds again; it is dirty.
-    pub fn write_again(&mut self, frame: u32, number: u64, bytes: &[u8; 4096])
+    fn write_again(&mut self, frame: u32, number: u64, bytes: &[u8; 4096])
         requires held { 1 ≤ held_times frame self.old.pool }
         requires order { All (λ (held : DirtyFrame). held.number ≤ number) self.old.pool.dirty }
         ensures pool { self.new.pool ≡ with_bytes frame bytes.now (with_dirty frame number self.old.pool) }
@@ -107,7 +107,7 @@ impl Held {
     }
 
     // Holds a block in a frame that is free; it is clean.
-    pub fn hold_clean(&mut self, frame: u32, block: u64, bytes: &[u8; 4096])
+    fn hold_clean(&mut self, frame: u32, block: u64, bytes: &[u8; 4096])
         requires free { 1 ≤ times frame self.old.pool.free }
         requires missing { IsMissing block self.old }
         requires room { 0 < self.old.spare }
@@ -122,7 +122,7 @@ impl Held {
     }
 
     // The front of the dirty frames becomes clean, where its number is at most this one.
-    pub fn clean_front(&mut self, number: u64) -> Option<u32>
+    fn clean_front(&mut self, number: u64) -> Option<u32>
         ensures front { result ≡ front_through number self.old.pool.dirty }
         ensures pool { IfSome result (λ frame. self.new.pool ≡ with_clean frame self.old.pool) }
         ensures none { IfNone result (self.new.pool ≡ self.old.pool) }
@@ -327,7 +327,9 @@ impl Held {
     }
 
     // How many frames there are.
-    pub fn frames(&self) -> u32 {
+    pub fn frames(&self) -> u32
+        ensures { result ≡ length self.now.pool.bytes }
+    {
         self.pool.frames()
     }
 

@@ -1,4 +1,4 @@
-use Rattle.std.proofs.Common.{◌≡◌, ◌<◌, ◌≤◌, ℕ, true, length}
+use Rattle.std.proofs.Common.{◌≡◌, ◌<◌, ℕ, true}
 use Rattle.image_model.specs.Image.{covers}
 use Rattle.shared_cache.specs.Blocks.{without}
 use Rattle.shared_cache.specs.Held.{IsHeld, IsMissing, block_at, blocks_of}

@@ -1,6 +1,3 @@
-use Rattle.std.proofs.Common.{ℕ, Option, nat_eq}
-use Rattle.std.specs.HashMap as hash
-use Rattle.shared_cache.specs.Held.{IsIndexed}
 use Rattle.shared_cache.proofs.Indexed.{indexed_agree}
 use Rattle.shared_cache.proofs.held.Held.reserve.Goals as goal
 
