@@ -15,14 +15,14 @@ use Rattle.nbd_wire.specs.declared.message.SessionFlags.{SessionFlags}
 use Rattle.order_book.specs.Order.{OrderState, new_order}
 use Rattle.request_core.specs.Bench.{ConnectionsState, new_connections}
 use Rattle.request_core.specs.Life.{LeadsLaw, Trusts, first_world}
-use Rattle.request_core.specs.Parts.{IsExportOf}
+use Rattle.request_core.specs.Parts.{IsExportOf, StandsAfter}
 use Rattle.world.specs.Log.{StandsAt}
 use Rattle.world.specs.Run.{IsReached, Fresh}
 use Rattle.world.specs.World.{Setting, World}
 use Rattle.world.specs.declared.event.Event.{Event}
 use Rattle.world.specs.declared.event.Event.TheVariants.{Sent, Answered, Numbered, Took, Held, Failed}
 use Rattle.world.specs.declared.step.Mode.{Mode}
-use Rattle.world_law.specs.Law.{HasFailed, TellsFault, TellsTruth}
+use Rattle.world_law.specs.Law.{HasFailed, IsWithin, TellsFault, TellsTruth}
 use Rattle.nbdj_pipe.specs.Export.{Follows, Settles}
 use Rattle.nbdj_pipe.specs.Life.{IsFound, IsLife, IsLived}
 use Rattle.nbdj_pipe.specs.Pipe.{IsOrderly}
@@ -59,7 +59,7 @@ told_talk : (Q : Type 0) (exchanges : List Exchange) (last : Option Message) →
 told_talk Q exchanges None each = told_exchanges Q exchanges each
 told_talk Q exchanges (Some request) each = told_exchanges Q exchanges (front_of (λ event. TellsFault event → Q) (talk exchanges) (Sent 0 request ∷ []) each)
 
-module _ {D : Type 0} (state : D → State) (faults : D → ℕ) (honest : D → Type 0) (law : LeadsLaw state faults honest) (truth : (world : World) → IsReached world → TellsTruth world)
+module _ {D : Type 0} (state : D → State) (faults : D → ℕ) (honest : D → Type 0) (law : LeadsLaw state faults honest) (truth : (world : World) → IsReached world → TellsTruth world) (within : (world : World) → IsReached world → IsWithin world)
     (fresh_law : (trusted : Bool) (keeper : KeeperState D) (found : Image) (frames connections : ℕ) (flags : SessionFlags) (mode : Mode) → keeper.failed ≡ false → keeper.count < 18446744073709551616
     → (Trusts trusted (honest keeper.disk) → Keeps keeper (state keeper.disk) found keeper.count)
     → IsExportOf (first_world keeper found (faults keeper.disk) frames connections flags mode) (new_order keeper.count frames keeper.geometry.area)
@@ -88,7 +88,9 @@ module _ {D : Type 0} (state : D → State) (faults : D → ℕ) (honest : D →
 
   found_of : (trusted : Bool) (given : trusted ≡ true → honest start) → trusted ≡ true
       → IsFound ((first_world keeper (image_of trusted given) (faults keeper.disk) frames 1 plain mode).stage.setting) (state start) (state keeper.disk)
-  found_of true given is = record { content = (found (given refl)).0; fixed = (found (given refl)).1; stands = (found (given refl)).2.1; any_moment = any_moment (given refl) }
+  found_of true given is =
+      let (content, fixed, (image, stands, keeps)) = found (given refl) in
+      record { content = content; fixed = fixed; stands = stands; seen = keeps.stands; geometry = keeps.sizes; base = keeps.from_base; any_moment = any_moment (given refl) }
   found_of false given is = cc
 
   -- the device has failed since the life began
@@ -140,8 +142,25 @@ module _ {D : Type 0} (state : D → State) (faults : D → ℕ) (honest : D →
         let of = whole.leads.of_export.of_order in
         omega (arith, is, of.durable, of.mark)
 
-    life : (outcome : Result (Unit {0}) Refusal) → (IsOrderly outcome → order''.durable ≡ order''.mark) → IsLife state faults frames mode start keeper''.disk outcome trusted exchanges last
-    life outcome stored = record {
+    -- the device has counted no fault where the order works
+    none_since : order''.stopped ≡ false → faults keeper''.disk ≡ faults start
+    none_since is =
+        let of = whole.leads.of_export in
+        of.of_keeper.faults ∙ tells.quiet (sym of.of_order.stopped ∙ is) ∙ ap (λ (s : Setting). s.failures) whole.setting ∙ same_count
+
+    -- what is durable is stored
+    all_reached : trusted ≡ true → (content : List ℕ) → MayLeave (state keeper''.disk) content → StandsAfter next.stage.order image keeper.count next.stage.durable content
+    all_reached is content left =
+        let kept = (whole.leads.of_export.disk (trusts_of trusted is given)).leaves content left in
+        subst (λ (s : Setting). StandsAfter next.stage.order s.image s.opening next.stage.durable content) whole.setting (record {
+          count = kept.count;
+          reaches = omega (arith, kept.reaches, (within next whole.leads.of_export.reached).durable);
+          within = kept.within;
+          stands = kept.stands;
+        })
+
+    life : (outcome : Result (Unit {0}) Refusal) → (IsOrderly outcome → order''.durable ≡ order''.mark) → (IsOrderly outcome → order''.stopped ≡ false) → IsLife state faults frames mode start keeper''.disk outcome trusted exchanges last
+    life outcome stored works_on = record {
       opened = keeper.disk;
       setting = first.stage.setting;
       used = keeper.used;
@@ -156,7 +175,9 @@ module _ {D : Type 0} (state : D → State) (faults : D → ℕ) (honest : D →
       answered = begun.1.answered;
       truth = told_talk HasFailedSince exchanges last each_told;
       stored = λ is. all_stored (stored is);
+      quiet = λ is. none_since (works_on is);
       found = found_of trusted given;
+      leaves = all_reached;
       durable = λ is. law.durable first next trusted whole.steps order'' keeper'' connections'' keeper.disk (Fresh first.stage.setting keeper.used) whole.leads (trusts_of trusted is given);
     }
 
@@ -164,8 +185,8 @@ module _ {D : Type 0} (state : D → State) (faults : D → ℕ) (honest : D →
     stopped_since : order''.stopped ≡ true → HasFailedSince
     stopped_since is = failed_since (tells.stopped (sym whole.leads.of_export.of_order.stopped ∙ is))
 
-  pub lived : (outcome : Result (Unit {0}) Refusal) → (IsOrderly outcome → order''.durable ≡ order''.mark) → IsLived state faults honest frames mode start keeper''.disk outcome exchanges last
-  lived outcome stored trusted given = life trusted given outcome stored
+  pub lived : (outcome : Result (Unit {0}) Refusal) → (IsOrderly outcome → order''.durable ≡ order''.mark) → (IsOrderly outcome → order''.stopped ≡ false) → IsLived state faults honest frames mode start keeper''.disk outcome exchanges last
+  lived outcome stored works_on trusted given = life trusted given outcome stored works_on
 
   -- a device fault that is told is one that the device has counted
   pub told_fault : (end outcome : Result (Unit {0}) Refusal) → (end ≡ Err DeviceFault → ⊥) → IsEndOr end outcome order''.stopped → outcome ≡ Err DeviceFault → HasRisen (faults start) (faults keeper''.disk)

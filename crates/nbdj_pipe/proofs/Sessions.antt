@@ -1,17 +1,18 @@
 -- How the pieces of a stream join, and what was written for them.
-use Rattle.std.proofs.Common.{◌≡◌, ◌≢◌, ◌⊎◌, ℕ, Bool, inl, inr, List, [], ◌∷◌, ◌++◌, Option, Some, None, refl, sym, ap, subst, ◌∙◌, append_assoc, arith, Result, Ok, Err}
+use Rattle.std.proofs.Common.{◌≡◌, ◌≢◌, ◌⊎◌, ℕ, Bool, inl, inr, List, [], ◌∷◌, ◌++◌, Option, Some, None, refl, sym, ap, subst, ◌∙◌, append_assoc, arith, Result, Ok, Err, IfErr, length, length-append, ◌<◌}
 use Rattle.std.proofs.lemmas.List.{append-nil, reverse-append, reverse-reverse}
+use Rattle.std.specs.Global.{Vec}
 use Rattle.std.specs.Prelude.{IsErrAnd, reverse}
 use Rattle.std.specs.Io.KnownBytes.{Appends, Consumes, IsAtEnd, Keeps}
 use Rattle.nbd_wire.specs.Request.{Message}
-use Rattle.nbd_wire.specs.Stream.{Begins, Feeds, Reader, end_of, failed, in_data, in_discard, in_head, reading, starved}
+use Rattle.nbd_wire.specs.Stream.{Begins, Feeds, FirstRequests, OneReading, Reader, Reads, end_of, failed, in_data, in_discard, in_head, reading, starved}
 use Rattle.nbd_wire.specs.declared.error.RequestFault.{RequestFault}
 use Rattle.nbd_wire.specs.declared.error.WireFault.{WireFault}
 use Rattle.nbd_wire.specs.declared.error.WireFault.TheVariants.{NoMemory, Malformed}
-use Rattle.nbdj_pipe.specs.Refusals.{of_wire}
+use Rattle.nbdj_pipe.specs.Refusals.{IsEarly, IsOfSession, of_wire}
 use Rattle.nbdj_pipe.specs.Talk.{Exchange, asked, dialog}
-use Rattle.nbdj_pipe.specs.Pipe.{Conversation, ReadsTo, IsEnd, IsFaulty, IsOrderly, IsPiped, IsServed, IsToDisc, IsWhole}
-use Rattle.nbdj_pipe.specs.Session.{IsTaken, Takes, TakesOn, IsEndOr, IsEarly, WritesPart}
+use Rattle.nbdj_pipe.specs.Pipe.{Conversation, ReadsTo, IsEnd, IsFaulty, IsOpen, IsOrderly, IsPiped, IsServed, IsToDisc, IsWhole}
+use Rattle.nbdj_pipe.specs.Session.{IsFed, IsTaken, StaysOpen, Takes, TakesOn, IsEndOr, WritesPart}
 use Rattle.nbdj_pipe.specs.declared.session.Flow.{Flow}
 use Rattle.nbdj_pipe.specs.declared.refusal.Refusal.{Refusal}
 use Rattle.nbdj_pipe.specs.declared.refusal.Refusal.TheVariants.{DeviceFault, PeerClosed, ProtocolEnd}
@@ -32,6 +33,22 @@ not_protocol refusal early is = subst IsEarly is early
 pub not_device : (refusal : Refusal) → IsEarly refusal → refusal ≡ DeviceFault → ⊥
 not_device refusal early is = subst IsEarly is early
 
+-- and it is one that a session may end with
+of_early : (refusal : Refusal) → IsEarly refusal → IsOfSession refusal
+of_early Refusal.NoMemory early = tt
+of_early DeviceFault early = tt
+of_early Refusal.BadMap early = early
+of_early Refusal.NoHeader early = early
+of_early Refusal.BadHeader early = early
+of_early Refusal.AreaFull early = tt
+of_early Refusal.OutOfOrder early = early
+of_early Refusal.DamagedGroup early = early
+of_early Refusal.Failed early = tt
+of_early Refusal.NoRoom early = tt
+of_early PeerClosed early = tt
+of_early ProtocolEnd early = tt
+of_early Refusal.StreamFault early = tt
+
 -- what an outcome that is a refusal of its own says of a piece: nothing
 taken_early : (told : Conversation) (reader : Reader) (refusal : Refusal) → IsEarly refusal → IsTaken told reader (Err refusal)
 taken_early told reader refusal early = record {
@@ -40,6 +57,7 @@ taken_early told reader refusal early = record {
   fault = λ e. absurd (not_protocol refusal early (cc));
   closed = λ e. not_closed refusal early (cc);
   device = λ e. not_device refusal early (cc);
+  session = of_early refusal early;
 }
 
 pub no_memory : IsEarly Refusal.NoMemory
@@ -73,6 +91,7 @@ takes-on run more_run all_run join old between new piece more before mid after o
         fault = λ is. (whole_behind exchanges second.told (second.taken.fault is).0, (second.taken.fault is).1);
         closed = second.taken.closed;
         device = second.taken.device;
+        session = second.taken.session;
       };
       runs = join exchanges second.told.exchanges second.told.last (subst (run exchanges) whole.none first.runs) second.runs;
     }
@@ -84,6 +103,7 @@ pub record IsGoing (input input_left output output_made : Option (List ℕ)) (re
   pub read : Consumes input input_left stream
   pub written : Appends output output_made (dialog exchanges)
   pub handed : ReadsTo stream (asked exchanges) reader
+  pub is_open : IsOpen reader
   pub no_disc : HaveNoDisc exchanges
   pub runs : run exchanges None
 
@@ -107,7 +127,7 @@ module _ (run : Run) (same : run [] None) (old new : Reader) (piece before : Lis
     reads = reads;
     due = sym (append-nil before);
     served = served_nothing;
-    taken = record { going = λ e. cc; disc = λ e. cc; fault = λ e. cc; closed = λ e. cc; device = λ e. cc };
+    taken = record { going = λ e. cc; disc = λ e. cc; fault = λ e. cc; closed = λ e. cc; device = λ e. cc; session = tt };
     runs = same;
   }
   takes_known_fault (Malformed fault) is = record {
@@ -116,7 +136,7 @@ module _ (run : Run) (same : run [] None) (old new : Reader) (piece before : Lis
     reads = reads;
     due = sym (append-nil before);
     served = served_nothing;
-    taken = record { going = λ e. cc; disc = λ e. cc; fault = λ e. (whole_nothing, faulty_end new fault is); closed = λ e. cc; device = λ e. cc };
+    taken = record { going = λ e. cc; disc = λ e. cc; fault = λ e. (whole_nothing, faulty_end new fault is); closed = λ e. cc; device = λ e. cc; session = tt };
     runs = same;
   }
 
@@ -146,6 +166,51 @@ feeds_on starved piece requests new (none, still) stream before begun =
       reads = begun.reads;
     })))
 
+-- a call that handed out requests was of a reader that hadn't ended
+still_open : (end : Option WireFault) → ((fault : WireFault) → end ≡ Some fault → ⊥) → end ≡ None
+still_open None none = refl
+still_open (Some fault) none = absurd (none fault refl)
+
+no_items : (requests : List Message) → requests ≡ [] → 0 < length requests → ⊥
+no_items requests is some = omega (arith, ap length is, some)
+
+not_refused : (requests : Vec Message) (fault : WireFault) → (let handed : Result (Vec Message) WireFault = Ok requests in handed ≡ Err fault) → ⊥
+not_refused requests fault is = cc
+
+pub fed : (old : Reader) (piece : List ℕ) (new : Reader) (requests : Vec Message) (outcome : Result Flow Refusal) → Feeds old piece requests.items new
+    → ((fault : WireFault) → end_of old ≡ Some fault → (let handed : Result (Vec Message) WireFault = Ok requests in handed ≡ Err fault))
+    → ((fault : WireFault) → end_of new ≡ Some fault → 0 < length requests.items) → IsFed old piece new outcome
+fed old piece new requests outcome feeds again first e = (
+  still_open (end_of old) (λ fault ends. not_refused requests fault (again fault ends)),
+  requests.items,
+  feeds_on old piece requests.items new feeds,
+  λ none. still_open (end_of new) (λ fault ends. no_items requests.items none (first fault ends)),
+)
+
+-- a list that others follow, which are none
+none_behind : (front back : List Message) → length front ≡ length (front ++ back) → back ≡ []
+none_behind front [] is = refl
+none_behind front (x ∷ back) is = absurd (omega (arith, is, length-append front (x ∷ back)))
+
+-- a reader that is fed nothing hands out nothing, since a stream has one reading
+module _ (one : OneReading) (begins : FirstRequests) where
+  nothing_more : (mid new : Reader) (stream : List ℕ) (before requests : List Message) → IsOpen mid → ReadsTo stream before mid → ReadsTo (stream ++ []) (before ++ requests) new → requests ≡ []
+  nothing_more starved new stream before requests is_open reads more = absurd (ended is_open)
+    where
+      ended : (let ends : Option WireFault = Some NoMemory in ends ≡ None) → ⊥
+      ended is = cc
+  nothing_more (reading kept) (reading other) stream before requests is_open reads more =
+      none_behind before requests (ap length (one stream before (before ++ requests) kept other reads (subst (λ (s : List ℕ). Reads s (before ++ requests) other) (append-nil stream) more)).0)
+  nothing_more (reading kept) starved stream before requests is_open reads more =
+      let whole = begins stream (before ++ requests) before kept (subst (λ (s : List ℕ). Begins s (before ++ requests)) (append-nil stream) more) reads in
+      none_behind before requests (omega (arith, ap length whole.1, length-append (before ++ requests) whole.0, length-append before requests))
+
+  pub stays_open : (old mid new : Reader) (piece : List ℕ) (first : List Message) (outcome : Result Flow Refusal) → TakesOn old piece first mid → IsFed mid [] new outcome → StaysOpen old new outcome
+  stays_open old mid new piece first outcome takes feeds is stream before reads =
+      let (is_open, requests, on, none) = feeds is in
+      let here = takes stream before reads in
+      none (nothing_more mid new (stream ++ piece) (before ++ first) requests is_open here (on (stream ++ piece) (before ++ first) here))
+
 -- the requests were turned round, and some of them were served from the end
 module _ (all back left : List Message) (served : List Message) (turned : back ≡ reverse all) (whole : (reverse back) ≡ served ++ (reverse left)) where
   again : all ≡ (reverse back)
@@ -172,7 +237,7 @@ module _ (run : Run) (old new : Reader) (piece : List ℕ) (all : List Message) 
     reads = subst (λ (r : List Message). TakesOn old piece r new) (same ∙ append-nil (asked exchanges)) reads;
     due = due;
     served = served_all exchanges none;
-    taken = record { going = λ e. whole_all exchanges; disc = λ e. cc; fault = λ e. cc; closed = λ e. cc; device = λ e. cc };
+    taken = record { going = λ e. whole_all exchanges; disc = λ e. cc; fault = λ e. cc; closed = λ e. cc; device = λ e. cc; session = tt };
     runs = runs;
   }
 
@@ -201,6 +266,7 @@ module _ (run : Run) (old new : Reader) (piece : List ℕ) (all : List Message) 
         fault = λ e. cc;
         closed = λ e. cc;
         device = λ e. cc;
+        session = tt;
       };
       runs = runs;
     }
@@ -255,6 +321,7 @@ end_early told reader left refusal early = record {
   closed = λ e. absurd (not_closed refusal early cc);
   fault = λ e. absurd (not_protocol refusal early cc);
   device = λ e. absurd (not_device refusal early cc);
+  session = of_early refusal early;
 }
 
 pub going_first : (run : Run) (input output : Option (List ℕ)) → run [] None → IsGoing input input output output (reading (in_head [])) run
@@ -264,6 +331,7 @@ going_first run input output none = record {
   read = consumes_none input;
   written = appends_none output;
   handed = (omega arith, refl);
+  is_open = refl;
   no_disc = tt;
   runs = none;
 }
@@ -296,7 +364,7 @@ module _ (run : Run) (input mid output made : Option (List ℕ)) (reader : Reade
     handed = subst (λ (s : List ℕ). ReadsTo s (asked going.exchanges) reader) (sym (append-nil going.stream)) going.handed;
     written = going.written;
     served = served_all going.exchanges going.no_disc;
-    end = record { disc = tt; closed = λ e. (whole_all going.exchanges, at_end); fault = λ e. cc; device = λ e. cc };
+    end = record { disc = tt; closed = λ e. (whole_all going.exchanges, at_end, going.is_open); fault = λ e. cc; device = λ e. cc; session = tt };
     runs = going.runs;
   }
 
@@ -344,8 +412,8 @@ module _ (run : Run) (input mid output made : Option (List ℕ)) (reader : Reade
         wrote : Appends output made_on told.text
         wrote = subst (λ (t : List ℕ). Appends output made_on (dialog exchanges ++ t)) takes.due (appends_on output made made_on (dialog exchanges) due going.written writes)
 
-        pub goes_on : outcome ≡ Ok Flow.Open → IsGoing input left output made_on new all_run
-        goes_on is =
+        pub goes_on : outcome ≡ Ok Flow.Open → StaysOpen reader new outcome → IsGoing input left output made_on new all_run
+        goes_on is stays =
             let whole = takes.taken.going is in
             record {
               stream = going.stream ++ piece;
@@ -353,6 +421,7 @@ module _ (run : Run) (input mid output made : Option (List ℕ)) (reader : Reade
               read = consumed;
               written = subst (Appends output made_on) (whole_behind exchanges takes.told whole).text wrote;
               handed = subst (λ (r : List Message). ReadsTo (going.stream ++ piece) r new) (asked_whole (asked exchanges ++ takes.requests) told served (whole_behind exchanges takes.told whole)) handed;
+              is_open = stays is going.stream (asked exchanges) going.handed;
               no_disc = served.no_disc;
               runs = subst (all_run told.exchanges) whole.none ran;
             }
@@ -367,7 +436,7 @@ module _ (run : Run) (input mid output made : Option (List ℕ)) (reader : Reade
           handed = handed;
           written = wrote;
           served = served;
-          end = record { disc = disc_behind exchanges takes.told (takes.taken.disc is); closed = λ e. cc; fault = λ e. cc; device = λ e. cc };
+          end = record { disc = disc_behind exchanges takes.told (takes.taken.disc is); closed = λ e. cc; fault = λ e. cc; device = λ e. cc; session = tt };
           runs = ran;
         }
 
@@ -387,6 +456,7 @@ module _ (run : Run) (input mid output made : Option (List ℕ)) (reader : Reade
             closed = λ e. absurd (takes.taken.closed cc);
             fault = λ e. (whole_behind exchanges takes.told (takes.taken.fault cc).0, (takes.taken.fault cc).1);
             device = λ e. absurd (takes.taken.device cc);
+            session = subst IsOfSession (sym is) (subst (λ (r : Result Flow Refusal). IfErr r IsOfSession) was takes.taken.session);
           };
           runs = ran;
         }
@@ -408,9 +478,9 @@ module _ (input left output made : Option (List ℕ)) (run later : Run) (on : (e
   }
 
   orderly : (end : Result (Unit {0}) Refusal) (piped : IsPiped input left output made end run) → IsOrderly end
-      → IsToDisc piped.told ⊎ (IsWhole piped.told × (IsAtEnd left ⊎ IsFaulty piped.reader))
+      → IsToDisc piped.told ⊎ (IsWhole piped.told × ((IsAtEnd left × IsOpen piped.reader) ⊎ IsFaulty piped.reader))
   orderly (Ok done) piped is = inl piped.end.disc
-  orderly (Err refusal) piped (inl closed) = let ended = piped.end.closed (ap Err closed) in inr (ended.0, inl ended.1)
+  orderly (Err refusal) piped (inl is) = let (whole, at_end, is_open) = piped.end.closed (ap Err is) in inr (whole, inl (at_end, is_open))
   orderly (Err refusal) piped (inr fault) = let ended = piped.end.fault (ap Err fault) in inr (ended.0, inr ended.1)
 
   pub piped_or : (end outcome : Result (Unit {0}) Refusal) (stopped : Bool) → IsPiped input left output made end run → IsEndOr end outcome stopped → IsPiped input left output made outcome later
@@ -424,4 +494,5 @@ module _ (input left output made : Option (List ℕ)) (run later : Run) (on : (e
         closed = λ e. cc;
         fault = λ e. cc;
         device = λ e. orderly end piped is_orderly;
+        session = tt;
       }))

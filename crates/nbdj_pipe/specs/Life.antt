@@ -8,6 +8,7 @@ use Rattle.nbd_wire.specs.Request.{Message}
 use Rattle.nbd_wire.specs.declared.error.Errno.TheVariants.{Io}
 use Rattle.nbd_wire.specs.declared.message.Answer.TheVariants.{Refused}
 use Rattle.request_core.specs.Life.{IsDurable}
+use Rattle.request_core.specs.Parts.{StandsAfter}
 use Rattle.world.specs.Run.{IsRun}
 use Rattle.world.specs.World.{Setting, World, fresh}
 use Rattle.world.specs.declared.step.Mode.{Mode}
@@ -17,11 +18,15 @@ use Rattle.nbdj_pipe.specs.Talk.{AreAnswered, Exchange, plain, spoken, talk_to}
 use Rattle.nbdj_pipe.specs.declared.refusal.Refusal.{Refusal}
 
 -- What an opening found on an honest device: a content that a crash at its start may leave stands for the image and the
--- number with which the life begins. A crash in the opening leaves what it could leave before.
+-- number with which the life begins, and so does what the device gives from then on, whose sizes and base are the life's.
+-- A crash in the opening leaves what it could leave before.
 pub record IsFound (setting : Setting) (start opened : State) : Type 0 where
   pub content : List ℕ
   pub fixed : MayLeave start content
   pub stands : StandsFor content setting.image setting.opening
+  pub seen : StandsFor opened.seen setting.image setting.opening
+  pub geometry : setting.geometry ≡ seen.header.geometry
+  pub base : setting.base ≡ seen.header.base
   pub any_moment : LeavesOnly start opened (MayLeave start)
 
 -- The run of a pipe is one of a world, from the opening of its device to the end, in which the requests were sent and
@@ -46,9 +51,12 @@ pub record IsLife {D : Type 0} (state : D → State) (faults : D → ℕ) (frame
   pub truth : AllByRecursion (λ (exchange : Exchange). exchange.answer ≡ Refused Io → HasRisen (faults start) (faults end)) exchanges
   -- where the input came to its end and the device didn't fail, all is durable that was ordered
   pub stored : IsOrderly outcome → next.stage.durable ≡ length next.stage.order
+  pub quiet : IsOrderly outcome → faults end ≡ faults start
   -- on an honest device
   pub found : trusted ≡ true → IsFound setting (state start) (state opened)
   pub durable : trusted ≡ true → IsDurable (fresh setting used) next (state opened) (state end)
+  -- whatever a crash at the end may leave reaches all that is durable by then, covered or not
+  pub leaves : trusted ≡ true → (content : List ℕ) → MayLeave (state end) content → StandsAfter next.stage.order setting.image setting.opening next.stage.durable content
 
 -- the run of a pipe, on any device, and with what its content keeps on an honest one
 abbrev pub IsLived : {D : Type 0} → (D → State) → (D → ℕ) → (D → Type 0) → ℕ → Mode → D → D → Result (Unit {0}) Refusal → List Exchange → Option Message → Type 0

@@ -1,15 +1,15 @@
 -- What a pipe writes for what it reads, by docs/FORMATS.md, "Stream" and "When a reply is made".
-use Rattle.std.specs.Prelude.{ℕ, ◌≡◌, ◌≢◌, ◌⊎◌, List, [], ◌∷◌, ◌++◌, Option, Some, None, Result, Ok, Err, OnOk, IsErrOf}
+use Rattle.std.specs.Prelude.{ℕ, ◌≡◌, ◌≢◌, ◌⊎◌, List, [], ◌∷◌, ◌++◌, Option, Some, None, Result, Ok, Err, OnOk, IfErr, IsErrOf}
 use Rattle.std.specs.Io.KnownBytes.{Appends, Consumes, IsAtEnd, Keeps}
 use Rattle.std.specs.List.{AllByRecursion}
 use Rattle.checkpoint.specs.Keeper.{faults_by}
 use Rattle.checkpoint.specs.Opening.{IsRefused}
 use Rattle.checkpoint.specs.declared.fault.KeeperFault.{KeeperFault}
-use Rattle.disk_model.specs.Disk.{State, MayLeave}
+use Rattle.disk_model.specs.Disk.{State, LeavesOnly, MayLeave}
 use Rattle.nbd_wire.specs.Request.{Message}
-use Rattle.nbd_wire.specs.Stream.{Begins, Reader, Reads, failed, reading, starved}
+use Rattle.nbd_wire.specs.Stream.{Begins, Reader, Reads, end_of, failed, reading, starved}
 use Rattle.nbd_wire.specs.declared.error.RequestFault.{RequestFault}
-use Rattle.nbdj_pipe.specs.Refusals.{of_keeper}
+use Rattle.nbdj_pipe.specs.Refusals.{IsOfSession, of_keeper}
 use Rattle.nbdj_pipe.specs.Talk.{Exchange, asked, dialog}
 use Rattle.nbdj_pipe.specs.declared.refusal.Refusal.{Refusal}
 use Rattle.nbdj_pipe.specs.declared.refusal.Refusal.TheVariants.{DeviceFault, PeerClosed, ProtocolEnd}
@@ -59,22 +59,27 @@ ReadsTo stream requests starved = Begins stream requests
 abbrev pub IsFaulty : Reader → Type 0
 IsFaulty reader = (fault : RequestFault) × (reader ≡ reading (failed fault))
 
+-- no fault ended the stream, and memory didn't run out for its requests
+abbrev pub IsOpen : Reader → Type 0
+IsOpen reader = end_of reader ≡ None
+
 -- the input of a session came to its end
 abbrev pub IsOrderly : Result (Unit {0}) Refusal → Type 0
 IsOrderly (Ok done) = Unit {0}
 IsOrderly (Err refusal) = (refusal ≡ PeerClosed) ⊎ (refusal ≡ ProtocolEnd)
 
 -- What an outcome says of what was answered, of the reader that handed the requests out, and of what is left of the input;
--- any other refusal says nothing of them.
+-- any other refusal says nothing of them, and isn't one of an opening.
 pub record IsEnd (told : Conversation) (reader : Reader) (input : Option (List ℕ)) (outcome : Result (Unit {0}) Refusal) : Type 0 where
   -- a DISC came
   pub disc : OnOk outcome (IsToDisc told)
-  -- the input ended without one
-  pub closed : IsErrOf outcome PeerClosed → IsWhole told × IsAtEnd input
+  -- the input ended without one, and all requests in it were handed out
+  pub closed : IsErrOf outcome PeerClosed → IsWhole told × IsAtEnd input × IsOpen reader
   -- a fault of the stream ended it
   pub fault : IsErrOf outcome ProtocolEnd → IsWhole told × IsFaulty reader
   -- the device failed, which is told once all requests up to the end of the input are answered
-  pub device : IsErrOf outcome DeviceFault → IsToDisc told ⊎ (IsWhole told × (IsAtEnd input ⊎ IsFaulty reader))
+  pub device : IsErrOf outcome DeviceFault → IsToDisc told ⊎ (IsWhole told × ((IsAtEnd input × IsOpen reader) ⊎ IsFaulty reader))
+  pub session : IfErr outcome IsOfSession
 
 -- A pipe read a stream, however it was cut, and wrote the text that it owes. Input and output are the bytes of a reader
 -- and a writer, where they tell them, before and after; `run` says what steps the answers come from.
@@ -90,8 +95,9 @@ pub record IsPiped (input input_left output output_made : Option (List ℕ)) (ou
   pub end : IsEnd told reader input_left outcome
   pub runs : run told.exchanges told.last
 
--- An opening that was refused reads and writes nothing. The device counts a fault where it failed, and the other refusals
--- but want of memory say what is bad of a content that a crash at the start may leave of an honest device.
+-- An opening that was refused reads and writes nothing, and a crash leaves of an honest device what it could leave before.
+-- The device counts a fault where it failed, and the other refusals but want of memory say what is bad of a content that a
+-- crash at the start may leave of an honest device.
 pub record IsUnopened {D : Type 0} (state : D → State) (faults : D → ℕ) (honest : D → Type 0) (disk left : D)
     (input input_left output output_made : Option (List ℕ)) (outcome : Result (Unit {0}) Refusal) : Type 0 where
   pub unread : Keeps input input_left
@@ -100,6 +106,7 @@ pub record IsUnopened {D : Type 0} (state : D → State) (faults : D → ℕ) (h
   pub told : outcome ≡ Err (of_keeper fault)
   pub counted : faults left ≡ faults_by fault (faults disk)
   pub bad : honest disk → (content : List ℕ) × MayLeave (state disk) content × IsRefused fault content
+  pub kept : honest disk → LeavesOnly (state disk) (state left) (MayLeave (state disk))
 
 -- the exit status of a program that ends so
 abbrev pub status_of : Result (Unit {0}) Refusal → ℕ

@@ -36,3 +36,35 @@ of_keeper keeper.Failed = Failed
 abbrev pub of_wire : WireFault → Refusal
 of_wire wire.NoMemory = NoMemory
 of_wire (wire.Malformed fault) = ProtocolEnd
+
+-- a refusal that ends a session before its input does: memory, room, and what the streams refuse
+abbrev pub IsEarly : Refusal → Type 0
+IsEarly NoMemory = Unit {0}
+IsEarly DeviceFault = ⊥
+IsEarly BadMap = ⊥
+IsEarly NoHeader = ⊥
+IsEarly BadHeader = ⊥
+IsEarly AreaFull = Unit {0}
+IsEarly OutOfOrder = ⊥
+IsEarly DamagedGroup = ⊥
+IsEarly Failed = Unit {0}
+IsEarly NoRoom = Unit {0}
+IsEarly PeerClosed = ⊥
+IsEarly ProtocolEnd = ⊥
+IsEarly StreamFault = Unit {0}
+
+-- a refusal that a session may end with; the others are an opening's
+abbrev pub IsOfSession : Refusal → Type 0
+IsOfSession NoMemory = Unit {0}
+IsOfSession DeviceFault = Unit {0}
+IsOfSession BadMap = ⊥
+IsOfSession NoHeader = ⊥
+IsOfSession BadHeader = ⊥
+IsOfSession AreaFull = Unit {0}
+IsOfSession OutOfOrder = ⊥
+IsOfSession DamagedGroup = ⊥
+IsOfSession Failed = Unit {0}
+IsOfSession NoRoom = Unit {0}
+IsOfSession PeerClosed = Unit {0}
+IsOfSession ProtocolEnd = Unit {0}
+IsOfSession StreamFault = Unit {0}

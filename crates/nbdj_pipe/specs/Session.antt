@@ -1,5 +1,5 @@
 -- What the steps of a pipe's session do to its replies, its streams, and the world of its export.
-use Rattle.std.specs.Prelude.{ℕ, ◌≡◌, ◌≢◌, ◌⊎◌, Bool, true, List, [], ◌∷◌, ◌++◌, Option, Some, None, Result, Ok, Err}
+use Rattle.std.specs.Prelude.{ℕ, ◌≡◌, ◌≢◌, ◌⊎◌, Bool, true, List, [], ◌∷◌, ◌++◌, Option, Some, None, Result, Ok, Err, IfErr}
 use Rattle.std.specs.Io.KnownBytes.{Appends}
 use Rattle.device_image.specs.Keeper.{KeeperState}
 use Rattle.disk_model.specs.Disk.{State}
@@ -13,27 +13,12 @@ use Rattle.request_core.specs.Parts.{IsExportOf}
 use Rattle.world.specs.World.{World}
 use Rattle.world.specs.declared.connection.Connection.TheVariants.{Idle}
 use Rattle.nbdj_pipe.specs.Export.{Follows}
-use Rattle.nbdj_pipe.specs.Pipe.{Conversation, IsFaulty, IsOrderly, IsServed, IsToDisc, IsWhole, ReadsTo}
+use Rattle.nbdj_pipe.specs.Pipe.{Conversation, IsFaulty, IsOpen, IsOrderly, IsServed, IsToDisc, IsWhole, ReadsTo}
+use Rattle.nbdj_pipe.specs.Refusals.{IsEarly, IsOfSession}
 use Rattle.nbdj_pipe.specs.Talk.{AreAnswered, Exchange, plain, reply_to, talk_to}
 use Rattle.nbdj_pipe.specs.declared.session.Flow.{Flow}
 use Rattle.nbdj_pipe.specs.declared.refusal.Refusal.{Refusal}
-use Rattle.nbdj_pipe.specs.declared.refusal.Refusal.TheVariants.{NoMemory, DeviceFault, BadMap, NoHeader, BadHeader, AreaFull, OutOfOrder, DamagedGroup, Failed, NoRoom, PeerClosed, ProtocolEnd, StreamFault}
-
--- a refusal that ends a session before its input does: memory, room, and what the streams refuse
-abbrev pub IsEarly : Refusal → Type 0
-IsEarly NoMemory = Unit {0}
-IsEarly DeviceFault = ⊥
-IsEarly BadMap = ⊥
-IsEarly NoHeader = ⊥
-IsEarly BadHeader = ⊥
-IsEarly AreaFull = Unit {0}
-IsEarly OutOfOrder = ⊥
-IsEarly DamagedGroup = ⊥
-IsEarly Failed = Unit {0}
-IsEarly NoRoom = Unit {0}
-IsEarly PeerClosed = ⊥
-IsEarly ProtocolEnd = ⊥
-IsEarly StreamFault = Unit {0}
+use Rattle.nbdj_pipe.specs.declared.refusal.Refusal.TheVariants.{DeviceFault, PeerClosed, ProtocolEnd}
 
 -- What a session answers at its end: how its input ended, or a refusal that comes before, or where the input had come to its
 -- end that the device failed, which has stopped the order.
@@ -74,6 +59,15 @@ abbrev pub TakesOn : Reader → List ℕ → List Message → Reader → Type 0
 TakesOn old piece requests new =
     (stream : List ℕ) (before : List Message) → ReadsTo stream before old → ReadsTo (stream ++ piece) (before ++ requests) new
 
+-- A reader that was fed this piece hadn't ended before; it may have since where it handed out requests.
+abbrev pub IsFed : Reader → List ℕ → Reader → Result Flow Refusal → Type 0
+IsFed old piece new outcome =
+    outcome ≡ Ok Flow.Open → IsOpen old × (requests : List Message) × TakesOn old piece requests new × (requests ≡ [] → IsOpen new)
+
+-- a reader that stands in a stream hasn't ended
+abbrev pub StaysOpen : Reader → Reader → Result Flow Refusal → Type 0
+StaysOpen old new outcome = outcome ≡ Ok Flow.Open → (stream : List ℕ) (before : List Message) → ReadsTo stream before old → IsOpen new
+
 -- what was answered, by what a piece of the input came to
 pub record IsTaken (told : Conversation) (reader : Reader) (outcome : Result Flow Refusal) : Type 0 where
   pub going : outcome ≡ Ok Flow.Open → IsWhole told
@@ -81,6 +75,7 @@ pub record IsTaken (told : Conversation) (reader : Reader) (outcome : Result Flo
   pub fault : outcome ≡ Err ProtocolEnd → IsWhole told × IsFaulty reader
   pub closed : outcome ≢ Err PeerClosed
   pub device : outcome ≢ Err DeviceFault
+  pub session : IfErr outcome IsOfSession
 
 -- a piece of the input was read, and its requests were answered
 pub record Takes (old : Reader) (piece : List ℕ) (new : Reader) (before after : List ℕ) (outcome : Result Flow Refusal) (run : List Exchange → Option Message → Type 0) : Type 0 where

@@ -1,7 +1,7 @@
 ghost use Rattle.std.specs.Prelude.{◌≡◌, ◌↔◌, ◌++◌, Bool, [], ◌∷◌, IfErr, IfOk, IfSome, IsTrue, MatchBool, MatchOption, OnOk};
 ghost use Rattle.nbd_wire.specs.Request.{Message};
 ghost use Rattle.nbdj_pipe.specs.Export.{AwaitsAnswer, Follows, HasAnswer, IsGiven, IsJudged, IsOfKind, IsSettled, IsStoring, Settles, said_of, told, told_by};
-ghost use Rattle.nbdj_pipe.specs.Session.{IsEarly};
+ghost use Rattle.nbdj_pipe.specs.Refusals.{IsEarly};
 ghost use Rattle.nbdj_pipe.specs.Talk.{plain, spoken, verdict_on};
 ghost use Rattle.order_book.specs.Order.{IsInHand};
 ghost use Rattle.request_core.specs.Life.{Trusts};

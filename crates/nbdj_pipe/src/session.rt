@@ -3,7 +3,8 @@ ghost use Rattle.disk_model.specs.Faults.{HasRisen};
 ghost use Rattle.nbdj_pipe.specs.Export.{Settles};
 ghost use Rattle.nbdj_pipe.specs.Life.{IsLived};
 ghost use Rattle.nbdj_pipe.specs.Pipe.{IsOrderly, IsPiped, IsUnopened};
-ghost use Rattle.nbdj_pipe.specs.Session.{IsEarly, IsEndOr, Runs, Serves, Takes, WritesPart};
+ghost use Rattle.nbdj_pipe.specs.Refusals.{IsEarly};
+ghost use Rattle.nbdj_pipe.specs.Session.{IsEndOr, IsFed, Runs, Serves, StaysOpen, Takes, WritesPart};
 ghost use Rattle.nbdj_pipe.specs.Talk.{error_of, reply_to};
 ghost use Rattle.nbdj_pipe.specs.declared.refusal.Refusal.TheVariants as Refusal;
 ghost use Rattle.order_book.specs.Order.{IsInHand};
@@ -17,7 +18,7 @@ use crate::refusal::Refusal;
 use crate::streams::{read_some, write_whole};
 use checkpoint::Keeper;
 use disk_model::Disk;
-use nbd_wire::{Answer, Request, SessionFlags, StreamReader, encode_simple};
+use nbd_wire::{Answer, Request, SessionFlags, StreamReader, encode_simple, one_reading};
 use order_book::Order;
 use request_core::{Connections, fresh_parts_law, leads_law};
 use std::alloc::{AllocError, Global};
@@ -147,8 +148,10 @@ impl<D: Disk> Session<D> {
         ensures takes { Takes reader.old piece.now reader.new self.old.replies.items self.new.replies.items result
             (Runs D.state D.faults D.honest self.old.export.order self.old.export.keeper self.old.export.connections
             self.new.export.order self.new.export.keeper self.new.export.connections) }
+        ensures is_open { StaysOpen reader.old reader.new result }
     {
         leads_law::<D>();
+        one_reading();
         match self.take_whole(reader, piece)? {
             Flow::Ended => Ok(Flow::Ended),
             Flow::Open => self.take_whole(reader, &[]),
@@ -164,6 +167,7 @@ impl<D: Disk> Session<D> {
         ensures takes { Takes reader.old piece.now reader.new self.old.replies.items self.new.replies.items result
             (Runs D.state D.faults D.honest self.old.export.order self.old.export.keeper self.old.export.connections
             self.new.export.order self.new.export.keeper self.new.export.connections) }
+        ensures is_open { IsFed reader.old piece.now reader.new result }
     {
         leads_law::<D>();
         let mut requests = reader.feed(piece)?;
@@ -218,6 +222,7 @@ impl<D: Disk> Session<D> {
         ensures honest { D.honest self.new.export.keeper.disk ↔ D.honest self.old.export.keeper.disk }
         ensures end { IsEndOr end result self.new.export.order.stopped }
         ensures stored { IsOrderly result → self.new.export.order.durable ≡ self.new.export.order.mark }
+        ensures works { IsOrderly result → self.new.export.order.stopped ≡ false }
         ensures world { (world : World) (trusted : Bool) → IsExportOf world self.old.export.order self.old.export.keeper (D.faults self.old.export.keeper.disk) self.old.export.connections
             (Trusts trusted (D.honest self.old.export.keeper.disk)) (D.state self.old.export.keeper.disk)
             → (next : World) × Settles world next self.new.export.order self.new.export.keeper (D.faults self.new.export.keeper.disk) self.new.export.connections

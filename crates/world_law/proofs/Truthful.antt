@@ -1,7 +1,6 @@
 -- what a log tells of the device is true
-use Rattle.std.proofs.Common.{◌≡◌, ◌≢◌, ◌⊎◌, inl, inr, ℕ, ◌+◌, ◌<◌, ◌≤◌, ◌==◌, ◌&&◌, ◌||◌, ◌*◌, Bool, true, false, min, nat_le, nat_lt, not, Result, Ok, Err, List, [], ◌∷◌, ◌++◌, length, drop, sym, ◌∙◌, ap, if◌then◌else◌, subst, refl, arith, bit_and}
+use Rattle.std.proofs.Common.{◌≡◌, ◌⊎◌, inl, inr, ℕ, ◌+◌, ◌<◌, ◌≤◌, ◌==◌, ◌&&◌, ◌||◌, ◌*◌, Bool, true, false, nat_le, nat_lt, not, Result, Ok, Err, List, [], ◌∷◌, ◌++◌, length, sym, ◌∙◌, ap, if◌then◌else◌, subst, refl, arith, bit_and}
 use Rattle.std.proofs.lemmas.Bool.{cases_eq, cases_lt}
-use Rattle.disk_model.specs.Faults.{counted}
 use Rattle.image_model.specs.declared.geometry.Geometry.{Geometry}
 use Rattle.nbd_wire.specs.Request.{Message}
 use Rattle.nbd_wire.specs.declared.error.Errno.{Errno}
@@ -19,12 +18,12 @@ use Rattle.nbd_wire.specs.declared.message.Answer.TheVariants.{Done, Refused}
 use Rattle.world.specs.declared.event.StepFault.TheVariants as fault
 use Rattle.world.specs.declared.step.Step.{Step}
 use Rattle.world.specs.declared.step.Step.TheVariants as steps
-use Rattle.world.specs.Log.{StandsAt, command_of, is_flush, waits_for_store}
+use Rattle.world.specs.Log.{StandsAt, command_of, is_flush}
 use Rattle.world.specs.Run.{IsReached, Fresh, After}
-use Rattle.world.specs.Serve.{Luck, Fine, Starved, Faulted, logged, held, moved, ready, ordered, state_after, accepted, write_served, passed, judged, serve, answered, answer}
-use Rattle.world.specs.Step.{staged, send, sent, sealed_more, seal, put_back, faulted, stored_more, append_in_hand, append, publish, after_step}
-use Rattle.world.specs.Verdict.{verdict, range_verdict, first_of_rules, is_known, allowed_flags, is_unaligned, past_end}
-use Rattle.world.specs.World.{World, Stage, Setting, fresh, put, last_number, has_room, fits}
+use Rattle.world.specs.Serve.{Luck, Fine, Starved, Faulted, logged, held, moved, ready, ordered, state_after, accepted, passed, judged, serve, answered, answer}
+use Rattle.world.specs.Step.{staged, send, sent, sealed_more, faulted, stored_more, append, publish, after_step}
+use Rattle.world.specs.Verdict.{verdict, first_of_rules, is_known, allowed_flags, is_unaligned, past_end}
+use Rattle.world.specs.World.{World, Setting, fresh, put, last_number, has_room, fits}
 use Rattle.world_law.specs.Law.{HasFailed, TellsFault, TellsTruth}
 use Rattle.world_law.proofs.Events.{get_split}
 use Rattle.world_law.proofs.Logged.{put_same, put_other}
@@ -37,6 +36,7 @@ record IsTruthful (world : World) : Type 0 where
   failed : world.stage.stopped ≡ true → HasFailed world.stage
   -- the count doesn't fall
   since : (world.stage.setting.failures ≤ world.stage.faults) ⊎ (18446744073709551615 ≤ world.stage.faults)
+  quiet : world.stage.stopped ≡ false → world.stage.faults ≡ world.stage.setting.failures
 
 -- a rule that doesn't answer EIO leaves the rest
 skip : (test : Bool) (errno : Errno) (rest : Result Action Errno) → (errno ≡ Io → ⊥) → (if test then Err errno else rest) ≡ Err Io → rest ≡ Err Io
@@ -95,6 +95,7 @@ module _ (world : World) (true_so_far : IsTruthful world) where
     due = λ connection is. stopped ∙ due connection is;
     failed = λ is. still (true_so_far.failed (sym stopped ∙ is));
     since = going true_so_far.since;
+    quiet = λ works. faults ∙ true_so_far.quiet (sym stopped ∙ works) ∙ sym given;
   }
     where
       before : (place : ℕ) (other : Event) → StandsAt world.log place other ⊎ ((place ≡ length world.log) × (other ≡ event)) → TellsFault other → world.stage.stopped ≡ true
@@ -233,6 +234,7 @@ module _ (world : World) (true_so_far : IsTruthful world) where
     due = λ connection is. refl;
     failed = λ is. rises true_so_far.since;
     since = risen_since (rises true_so_far.since);
+    quiet = λ works. cc;
   }
 
   calm_append : (luck : Luck) → IsTruthful (append luck world)
@@ -259,6 +261,7 @@ true_fresh setting end = record {
   due = λ c is. absurd (of_either (λ (s : Connection). s ≡ Ready (Refused Io) → ⊥) (nat_lt c setting.connections) Idle Closed (λ inside idle. cc) (λ outside closed. cc) is);
   failed = λ is. cc;
   since = inl (omega arith);
+  quiet = λ works. refl;
 }
 
 true_reached : (world : World) → IsReached world → IsTruthful world
@@ -269,4 +272,4 @@ true_reached world (After {world = before} step luck reached) = true_step before
 pub truth_reached : (world : World) → IsReached world → TellsTruth world
 truth_reached world reached =
     let is = true_reached world reached in
-    record { told = λ place event at tells. is.failed (is.told place event at tells); stopped = is.failed }
+    record { told = λ place event at tells. is.failed (is.told place event at tells); stopped = is.failed; quiet = is.quiet }

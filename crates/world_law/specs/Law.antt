@@ -1,11 +1,11 @@
 -- what schedules leave as it is, and what the log tells of the device
-use Rattle.std.specs.Prelude.{ℕ, ◌≡◌, ◌<◌, ◌≤◌, true, List, ◌++◌, length}
+use Rattle.std.specs.Prelude.{ℕ, ◌≡◌, ◌<◌, ◌≤◌, true, false, List, ◌++◌, length}
 use Rattle.disk_model.specs.Faults.{HasRisen}
 use Rattle.image_model.specs.Change.{Change}
 use Rattle.nbd_wire.specs.declared.error.Errno.TheVariants.{Io}
 use Rattle.world.specs.declared.event.Event.{Event}
 use Rattle.world.specs.declared.event.Event.TheVariants.{Sent, Answered, Numbered, Took, Held, Failed}
-use Rattle.nbd_wire.specs.declared.message.Answer.TheVariants.{Done, Refused}
+use Rattle.nbd_wire.specs.declared.message.Answer.TheVariants.{Refused}
 use Rattle.world.specs.declared.event.StepFault.TheVariants as fault
 use Rattle.world.specs.Log.{StandsAt}
 use Rattle.world.specs.World.{World, Stage}
@@ -41,7 +41,9 @@ TellsFault (Numbered connection number) = ⊥
 TellsFault Took = ⊥
 TellsFault Held = ⊥
 
--- a fault of the device is told, or stops the export, only where the device has counted one since the life began
+-- A fault of the device is told, or stops the export, only where the device has counted one since the life began; and it has
+-- counted none as long as the export works.
 pub record TellsTruth (world : World) : Type 0 where
   pub told : (place : ℕ) (event : Event) → StandsAt world.log place event → TellsFault event → HasFailed world.stage
   pub stopped : world.stage.stopped ≡ true → HasFailed world.stage
+  pub quiet : world.stage.stopped ≡ false → world.stage.faults ≡ world.stage.setting.failures

@@ -4,7 +4,8 @@ use Rattle.std.specs.Io.KnownBytes.{Consumes}
 use Rattle.order_book.specs.Order.{IsInHand}
 use Rattle.nbd_wire.specs.Stream.{Reader}
 use Rattle.nbdj_pipe.specs.Pipe.{IsPiped}
-use Rattle.nbdj_pipe.specs.Session.{IsEarly, Runs, Takes}
+use Rattle.nbdj_pipe.specs.Refusals.{IsEarly}
+use Rattle.nbdj_pipe.specs.Session.{Runs, Takes}
 use Rattle.nbdj_pipe.specs.declared.refusal.Refusal.{Refusal}
 use Rattle.nbdj_pipe.specs.declared.refusal.Refusal.TheVariants.{DeviceFault, NoMemory, StreamFault}
 use Rattle.nbdj_pipe.specs.declared.session.Flow.{Flow}
@@ -162,7 +163,7 @@ loop-preserved g c =
     (Runs disk.state disk.faults disk.honest b.order b.keeper b.connections t.order t.keeper t.connections) (Runs disk.state disk.faults disk.honest a.order a.keeper a.connections t.order t.keeper t.connections)
     (runs_on disk.state disk.faults disk.honest c.leads_law.ensures a.order b.order t.order a.keeper b.keeper t.keeper a.connections b.connections t.connections c.take-flow.ensures.honest.0)
     (g.R.Read.remaining c.read_some.new.input) (g.W.Write.contents c.write_replies.new.output) piece due c.take-flow.new.reader c.take-flow.result read begun
-    c.in_ok-write_replies.ensures.written (c.in_ok-flow.was ∙ ap Ok c.in-Open.is)) in
+    c.in_ok-write_replies.ensures.written (c.in_ok-flow.was ∙ ap Ok c.in-Open.is) c.take-flow.ensures.is_open) in
     record {
       group = subst (λ x. IfSome x.connections.group (IsInHand x.order)) (sym same) c.take-flow.ensures.group;
       extent = ap (λ x. disk.extent x.keeper.disk) same ∙ (c.take-flow.ensures.extent ∙ c.loop.invariant.extent);

@@ -3,7 +3,7 @@ use Rattle.std.proofs.lemmas.List.{append-nil}
 use Rattle.nbdj_pipe.specs.Session.{Runs, Takes}
 use Rattle.nbdj_pipe.specs.declared.session.Flow.{Flow}
 use Rattle.nbdj_pipe.proofs.Runs.{runs_on}
-use Rattle.nbdj_pipe.proofs.Sessions.{takes-on}
+use Rattle.nbdj_pipe.proofs.Sessions.{stays_open, takes-on}
 use Rattle.nbdj_pipe.proofs.session.Session.take.Goals as goal
 
 pub returns-in-Open-clause-takes : goal.returns-in-Open-clause-takes
@@ -27,3 +27,8 @@ returns-in-Open-clause-takes g c =
     (Runs disk.state disk.faults disk.honest a.order a.keeper a.connections e.order e.keeper e.connections)
     (runs_on disk.state disk.faults disk.honest c.leads_law.ensures a.order b.order e.order a.keeper b.keeper e.keeper a.connections b.connections e.connections c.take_whole-in-Open.ensures.honest.0)
     old mid new c.args.piece.now [] before between after c.take_whole-in-Open.result first c.take_whole-in-Open.ensures.takes)
+
+pub returns-in-Open-clause-is_open : goal.returns-in-Open-clause-is_open
+returns-in-Open-clause-is_open g c =
+    stays_open c.one_reading.ensures.one c.one_reading.ensures.first c.args.reader.now c.take_whole.new.reader c.take_whole-in-Open.new.reader c.args.piece.now
+    c.in_ok-take_whole.ensures.takes.requests c.take_whole-in-Open.result c.in_ok-take_whole.ensures.takes.reads c.take_whole-in-Open.ensures.is_open

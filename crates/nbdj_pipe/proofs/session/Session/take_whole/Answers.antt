@@ -1,4 +1,4 @@
-use Rattle.std.proofs.Common.{rules, ◌++◌, ◌≡◌, ◌≢◌, [], ◌∷◌, List, ℕ, Option, None, Some, Result, Ok, Err, inl, inr, ap, sym, subst, ◌∙◌, append_assoc, append-nil, refl}
+use Rattle.std.proofs.Common.{arith, rules, ◌++◌, ◌≡◌, ◌≢◌, [], ◌∷◌, List, ℕ, Option, None, Some, Result, Ok, Err, inl, inr, ap, sym, subst, ◌∙◌, append_assoc, append-nil, refl}
 use Rattle.std.specs.Prelude.{reverse}
 use Rattle.nbd_wire.specs.Request.{Message}
 use Rattle.nbd_wire.specs.Stream.{Reader}
@@ -8,7 +8,7 @@ use Rattle.nbdj_pipe.specs.declared.refusal.Refusal.{Refusal}
 use Rattle.nbdj_pipe.specs.declared.session.Flow.{Flow}
 use Rattle.nbdj_pipe.proofs.Dialogs.{HaveNoDisc, asked-append, dialog-append, each_append}
 use Rattle.nbdj_pipe.proofs.Runs.{runs_none, runs_on}
-use Rattle.nbdj_pipe.proofs.Sessions.{as_error, feeds_on, messages_done, messages_next, messages_served, takes_all, takes_disc, takes_fault, takes_unserved, takes_unwritten}
+use Rattle.nbdj_pipe.proofs.Sessions.{as_error, fed, feeds_on, messages_done, messages_next, messages_served, takes_all, takes_disc, takes_fault, takes_unserved, takes_unwritten}
 use Rattle.nbdj_pipe.proofs.session.Session.take_whole.Goals as goal
 
 -- the next request wasn't served, or its reply has no memory
@@ -114,6 +114,11 @@ returns-clause-takes g c =
     takes_all (Runs disk.state disk.faults disk.honest a.order a.keeper a.connections b.order b.keeper b.connections)
     c.args.reader.now c.feed.new.self c.args.piece.now all i.exchanges (feeds_on c.args.reader.now c.args.piece.now all c.feed.new.self c.in_ok-requests.ensures.stream) i.no_disc
     c.args.self.now.replies.items c.loop-request.self.replies.items done i.due i.runs
+
+pub returns-clause-is_open : goal.returns-clause-is_open
+returns-clause-is_open g c =
+    fed c.args.reader.now c.args.piece.now c.feed.new.self c.in_ok-requests.requests (Ok Flow.Open) c.in_ok-requests.ensures.stream c.in_ok-requests.ensures.again
+    (λ fault ends. omega (arith, c.in_ok-requests.ensures.first fault ends, c.in_ok-requests.requests.ok.0))
 
 pub loop-request-init : goal.loop-request-init
 loop-request-init g c =
