@@ -8,7 +8,7 @@ use Rattle.atomic_table.proofs.Lists.{at_set}
 use Rattle.image_model.specs.declared.command.Command.{Command}
 use Rattle.marks.specs.declared.view.View.{View}
 use Rattle.marks.specs.Rule.{Fits, IsBoard}
-use Rattle.marks.specs.Steps.{LooksAccepted, LooksDurable, ReadsAccepted, RaisesAccepted, RaisesDurable, own_of, without_keeper, keeper_only, telling, showing, nothing, hearing, learning, taking_over}
+use Rattle.marks.specs.Steps.{LooksAccepted, LooksDurable, ReadsAccepted, RaisesAccepted, RaisesDurable, own_after, without_keeper, keeper_only, telling, showing, nothing, hearing, learning, taking_over}
 use Rattle.marks.proofs.Fitting.{Board, FitsIn, fits_anywhere, moved, split, gives, join}
 
 abbrev Mine : Type 0
@@ -59,7 +59,7 @@ pub raises_accepted : (slots id : ℕ) (me : Mine) (old new : ℕ) (said : Optio
     → Allows IsBoard slots id me 0 (λ n. either (eqb n old) new n) (RaisesAccepted (step slots 0 old new said) me)
 raises_accepted slots id me old new said right is more s b long at small =
     let mine = b.each id me.0 at in let own = mine.as_order right in let ordered = b.ordered in let hit : b.accepted ≡ old = sym own.1 ∙ is in
-    let w : View = record me.0 { accepted = new; own = own_of new said } in
+    let w : View = record me.0 { accepted = new; own = own_after (step slots 0 old new said) } in
     let fits : Fits new b.durable b.order b.keeper id w = record { knows_accepted = omega arith; knows_durable = mine.knows_durable; was_told = omega arith; as_order = λ _. (own.0, refl); as_keeper = mine.as_keeper } in
     let after : IsBoard (stepped s 0 new id me.1 w keeps) =
     moved s b 0 new new b.durable id me.1 w refl (omega arith) (omega arith) (omega arith) (λ seat other is_order. absurd (other (is_order ∙ sym own.0))) (λ _ _ _. refl) fits in

@@ -1,7 +1,6 @@
 -- what each step on a board does to what its seat knows
-use Rattle.std.specs.Prelude.{ℕ, ◌≡◌, ◌≤◌, max, false, Some, None}
-use Rattle.std.specs.Prelude as std
-use mathlib.Core.Option.{Option, none, some}
+use Rattle.std.specs.Prelude.{ℕ, ◌≡◌, ◌≤◌, max, false, Option, Some, None}
+use mathlib.Core.Option.{none, some}
 use Rattle.atomic_table.specs.Table.{Step, Me}
 use Rattle.image_model.specs.declared.command.Command.{Command}
 use Rattle.marks.specs.declared.view.View.{View}
@@ -20,15 +19,15 @@ LooksDurable step before found after =
 abbrev pub ReadsAccepted : Step Command → Me Command View → ℕ → Me Command View → Type 0
 ReadsAccepted step before found after = (found ≡ before.0.accepted) × (before.0.told ≤ found) × (after ≡ before)
 
--- the number with the command that is accepted under it
-abbrev pub own_of : ℕ → Option Command → std.Option Own
-own_of number none = None
-own_of number (some command) = Some (record { number = number; command = command })
+-- the number that a step raises a word to, with the command that it was said
+abbrev pub own_after : Step Command → Option Own
+own_after step =
+    elim step.said as (λ _. Option Own) [ none ↦ None | some command ↦ Some (record { number = step.second; command = command }) ]
 
 -- the word becomes the number after, which is the seat's own with the command that was said
 abbrev pub RaisesAccepted : Step Command → Me Command View → ℕ → Me Command View → Type 0
 RaisesAccepted step before found after =
-    after ≡ (record before.0 { accepted = step.second; own = own_of step.second step.said }, before.1)
+    after ≡ (record before.0 { accepted = step.second; own = own_after step }, before.1)
 
 -- the word becomes the greater of the two
 abbrev pub RaisesDurable : Step Command → Me Command View → ℕ → Me Command View → Type 0

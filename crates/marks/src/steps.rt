@@ -1,8 +1,7 @@
 // The steps of seats on the table: each is one step of the processor, or a load that is nothing but that in proofs.
-ghost use Rattle.std.specs.Prelude.{◌≡◌, ◌+◌, ◌<◌, ◌≤◌, ◌^◌, max, true};
-ghost use mathlib.Core.Option.{some};
+ghost use Rattle.std.specs.Prelude.{◌≡◌, ◌+◌, ◌<◌, ◌≤◌, ◌^◌, max, true, Some};
 ghost use Rattle.marks.specs.Seats.{IsSeat};
-ghost use Rattle.marks.specs.Steps.{hearing, learning, own_of, showing, taking_over, telling};
+ghost use Rattle.marks.specs.Steps.{hearing, learning, showing, taking_over, telling};
 
 use crate::board::Board;
 use crate::name::BoardName;
@@ -52,7 +51,7 @@ impl<B: BoardName> Board<B> {
         requires last { order.old.me.0.accepted ≡ last }
         requires room { last + 1 < 2 ^ 64 }
         ensures { IsSeat B.board order.new
-            × (order.new.me.0 ≡ record order.old.me.0 { accepted = last + 1; own = own_of (last + 1) (some command.now) }) }
+            × (order.new.me.0 ≡ record order.old.me.0 { accepted = last + 1; own = Some (record { number = last + 1; command = command.now }) }) }
     {
         let table = &self.table.shared;
         table.compare_exchange_with::<RaiseAccepted>(order, 0, last, last + 1, command);

@@ -7,7 +7,7 @@ ghost use Rattle.marks.specs.Known.{known};
 
 mod line;
 
-use anyhow::{Result, bail};
+use anyhow::Result;
 use image_model::{Command, Kind};
 use line::Line;
 use marks::{BlankBoard, Board, BoardName, Opened, Pass};
@@ -202,6 +202,18 @@ fn told<B: BoardName>(board: &Board<B>, one: &mut Pass<B>, other: &mut Pass<B>) 
     board.look_accepted(other)
 }
 
+// Prints how many numbers the threads were given, and whether they are those from 1 on, each once.
+fn print_numbers<B: BoardName>(rt: &(impl Print + AllocGlobal), ran: &[Ran<B>]) -> Result<()> {
+    let mut numbers = Vec::new(rt.alloc());
+    for one in ran {
+        numbers.extend_from_slice(one.numbers.as_slice())?;
+    }
+    let count = numbers.len();
+    let once = each_once(&mut numbers);
+    println!(rt; "{count} numbers, each from 1 on once: {once}")?;
+    Ok(())
+}
+
 // Two threads accept 100 commands each, and then the pass of one tells that of the other.
 fn show<B: BoardName + Send + Sync, R: Threads + Wait + Sync + Print + AllocGlobal>(
     rt: &R,
@@ -212,17 +224,11 @@ fn show<B: BoardName + Send + Sync, R: Threads + Wait + Sync + Print + AllocGlob
     requires opening { blank.opening ≡ 0 }
 {
     let (board, mut ran) = race::<B, R>(rt, rt.alloc(), blank, 2, 100, command)?;
-    let (Some(mut one), Some(mut other)) = (ran.pop(), ran.pop()) else {
-        bail!("two threads ran")
-    };
-    let mut numbers = Vec::new(rt.alloc());
-    numbers.extend_from_slice(one.numbers.as_slice())?;
-    numbers.extend_from_slice(other.numbers.as_slice())?;
-    let count = numbers.len();
-    let once = each_once(&mut numbers);
-    println!(rt; "{count} numbers, each from 1 on once: {once}")?;
-    let seen = told(&board, &mut one.pass, &mut other.pass);
-    println!(rt; "told of them, the other sees {seen}")?;
+    print_numbers(rt, ran.as_slice())?;
+    if let (Some(mut one), Some(mut other)) = (ran.pop(), ran.pop()) {
+        let seen = told(&board, &mut one.pass, &mut other.pass);
+        println!(rt; "told of them, the other sees {seen}")?;
+    }
     Ok(())
 }
 
