@@ -1,4 +1,5 @@
-// The steps of seats on the table: each is one step of the processor, or a load that is nothing but that in proofs.
+// The steps of seats on the table. A look and a raise is one atomic instruction; where a seat is cut in two, or takes in
+// another one, a word is loaded that nobody reads.
 ghost use Rattle.std.specs.Prelude.{◌≡◌, ◌+◌, ◌<◌, ◌≤◌, ◌^◌, max, true, Some};
 ghost use Rattle.marks.specs.Seats.{IsSeat};
 ghost use Rattle.marks.specs.Steps.{hearing, learning, showing, taking_over, telling};

@@ -1,10 +1,12 @@
 //! What a board of marks costs, by threads. With no argument two threads accept commands through one lock, and it is said
-//! which numbers they were given, and what one pass tells another; with `--measure` it measures.
+//! which numbers they were given, what one pass tells another, and what of two commands is durable; with `--measure` it
+//! measures.
 #![tactic(auto)]
 
 ghost use Rattle.std.specs.Prelude.{◌≡◌, ◌≤◌};
 ghost use Rattle.marks.specs.Known.{known};
 
+mod calls;
 mod line;
 
 use anyhow::Result;
@@ -232,6 +234,12 @@ fn show<B: BoardName + Send + Sync, R: Threads + Wait + Sync + Print + AllocGlob
     Ok(())
 }
 
+fn print_calls(rt: &impl Print, numbers: [u64; 4]) -> Result<()> {
+    let [before, last, shown, after] = numbers;
+    println!(rt; "{last} accepted, {shown} shown; durable {before} and then {after}")?;
+    Ok(())
+}
+
 fn main(rt: HostRuntime) -> Result<()> {
     let alloc = rt.alloc();
     let hole = Command::Clear {
@@ -247,5 +255,7 @@ fn main(rt: HostRuntime) -> Result<()> {
         }
         return Ok(());
     }
-    show::<Brand, _>(&rt, BlankBoard::new(alloc, 0)?, &hole)
+    show::<Brand, _>(&rt, BlankBoard::new(alloc, 0)?, &hole)?;
+    let numbers = calls::numbers::<Brand>(alloc, BlankBoard::new(alloc, 0)?, &hole)?;
+    print_calls(&rt, numbers)
 }
