@@ -1,0 +1,5 @@
+use Rattle.marks.proofs.Fitting.{opens}
+use Rattle.marks.proofs.blank.BlankBoard.new.Goals as goal
+
+pub of_words-requires : goal.of_words-requires
+of_words-requires c = opens _

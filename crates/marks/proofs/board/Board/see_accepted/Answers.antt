@@ -1,0 +1,6 @@
+use Rattle.std.proofs.Common.{sym, ◌∙◌, arith}
+use Rattle.marks.proofs.Moves.{looks_accepted}
+use Rattle.marks.proofs.board.Board.see_accepted.Goals as goal
+
+pub load-requires : goal.load-requires
+load-requires g c = (c.requires.table ∙ sym c.args.self.now.named, omega (arith, c.args.self.now.two_words), looks_accepted _ _ _)

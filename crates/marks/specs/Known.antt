@@ -1,0 +1,37 @@
+-- what is known of a board's two numbers, as callers see it
+use Rattle.std.specs.Prelude.{ℕ, max, Option, Some, None}
+use Rattle.atomic_table.specs.Seated.{TableId}
+use Rattle.image_model.specs.Change.{Change}
+
+-- the greatest accepted and the greatest durable number that are known
+pub record Marks : Type 0 where
+  pub accepted : ℕ
+  pub durable : ℕ
+
+-- a number, and the change that the command makes that was accepted under it
+pub record Numbered : Type 0 where
+  pub number : ℕ
+  pub change : Change
+
+-- a pass: the greatest accepted and the greatest durable number that it has seen or was told, and its own last number
+pub record PassState : Type 0 where
+  pub accepted : ℕ
+  pub durable : ℕ
+  pub own : Option Numbered
+
+-- a board that has no name yet: the table, and the number with which it opens
+pub record BlankState : Type 0 where
+  pub board : TableId
+  pub opening : ℕ
+
+abbrev pub own_number : Option Numbered → ℕ
+own_number None = 0
+own_number (Some own) = own.number
+
+-- what a pass knows: the greatest of its numbers
+abbrev pub known : PassState → ℕ
+known pass = max (max pass.accepted pass.durable) (own_number pass.own)
+
+-- a pass that knows the number with which the board opened, and has none of its own
+abbrev pub new_pass : ℕ → PassState
+new_pass number = record { accepted = number; durable = number; own = None }

@@ -1,0 +1,93 @@
+ghost use Rattle.std.specs.Prelude.{◌≡◌, replicate, IfOk};
+ghost use Rattle.marks.specs.Known.{new_pass};
+
+use crate::board::Board;
+use crate::name::BoardName;
+use crate::rule::{GiveKeeper, Law};
+use crate::seats::{KeeperSeat, OrderSeat, Pass};
+use crate::view::View;
+use atomic_table::{Seat, Table};
+use image_model::Command;
+use std::alloc::{AllocError, Global};
+use std::marker::{Model, PhantomData};
+
+/// A board that has no name yet.
+#[derive(Drop)]
+pub struct BlankBoard {
+    table: Table<Command, View, u64, Law, Global>,
+    seat: Seat<Command, View>,
+}
+
+impl Model for BlankBoard {
+    ghost use Rattle.std.specs.Prelude.{◌≡◌, []};
+    ghost use Rattle.marks.specs.Known.{BlankState};
+    ghost use Rattle.marks.specs.Rule.{first_view};
+
+    ghost Value = { BlankState };
+
+    ghost view = { λ blank. record { board = blank.table.shared.table_id; opening = blank.seat.me.0.accepted } };
+
+    ghost invariant = { λ blank. (blank.table.shared.table_id.words ≡ 2)
+        × (blank.seat.table_id ≡ blank.table.shared.table_id)
+        × (blank.seat.me ≡ (first_view blank.seat.me.0.accepted, [])) };
+}
+
+/// A board with its seats, and passes that know the number with which it opened and have none of their own.
+#[derive(Drop)]
+pub struct Opened<B: BoardName> {
+    pub board: Board<B>,
+    pub order: OrderSeat<B>,
+    pub keeper: KeeperSeat<B>,
+    pub passes: Vec<Pass<B>>,
+}
+
+impl BlankBoard {
+    /// A board with both numbers at `opening`.
+    pub fn new(alloc: Global, opening: u64) -> Result<BlankBoard, AllocError>
+        ensures { IfOk result (λ blank. blank.opening ≡ opening) }
+    {
+        let (table, seat) = Table::of_words(alloc, &[opening, opening], &opening)?;
+        Ok(BlankBoard { table, seat })
+    }
+
+    /// The board under its name, which is picked where this is called, with so many passes.
+    pub fn open<B: BoardName>(self, alloc: Global, passes: usize) -> Result<Opened<B>, AllocError>
+        requires { self.board ≡ B.board }
+        ensures order { IfOk result (λ opened. opened.order ≡ self.opening) }
+        ensures keeper { IfOk result (λ opened. opened.keeper ≡ record { accepted = self.opening; durable = self.opening }) }
+        ensures passes { IfOk result (λ opened. opened.passes.items ≡ replicate passes (new_pass self.opening)) }
+    {
+        let (board, order, mut keeper) = self.named::<B>();
+        let passes = board.new_passes(alloc, &mut keeper, passes)?;
+        Ok(Opened {
+            board,
+            order,
+            keeper,
+            passes,
+        })
+    }
+
+    // The board under its name with the two seats that raise its numbers.
+    fn named<B: BoardName>(self) -> (Board<B>, OrderSeat<B>, KeeperSeat<B>)
+        requires { self.board ≡ B.board }
+        ensures order { result.1 ≡ self.opening }
+        ensures keeper { result.2 ≡ record { accepted = self.opening; durable = self.opening } }
+    {
+        let BlankBoard { table, mut seat } = self;
+        let keeper = table.shared.split_seat::<GiveKeeper>(&mut seat);
+        (
+            Board {
+                table,
+                of: PhantomData,
+            },
+            OrderSeat {
+                seat,
+                of: PhantomData,
+            },
+            KeeperSeat {
+                seat: keeper,
+                of: PhantomData,
+            },
+        )
+    }
+}
