@@ -1,12 +1,11 @@
 -- What stands before data, as it is read and as it is written.
-use Rattle.std.proofs.Common.{◌≡◌, ℕ, ◌+◌, ◌<◌, ◌^◌, List, ◌++◌, length, get_or, take, drop, refl, sym, ap, ◌∙◌, inl, inr, append_assoc, length-append, length-take, length-drop, arith}
+use Rattle.std.proofs.Common.{◌≡◌, ℕ, ◌+◌, ◌<◌, ◌^◌, List, ◌++◌, length, get_or, take, drop, refl, sym, ap, ◌∙◌, inl, inr, length-append, length-take, length-drop, arith}
 use Rattle.std.specs.Prelude.{Result, Ok, Err, OnErr}
 use Rattle.std.specs.Int.{w32, w64, to_be_bytes, from_be_bytes}
 use Rattle.std.proofs.lemmas.Bool.{cases_lt}
 use Rattle.std.proofs.lemmas.List.{take-append-drop, get_or-drop, get_or-take, get_or_past}
 use Rattle.std.proofs.lemmas.Nat.{be_bytes_4, be_bytes_8}
 use Rattle.byteorder.specs.Endian.{big_number}
-use Rattle.option_wire.specs.Field.{counted}
 use Rattle.option_wire.specs.Head.{option_head}
 use Rattle.option_wire.specs.Reply.{reply_head}
 use Rattle.option_wire.proofs.Texts.{number_32}
@@ -72,10 +71,6 @@ one_reply_head option other kind other_kind size other_size x y p q r s t u same
 
 -- ---- lengths
 
-pub length_counted : (text : List ℕ) → length (counted text) ≡ 4 + length text
-unfolding counted
-length_counted text = length-append (to_be_bytes w32 (length text)) text
-
 pub length_reply_head : (option kind size : ℕ) → length (reply_head option kind size) ≡ 20
 unfolding reply_head
 length_reply_head option kind size = refl
@@ -86,9 +81,3 @@ pub no_room : {T E : Type 0} (r : Result T E) (capacity len size option kind cou
 no_room (Ok done) capacity len size option kind count content full is = tt
 no_room (Err error) capacity len size option kind count content full is =
     omega (arith, full, is, length-append (reply_head option kind count) content, length_reply_head option kind count)
-
--- ---- what was appended
-
-pub in_two : (out a b one two first last : List ℕ) → one ≡ out ++ a → a ≡ first → two ≡ one ++ b → b ≡ last → two ≡ out ++ (first ++ last)
-in_two out a b one two first last p p' q q' =
-    q ∙ ap (λ (t : List ℕ). t ++ b) p ∙ append_assoc out a b ∙ (λ i. out ++ (p' i ++ q' i))

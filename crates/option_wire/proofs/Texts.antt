@@ -28,7 +28,6 @@ number_64 n m x y p q same =
 
 -- what stands behind the number of a string's bytes
 counted_is : (text x : List ℕ) → counted text ++ x ≡ to_be_bytes w32 (length text) ++ (text ++ x)
-unfolding counted
 counted_is text x = append_assoc (to_be_bytes w32 (length text)) text x
 
 pub one_text : (text other x y : List ℕ) → IsText text → IsText other → counted text ++ x ≡ counted other ++ y → (text ≡ other) × (x ≡ y)

@@ -4,7 +4,7 @@ use Rattle.std.specs.Int.{w16, w32, to_be_bytes}
 use Rattle.std.specs.List.{AllByRecursion, flat_map}
 
 -- a string: how many bytes it has, and its bytes
-unfoldable pub counted : List ℕ → List ℕ
+abbrev pub counted : List ℕ → List ℕ
 counted text = to_be_bytes w32 (length text) ++ text
 
 abbrev pub IsText : List ℕ → Type 0

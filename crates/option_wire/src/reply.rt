@@ -139,7 +139,6 @@ fn type_of(reply: &OptionReply) -> u32
     }
 }
 
-#[tactic(auto, using(crate::proofs::Heads::length_counted))]
 fn data_len(reply: &OptionReply) -> usize
     requires { length (reply_data reply.now) < 2 ^ 32 }
     ensures { result ≡ length (reply_data reply.now) }
@@ -189,7 +188,6 @@ fn put(out: &mut Vec<u8>, bytes: &[u8])
 }
 
 // Appends the data of a reply, for which there is room.
-#[tactic(auto, using(crate::proofs::Heads::length_counted))]
 fn put_data(out: &mut Vec<u8>, reply: &OptionReply)
     requires room { vec_len out.old + length (reply_data reply.now) ≤ vec_capacity out.old }
     requires fits { length (reply_data reply.now) < 2 ^ 32 }
