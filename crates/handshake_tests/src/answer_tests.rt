@@ -24,13 +24,14 @@ const SELECTED: SessionFlags = SessionFlags {
     context: true,
 };
 
-// An option with its data, to a session over 16 blocks: what is written, what is agreed on then, and what comes.
+// What is agreed on behind an option, and what comes.
 #[derive(Clone, Copy, Debug, PartialEq, Eq)]
 struct Wanted {
     flags: SessionFlags,
     next: Next,
 }
 
+// That of an option with its data, to a session over 16 blocks, where these bytes are written.
 fn answers(
     alloc: Global,
     option: (u32, &str),
@@ -49,7 +50,7 @@ fn answers(
     Ok(if same { Some(told) } else { None })
 }
 
-// These options, each to a session that has agreed on the flags, leave these.
+// Options with their data: what was agreed on before, what is written, what is agreed on then, and what comes.
 fn all_answer(
     rt: &impl Abort,
     alloc: Global,

@@ -62,7 +62,7 @@ informed flags size asked next =
 abbrev pub asks_for : List ℕ → List (List ℕ) → Bool
 asks_for name queries = list_any (λ query. bytes_eq query name) queries
 
--- whether the context is told where contexts are listed: no query asks for all of them
+-- whether the context is told where contexts are listed; no query at all asks for all contexts
 abbrev pub is_listed : List (List ℕ) → Bool
 is_listed queries = (length queries == 0) || (asks_for namespace_name queries || asks_for allocation_name queries)
 
