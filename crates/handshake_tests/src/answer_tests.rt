@@ -1,0 +1,296 @@
+use crate::row::bytes_of;
+use nbd_wire::SessionFlags;
+use negotiation::{Next, answer_data, refuse_option};
+use option_wire::{
+    ABORT, EXPORT_NAME, GO, INFO, LIST, LIST_META_CONTEXT, OptionError, SET_META_CONTEXT, STARTTLS,
+    STRUCTURED_REPLY,
+};
+use std::alloc::Global;
+use std::process::Abort;
+use std::test::Fail;
+
+const PLAIN: SessionFlags = SessionFlags {
+    structured: false,
+    context: false,
+};
+
+const STRUCTURED: SessionFlags = SessionFlags {
+    structured: true,
+    context: false,
+};
+
+const SELECTED: SessionFlags = SessionFlags {
+    structured: true,
+    context: true,
+};
+
+// What is agreed on behind an option, and what comes.
+#[derive(Clone, Copy, Debug, PartialEq, Eq)]
+struct Wanted {
+    flags: SessionFlags,
+    next: Next,
+}
+
+// That of an option with its data, to a session over 16 blocks, where these bytes are written.
+fn answers(
+    alloc: Global,
+    option: (u32, &str),
+    flags: SessionFlags,
+    written: &str,
+) -> Result<Option<Wanted>, Fail> {
+    let (code, data) = option;
+    let answer = answer_data(alloc, code, &bytes_of(alloc, data)?, flags, 65536)?;
+    let mut out = Vec::new(alloc);
+    answer.encode(code, &mut out)?;
+    let same = out.as_slice() == bytes_of(alloc, written)?.as_slice();
+    let told = Wanted {
+        flags: answer.flags(),
+        next: answer.next(),
+    };
+    Ok(if same { Some(told) } else { None })
+}
+
+// Options with their data: what was agreed on before, what is written, what is agreed on then, and what comes.
+fn all_answer(
+    rt: &impl Abort,
+    alloc: Global,
+    rows: &[(u32, &str, SessionFlags, &str, SessionFlags, Next)],
+) -> Result<(), Fail> {
+    for (code, data, before, written, flags, next) in rows {
+        let told = answers(alloc, (*code, data), *before, written)?;
+        let wanted = Wanted {
+            flags: *flags,
+            next: *next,
+        };
+        assert_eq!(rt; told, Some(wanted), "option {code} with {data}");
+    }
+    Ok(())
+}
+
+#[test]
+fn options_that_ask_for_nothing_more(rt: HostRuntime) -> Result<(), Fail> {
+    let ack = "0003e889045565a9 00000008 00000001 00000000";
+    let list =
+        "0003e889045565a9 00000003 00000002 00000004 00000000 0003e889045565a9 00000003 00000001 00000000";
+    let rows = [
+        (EXPORT_NAME, "", PLAIN, "", PLAIN, Next::Fault),
+        (
+            ABORT,
+            "07",
+            SELECTED,
+            "0003e889045565a9 00000002 00000001 00000000",
+            SELECTED,
+            Next::End,
+        ),
+        (LIST, "", STRUCTURED, list, STRUCTURED, Next::Option),
+        (
+            LIST,
+            "00",
+            PLAIN,
+            "0003e889045565a9 00000003 80000003 00000000",
+            PLAIN,
+            Next::Option,
+        ),
+        (
+            STARTTLS,
+            "",
+            PLAIN,
+            "0003e889045565a9 00000005 80000001 00000000",
+            PLAIN,
+            Next::Option,
+        ),
+        (STRUCTURED_REPLY, "", PLAIN, ack, STRUCTURED, Next::Option),
+        (STRUCTURED_REPLY, "", SELECTED, ack, SELECTED, Next::Option),
+        (
+            11,
+            "ff",
+            SELECTED,
+            "0003e889045565a9 0000000b 80000001 00000000",
+            SELECTED,
+            Next::Option,
+        ),
+    ];
+    all_answer(&rt, rt.alloc(), &rows)
+}
+
+#[test]
+fn a_go_begins_transmission(rt: HostRuntime) -> Result<(), Fail> {
+    let told =
+        "0003e889045565a9 00000007 00000003 0000000c 0000 0000000000010000 01ed 0003e889045565a9 00000007 00000003 0000000e 0003 00001000 00001000 00100000 0003e889045565a9 00000007 00000001 00000000";
+    let plain =
+        "0003e889045565a9 00000006 00000003 0000000c 0000 0000000000010000 016d 0003e889045565a9 00000006 00000003 0000000e 0003 00001000 00001000 00100000 0003e889045565a9 00000006 00000001 00000000";
+    let required =
+        "0003e889045565a9 00000007 00000003 0000000e 0003 00001000 00001000 00100000 0003e889045565a9 00000007 80000008 00000000";
+    let rows = [
+        (
+            GO,
+            "00000000 0001 0003",
+            STRUCTURED,
+            told,
+            STRUCTURED,
+            Next::Transmission,
+        ),
+        (
+            INFO,
+            "00000000 0002 0101 0003",
+            PLAIN,
+            plain,
+            PLAIN,
+            Next::Option,
+        ),
+        (
+            GO,
+            "00000000 0002 0000 0001",
+            SELECTED,
+            required,
+            SELECTED,
+            Next::Option,
+        ),
+        (
+            GO,
+            "00000001 78 0001 0003",
+            PLAIN,
+            "0003e889045565a9 00000007 80000006 00000000",
+            PLAIN,
+            Next::Option,
+        ),
+        (
+            GO,
+            "00000005 0000",
+            PLAIN,
+            "0003e889045565a9 00000007 80000003 00000000",
+            PLAIN,
+            Next::Option,
+        ),
+    ];
+    all_answer(&rt, rt.alloc(), &rows)
+}
+
+#[test]
+fn a_context_is_selected(rt: HostRuntime) -> Result<(), Fail> {
+    let ask = "00000000 00000001 0000000f 626173653a616c6c6f636174696f6e";
+    let told =
+        "0003e889045565a9 0000000a 00000004 00000013 00000001 626173653a616c6c6f636174696f6e 0003e889045565a9 0000000a 00000001 00000000";
+    let ack = "0003e889045565a9 0000000a 00000001 00000000";
+    let invalid = "0003e889045565a9 0000000a 80000003 00000000";
+    let unknown = "0003e889045565a9 0000000a 80000006 00000000";
+    let rows = [
+        (SET_META_CONTEXT, ask, PLAIN, invalid, PLAIN, Next::Option),
+        (
+            SET_META_CONTEXT,
+            ask,
+            STRUCTURED,
+            told,
+            SELECTED,
+            Next::Option,
+        ),
+        (
+            SET_META_CONTEXT,
+            ask,
+            SELECTED,
+            told,
+            SELECTED,
+            Next::Option,
+        ),
+        (
+            SET_META_CONTEXT,
+            "00000000 00000001 00000005 626173653a",
+            SELECTED,
+            ack,
+            STRUCTURED,
+            Next::Option,
+        ),
+        (
+            SET_META_CONTEXT,
+            "00000000 00000000",
+            SELECTED,
+            ack,
+            STRUCTURED,
+            Next::Option,
+        ),
+        (
+            SET_META_CONTEXT,
+            "00000001 78 00000000",
+            SELECTED,
+            unknown,
+            STRUCTURED,
+            Next::Option,
+        ),
+        (
+            SET_META_CONTEXT,
+            "00000000",
+            SELECTED,
+            invalid,
+            STRUCTURED,
+            Next::Option,
+        ),
+    ];
+    all_answer(&rt, rt.alloc(), &rows)
+}
+
+#[test]
+fn contexts_are_listed(rt: HostRuntime) -> Result<(), Fail> {
+    let told =
+        "0003e889045565a9 00000009 00000004 00000013 00000000 626173653a616c6c6f636174696f6e 0003e889045565a9 00000009 00000001 00000000";
+    let ack = "0003e889045565a9 00000009 00000001 00000000";
+    let invalid = "0003e889045565a9 00000009 80000003 00000000";
+    let rows = [
+        (
+            LIST_META_CONTEXT,
+            "00000000 00000000",
+            PLAIN,
+            invalid,
+            PLAIN,
+            Next::Option,
+        ),
+        (
+            LIST_META_CONTEXT,
+            "00000000 00000000",
+            SELECTED,
+            told,
+            SELECTED,
+            Next::Option,
+        ),
+        (
+            LIST_META_CONTEXT,
+            "00000000 00000002 00000001 78 00000005 626173653a",
+            STRUCTURED,
+            told,
+            STRUCTURED,
+            Next::Option,
+        ),
+        (
+            LIST_META_CONTEXT,
+            "00000000 00000001 00000006 626173653a61",
+            STRUCTURED,
+            ack,
+            STRUCTURED,
+            Next::Option,
+        ),
+    ];
+    all_answer(&rt, rt.alloc(), &rows)
+}
+
+#[test]
+fn data_that_are_too_long_are_refused(rt: HostRuntime) -> Result<(), Fail> {
+    let rows = [
+        (
+            LIST,
+            SELECTED,
+            "0003e889045565a9 00000003 80000009 00000000",
+        ),
+        (
+            SET_META_CONTEXT,
+            STRUCTURED,
+            "0003e889045565a9 0000000a 80000009 00000000",
+        ),
+    ];
+    for (code, flags, row) in rows {
+        let answer = refuse_option(rt.alloc(), code, SELECTED, OptionError::TooBig)?;
+        let mut out = Vec::new(rt.alloc());
+        answer.encode(code, &mut out)?;
+        assert_eq!(rt; out.as_slice(), bytes_of(rt.alloc(), row)?.as_slice());
+        assert_eq!(rt; answer.flags(), flags);
+    }
+    Ok(())
+}

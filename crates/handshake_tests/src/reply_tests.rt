@@ -1,0 +1,181 @@
+ghost use Rattle.std.specs.Prelude.{◌<◌, ◌^◌, length};
+ghost use Rattle.option_wire.specs.Reply.{reply_data};
+
+use crate::row::bytes_of;
+use option_wire::{
+    GO, INFO, Information, LIST, LIST_META_CONTEXT, Malformed, OptionError, OptionFault,
+    OptionReply, SET_META_CONTEXT, STRUCTURED_REPLY, Text, encode_option_reply,
+};
+use std::alloc::Global;
+use std::test::Fail;
+
+// Whether the reply is appended as these bytes, behind what stands there.
+fn appends(alloc: Global, option: u32, reply: &OptionReply, row: &str) -> Result<bool, Fail>
+    requires { length (reply_data reply.now) < 2 ^ 32 }
+{
+    let mut out = bytes_of(alloc, "0708")?;
+    encode_option_reply(option, reply, &mut out)?;
+    let wanted = bytes_of(alloc, row)?;
+    Ok(out.starts_with(&[7, 8]) && out[2..] == wanted[..])
+}
+
+#[test]
+fn options_are_acknowledged(rt: HostRuntime) -> Result<(), Fail> {
+    let rows = [
+        (LIST, "0003e889045565a9 00000003 00000001 00000000"),
+        (GO, "0003e889045565a9 00000007 00000001 00000000"),
+        (
+            STRUCTURED_REPLY,
+            "0003e889045565a9 00000008 00000001 00000000",
+        ),
+        (
+            SET_META_CONTEXT,
+            "0003e889045565a9 0000000a 00000001 00000000",
+        ),
+    ];
+    for (option, row) in rows {
+        assert!(rt;
+            appends(rt.alloc(), option, &OptionReply::Ack, row)?,
+            "{row}"
+        );
+    }
+    Ok(())
+}
+
+#[test]
+fn exports_are_listed(rt: HostRuntime) -> Result<(), Fail> {
+    let reply = OptionReply::Server(Text::from_slice(rt.alloc(), b"")?);
+    let row = "0003e889045565a9 00000003 00000002 00000004 00000000";
+    assert!(rt; appends(rt.alloc(), LIST, &reply, row)?);
+    let reply = OptionReply::Server(Text::from_slice(rt.alloc(), b"a/b")?);
+    let row = "0003e889045565a9 00000003 00000002 00000007 00000003 612f62";
+    assert!(rt; appends(rt.alloc(), LIST, &reply, row)?);
+    Ok(())
+}
+
+#[test]
+fn export_is_told(rt: HostRuntime) -> Result<(), Fail> {
+    let reply = OptionReply::Info(Information::Export {
+        size: 65536,
+        flags: 0x01ed,
+    });
+    let row = "0003e889045565a9 00000007 00000003 0000000c 0000 0000000000010000 01ed";
+    assert!(rt; appends(rt.alloc(), GO, &reply, row)?);
+    Ok(())
+}
+
+#[test]
+fn block_sizes_are_told(rt: HostRuntime) -> Result<(), Fail> {
+    let reply = OptionReply::Info(Information::BlockSize {
+        minimum: 4096,
+        preferred: 4096,
+        maximum: 1_048_576,
+    });
+    let row = "0003e889045565a9 00000007 00000003 0000000e 0003 00001000 00001000 00100000";
+    assert!(rt; appends(rt.alloc(), GO, &reply, row)?);
+    let reply = OptionReply::Info(Information::BlockSize {
+        minimum: 1,
+        preferred: 512,
+        maximum: 0x0102_0304,
+    });
+    let row = "0003e889045565a9 00000006 00000003 0000000e 0003 00000001 00000200 01020304";
+    assert!(rt; appends(rt.alloc(), INFO, &reply, row)?);
+    Ok(())
+}
+
+#[test]
+fn name_and_description_are_told(rt: HostRuntime) -> Result<(), Fail> {
+    let name = Information::Name(Text::from_slice(rt.alloc(), b"disk")?);
+    let row = "0003e889045565a9 00000006 00000003 00000006 0001 6469736b";
+    assert!(rt; appends(rt.alloc(), INFO, &OptionReply::Info(name), row)?);
+    let description = Information::Description(Text::from_slice(rt.alloc(), b"two")?);
+    let row = "0003e889045565a9 00000007 00000003 00000005 0002 74776f";
+    assert!(rt; appends(rt.alloc(), GO, &OptionReply::Info(description), row)?);
+    Ok(())
+}
+
+#[test]
+fn contexts_are_told_with_their_number(rt: HostRuntime) -> Result<(), Fail> {
+    let name = Text::from_slice(rt.alloc(), b"base:allocation")?;
+    let reply = OptionReply::MetaContext { id: 1, name };
+    let row = "0003e889045565a9 0000000a 00000004 00000013 00000001 626173653a616c6c6f636174696f6e";
+    assert!(rt; appends(rt.alloc(), SET_META_CONTEXT, &reply, row)?);
+    let name = Text::from_slice(rt.alloc(), b"base:allocation")?;
+    let reply = OptionReply::MetaContext { id: 0, name };
+    let row = "0003e889045565a9 00000009 00000004 00000013 00000000 626173653a616c6c6f636174696f6e";
+    assert!(rt; appends(rt.alloc(), LIST_META_CONTEXT, &reply, row)?);
+    Ok(())
+}
+
+#[test]
+fn refusals_carry_no_text(rt: HostRuntime) -> Result<(), Fail> {
+    let rows = [
+        (
+            5,
+            OptionError::Unsupported,
+            "0003e889045565a9 00000005 80000001 00000000",
+        ),
+        (
+            9,
+            OptionError::Policy,
+            "0003e889045565a9 00000009 80000002 00000000",
+        ),
+        (
+            10,
+            OptionError::Invalid,
+            "0003e889045565a9 0000000a 80000003 00000000",
+        ),
+        (
+            6,
+            OptionError::Platform,
+            "0003e889045565a9 00000006 80000004 00000000",
+        ),
+        (
+            8,
+            OptionError::TlsRequired,
+            "0003e889045565a9 00000008 80000005 00000000",
+        ),
+        (
+            7,
+            OptionError::Unknown,
+            "0003e889045565a9 00000007 80000006 00000000",
+        ),
+        (
+            2,
+            OptionError::Shutdown,
+            "0003e889045565a9 00000002 80000007 00000000",
+        ),
+        (
+            7,
+            OptionError::BlockSizeRequired,
+            "0003e889045565a9 00000007 80000008 00000000",
+        ),
+        (
+            3,
+            OptionError::TooBig,
+            "0003e889045565a9 00000003 80000009 00000000",
+        ),
+        (
+            0x0102_0304,
+            OptionError::Unsupported,
+            "0003e889045565a9 01020304 80000001 00000000",
+        ),
+    ];
+    for (option, error, row) in rows {
+        let reply = OptionReply::Refused(error);
+        assert!(rt; appends(rt.alloc(), option, &reply, row)?, "{row}");
+    }
+    Ok(())
+}
+
+#[test]
+fn faults_have_their_texts(rt: HostRuntime) -> Result<(), Fail> {
+    let texts = format!(in rt.alloc();
+        "{}, {}, {}",
+        OptionFault::NoMemory,
+        OptionFault::Malformed,
+        Malformed
+    )?;
+    assert_eq!(rt; texts.as_str(), "no memory, malformed, malformed");
+    Ok(())
+}

@@ -1,0 +1,6 @@
+pub mod Asked
+pub mod Counts
+pub mod Heads
+pub mod Items
+pub mod Replies
+pub mod Texts

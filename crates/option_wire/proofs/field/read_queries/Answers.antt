@@ -1,0 +1,23 @@
+use Rattle.std.proofs.Common.{◌≡◌, ◌<◌, length, rules}
+use Rattle.option_wire.proofs.Counts.{no_queries, short_queries, long_queries, queries_of}
+use Rattle.option_wire.proofs.field.read_queries.Goals as goal
+
+pub returns-in_default-clause-none : goal.returns-in_default-clause-none
+returns-in_default-clause-none c malformed queries are same = no_queries c.args.bytes.now queries c.in_default.ensures.none same
+
+pub returns-in_default-take_text-clause-none : goal.returns-in_default-take_text-clause-none
+returns-in_default-take_text-clause-none c malformed queries are same =
+    let more : length c.loop.queries.items < c.in-Some.count = search rules in
+    short_queries c.args.bytes.now c.in-Some.rest.now _ _ queries c.in-Some.count c.in-Some.ensures.fits c.in-Some.ensures.found c.loop.invariant.reads more c.in_default-take_text.ensures.none are same
+
+pub returns-then-not-is_empty-clause-none : goal.returns-then-not-is_empty-clause-none
+returns-then-not-is_empty-clause-none c malformed queries are same =
+    let all : length c.loop.queries.items ≡ c.in-Some.count = search rules in
+    let some : 0 < length c.loop.rest.now = search rules in
+    long_queries c.args.bytes.now c.in-Some.rest.now _ _ queries c.in-Some.count c.in-Some.ensures.fits c.in-Some.ensures.found c.loop.invariant.reads all some are same
+
+pub returns-clause-found : goal.returns-clause-found
+returns-clause-found c =
+    let all : length c.loop.queries.items ≡ c.in-Some.count = search rules in
+    let none : length c.loop.rest.now ≡ 0 = search rules in
+    queries_of c.args.bytes.now c.in-Some.rest.now _ _ c.in-Some.count c.in-Some.ensures.found c.loop.invariant.reads all none

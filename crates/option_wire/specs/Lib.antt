@@ -1,0 +1,5 @@
+pub mod Field
+pub mod Handshake
+pub mod Head
+pub mod Options
+pub mod Reply
