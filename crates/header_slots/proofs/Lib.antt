@@ -1,4 +1,4 @@
 pub mod Changed
+pub mod Closing
 pub mod Frame
-pub mod Renewed
 pub mod Sole

@@ -1,14 +1,13 @@
-ghost use Rattle.std.specs.Prelude.{◌≡◌, ◌+◌, ◌≤◌, ◌<◌, ◌↔◌, ◌∷◌, [], IsTrue, IfOk, IfErr, OnOk};
+ghost use Rattle.std.specs.Prelude.{◌≡◌, ◌+◌, ◌≤◌, ◌<◌, ◌↔◌, ◌∷◌, [], IsTrue, IfOk, IfSome, None, OnOk};
 ghost use Rattle.disk_model.specs.Disk.{IsKept, IsStored, IsSyncedIn, LeavesOnly, MayLeave, MayLeaveTorn};
 ghost use Rattle.disk_model.specs.Faults.{faults_after};
 ghost use Rattle.image_model.specs.Side.{other_of};
-ghost use Rattle.header_slots.specs.Change.{renewed, ComesNext, IsBodyStored, IsChangeAnswer, IsGateClosed, IsInPlace, IsUnwritten, LeavesChange, LeavesClosing, LeavesEither, faults_after_change};
+ghost use Rattle.header_slots.specs.Change.{renewed, ComesNext, IsBodyStored, IsGateClosed, IsInPlace, LeavesClosing, LeavesEither};
 ghost use Rattle.header_slots.specs.Slots.{slot_at, HoldsHeader, IsOpen};
 ghost use Rattle.header_slots.specs.declared.header.Header.{Header};
 
-use crate::fault::ChangeFault;
 use crate::header::{Areas, Header};
-use crate::slots::{read_current, slot_from};
+use crate::slots::slot_from;
 use disk_model::{DeviceFault, Disk, write_synced};
 use image_model::{CLOSED, OPEN, Side};
 
@@ -20,6 +19,24 @@ pub struct HeaderChange {
     pub map_slot: Side,
     /// The number of the last command that map and data hold.
     pub base: u64,
+}
+
+impl Header {
+    /// The next header, with what the change says; none where no generation is greater (refusal 9).
+    pub fn next(&self, change: &HeaderChange) -> Option<Header>
+        ensures some { IfSome result (λ header. header ≡ renewed self.now change.now) }
+        ensures none { (result ≡ None) ↔ (self.now.generation ≡ 18446744073709551615) }
+    {
+        let generation = self.generation.checked_add(1)?;
+        Some(Header {
+            generation,
+            geometry: self.geometry,
+            areas: change.areas,
+            first_area: change.first_area,
+            map_slot: change.map_slot,
+            base: change.base,
+        })
+    }
 }
 
 // Whether a slot's gate is open.
@@ -86,8 +103,11 @@ pub fn open_other<D: Disk>(disk: &mut D, other: Side) -> Result<(), DeviceFault>
     write_synced(disk, slot_from(other), &[OPEN])
 }
 
-// Puts a header in the place of the one in force, which stands in this slot, as the next one.
-fn put_in_force<D: Disk>(disk: &mut D, slot: Side, header: &Header) -> Result<(), DeviceFault>
+/// Puts a header in the place of the one in force, which stands in this slot, as the next one.
+///
+/// It goes to the other slot: its gate is closed, the header is written, its gate is opened, each made stable before the
+/// next. Where nothing in the two slots is unsynced, a crash at any moment leaves the old header or the new one in force.
+pub fn change_header<D: Disk>(disk: &mut D, slot: Side, header: &Header) -> Result<(), DeviceFault>
     requires { 8192 ≤ D.extent disk.old }
     ensures extent { D.extent disk.new ≡ D.extent disk.old }
     ensures faults { D.faults disk.new ≡ faults_after result (D.faults disk.old) }
@@ -104,49 +124,4 @@ fn put_in_force<D: Disk>(disk: &mut D, slot: Side, header: &Header) -> Result<()
     close_other(disk, other)?;
     write_body(disk, other, header)?;
     open_other(disk, other)
-}
-
-/// Changes the header in force, and answers the new one and its slot.
-///
-/// The new header goes to the other slot: its gate is closed, the header is written, its gate is opened, each made
-/// stable before the next. Where nothing in the two slots is unsynced, a crash at any moment leaves the old header or
-/// the new one in force. 7, 8 and 9 write nothing.
-pub fn change_header<D: Disk>(
-    disk: &mut D,
-    change: &HeaderChange,
-) -> Result<(Header, Side), ChangeFault>
-    ensures extent { D.extent disk.new ≡ D.extent disk.old }
-    ensures faults { D.faults disk.new ≡ faults_after_change result (D.faults disk.old) }
-    ensures honest { D.honest disk.new ↔ D.honest disk.old }
-
-    ensures answer { D.honest disk.old → IsSyncedIn (D.state disk.old) 0 8192
-        → IsChangeAnswer (D.state disk.old).seen (D.extent disk.old) change.now result }
-    ensures in_place { D.honest disk.old → IsSyncedIn (D.state disk.old) 0 8192
-        → IfOk result (λ current. IsInPlace (D.state disk.old) (D.extent disk.old) current.0 current.1 (D.state disk.new)) }
-    ensures kept { D.honest disk.old → IfErr result (λ fault. IsUnwritten fault → IsKept (D.state disk.old) (D.state disk.new)) }
-    ensures any_moment { D.honest disk.old → IsSyncedIn (D.state disk.old) 0 8192
-        → LeavesOnly (D.state disk.old) (D.state disk.new) (LeavesChange (D.state disk.old) (D.extent disk.old) change.now) }
-{
-    let (current, slot) = read_current(disk)?;
-    let Some(generation) = current.generation.checked_add(1) else {
-        return Err(ChangeFault::NumbersFull);
-    };
-    let header = next_header(&current, generation, change);
-    put_in_force(disk, slot, &header)?;
-    Ok((header, slot.other()))
-}
-
-// The next header, with this generation.
-fn next_header(current: &Header, generation: u64, change: &HeaderChange) -> Header
-    requires { generation ≡ current.now.generation + 1 }
-    ensures { result ≡ renewed current.now change.now }
-{
-    Header {
-        generation,
-        geometry: current.geometry,
-        areas: change.areas,
-        first_area: change.first_area,
-        map_slot: change.map_slot,
-        base: change.base,
-    }
 }

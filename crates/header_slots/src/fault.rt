@@ -1,5 +1,4 @@
 ghost use Rattle.std.specs.Prelude.{◌≡◌};
-ghost use Rattle.header_slots.specs.declared.fault.ChangeFault.TheVariants as ChangeFault;
 ghost use Rattle.header_slots.specs.declared.fault.HeaderFault.TheVariants as HeaderFault;
 
 use disk_model::DeviceFault;
@@ -24,32 +23,5 @@ impl From<DeviceFault> for HeaderFault {
 
     fn from(_fault: DeviceFault) -> HeaderFault {
         HeaderFault::DeviceFault
-    }
-}
-
-/// Why the header in force wasn't changed; `docs/FORMATS.md`, "Refusals", has the numbers.
-#[derive(Clone, Copy, Debug, PartialEq, Eq, Error)]
-pub enum ChangeFault {
-    /// 1, 7 or 8: a call of the device failed, or the header in force couldn't be read.
-    #[error("{0}")]
-    Header(HeaderFault),
-    /// 9: no generation is greater than that of the header in force.
-    #[error("numbers full")]
-    NumbersFull,
-}
-
-impl From<HeaderFault> for ChangeFault {
-    ghost from_gives = { λ fault given. given ≡ ChangeFault.Header fault };
-
-    fn from(fault: HeaderFault) -> ChangeFault {
-        ChangeFault::Header(fault)
-    }
-}
-
-impl From<DeviceFault> for ChangeFault {
-    ghost from_gives = { λ _ fault. fault ≡ ChangeFault.Header HeaderFault.DeviceFault };
-
-    fn from(_fault: DeviceFault) -> ChangeFault {
-        ChangeFault::Header(HeaderFault::DeviceFault)
     }
 }

@@ -32,43 +32,62 @@ fn put(rt: &impl Abort, disk: &mut SimDisk, header: &Header) -> Result<(), Devic
     open_gate(disk, Side::Zero)
 }
 
+// Puts the next header in the place of the one in this slot, and answers which is in force then.
+fn replaced(
+    rt: &impl Abort,
+    disk: &mut SimDisk,
+    slot: Side,
+    header: &Header,
+) -> Result<(Header, Side), HeaderFault> {
+    assert!(rt; disk.size() == 4_276_224);
+    change_header(disk, slot, header)?;
+    read_current(disk)
+}
+
+// A header of a device of 16 blocks.
+fn header(geometry: Geometry, generation: u64, areas: Areas, side: Side, base: u64) -> Header {
+    Header {
+        generation,
+        geometry,
+        areas,
+        first_area: side,
+        map_slot: side,
+        base,
+    }
+}
+
 #[test]
 fn headers_of_three_generations(rt: HostRuntime) -> Result<(), Fail> {
+    let geometry = Geometry::new(16, 2_097_152).expect(&rt, "sizes within their limits");
     let mut disk = SimDisk::new(rt.alloc(), 4_276_224)?;
     assert_eq!(rt; read_current(&mut disk), Err(HeaderFault::NoHeader));
-    let geometry = Geometry::new(16, 2_097_152).expect(&rt, "sizes within their limits");
-    let fresh = Header {
-        generation: 1,
-        geometry,
-        areas: Areas::One,
-        first_area: Side::Zero,
-        map_slot: Side::Zero,
-        base: 0,
-    };
+    let fresh = header(geometry, 1, Areas::One, Side::Zero, 0);
     assert_eq!(rt; put(&rt, &mut disk, &fresh), Ok(()));
     assert_eq!(rt; slot_zero(&rt, &mut disk), Ok(FRESH));
     assert_eq!(rt; read_current(&mut disk), Ok((fresh, Side::Zero)));
-    let mut change = HeaderChange {
+    let second = header(geometry, 2, Areas::Two, Side::Zero, 0);
+    let in_force = replaced(&rt, &mut disk, Side::Zero, &second);
+    assert_eq!(rt; in_force, Ok((second, Side::One)));
+    assert_eq!(rt; slot_zero(&rt, &mut disk), Ok(FRESH));
+    let third = header(geometry, 3, Areas::One, Side::One, 1);
+    let in_force = replaced(&rt, &mut disk, Side::One, &third);
+    assert_eq!(rt; in_force, Ok((third, Side::Zero)));
+    assert_eq!(rt; slot_zero(&rt, &mut disk), Ok(THIRD));
+    Ok(())
+}
+
+#[test]
+fn next_header_is_one_generation_on(rt: HostRuntime) {
+    let geometry = Geometry::new(16, 2_097_152).expect(&rt, "sizes within their limits");
+    let change = HeaderChange {
         areas: Areas::Two,
         first_area: Side::Zero,
         map_slot: Side::Zero,
         base: 0,
     };
-    let second = Header {
-        generation: 2,
-        areas: Areas::Two,
-        ..fresh
-    };
-    assert_eq!(rt; change_header(&mut disk, &change), Ok((second, Side::One)));
-    assert_eq!(rt; slot_zero(&rt, &mut disk), Ok(FRESH));
-    assert_eq!(rt; read_current(&mut disk), Ok((second, Side::One)));
-    change = HeaderChange {
-        areas: Areas::One,
-        first_area: Side::One,
-        map_slot: Side::One,
-        base: 1,
-    };
-    assert!(rt; change_header(&mut disk, &change).is_ok());
-    assert_eq!(rt; slot_zero(&rt, &mut disk), Ok(THIRD));
-    Ok(())
+    let fresh = header(geometry, 1, Areas::One, Side::Zero, 0);
+    let second = header(geometry, 2, Areas::Two, Side::Zero, 0);
+    assert_eq!(rt; fresh.next(&change), Some(second));
+    let last = header(geometry, u64::MAX, Areas::One, Side::Zero, 0);
+    assert_eq!(rt; last.next(&change), None);
 }

@@ -1,115 +1,83 @@
-use Rattle.std.proofs.Common.{ℕ, ◌≡◌, ◌∙◌, Ok, Err, refl, sym, ap, subst, arith}
+use Rattle.std.proofs.Common.{◌+◌, [], ◌∷◌, ◌∙◌, subst, arith}
+use Rattle.std.specs.Prelude.{OnOk}
+use Rattle.std.proofs.lemmas.Result.{on_ok_weaker}
+use Rattle.disk_model.specs.Disk.{State, IsSound, IsStored, IsSyncedIn, LeavesOnly, MayLeaveTorn}
 use Rattle.disk_model.proofs.Moments.{weakens, goes_on}
-use Rattle.image_model.specs.Side.{other_of}
 use Rattle.image_model.specs.declared.side.Side.{Side}
-use Rattle.header_slots.specs.declared.change.HeaderChange.{HeaderChange}
-use Rattle.header_slots.specs.declared.header.Header.{Header}
-use Rattle.header_slots.specs.Slots.{HoldsHeader}
-use Rattle.header_slots.specs.Change.{renewed, ComesNext, IsInPlace, LeavesEither}
-use Rattle.header_slots.proofs.Changed.{twice_other}
-use Rattle.header_slots.proofs.Renewed.{synced_still, read_back, in_place_back, either_change, left_change, refused}
+use Rattle.header_slots.specs.Slots.{slot_at}
+use Rattle.header_slots.specs.Change.{IsBodyStored, IsGateClosed, LeavesClosing}
+use Rattle.header_slots.proofs.Changed.{closing_either, writing_either, opening_either, opened_in_place, slot_within}
 use Rattle.header_slots.proofs.change.change_header.Goals as goal
 
-comes_next : (current header : Header) (change : HeaderChange) → header ≡ renewed current change → ComesNext current header
-comes_next current header change is = subst (λ (h : Header). ComesNext current h) (sym is) (record { generation = refl; geometry = refl })
+-- nothing in the slots is unsynced, so a gate isn't
+gate_synced : (state : State) (slot : Side) → IsSyncedIn state 0 8192 → IsSyncedIn state (slot_at slot) 1
+gate_synced state slot synced = λ place within. synced place (omega arith, omega (arith, within, slot_within slot))
 
-pub returns-in_err-current-clause-answer : goal.returns-in_err-current-clause-answer
-returns-in_err-current-clause-answer g c honest synced =
+pub returns-in_err-close_other-clause-any_moment : goal.returns-in_err-close_other-clause-any_moment
+returns-in_err-close_other-clause-any_moment g c honest synced current holds next =
     let old = g.D.Disk.state c.args.disk.now in
-    let mid = g.D.Disk.state c.read_current.new.disk in
+    let closing = subst (λ (side : Side). LeavesOnly old (g.D.Disk.state c.close_other.new.disk) (LeavesClosing old side)) c.other-other.ensures
+    (c.close_other.ensures.any_moment honest (gate_synced old c.other-other.result synced)) in
+    weakens closing (closing_either c.args.slot old (g.met.D.Disk.sound c.args.disk.now honest) synced _ current c.args.header.now holds next)
+
+pub returns-in_err-write_body-clause-any_moment : goal.returns-in_err-write_body-clause-any_moment
+returns-in_err-write_body-clause-any_moment g c honest synced current holds next =
+    let old = g.D.Disk.state c.args.disk.now in
+    let mid = g.D.Disk.state c.close_other.new.disk in
+    let first = c.in_ok-close_other.ensures in
     let sound = g.met.D.Disk.sound c.args.disk.now honest in
-    refused old.seen _ c.args.change.now c.in_err-current.field-0.0 _ c.from_residual.ensures.1
-    (read_back old mid sound synced (c.in_err-current.ensures.kept honest) _ (Err c.in_err-current.field-0.0) (c.in_err-current.ensures.reading honest))
-
-pub returns-in_err-current-clause-any_moment : goal.returns-in_err-current-clause-any_moment
-returns-in_err-current-clause-any_moment g c honest synced =
-    let old = g.D.Disk.state c.args.disk.now in
-    weakens (c.in_err-current.ensures.any_moment honest) (left_change old (g.met.D.Disk.sound c.args.disk.now honest) synced _ c.args.change.now)
-
-pub returns-in_default-clause-answer : goal.returns-in_default-clause-answer
-returns-in_default-clause-answer g c honest synced =
-    let old = g.D.Disk.state c.args.disk.now in
-    let mid = g.D.Disk.state c.read_current.new.disk in
-    let first = c.in_ok-current.ensures in
-    let full = c.in_default.ensures in
-    record {
-      current = c.in_ok-current.current;
-      slot = c.in_ok-current.slot;
-      held = read_back old mid (g.met.D.Disk.sound c.args.disk.now honest) synced (first.kept honest) _ (Ok (c.in_ok-current.current, c.in_ok-current.slot)) (first.reading honest);
-      last = omega (arith, full);
-    }
-
-pub returns-in_default-clause-any_moment : goal.returns-in_default-clause-any_moment
-returns-in_default-clause-any_moment g c honest synced =
-    let old = g.D.Disk.state c.args.disk.now in
-    weakens (c.in_ok-current.ensures.any_moment honest) (left_change old (g.met.D.Disk.sound c.args.disk.now honest) synced _ c.args.change.now)
-
-pub returns-in_err-put_in_force-clause-any_moment : goal.returns-in_err-put_in_force-clause-any_moment
-returns-in_err-put_in_force-clause-any_moment g c honest synced =
-    let old = g.D.Disk.state c.args.disk.now in
-    let mid = g.D.Disk.state c.read_current.new.disk in
-    let first = c.in_ok-current.ensures in
-    let current = c.in_ok-current.current in
-    let slot = c.in_ok-current.slot in
-    let kept = first.kept honest in
-    let sound = g.met.D.Disk.sound c.args.disk.now honest in
-    let held = first.reading honest in
-    let back : HoldsHeader old.seen (g.D.Disk.extent c.args.disk.now) current slot = read_back old mid sound synced kept _ (Ok (current, slot)) held in
-    let here = subst (λ (size : ℕ). HoldsHeader mid.seen size current slot) (sym first.extent) held in
-    let next = comes_next current c.next_header-header.result c.args.change.now c.next_header-header.ensures in
-    let call = c.put_in_force.ensures.any_moment (first.honest.1 honest) (synced_still old mid sound synced kept) current here next in
-    goes_on (weakens (first.any_moment honest) (left_change old sound synced _ c.args.change.now)) call
-    (λ content left. either_change old mid sound synced kept _ c.args.change.now current slot back c.next_header-header.result c.next_header-header.ensures content
-    (subst (λ (size : ℕ). LeavesEither mid size current slot c.next_header-header.result content) first.extent left))
-
-pub returns-clause-answer : goal.returns-clause-answer
-returns-clause-answer g c honest synced =
-    let old = g.D.Disk.state c.args.disk.now in
-    let mid = g.D.Disk.state c.read_current.new.disk in
-    let first = c.in_ok-current.ensures in
-    let current = c.in_ok-current.current in
-    let slot = c.in_ok-current.slot in
-    let held : HoldsHeader old.seen (g.D.Disk.extent c.args.disk.now) current slot =
-    read_back old mid (g.met.D.Disk.sound c.args.disk.now honest) synced (first.kept honest) _ (Ok (current, slot)) (first.reading honest) in
-    let greater = c.in-Some.ensures in
-    record {
-      current = current;
-      held = subst (λ (side : Side). HoldsHeader old.seen (g.D.Disk.extent c.args.disk.now) current side) (sym (ap other_of c.other.ensures ∙ twice_other slot)) held;
-      less = omega (arith, greater);
-      is = c.next_header-header.ensures;
-    }
+    let mid_honest = first.honest.1 honest in
+    let mid_sound = subst (λ e. IsSound e mid) first.extent (g.met.D.Disk.sound c.close_other.new.disk mid_honest) in
+    let gate = gate_synced old c.other-other.result synced in
+    let closing = subst (λ (side : Side). LeavesOnly old mid (LeavesClosing old side)) c.other-other.ensures (first.any_moment honest gate) in
+    let closed = subst (λ (side : Side). IsGateClosed old side mid) c.other-other.ensures (first.closed honest gate) in
+    let writing = subst (λ (side : Side). LeavesOnly mid (g.D.Disk.state c.write_body.new.disk) (MayLeaveTorn mid (slot_at side + 1) 39)) c.other-other.ensures
+    (c.write_body.ensures.any_moment mid_honest) in
+    goes_on (weakens closing (closing_either c.args.slot old sound synced _ current c.args.header.now holds next))
+    writing (writing_either c.args.slot old sound synced _ current c.args.header.now holds next mid mid_sound closed)
 
 pub returns-clause-in_place : goal.returns-clause-in_place
-returns-clause-in_place g c honest synced =
+returns-clause-in_place g c honest synced current holds next =
     let old = g.D.Disk.state c.args.disk.now in
-    let mid = g.D.Disk.state c.read_current.new.disk in
-    let after = g.D.Disk.state c.put_in_force.new.disk in
-    let first = c.in_ok-current.ensures in
-    let current = c.in_ok-current.current in
-    let slot = c.in_ok-current.slot in
-    let kept = first.kept honest in
+    let mid = g.D.Disk.state c.close_other.new.disk in
+    let after = g.D.Disk.state c.write_body.new.disk in
+    let last = g.D.Disk.state c.open_other.new.disk in
+    let first = c.in_ok-close_other.ensures in
+    let second = c.in_ok-write_body.ensures in
+    let third = c.open_other.ensures in
     let sound = g.met.D.Disk.sound c.args.disk.now honest in
-    let here = subst (λ (size : ℕ). HoldsHeader mid.seen size current slot) (sym first.extent) (first.reading honest) in
-    let next = comes_next current c.next_header-header.result c.args.change.now c.next_header-header.ensures in
-    let placed = c.in_ok-put_in_force.ensures.in_place (first.honest.1 honest) (synced_still old mid sound synced kept) current here next in
-    let there = subst (λ (side : Side). IsInPlace mid (g.D.Disk.extent c.read_current.new.disk) c.next_header-header.result side after) (sym c.other.ensures) placed in
-    in_place_back old mid sound synced kept _ c.next_header-header.result c.other.result after
-    (subst (λ (size : ℕ). IsInPlace mid size c.next_header-header.result c.other.result after) first.extent there)
+    let mid_honest = first.honest.1 honest in
+    let after_honest = second.honest.1 mid_honest in
+    let mid_sound = subst (λ e. IsSound e mid) first.extent (g.met.D.Disk.sound c.close_other.new.disk mid_honest) in
+    let after_sound = subst (λ e. IsSound e after) (second.extent ∙ first.extent) (g.met.D.Disk.sound c.write_body.new.disk after_honest) in
+    let last_sound = subst (λ e. IsSound e last) (third.extent ∙ second.extent ∙ first.extent) (g.met.D.Disk.sound c.open_other.new.disk (third.honest.1 after_honest)) in
+    let gate = gate_synced old c.other-other.result synced in
+    let closed = subst (λ (side : Side). IsGateClosed old side mid) c.other-other.ensures (first.closed honest gate) in
+    let body = subst (λ (side : Side). IsBodyStored mid side c.args.header.now after) c.other-other.ensures (second.stored mid_honest) in
+    let opened = subst (λ (side : Side). OnOk c.open_other.result (IsStored after (slot_at side) (1 ∷ []) last)) c.other-other.ensures (third.stored after_honest) in
+    on_ok_weaker c.open_other.result
+    (opened_in_place c.args.slot old sound synced _ current c.args.header.now holds next mid after mid_sound after_sound closed body last last_sound) opened
 
 pub returns-clause-any_moment : goal.returns-clause-any_moment
-returns-clause-any_moment g c honest synced =
+returns-clause-any_moment g c honest synced current holds next =
     let old = g.D.Disk.state c.args.disk.now in
-    let mid = g.D.Disk.state c.read_current.new.disk in
-    let first = c.in_ok-current.ensures in
-    let current = c.in_ok-current.current in
-    let slot = c.in_ok-current.slot in
-    let kept = first.kept honest in
+    let mid = g.D.Disk.state c.close_other.new.disk in
+    let after = g.D.Disk.state c.write_body.new.disk in
+    let last = g.D.Disk.state c.open_other.new.disk in
+    let first = c.in_ok-close_other.ensures in
+    let second = c.in_ok-write_body.ensures in
     let sound = g.met.D.Disk.sound c.args.disk.now honest in
-    let held = first.reading honest in
-    let back : HoldsHeader old.seen (g.D.Disk.extent c.args.disk.now) current slot = read_back old mid sound synced kept _ (Ok (current, slot)) held in
-    let here = subst (λ (size : ℕ). HoldsHeader mid.seen size current slot) (sym first.extent) held in
-    let next = comes_next current c.next_header-header.result c.args.change.now c.next_header-header.ensures in
-    let call = c.put_in_force.ensures.any_moment (first.honest.1 honest) (synced_still old mid sound synced kept) current here next in
-    goes_on (weakens (first.any_moment honest) (left_change old sound synced _ c.args.change.now)) call
-    (λ content left. either_change old mid sound synced kept _ c.args.change.now current slot back c.next_header-header.result c.next_header-header.ensures content
-    (subst (λ (size : ℕ). LeavesEither mid size current slot c.next_header-header.result content) first.extent left))
+    let mid_honest = first.honest.1 honest in
+    let after_honest = second.honest.1 mid_honest in
+    let mid_sound = subst (λ e. IsSound e mid) first.extent (g.met.D.Disk.sound c.close_other.new.disk mid_honest) in
+    let after_sound = subst (λ e. IsSound e after) (second.extent ∙ first.extent) (g.met.D.Disk.sound c.write_body.new.disk after_honest) in
+    let gate = gate_synced old c.other-other.result synced in
+    let closing = subst (λ (side : Side). LeavesOnly old mid (LeavesClosing old side)) c.other-other.ensures (first.any_moment honest gate) in
+    let closed = subst (λ (side : Side). IsGateClosed old side mid) c.other-other.ensures (first.closed honest gate) in
+    let body = subst (λ (side : Side). IsBodyStored mid side c.args.header.now after) c.other-other.ensures (second.stored mid_honest) in
+    let writing = subst (λ (side : Side). LeavesOnly mid after (MayLeaveTorn mid (slot_at side + 1) 39)) c.other-other.ensures (second.any_moment mid_honest) in
+    let opening = subst (λ (side : Side). LeavesOnly after last (MayLeaveTorn after (slot_at side) 1)) c.other-other.ensures (c.open_other.ensures.any_moment after_honest) in
+    goes_on
+    (goes_on (weakens closing (closing_either c.args.slot old sound synced _ current c.args.header.now holds next))
+    writing (writing_either c.args.slot old sound synced _ current c.args.header.now holds next mid mid_sound closed))
+    opening (opening_either c.args.slot old sound synced _ current c.args.header.now holds next mid after mid_sound after_sound closed body)
