@@ -1,8 +1,10 @@
 -- What a keeper keeps while a group is added, and then.
-use Rattle.std.proofs.Common.{◌≡◌, inl, inr, ℕ, ◌+◌, ◌%◌, ◌<◌, ◌≤◌, ◌⊎◌, ⊎_elim, List, [], ◌∷◌, ◌++◌, length, slice_index, refl, sym, ◌∙◌, subst, arith}
+use Rattle.std.proofs.Common.{◌≡◌, inl, inr, ℕ, ◌+◌, ◌%◌, ◌<◌, ◌≤◌, ◌⊎◌, ⊎_elim, Option, Some, None, List, [], ◌∷◌, ◌++◌, length, slice_index, refl, sym, ◌∙◌, ap, subst, arith}
 use Rattle.std.proofs.lemmas.Bool.{cases_eq, cases_lt}
-use Rattle.disk_model.specs.Disk.{State, InRange, IsSound, MayLeaveTorn}
+use Rattle.disk_model.specs.Disk.{State, InRange, IsAllSynced, IsSound, MayLeaveTorn}
 use Rattle.header_slots.specs.Header.{mode_of}
+use Rattle.header_slots.specs.declared.header.Areas.{Areas}
+use Rattle.image_model.specs.Side.{other_of}
 use Rattle.image_model.specs.Image.{Image, apply_all}
 use Rattle.checkpoint.specs.declared.fault.KeeperFault.TheVariants.{OutOfOrder}
 use Rattle.journal.specs.declared.fault.JournalFault.{JournalFault}
@@ -11,18 +13,32 @@ use Rattle.journal.specs.Area.{AreaState}
 use Rattle.journal.specs.GroupList.{IsListStored, LeavesEither, size_of}
 use Rattle.journal.specs.Spelling.{StoredGroup}
 use Rattle.journal.proofs.Spelled.{sizes-push}
-use Rattle.regions.specs.Layout.{behind}
+use Rattle.regions.specs.Layout.{area_at, behind}
 use Rattle.checkpoint.specs.Faults.{of_journal}
-use Rattle.device_image.specs.Keeper.{KeeperState, Phase, count_puts}
-use Rattle.device_image.specs.Keeps.{AreHeld, IsCopyPlace, IsPhase, Keeps, touched_first}
+use Rattle.device_image.specs.Keeper.{KeeperState, PlanState, earlier_of, phase_of}
+use Rattle.device_image.specs.Keeps.{AreHeld, IsCopyPlace, IsInPhase, Keeps}
 use Rattle.device_image.specs.Stands.{StandsFor, next_number}
-use Rattle.device_image.proofs.Frame.{fronts_of, held_kept, last_of, moved_list, others_in_use}
+use Rattle.device_image.proofs.Copied.{phase_on}
+use Rattle.device_image.proofs.Frame.{apart, area_high, fronts_of, held_kept, last_of, moved_list, others_in_use}
 use Rattle.device_image.proofs.Kept.{first, in_area, stands_more, stands_same}
 
 module _ {D : Type 0} (keeper : KeeperState D) (state : State) (image : Image) (number : ℕ) (keeps : Keeps keeper state image number) where
   torn_same : (content : List ℕ) → MayLeaveTorn state keeper.memory.area.from keeper.memory.area.bytes content → (place : ℕ)
       → (InRange (last_of keeps.stands).from (last_of keeps.stands).bytes place → ⊥) → (IsCopyPlace keeps.stands.header keeps.areas.front place → ⊥) → slice_index content place ≡ slice_index state.seen place
   torn_same content others place outside none = others.same place (λ unsynced. none (keeps.unsynced place unsynced)) (λ within. outside (in_area keeper state image number keeps place within))
+
+  -- the phase stays where all but the last area stays
+  phase_more : (after : State) → ((place : ℕ) → (InRange keeper.memory.area.from keeper.memory.area.bytes place → ⊥) → slice_index after.seen place ≡ slice_index state.seen place) → IsAllSynced after
+      → (plan : Option PlanState) → IsInPhase plan state keeps.stands.header keeps.stands.states keeps.areas.front → IsInPhase plan after keeps.stands.header keeps.stands.states keeps.areas.front
+  phase_more after same synced None phased = phased
+  phase_more after same synced (Some plan) phased =
+      let header = keeps.stands.header in
+      let in_other : (place : ℕ) → InRange keeper.memory.area.from keeper.memory.area.bytes place → InRange (area_at header.geometry (other_of header.first_area)) header.geometry.area place =
+      λ place within. subst (λ (areas : Areas). InRange (area_at header.geometry (behind (mode_of areas) header.first_area)) header.geometry.area place) phased.areas (in_area keeper state image number keeps place within) in
+      phase_on keeper state image number keeps after
+      (λ place here. same place (λ within. apart header.geometry header.first_area place here (in_other place within)))
+      (λ place above. same place (λ within. let there = in_other place within in omega (arith, above, there.1, area_high header.geometry (other_of header.first_area))))
+      (λ all. synced) (Some plan) phased
 
   module _ (group : StoredGroup) where
     -- a crash while the group is added leaves the image without or with its commands
@@ -38,10 +54,10 @@ module _ {D : Type 0} (keeper : KeeperState D) (state : State) (image : Image) (
     pub keeps_more : {extent : ℕ} (after : State) (now : KeeperState D) (count : ℕ) → IsSound extent after → count ≡ number + length group.changes
         → IsListStored now.memory.area (first keeper state image number keeps) (keeps.areas.groups ++ group ∷ []) state after
         → now.memory.area.from ≡ keeper.memory.area.from → now.memory.area.bytes ≡ keeper.memory.area.bytes → now.memory.area.blocks ≡ keeper.memory.area.blocks
-        → now.geometry ≡ keeper.geometry → now.generation ≡ keeper.generation → now.base ≡ keeper.base → now.phase ≡ keeper.phase → now.memory.map ≡ keeper.memory.map → now.memory.earlier ≡ keeper.memory.earlier
+        → now.geometry ≡ keeper.geometry → now.generation ≡ keeper.generation → now.base ≡ keeper.base → now.phase ≡ keeper.phase → now.memory.header ≡ keeper.memory.header → now.memory.slot ≡ keeper.memory.slot → now.memory.map ≡ keeper.memory.map → now.memory.plan ≡ keeper.memory.plan
         → now.count ≡ count → now.used ≡ keeper.used + size_of group → now.failed ≡ keeper.failed
         → Keeps now after (apply_all group.changes image) count
-    keeps_more after now count sound count_is stored from bytes blocks geometry generation base phase map earlier counted used failed =
+    keeps_more after now count sound count_is stored from bytes blocks geometry generation base phase header slot map plan counted used failed =
         let placed = keeps.areas.placed in
         let others : MayLeaveTorn state keeper.memory.area.from keeper.memory.area.bytes after.seen = record {
           size = stored.others.size;
@@ -56,22 +72,28 @@ module _ {D : Type 0} (keeper : KeeperState D) (state : State) (image : Image) (
           sizes = geometry ∙ keeps.sizes;
           generation = generation ∙ keeps.generation;
           from_base = base ∙ keeps.from_base;
+          headed = header ∙ keeps.headed;
+          slotted = slot ∙ keeps.slotted;
           counted = counted;
           mapped = map ∙ keeps.mapped;
           areas = record {
             front = keeps.areas.front;
             groups = keeps.areas.groups ++ group ∷ [];
             are = refl;
-            earlier_held = subst (λ (areas : List AreaState). AreHeld (fronts_of keeps.stands) keeps.stands.header.geometry (next_number keeps.stands.header.base) keeps.areas.front areas after) (sym earlier)
+            earlier_held = subst (λ (areas : List AreaState). AreHeld (fronts_of keeps.stands) keeps.stands.header.geometry (next_number keeps.stands.header.base) keeps.areas.front areas after) (ap earlier_of (sym plan))
                 (held_kept (fronts_of keeps.stands) (behind (mode_of keeps.stands.header.areas) keeps.stands.header.first_area) keeps.stands.header.geometry (next_number keeps.stands.header.base) keeps.areas.front
-                keeper.memory.earlier state after (others_in_use keeps.stands.header.areas keeps.stands.header.first_area)
+                (earlier_of keeper.memory.plan) state after (others_in_use keeps.stands.header.areas keeps.stands.header.first_area)
                 (λ place below outside. torn_same after.seen others place outside (λ copy. omega (arith, below, copy.inside.0)))
                 (λ place below unsynced. stored.synced place unsynced) keeps.areas.earlier_held);
             placed = record { from = from ∙ placed.from; bytes = bytes ∙ placed.bytes; blocks = blocks ∙ placed.blocks };
             held = stored.held;
           };
           taken = omega (arith, used, keeps.taken, sizes-push keeps.areas.groups group);
-          phased = subst (λ (p : Phase). IsPhase p keeps.stands.header.areas (count_puts keeps.stands.header.geometry.blocks (touched_first keeps.stands.header keeps.areas.front))) (sym phase) keeps.phased;
+          phase = phase ∙ keeps.phase ∙ ap phase_of (sym plan);
+          phased = subst (λ (p : Option PlanState). IsInPhase p after keeps.stands.header keeps.stands.states keeps.areas.front) (sym plan)
+              (phase_more after
+              (λ place outside. stored.same place (λ within. outside (omega (arith, within.0, from), omega (arith, within.1, from, bytes))) (keeps.steady place))
+              stored.synced keeper.memory.plan keeps.phased);
           unsynced = λ place unsynced. absurd (stored.synced place unsynced);
         }
 

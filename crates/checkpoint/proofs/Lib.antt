@@ -1,7 +1,12 @@
 pub mod Added
 pub mod Areas
+pub mod Beginning
+pub mod Copying
 pub mod Formatted
 pub mod Located
+pub mod MapStored
+pub mod Mapping
 pub mod Opened
 pub mod Readings
 pub mod Refused
+pub mod Rotating

@@ -22,10 +22,11 @@ use Rattle.journal.specs.declared.touch.TouchedRange.{TouchedRange}
 use Rattle.journal.proofs.LastTouches.{groups_kind, groups_byte}
 use Rattle.regions.specs.Layout.{behind, block_at, map_at}
 use Rattle.regions.specs.Map.{HoldsMap}
-use Rattle.device_image.specs.Keeper.{KeeperState}
+use Rattle.device_image.specs.Keeper.{KeeperState, earlier_of}
 use Rattle.device_image.specs.Keeps.{AreHeld, Keeps}
 use Rattle.device_image.specs.Stands.{StandsFor, HoldLists, all_changes, in_use, is_data, next_number, stored_image}
 use Rattle.checkpoint.specs.Stored.{byte_of, found, kind_of, last_touch_in, stored_touch, touch_of}
+use Rattle.device_image.proofs.Copied.{phase_on}
 use Rattle.device_image.proofs.Kept.{low_synced}
 use Rattle.device_image.proofs.Frame.{all_changes-append, apply_all-append, area_high, held_kept, one_kept, others_in_use}
 use Rattle.checkpoint.proofs.Readings.{seen_steady}
@@ -125,7 +126,7 @@ module _ {D : Type 0} (keeper : KeeperState D) (state : State) (image : Image) (
   last = last_touch block (touched_by_groups keeper.memory.area.from keeps.areas.groups)
 
   before : Option Touch
-  before = last_touch_in block keeper.memory.earlier
+  before = last_touch_in block (earlier_of keeper.memory.plan)
 
   at_base : Touch
   at_base = touch_of (state_at keeps.stands.states block) (block_at keeps.stands.header.geometry block)
@@ -143,7 +144,7 @@ module _ {D : Type 0} (keeper : KeeperState D) (state : State) (image : Image) (
       let touched = sym keeps.areas.held.touched in
       let states = sym keeps.mapped in
       let sizes = sym keeps.sizes in
-      λ i. found (last_touch block (touched i)) (found (last_touch_in block keeper.memory.earlier) (touch_of (state_at (states i) block) (block_at (sizes i) block)))
+      λ i. found (last_touch block (touched i)) (found (last_touch_in block (earlier_of keeper.memory.plan)) (touch_of (state_at (states i) block) (block_at (sizes i) block)))
 
   pub located_kind : image.kind block ≡ kind_of (stored_touch keeper block)
   unfolding base last before at_base
@@ -152,7 +153,7 @@ module _ {D : Type 0} (keeper : KeeperState D) (state : State) (image : Image) (
       ap (λ (i : Image). i.kind block) shown
       ∙ groups_kind keeper.memory.area.blocks state.seen keeper.memory.area.from _ keeps.areas.groups keeps.areas.held.list.stand (apply_all (all_changes keeps.areas.front) base) block
       ∙ ap (kind_after last)
-      (front_kind _ stands.header.geometry _ keeps.areas.front keeper.memory.earlier state keeps.areas.earlier_held base block
+      (front_kind _ stands.header.geometry _ keeps.areas.front (earlier_of keeper.memory.plan) state keeps.areas.earlier_held base block
       ∙ ap (kind_after before) (kind_touch (state_at stands.states block) (block_at stands.header.geometry block)) ∙ kind_found before at_base)
       ∙ kind_found last (found before at_base) ∙ ap kind_of remembered
 
@@ -163,7 +164,7 @@ module _ {D : Type 0} (keeper : KeeperState D) (state : State) (image : Image) (
       ap (λ (i : Image). i.byte (4096 * block + offset)) shown
       ∙ groups_byte keeper.memory.area.blocks state.seen keeper.memory.area.from _ keeps.areas.groups keeps.areas.held.list.stand (apply_all (all_changes keeps.areas.front) base) block offset small
       ∙ ap (byte_after_touch last state.seen offset)
-      (front_byte _ stands.header.geometry _ keeps.areas.front keeper.memory.earlier state keeps.areas.earlier_held base block offset small
+      (front_byte _ stands.header.geometry _ keeps.areas.front (earlier_of keeper.memory.plan) state keeps.areas.earlier_held base block offset small
       ∙ ap (byte_after_touch before state.seen offset) (base_byte state.seen stands.header.geometry stands.states block offset small) ∙ byte_found before at_base state.seen offset)
       ∙ byte_found last (found before at_base) state.seen offset ∙ ap (λ (touch : Touch). byte_of touch state.seen offset) remembered
 
@@ -195,13 +196,15 @@ keeps_reading keeper disk state after image number read keeps =
       sizes = keeps.sizes;
       generation = keeps.generation;
       from_base = keeps.from_base;
+      headed = keeps.headed;
+      slotted = keeps.slotted;
       counted = keeps.counted;
       mapped = keeps.mapped;
       areas = record {
         front = keeps.areas.front;
         groups = keeps.areas.groups;
         are = keeps.areas.are;
-        earlier_held = held_kept _ last header.geometry _ keeps.areas.front keeper.memory.earlier state after (others_in_use header.areas header.first_area)
+        earlier_held = held_kept _ last header.geometry _ keeps.areas.front (earlier_of keeper.memory.plan) state after (others_in_use header.areas header.first_area)
             (λ place below outside. read.kept.seen.same place (keeps.steady place))
             (λ place below unsynced. low_synced keeper state image number keeps place below (read.kept.unsynced place unsynced)) keeps.areas.earlier_held;
         placed = keeps.areas.placed;
@@ -210,6 +213,8 @@ keeps_reading keeper disk state after image number read keeps =
             (λ place within unsynced. low_synced keeper state image number keeps place (omega (arith, area_high header.geometry last, within.1)) (read.kept.unsynced place unsynced)) keeps.areas.held;
       };
       taken = keeps.taken;
-      phased = keeps.phased;
+      phase = keeps.phase;
+      phased = phase_on keeper state image number keeps after (λ place here. read.kept.seen.same place (keeps.steady place)) (λ place above. read.kept.seen.same place (keeps.steady place))
+          (λ synced place unsynced. synced place (read.kept.unsynced place unsynced)) keeper.memory.plan keeps.phased;
       unsynced = λ place unsynced. keeps.unsynced place (read.kept.unsynced place unsynced);
     }

@@ -1,5 +1,5 @@
 -- What is read of a good device, as what a keeper keeps.
-use Rattle.std.proofs.Common.{◌≡◌, ℕ, ◌+◌, ◌%◌, ◌<◌, List, [], ◌∷◌, ◌++◌, length, false, refl, sym, ◌∙◌, ap, subst, arith, length-append}
+use Rattle.std.proofs.Common.{◌≡◌, ℕ, ◌+◌, ◌%◌, ◌<◌, Option, Some, None, List, [], ◌∷◌, ◌++◌, length, false, refl, sym, ◌∙◌, ap, subst, arith, length-append}
 use Rattle.std.proofs.lemmas.List.{append-nil}
 use Rattle.disk_model.specs.Disk.{State, IsAllSynced, IsSound, MayLeave}
 use Rattle.disk_model.proofs.Contents.{leaves_seen}
@@ -16,33 +16,17 @@ use Rattle.journal.specs.GroupList.{IsHeld, Stand, next_behind, number_behind, s
 use Rattle.journal.specs.Spelling.{StoredGroup}
 use Rattle.journal.specs.Touches.{touched_by_groups}
 use Rattle.regions.specs.Layout.{area_at, behind, ring}
-use Rattle.device_image.specs.Keeper.{KeeperState, Phase, count_puts, phase_of}
-use Rattle.device_image.specs.Keeps.{AreHeld, IsPhase, IsPlaced, Keeps, behind_lists, touched_first}
-use Rattle.checkpoint.specs.Opening.{IsOpened, IsPassing, IsRefused}
+use Rattle.device_image.specs.Keeper.{KeeperState, PlanState, count_puts, earlier_of, phase_of}
+use Rattle.device_image.specs.Keeps.{AreHeld, IsCopying, IsInPhase, IsMapWritten, IsPlaced, Keeps, behind_lists}
+use Rattle.checkpoint.specs.Opening.{IsFresh, IsOpened, IsPassing, IsRefused}
 use Rattle.device_image.specs.Stands.{StandsFor, HoldLists, all_changes, area_of, in_use, next_number, stored_image}
 use Rattle.checkpoint.specs.declared.fault.KeeperFault.{KeeperFault}
-use Rattle.checkpoint.specs.declared.fault.KeeperFault.TheVariants.{NoMemory, DeviceFault, BadMap, NoHeader, BadHeader, AreaFull, OutOfOrder, DamagedGroup, Failed}
+use Rattle.checkpoint.specs.declared.fault.KeeperFault.TheVariants.{NoMemory, DeviceFault, BadMap, NoHeader, BadHeader, NumbersFull, AreaFull, OutOfOrder, DamagedGroup, NotNow, Failed}
 use Rattle.device_image.proofs.Frame.{all_changes-append, held_lists, moved_list, ring-last, with_last}
 use Rattle.device_image.proofs.Sole.{one_image, one_number}
+use Rattle.device_image.proofs.Turned.{Follows, follows}
+use Rattle.copy_plan.proofs.Counts.{count_zero}
 use Rattle.checkpoint.proofs.Refused.{never_refused}
-
--- behind groups that follow the number `last` the next number is the one that follows the last of them
-pub record Follows (last next : ℕ) (groups : List StoredGroup) : Type 0 where
-  pub following : next_behind next groups ≡ next_number (last + length (changes_of groups))
-  pub fits : last + length (changes_of groups) < 18446744073709551616
-
-pub follows : (image : ℕ) (content : List ℕ) (place next last : ℕ) (groups : List StoredGroup) → last < 18446744073709551616 → next ≡ next_number last → Stand image content place next groups → Follows last next groups
-follows image content place next last [] fits is stand = record { following = omega (arith, is); fits = omega (arith, fits) }
-follows image content place next last (group ∷ groups) fits is stand =
-    let sound = stand.2 in
-    let all : length (changes_of (group ∷ groups)) ≡ length group.changes + length (changes_of groups) = length-append group.changes (changes_of groups) in
-    let rest = follows image content (place + size_of group) (number_behind group) (last + length group.changes) groups
-    (omega (arith, is, fits, sound.left, sound.numbers)) (omega (arith, is, fits, sound.left, sound.first, sound.numbers)) stand.3 in
-    let same : last + length group.changes + length (changes_of groups) ≡ last + length (changes_of (group ∷ groups)) = omega (arith, all) in
-    record {
-      following = rest.following ∙ ap next_number same;
-      fits = omega (arith, rest.fits, same);
-    }
 
 -- and the same behind lists of such groups
 pub record FollowsLists (last next : ℕ) (lists : List (List StoredGroup)) : Type 0 where
@@ -64,20 +48,34 @@ follows_lists (area ∷ areas) content geometry next last (groups ∷ lists) fit
       fits = omega (arith, rest.fits, same);
     }
 
--- what is remembered of the areas in front of the last tells the phase
-phase_sound : (areas : Areas) (header : Header) (next : ℕ) (front : List (List StoredGroup)) (earlier : List AreaState) (state : State) (blocks : ℕ)
-    → AreHeld (ring (mode_of areas) header.first_area) header.geometry next front earlier state → IsPhase (phase_of earlier blocks) areas (count_puts blocks (touched_first header front))
-phase_sound Areas.One header next [] [] state blocks held = refl
-phase_sound Areas.One header next [] (area ∷ earlier) state blocks held = absurd held
-phase_sound Areas.One header next (groups ∷ front) earlier state blocks held = absurd held
-phase_sound Areas.Two header next [] earlier state blocks held = absurd held
-phase_sound Areas.Two header next (groups ∷ front) [] state blocks held = absurd held
-phase_sound Areas.Two header next (groups ∷ front) (area ∷ earlier) state blocks held =
-    (refl, ap (count_puts blocks) (held.1.touched ∙ ap (λ (place : ℕ). touched_by_groups place groups) held.0.from))
+-- nothing was copied yet
+phase_sound : (header : Header) (plan : Option PlanState) (next : ℕ) (front : List (List StoredGroup)) (state : State) (states : List Kind)
+    → AreHeld (ring (mode_of header.areas) header.first_area) header.geometry next front (earlier_of plan) state → IsFresh header.areas plan → IsInPhase plan state header states front
+phase_sound header None next front state states held fresh = fresh
+phase_sound header (Some plan) next front state states held fresh =
+    copying front (subst (λ (areas : Areas). AreHeld (ring (mode_of areas) header.first_area) header.geometry next front (plan.first ∷ []) state) fresh.0 held)
+  where
+    copying : (front : List (List StoredGroup)) → AreHeld (header.first_area ∷ []) header.geometry next front (plan.first ∷ []) state → IsCopying plan state header states front
+    copying [] held = absurd held
+    copying (groups ∷ front) held =
+        let touched : plan.first.touched ≡ touched_by_groups (area_at header.geometry header.first_area) groups = held.1.touched ∙ ap (λ (place : ℕ). touched_by_groups place groups) held.0.from in
+        let puts : count_puts plan.first.blocks plan.first.touched ≡ count_puts header.geometry.blocks (touched_by_groups (area_at header.geometry header.first_area) groups) =
+        ap (λ (blocks : ℕ). count_puts blocks plan.first.touched) held.0.blocks ∙ ap (count_puts header.geometry.blocks) touched in
+        let none : plan.copied ≡ 0 = ap (λ (p : PlanState). p.copied) fresh.1 in
+        let left = ap (λ (p : PlanState). p.left) fresh.1 in
+        let zero : count_puts plan.copied (touched_by_groups (area_at header.geometry header.first_area) groups) ≡ 0 =
+        ap (λ (block : ℕ). count_puts block (touched_by_groups (area_at header.geometry header.first_area) groups)) none ∙ count_zero (touched_by_groups (area_at header.geometry header.first_area) groups) in
+        record {
+          areas = fresh.0;
+          within = omega (arith, none);
+          counted = omega (arith, left, puts, zero);
+          are_copied = λ block from below. absurd (omega (arith, none, below));
+          map_written = subst (λ (mapped : Option (List Kind)). IsMapWritten mapped state header states (groups ∷ front) plan.left) (sym (ap (λ (p : PlanState). p.mapped) fresh.1)) tt;
+        }
 
-module _ (state : State) (header : Header) (states : List Kind) (earlier : List AreaState) (area : AreaState) (opened : IsOpened state header states earlier area) (fits : header.base < 18446744073709551616) where
+module _ (state : State) (header : Header) (slot : Side) (states : List Kind) (plan : Option PlanState) (area : AreaState) (opened : IsOpened state header slot states plan area) (fits : header.base < 18446744073709551616) where
   pub held : HoldLists (ring (mode_of header.areas) header.first_area) state.seen header.geometry (next_number header.base) opened.areas.front
-  held = held_lists _ _ _ _ earlier state opened.areas.earlier_held
+  held = held_lists _ _ _ _ (earlier_of plan) state opened.areas.earlier_held
 
   -- the number in front of the area's next is that of the last command
   pub last_number : (count : ℕ) → count ≡ (area.next + 18446744073709551615) % 18446744073709551616 → count ≡ header.base + length (all_changes opened.lists)
@@ -95,7 +93,7 @@ module _ (state : State) (header : Header) (states : List Kind) (earlier : List 
   abbrev pub opened_stands : (count : ℕ) → count ≡ header.base + length (all_changes opened.lists) → StandsFor state.seen opened_image count
   opened_stands count is = record {
     header = header;
-    slot = opened.slot;
+    slot = slot;
     states = states;
     lists = opened.lists;
     in_force = opened.in_force;
@@ -109,28 +107,31 @@ module _ (state : State) (header : Header) (states : List Kind) (earlier : List 
   }
 
   pub opened_keeps : {D : Type 0} (keeper : KeeperState D) {extent : ℕ} → IsSound extent state → keeper.failed ≡ false → keeper.geometry ≡ header.geometry → keeper.generation ≡ header.generation → keeper.base ≡ header.base
-      → keeper.phase ≡ phase_of earlier header.geometry.blocks → keeper.memory.map ≡ states → keeper.memory.earlier ≡ earlier → keeper.memory.area ≡ area → keeper.used ≡ area.gate
+      → keeper.phase ≡ phase_of keeper.memory.plan → keeper.memory.header ≡ header → keeper.memory.slot ≡ slot → keeper.memory.map ≡ states → keeper.memory.plan ≡ plan → keeper.memory.area ≡ area → keeper.used ≡ area.gate
       → keeper.count ≡ (area.next + 18446744073709551615) % 18446744073709551616 → Keeps keeper state opened_image keeper.count
-  opened_keeps keeper sound works sizes generation base phase map front_is area_is used counted = record {
+  opened_keeps keeper sound works sizes generation base phase header_is slot_is map plan_is area_is used counted = record {
     works = works;
     steady = λ place loose. opened.synced place (sound.loose place loose);
     stands = opened_stands keeper.count (last_number keeper.count counted);
     sizes = sizes;
     generation = generation;
     from_base = base;
+    headed = header_is;
+    slotted = slot_is;
     counted = refl;
     mapped = map;
     areas = record {
       front = opened.areas.front;
       groups = opened.areas.groups;
       are = opened.areas.are;
-      earlier_held = subst (λ (list : List AreaState). AreHeld (ring (mode_of header.areas) header.first_area) header.geometry (next_number header.base) opened.areas.front list state) (sym front_is) opened.areas.earlier_held;
+      earlier_held = subst (λ (list : List AreaState). AreHeld (ring (mode_of header.areas) header.first_area) header.geometry (next_number header.base) opened.areas.front list state) (ap earlier_of (sym plan_is)) opened.areas.earlier_held;
       placed = subst (λ (a : AreaState). IsPlaced a header.geometry (behind (mode_of header.areas) header.first_area)) (sym area_is) opened.areas.placed;
       held = subst (λ (a : AreaState). IsHeld a (behind_lists (next_number header.base) opened.areas.front) opened.areas.groups state) (sym area_is) opened.areas.held;
     };
     taken = used ∙ opened.areas.held.gate;
-    phased = subst (λ (p : Phase). IsPhase p header.areas (count_puts header.geometry.blocks (touched_first header opened.areas.front))) (sym phase)
-        (phase_sound header.areas header (next_number header.base) opened.areas.front earlier state header.geometry.blocks opened.areas.earlier_held);
+    phase = phase;
+    phased = subst (λ (p : Option PlanState). IsInPhase p state header states opened.areas.front) (sym plan_is)
+        (phase_sound header plan (next_number header.base) opened.areas.front state states opened.areas.earlier_held opened.fresh);
     unsynced = λ place unsynced. absurd (opened.synced place unsynced);
   }
 
@@ -150,7 +151,9 @@ passes content image number DeviceFault refused stands = tt
 passes content image number BadMap refused stands = never_refused content image number stands BadMap refused (λ passing. passing)
 passes content image number NoHeader refused stands = never_refused content image number stands NoHeader refused (λ passing. passing)
 passes content image number BadHeader refused stands = never_refused content image number stands BadHeader refused (λ passing. passing)
+passes content image number NumbersFull refused stands = refused
 passes content image number AreaFull refused stands = refused
 passes content image number OutOfOrder refused stands = refused
 passes content image number DamagedGroup refused stands = never_refused content image number stands DamagedGroup refused (λ passing. passing)
+passes content image number NotNow refused stands = refused
 passes content image number Failed refused stands = refused

@@ -18,7 +18,7 @@ use Rattle.checkpoint.specs.Faults.{of_header, of_region}
 use Rattle.device_image.specs.Damage.{IsAreaDamaged}
 use Rattle.checkpoint.specs.Opening.{IsGroupsRefused, IsRefused}
 use Rattle.checkpoint.specs.declared.fault.KeeperFault.{KeeperFault}
-use Rattle.checkpoint.specs.declared.fault.KeeperFault.TheVariants.{NoMemory, DeviceFault, BadMap, NoHeader, BadHeader, AreaFull, OutOfOrder, DamagedGroup, Failed}
+use Rattle.checkpoint.specs.declared.fault.KeeperFault.TheVariants.{NoMemory, DeviceFault, BadMap, NoHeader, BadHeader, NumbersFull, AreaFull, OutOfOrder, DamagedGroup, NotNow, Failed}
 
 -- reads change nothing where no place is loose
 pub seen_steady : {before after : State} → IsSteady before → IsOnlyRead before after → before.seen ≡ after.seen
@@ -58,9 +58,11 @@ groups_refused content header slot states DeviceFault in_force map refused = tt
 groups_refused content header slot states BadMap in_force map refused = absurd refused
 groups_refused content header slot states NoHeader in_force map refused = absurd refused
 groups_refused content header slot states BadHeader in_force map refused = absurd refused
+groups_refused content header slot states NumbersFull in_force map refused = absurd refused
 groups_refused content header slot states AreaFull in_force map refused = absurd refused
 groups_refused content header slot states OutOfOrder in_force map refused = absurd refused
 groups_refused content header slot states DamagedGroup in_force map refused = record { header = header; slot = slot; states = states; in_force = in_force; map = map; damaged = refused }
+groups_refused content header slot states NotNow in_force map refused = absurd refused
 groups_refused content header slot states Failed in_force map refused = absurd refused
 
 -- what a refusal says of damage, weakened
@@ -70,9 +72,11 @@ damage_weaker DeviceFault implies refused = tt
 damage_weaker BadMap implies refused = refused
 damage_weaker NoHeader implies refused = refused
 damage_weaker BadHeader implies refused = refused
+damage_weaker NumbersFull implies refused = refused
 damage_weaker AreaFull implies refused = refused
 damage_weaker OutOfOrder implies refused = refused
 damage_weaker DamagedGroup implies refused = implies refused
+damage_weaker NotNow implies refused = refused
 damage_weaker Failed implies refused = refused
 
 -- header and map still stand once more is read

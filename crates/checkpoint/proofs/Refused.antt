@@ -6,7 +6,7 @@ use Rattle.header_slots.proofs.Sole.{held_or_none, held_or_bad}
 use Rattle.image_model.specs.Image.{Image}
 use Rattle.checkpoint.specs.Opening.{IsPassing, IsRefused}
 use Rattle.checkpoint.specs.declared.fault.KeeperFault.{KeeperFault}
-use Rattle.checkpoint.specs.declared.fault.KeeperFault.TheVariants.{NoMemory, DeviceFault, BadMap, NoHeader, BadHeader, AreaFull, OutOfOrder, DamagedGroup, Failed}
+use Rattle.checkpoint.specs.declared.fault.KeeperFault.TheVariants.{NoMemory, DeviceFault, BadMap, NoHeader, BadHeader, NumbersFull, AreaFull, OutOfOrder, DamagedGroup, NotNow, Failed}
 
 module _ (content : List ℕ) (image : Image) (number : ℕ) (stands : StandsFor content image number) where
   pub never_refused : (fault : KeeperFault) → IsRefused fault content → (IsPassing fault → ⊥) → ⊥
@@ -15,7 +15,9 @@ module _ (content : List ℕ) (image : Image) (number : ℕ) (stands : StandsFor
   never_refused BadMap refused lasting = map_sound content image number stands refused
   never_refused NoHeader refused lasting = held_or_none content (length content) stands.header stands.slot stands.in_force refused
   never_refused BadHeader refused lasting = held_or_bad content (length content) stands.header stands.slot stands.in_force refused
+  never_refused NumbersFull refused lasting = refused
   never_refused AreaFull refused lasting = refused
   never_refused OutOfOrder refused lasting = refused
   never_refused DamagedGroup refused lasting = groups_sound content image number stands refused
+  never_refused NotNow refused lasting = refused
   never_refused Failed refused lasting = refused

@@ -1,11 +1,19 @@
 -- what a call makes of a keeper
-use Rattle.std.specs.Prelude.{ℕ, ◌+◌, true, length}
+use Rattle.std.specs.Prelude.{ℕ, ◌≡◌, ◌+◌, ◌≤◌, true, length}
 use Rattle.device_image.specs.Keeper.{KeeperState, Memory}
 use Rattle.disk_model.specs.Faults.{counted}
 use Rattle.image_model.specs.Command.{bodies_of}
+use Rattle.image_model.specs.declared.geometry.Geometry.{Geometry}
+use Rattle.journal.specs.Area.{AreaState}
 use Rattle.journal.specs.Group.{Numbered}
 use Rattle.checkpoint.specs.declared.fault.KeeperFault.{KeeperFault}
-use Rattle.checkpoint.specs.declared.fault.KeeperFault.TheVariants.{NoMemory, DeviceFault, BadMap, NoHeader, BadHeader, AreaFull, OutOfOrder, DamagedGroup, Failed}
+use Rattle.checkpoint.specs.declared.fault.KeeperFault.TheVariants.{NoMemory, DeviceFault, BadMap, NoHeader, BadHeader, NumbersFull, AreaFull, OutOfOrder, DamagedGroup, NotNow, Failed}
+
+-- the area has the size of those of a device with these sizes, and lies in it
+pub record IsSized (area : AreaState) (geometry : Geometry) (extent : ℕ) : Type 0 where
+  pub bytes : area.bytes ≡ geometry.area
+  pub blocks : area.blocks ≡ geometry.blocks
+  pub inside : area.from + area.bytes ≤ extent
 
 -- the bytes of an area that are taken once the group is added and a gate stands behind it
 abbrev pub end_after : {D : Type 0} → KeeperState D → Numbered → ℕ
@@ -27,9 +35,11 @@ refused_by DeviceFault keeper disk = record keeper { disk = disk; failed = true 
 refused_by BadMap keeper disk = keeper
 refused_by NoHeader keeper disk = keeper
 refused_by BadHeader keeper disk = keeper
+refused_by NumbersFull keeper disk = keeper
 refused_by AreaFull keeper disk = keeper
 refused_by OutOfOrder keeper disk = keeper
 refused_by DamagedGroup keeper disk = keeper
+refused_by NotNow keeper disk = keeper
 refused_by Failed keeper disk = keeper
 
 -- the number of faults of the device after a refusal: only a device fault is counted
@@ -39,9 +49,11 @@ faults_by DeviceFault faults = counted faults
 faults_by BadMap faults = faults
 faults_by NoHeader faults = faults
 faults_by BadHeader faults = faults
+faults_by NumbersFull faults = faults
 faults_by AreaFull faults = faults
 faults_by OutOfOrder faults = faults
 faults_by DamagedGroup faults = faults
+faults_by NotNow faults = faults
 faults_by Failed faults = faults
 
 -- the refusals that adding a group may give
@@ -51,7 +63,9 @@ IsAppendFault DeviceFault = Unit {0}
 IsAppendFault BadMap = ⊥
 IsAppendFault NoHeader = ⊥
 IsAppendFault BadHeader = ⊥
+IsAppendFault NumbersFull = ⊥
 IsAppendFault AreaFull = Unit {0}
 IsAppendFault OutOfOrder = Unit {0}
 IsAppendFault DamagedGroup = ⊥
+IsAppendFault NotNow = ⊥
 IsAppendFault Failed = Unit {0}

@@ -2,4 +2,5 @@ pub mod Faults
 pub mod Format
 pub mod Keeper
 pub mod Opening
+pub mod Steps
 pub mod Stored

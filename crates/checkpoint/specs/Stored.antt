@@ -8,7 +8,7 @@ use Rattle.journal.specs.Touches.{last_touch, later}
 use Rattle.journal.specs.declared.touch.Touch.{Touch}
 use Rattle.journal.specs.declared.touch.Touch.TheVariants.{Put, Clear}
 use Rattle.regions.specs.Layout.{block_at}
-use Rattle.device_image.specs.Keeper.{KeeperState}
+use Rattle.device_image.specs.Keeper.{KeeperState, earlier_of}
 
 -- the last touch of a block in areas that stand in the ring one after another
 abbrev pub last_touch_in : ℕ → List AreaState → Option Touch
@@ -29,7 +29,7 @@ found (Some touch) other = touch
 -- what made a block what it is: its last touch in the journal, or else map and data
 abbrev pub stored_touch : {D : Type 0} → KeeperState D → ℕ → Touch
 stored_touch keeper block = found (last_touch block keeper.memory.area.touched)
-    (found (last_touch_in block keeper.memory.earlier) (touch_of (state_at keeper.memory.map block) (block_at keeper.geometry block)))
+    (found (last_touch_in block (earlier_of keeper.memory.plan)) (touch_of (state_at keeper.memory.map block) (block_at keeper.geometry block)))
 
 -- the state of the block that was touched so
 abbrev pub kind_of : Touch → Kind

@@ -27,6 +27,9 @@ pub enum KeeperFault {
     /// 8: the header in force breaks a rule.
     #[error("bad header")]
     BadHeader,
+    /// 9: no generation is greater than that of the header in force.
+    #[error("numbers full")]
+    NumbersFull,
     /// 10: the group doesn't fit the area.
     #[error("area full")]
     AreaFull,
@@ -36,6 +39,9 @@ pub enum KeeperFault {
     /// 12: behind an open gate stands no whole group.
     #[error("damaged group")]
     DamagedGroup,
+    /// 15: the checkpoint isn't at this step.
+    #[error("not now")]
+    NotNow,
     /// 16: a call of the device has failed before; open the device again.
     #[error("failed")]
     Failed,

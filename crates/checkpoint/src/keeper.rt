@@ -11,9 +11,10 @@ ghost use Rattle.image_model.specs.Image.{Image, apply_all};
 use crate::fault::KeeperFault;
 use crate::opening::{Opened, read_device};
 use alloc_map::AllocMap;
+use copy_plan::CopyPlan;
 use disk_model::Disk;
 use header_slots::Header;
-use image_model::Geometry;
+use image_model::{Geometry, Side};
 use journal::{Area, Group};
 use std::alloc::Global;
 use std::marker::Model;
@@ -21,23 +22,26 @@ use std::marker::Model;
 /// The keeper of an open device.
 #[derive(Drop)]
 pub struct Keeper<D: Disk> {
+    pub(crate) alloc: Global,
     pub(crate) disk: D,
-    // The header in force.
+    // The header in force, and its slot.
     pub(crate) header: Header,
-    count: u64,
+    pub(crate) slot: Side,
+    pub(crate) count: u64,
     // The states of the blocks at the base.
     pub(crate) map: AllocMap,
-    // The areas in use in front of the last one, in the order of the ring.
-    pub(crate) earlier: Vec<Area>,
+    // The checkpoint that is under way, where more than one area is in use.
+    pub(crate) plan: Option<CopyPlan>,
     // The area that the next group goes to.
     pub(crate) area: Area,
     pub(crate) failed: bool,
 }
 
 impl<D: Disk> Model for Keeper<D> {
-    ghost use Rattle.std.specs.Prelude.{◌≡◌, ◌+◌, ◌≤◌, length, All};
+    ghost use Rattle.std.specs.Prelude.{◌≡◌, length, IfSome};
+    ghost use Rattle.checkpoint.specs.Keeper.{IsSized};
     ghost use Rattle.image_model.specs.Geometry.{device_bytes_of};
-    ghost use Rattle.device_image.specs.Keeper.{KeeperState, phase_of};
+    ghost use Rattle.device_image.specs.Keeper.{KeeperState, phase_of, turned_of};
     ghost use Rattle.device_image.specs.Stands.{next_number};
 
     ghost Value = { KeeperState D };
@@ -48,17 +52,18 @@ impl<D: Disk> Model for Keeper<D> {
       generation = keeper.header.generation;
       count = keeper.count;
       base = keeper.header.base;
+      turned = turned_of keeper.plan keeper.header.base;
       used = keeper.area.gate;
-      phase = phase_of keeper.earlier.items keeper.header.geometry.blocks;
+      phase = phase_of keeper.plan;
       failed = keeper.failed;
-      memory = record { map = keeper.map; earlier = keeper.earlier.items; area = keeper.area };
+      memory = record { header = keeper.header; slot = keeper.slot; map = keeper.map; plan = keeper.plan; area = keeper.area };
     } };
 
     ghost invariant = { λ keeper. (D.extent keeper.disk ≡ device_bytes_of keeper.header.geometry.blocks keeper.header.geometry.area)
         × (length keeper.map ≡ keeper.header.geometry.blocks)
-        × All (λ area. area.from + area.bytes ≤ D.extent keeper.disk) keeper.earlier.items
-        × (keeper.area.from + keeper.area.bytes ≤ D.extent keeper.disk)
-        × (keeper.area.bytes ≡ keeper.header.geometry.area) × (keeper.area.next ≡ next_number keeper.count) };
+        × IfSome keeper.plan (λ plan. IsSized plan.first keeper.header.geometry (D.extent keeper.disk))
+        × IsSized keeper.area keeper.header.geometry (D.extent keeper.disk)
+        × (keeper.area.next ≡ next_number keeper.count) };
 }
 
 impl<D: Disk> Keeper<D> {
@@ -89,16 +94,19 @@ impl<D: Disk> Keeper<D> {
             Ok(
                 Opened {
                     header,
+                    slot,
                     map,
-                    earlier,
+                    plan,
                     area,
                 },
             ) => Ok(Keeper {
+                alloc,
                 disk,
                 header,
+                slot,
                 count: area.next().wrapping_sub(1),
                 map,
-                earlier,
+                plan,
                 area,
                 failed: false,
             }),
@@ -111,11 +119,13 @@ impl<D: Disk> Keeper<D> {
         ensures { result ≡ self.disk }
     {
         let Keeper {
+            alloc: _,
             disk,
             header: _,
+            slot: _,
             count: _,
             map: _,
-            earlier: _,
+            plan: _,
             area: _,
             failed: _,
         } = self;

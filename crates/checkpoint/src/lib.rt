@@ -1,12 +1,14 @@
 //! The keeper of a device: it formats and opens the device, and adds groups to its journal.
 #![tactic(auto)]
 
+mod device_steps;
 mod fault;
 mod format;
 mod keeper;
 mod laws;
 mod opening;
 mod simulated;
+mod steps;
 mod stored;
 
 pub use fault::KeeperFault;

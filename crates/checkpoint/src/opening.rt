@@ -1,8 +1,9 @@
-ghost use Rattle.std.specs.Prelude.{◌≡◌, ◌+◌, ◌≤◌, ◌↔◌, ◌∷◌, ◌++◌, [], List, length, All, IfErr, IfOk, MatchResult, OnErr, OnOk};
-ghost use Rattle.checkpoint.specs.Keeper.{faults_by};
+ghost use Rattle.std.specs.Prelude.{◌≡◌, ◌+◌, ◌≤◌, ◌↔◌, List, length, IfErr, IfOk, IfSome, MatchResult, OnOk};
+ghost use Rattle.checkpoint.specs.Keeper.{IsSized, faults_by};
 ghost use Rattle.device_image.specs.Keeps.{HoldsAreas, IsPlaced};
 ghost use Rattle.device_image.specs.Damage.{IsAreaDamaged};
-ghost use Rattle.checkpoint.specs.Opening.{IsGroupsRefused, IsOpened, IsRefused};
+ghost use Rattle.checkpoint.specs.Opening.{IsFresh, IsGroupsRefused, IsOpened, IsRefused};
+ghost use Rattle.device_image.specs.Keeper.{earlier_of};
 ghost use Rattle.journal.specs.GroupList.{HoldsList, IsDamaged};
 ghost use Rattle.device_image.specs.Stands.{area_of, next_number};
 ghost use Rattle.disk_model.specs.Disk.{IsAllSynced, LeavesOnly, MayLeave};
@@ -14,20 +15,22 @@ ghost use Rattle.regions.specs.Layout.{behind};
 
 use crate::fault::KeeperFault;
 use alloc_map::AllocMap;
+use copy_plan::{CopyPlan, last_touches};
 use disk_model::Disk;
 use header_slots::{Areas, Header, read_current};
 use image_model::{Geometry, Side};
 use journal::Area;
 use regions::Regions;
-use std::alloc::{AllocError, Global};
+use std::alloc::Global;
 
-// What an opening reads of a device: its header in force, the map that the header names, the areas in use in front of
-// the last, and the last one, to which the next group goes.
+// What an opening reads of a device: its header in force and the slot of it, the map that the header names, what is to be
+// copied where more than one area is in use, and the last one, to which the next group goes.
 #[derive(Drop)]
 pub struct Opened {
     pub header: Header,
+    pub slot: Side,
     pub map: AllocMap,
-    pub earlier: Vec<Area>,
+    pub plan: Option<CopyPlan>,
     pub area: Area,
 }
 
@@ -41,12 +44,12 @@ pub fn read_device<D: Disk>(alloc: Global, disk: &mut D) -> Result<Opened, Keepe
     ensures placed { IfOk result (λ opened.
         IsPlaced opened.area opened.header.geometry (behind (mode_of opened.header.areas) opened.header.first_area)) }
 
-    ensures within { IfOk result (λ opened. All (λ area. area.from + area.bytes ≤ D.extent disk.old) opened.earlier.items) }
+    ensures sized { IfOk result (λ opened. IfSome opened.plan (λ plan. IsSized plan.first opened.header.geometry (D.extent disk.old))) }
     ensures blocks { IfOk result (λ opened. length opened.map ≡ opened.header.geometry.blocks) }
 
     ensures fixed { D.honest disk.old → MayLeave (D.state disk.old) (D.state disk.new).seen }
     ensures read { D.honest disk.old → MatchResult result
-        (λ opened. IsOpened (D.state disk.new) opened.header opened.map opened.earlier.items opened.area)
+        (λ opened. IsOpened (D.state disk.new) opened.header opened.slot opened.map opened.plan opened.area)
         (λ fault. IsRefused fault (D.state disk.new).seen) }
     ensures any_moment { D.honest disk.old → LeavesOnly (D.state disk.old) (D.state disk.new) (MayLeave (D.state disk.old)) }
 {
@@ -63,31 +66,32 @@ fn read_parts<D: Disk>(alloc: Global, disk: &mut D) -> Result<Opened, KeeperFaul
     ensures whole { IfOk result (λ opened. D.extent disk.old ≡ device_bytes_of opened.header.geometry.blocks opened.header.geometry.area) }
     ensures placed { IfOk result (λ opened.
         IsPlaced opened.area opened.header.geometry (behind (mode_of opened.header.areas) opened.header.first_area)) }
-    ensures within { IfOk result (λ opened. All (λ area. area.from + area.bytes ≤ D.extent disk.old) opened.earlier.items) }
+    ensures sized { IfOk result (λ opened. IfSome opened.plan (λ plan. IsSized plan.first opened.header.geometry (D.extent disk.old))) }
     ensures blocks { IfOk result (λ opened. length opened.map ≡ opened.header.geometry.blocks) }
 
     ensures only_read { D.honest disk.old → IsOnlyRead (D.state disk.old) (D.state disk.new) }
     ensures read { D.honest disk.old → IsAllSynced (D.state disk.old) → MatchResult result
-        (λ opened. IsOpened (D.state disk.new) opened.header opened.map opened.earlier.items opened.area)
+        (λ opened. IsOpened (D.state disk.new) opened.header opened.slot opened.map opened.plan opened.area)
         (λ fault. IsRefused fault (D.state disk.new).seen) }
 {
-    let (header, _slot) = read_current(disk)?;
+    let (header, slot) = read_current(disk)?;
     let map = Regions::of(&header.geometry).read_slot(alloc, disk, header.map_slot)?;
-    let (earlier, area) = read_areas(alloc, disk, &header)?;
+    let (plan, area) = read_areas(alloc, disk, &header)?;
     Ok(Opened {
         header,
+        slot,
         map,
-        earlier,
+        plan,
         area,
     })
 }
 
-// Reads the areas in use: those in front of the last, in the order of the ring, and the last one.
+// Reads the areas in use, and answers what is to be copied of the one in front of the last, and the last one.
 fn read_areas<D: Disk>(
     alloc: Global,
     disk: &mut D,
     header: &Header,
-) -> Result<(Vec<Area>, Area), KeeperFault>
+) -> Result<(Option<CopyPlan>, Area), KeeperFault>
     requires { D.extent disk.old ≡ device_bytes_of header.now.geometry.blocks header.now.geometry.area }
     ensures extent { D.extent disk.new ≡ D.extent disk.old }
     ensures faults_ok { OnOk result (D.faults disk.new ≡ D.faults disk.old) }
@@ -95,11 +99,12 @@ fn read_areas<D: Disk>(
     ensures honest { D.honest disk.new ↔ D.honest disk.old }
     ensures placed { IfOk result (λ areas.
         IsPlaced areas.1 header.now.geometry (behind (mode_of header.now.areas) header.now.first_area)) }
-    ensures within { IfOk result (λ areas. All (λ area. area.from + area.bytes ≤ D.extent disk.old) areas.0.items) }
+    ensures sized { IfOk result (λ areas. IfSome areas.0 (λ plan. IsSized plan.first header.now.geometry (D.extent disk.old))) }
+    ensures fresh { IfOk result (λ areas. IsFresh header.now.areas areas.0) }
 
     ensures only_read { D.honest disk.old → IsOnlyRead (D.state disk.old) (D.state disk.new) }
     ensures read { D.honest disk.old → IsAllSynced (D.state disk.old) → MatchResult result
-        (λ areas. (lists : List (List StoredGroup)) × HoldsAreas (D.state disk.new) header.now lists areas.0.items areas.1)
+        (λ areas. (lists : List (List StoredGroup)) × HoldsAreas (D.state disk.new) header.now lists (earlier_of areas.0) areas.1)
         (λ fault. IsGroupsRefused fault (IsAreaDamaged (D.state disk.new).seen header.now)) }
 {
     // The number behind 2^64 - 1 is 0: no number is left.
@@ -108,26 +113,16 @@ fn read_areas<D: Disk>(
     match header.areas {
         Areas::One => {
             let area = read_area(alloc, disk, geometry, header.first_area, next)?;
-            Ok((Vec::new(alloc), area))
+            Ok((None, area))
         }
         Areas::Two => {
             let first = read_area(alloc, disk, geometry, header.first_area, next)?;
             let side = header.first_area.other();
-            let next = first.next();
-            let earlier = alone(alloc, first)?;
-            let area = read_area(alloc, disk, geometry, side, next)?;
-            Ok((earlier, area))
+            let touches = last_touches(alloc, &first, geometry.blocks as u32)?;
+            let area = read_area(alloc, disk, geometry, side, first.next())?;
+            Ok((Some(CopyPlan::of(first, touches)), area))
         }
     }
-}
-
-// The area as a list.
-fn alone(alloc: Global, area: Area) -> Result<Vec<Area>, AllocError>
-    ensures { IfOk result (λ areas. areas.items ≡ area ∷ []) }
-{
-    let mut areas = Vec::new(alloc);
-    areas.push(area)?;
-    Ok(areas)
 }
 
 // Reads the groups of an area, whose first has to begin with `next`.

@@ -1,6 +1,7 @@
 ghost use Rattle.std.specs.Prelude.{◌≡◌, ◌⊎◌, ℕ, ◌+◌, ◌*◌, ◌<◌, ◌≤◌, ◌↔◌, length, slice_index, IfErr, IfOk, IfSome, IsTrue, OnOk};
 ghost use Rattle.alloc_map.specs.Codes.{state_at};
 ghost use Rattle.checkpoint.specs.Keeper.{faults_by, refused_by};
+ghost use Rattle.device_image.specs.Keeper.{earlier_of};
 ghost use Rattle.device_image.specs.Keeps.{Keeps};
 ghost use Rattle.checkpoint.specs.Stored.{last_touch_in, stored_touch, touch_of};
 ghost use Rattle.checkpoint.specs.declared.fault.KeeperFault.TheVariants as KeeperFault;
@@ -63,7 +64,7 @@ impl<D: Disk> Keeper<D> {
     fn locate(&self, block: u64) -> Touch
         requires { block < self.now.geometry.blocks }
         ensures exact { result ≡ stored_touch self.now block }
-        ensures readable { HasBytesWithin (D.extent self.now.disk) 1 result }
+        ensures readable { HasBytesWithin 0 (D.extent self.now.disk) 1 result }
     {
         if let Some(touch) = self.area.last_touch(block) {
             return touch;
@@ -76,24 +77,20 @@ impl<D: Disk> Keeper<D> {
 
     // The last touch of the block in the areas in use in front of the last.
     fn earlier_touch(&self, block: u64) -> Option<Touch>
-        ensures exact { result ≡ last_touch_in block self.now.memory.earlier }
-        ensures readable { IfSome result (HasBytesWithin (D.extent self.now.disk) 1) }
+        ensures exact { result ≡ last_touch_in block (earlier_of self.now.memory.plan) }
+        ensures readable { IfSome result (HasBytesWithin 0 (D.extent self.now.disk) 1) }
     {
-        let mut index = self.earlier.len();
-        while index > 0 {
-            index -= 1;
-            if let Some(touch) = self.earlier[index].last_touch(block) {
-                return Some(touch);
-            }
+        match &self.plan {
+            Some(plan) => plan.first().last_touch(block),
+            None => None,
         }
-        None
     }
 
     // The block by map and data.
     fn base_touch(&self, block: u64) -> Touch
         requires { block < self.now.geometry.blocks }
         ensures exact { result ≡ touch_of (state_at self.now.memory.map block) (block_at self.now.geometry block) }
-        ensures readable { HasBytesWithin (D.extent self.now.disk) 1 result }
+        ensures readable { HasBytesWithin 0 (D.extent self.now.disk) 1 result }
     {
         match self.map.state(block) {
             Kind::Data => Touch::Put(Regions::of(&self.header.geometry).block_from(block)),

@@ -63,11 +63,11 @@ list_kept area first groups old content same list = record {
   inside = list.inside;
 }
 
-map_low : (geometry : Geometry) (slot : Side) → 8192 + 2 * geometry.area ≤ map_at geometry slot
+pub map_low : (geometry : Geometry) (slot : Side) → 8192 + 2 * geometry.area ≤ map_at geometry slot
 map_low geometry Zero = omega arith
 map_low geometry One = omega arith
 
-map_high : (geometry : Geometry) (slot : Side) → map_at geometry slot + map_bytes_of geometry.blocks ≤ block_at geometry 0
+pub map_high : (geometry : Geometry) (slot : Side) → map_at geometry slot + map_bytes_of geometry.blocks ≤ block_at geometry 0
 map_high geometry Zero = omega arith
 map_high geometry One = omega arith
 
@@ -93,8 +93,8 @@ header_kept old content header slot size same holds =
     let kept : IsReading content (length old) (Ok (header, slot)) = same_reading old content (λ k below. sym (same k (omega arith))) (length old) (Ok (header, slot)) read in
     subst (λ (n : ℕ). HoldsHeader content n header slot) (sym size) kept
 
-module _ (old content : List ℕ) (geometry : Geometry) (same : (place : ℕ) → 8192 + 2 * geometry.area ≤ place → slice_index content place ≡ slice_index old place) where
-  -- where all behind the areas stays, the stored image stays
+module _ (old content : List ℕ) (geometry : Geometry) (same : (place : ℕ) → block_at geometry 0 ≤ place → slice_index content place ≡ slice_index old place) where
+  -- where the data stay, the stored image stays
   pub image_kept : (states : List Kind) → stored_image content geometry states ≡ stored_image old geometry states
   image_kept states = λ i. record {
     blocks = geometry.blocks;
@@ -150,9 +150,9 @@ put_images limit content place next groups stand image other blocks kinds bytes 
 not_true : {b : Bool} → b ≡ false → IsTrue b → ⊥
 not_true is true_is = cc
 
--- where all behind the maps stays but for data that are to be copied, the commands make the same of map and data
+-- where the data stay but for those that are to be copied, the commands make the same of map and data
 pub copied_images : (areas : ℕ) (old content : List ℕ) (header : Header) (next : ℕ) (front more : List (List StoredGroup)) (states : List Kind)
-    → ((place : ℕ) → 8192 + 2 * header.geometry.area ≤ place → (IsCopyPlace header front place → ⊥) → slice_index content place ≡ slice_index old place)
+    → ((place : ℕ) → block_at header.geometry 0 ≤ place → (IsCopyPlace header front place → ⊥) → slice_index content place ≡ slice_index old place)
     → HoldLists (ring areas header.first_area) old header.geometry next front
     → apply_all (all_changes (front ++ more)) (stored_image old header.geometry states) ≡ apply_all (all_changes (front ++ more)) (stored_image content header.geometry states)
 copied_images areas old content header next [] more states same holds =

@@ -7,7 +7,7 @@ use Rattle.image_model.specs.Image.{Image, apply_all}
 use Rattle.image_model.specs.declared.geometry.Geometry.{Geometry}
 use Rattle.journal.specs.GroupList.{IsList, changes_of}
 use Rattle.journal.specs.Spelling.{StoredGroup}
-use Rattle.device_image.specs.Keeper.{KeeperState}
+use Rattle.device_image.specs.Keeper.{KeeperState, earlier_of}
 use Rattle.device_image.specs.Keeps.{IsCopyPlace, Keeps, behind_lists}
 use Rattle.device_image.specs.Stands.{StandsFor, HoldLists, all_changes, next_number, stored_image}
 use Rattle.device_image.proofs.Frame.{fronts_of, held_lists, last_of, list_kept, moved_list, stands_with, all_changes-append, apply_all-append, blocks-apply_all, changes-append}
@@ -35,7 +35,7 @@ module _ {D : Type 0} (keeper : KeeperState D) (state : State) (image : Image) (
   first = behind_lists (next_number keeps.stands.header.base) keeps.areas.front
 
   pub held : HoldLists (fronts_of keeps.stands) state.seen keeps.stands.header.geometry (next_number keeps.stands.header.base) keeps.areas.front
-  held = held_lists _ _ _ _ keeper.memory.earlier state keeps.areas.earlier_held
+  held = held_lists _ _ _ _ (earlier_of keeper.memory.plan) state keeps.areas.earlier_held
 
   pub low_synced : (place : ℕ) → place < 8192 + 2 * keeps.stands.header.geometry.area → state.unsynced place → ⊥
   low_synced place below unsynced = let copy = keeps.unsynced place unsynced in omega (arith, below, copy.inside.0)

@@ -1,3 +1,9 @@
+pub mod Copied
 pub mod Frame
+pub mod Free
 pub mod Kept
 pub mod Sole
+pub mod Steps
+pub mod Touched
+pub mod Turned
+pub mod Turning

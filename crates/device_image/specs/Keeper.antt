@@ -1,9 +1,12 @@
 -- keepers as callers see them
-use Rattle.std.specs.Prelude.{ℕ, zero, suc, ◌+◌, Bool, true, false, if◌then◌else◌, List, [], ◌∷◌, Option, Some, None}
+use Rattle.std.specs.Prelude.{ℕ, zero, suc, ◌≡◌, ◌+◌, ◌%◌, ◌<◌, length, Bool, true, false, if◌then◌else◌, List, [], ◌∷◌, Option, Some, None}
+use Rattle.header_slots.specs.declared.header.Header.{Header}
 use Rattle.image_model.specs.declared.command.Kind.{Kind}
+use Rattle.image_model.specs.declared.side.Side.{Side}
 use Rattle.image_model.specs.declared.geometry.Geometry.{Geometry}
 use Rattle.journal.specs.Area.{AreaState}
-use Rattle.journal.specs.Touches.{last_touch}
+use Rattle.alloc_map.specs.Codes.{state_at}
+use Rattle.journal.specs.Touches.{kind_after, last_touch}
 use Rattle.journal.specs.declared.touch.Touch.{Touch}
 use Rattle.journal.specs.declared.touch.Touch.TheVariants.{Put, Clear}
 use Rattle.journal.specs.declared.touch.TouchedRange.{TouchedRange}
@@ -14,12 +17,24 @@ pub data Phase : Type 0 where
   One : Phase
   -- more are in use, and so many blocks are left to copy out of the first into data
   Copying : (left : ℕ) → Phase
+  -- all are copied, and the map after the first area is written
+  Mapped : Phase
 
--- what a keeper remembers of its device, to find blocks and the next gate again: the states of the blocks at the base, the
--- areas in use in front of the last, in the order of the ring, and the last one
+-- A checkpoint that is under way: the first of the areas in use, before which block all is copied that is to be copied, how
+-- many blocks are left to copy, and, once it is written, the map after that area.
+pub record PlanState : Type 0 where
+  pub first : AreaState
+  pub copied : ℕ
+  pub left : ℕ
+  pub mapped : Option (List Kind)
+
+-- what a keeper remembers of its device, to find blocks and the next gate again: the header in force and its slot, the
+-- states of the blocks at the base, the checkpoint that is under way, and the area that groups are added to
 pub record Memory : Type 0 where
+  pub header : Header
+  pub slot : Side
   pub map : List Kind
-  pub earlier : List AreaState
+  pub plan : Option PlanState
   pub area : AreaState
 
 pub record KeeperState (D : Type 0) : Type 0 where
@@ -31,6 +46,8 @@ pub record KeeperState (D : Type 0) : Type 0 where
   pub count : ℕ
   -- the number of the last command in map and data
   pub base : ℕ
+  -- that of the last command in the areas in use in front of the last one, which the base becomes
+  pub turned : ℕ
   -- the place of the next gate in the area that groups are added to
   pub used : ℕ
   pub phase : Phase
@@ -50,7 +67,26 @@ unfoldable pub count_puts : ℕ → List TouchedRange → ℕ
 count_puts zero touched = 0
 count_puts (suc block) touched = count_puts block touched + (if is_put (last_touch block touched) then 1 else 0)
 
--- the phase where nothing was copied yet, by what is remembered of the areas in front of the last
-abbrev pub phase_of : List AreaState → ℕ → Phase
-phase_of [] blocks = One
-phase_of (area ∷ areas) blocks = Copying (count_puts blocks area.touched)
+-- the phase, by how many blocks are left to copy and the map that was written
+abbrev pub phase_in : ℕ → Option (List Kind) → Phase
+phase_in left None = Copying left
+phase_in left (Some states) = Mapped
+
+abbrev pub phase_of : Option PlanState → Phase
+phase_of None = One
+phase_of (Some plan) = phase_in plan.left plan.mapped
+
+-- the number of the last command in an area in front of the last, or the base where there is none
+abbrev pub turned_of : Option PlanState → ℕ → ℕ
+turned_of None base = base
+turned_of (Some plan) base = (plan.first.next + 18446744073709551615) % 18446744073709551616
+
+-- the areas in use in front of the last, in the order of the ring
+abbrev pub earlier_of : Option PlanState → List AreaState
+earlier_of None = []
+earlier_of (Some plan) = plan.first ∷ []
+
+-- the states of the blocks after these touches, where these are the states before
+pub record AreStatesAfter (touched : List TouchedRange) (before after : List Kind) : Type 0 where
+  pub count : length after ≡ length before
+  pub each : (block : ℕ) → block < length before → state_at after block ≡ kind_after (last_touch block touched) (state_at before block)

@@ -1,9 +1,11 @@
 -- that a keeper keeps an image
-use Rattle.std.specs.Prelude.{ℕ, ◌≡◌, IsTrue, false, List, [], ◌∷◌, ◌++◌}
-use Rattle.disk_model.specs.Disk.{State, InRange, IsSteady}
+use Rattle.std.specs.Prelude.{ℕ, ◌≡◌, ◌+◌, ◌<◌, ◌≤◌, IsTrue, false, List, [], ◌∷◌, ◌++◌, slice_index, Option, Some, None}
+use Rattle.disk_model.specs.Disk.{State, InRange, IsAllSynced, IsSteady}
 use Rattle.header_slots.specs.Header.{mode_of}
 use Rattle.header_slots.specs.declared.header.Areas.{Areas}
 use Rattle.header_slots.specs.declared.header.Header.{Header}
+use Rattle.image_model.specs.Side.{other_of}
+use Rattle.image_model.specs.declared.command.Kind.{Kind}
 use Rattle.image_model.specs.declared.side.Side.{Side}
 use Rattle.image_model.specs.Image.{Image}
 use Rattle.image_model.specs.declared.geometry.Geometry.{Geometry}
@@ -11,9 +13,11 @@ use Rattle.journal.specs.Area.{AreaState}
 use Rattle.journal.specs.GroupList.{IsHeld, next_behind, sizes_of}
 use Rattle.journal.specs.Spelling.{StoredGroup}
 use Rattle.journal.specs.Touches.{last_touch, touched_by_groups}
+use Rattle.journal.specs.declared.touch.Touch.TheVariants.{Put}
 use Rattle.journal.specs.declared.touch.TouchedRange.{TouchedRange}
-use Rattle.regions.specs.Layout.{area_at, behind, block_at, ring}
-use Rattle.device_image.specs.Keeper.{KeeperState, Phase, One, Copying, count_puts, is_put}
+use Rattle.regions.specs.Layout.{area_at, behind, block_at, map_at, ring}
+use Rattle.regions.specs.Map.{HoldsMap}
+use Rattle.device_image.specs.Keeper.{AreStatesAfter, KeeperState, PlanState, count_puts, earlier_of, is_put, phase_of}
 use Rattle.device_image.specs.Stands.{StandsFor, next_number}
 
 -- the area is this one of a device with these sizes
@@ -58,10 +62,30 @@ pub record IsCopyPlace (header : Header) (front : List (List StoredGroup)) (plac
   pub inside : InRange (block_at header.geometry block) 4096 place
   pub put : IsTrue (is_put (last_touch block (touched_first header front)))
 
--- the phase is that of so many areas in use, and nothing was copied yet of what is to be copied
-abbrev pub IsPhase : Phase → Areas → ℕ → Type 0
-IsPhase One areas puts = areas ≡ Areas.One
-IsPhase (Copying left) areas puts = (areas ≡ Areas.Two) × (left ≡ puts)
+-- The blocks before this one whose last touch in the first of several areas in use is a put read as that put's bytes.
+abbrev pub AreCopied : List ℕ → Header → List (List StoredGroup) → ℕ → Type 0
+AreCopied content header front copied = (block place : ℕ) → block < copied → last_touch block (touched_first header front) ≡ Some (Put place)
+    → (k : ℕ) → k < 4096 → slice_index content (block_at header.geometry block + k) ≡ slice_index content (place + k)
+
+-- Once the map after the first area is written: all is copied, it stands in the map slot that isn't in force, and nothing
+-- is unsynced.
+abbrev pub IsMapWritten : Option (List Kind) → State → Header → List Kind → List (List StoredGroup) → ℕ → Type 0
+IsMapWritten None state header states front left = Unit {0}
+IsMapWritten (Some after) state header states front left =
+    (left ≡ 0) × AreStatesAfter (touched_first header front) states after
+    × HoldsMap state.seen (map_at header.geometry (other_of header.map_slot)) header.geometry.blocks after × IsAllSynced state
+
+-- A checkpoint is under way: two areas are in use, what is copied is there, and so many blocks are left.
+pub record IsCopying (plan : PlanState) (state : State) (header : Header) (states : List Kind) (front : List (List StoredGroup)) : Type 0 where
+  pub areas : header.areas ≡ Areas.Two
+  pub within : plan.copied ≤ header.geometry.blocks
+  pub counted : plan.left + count_puts plan.copied (touched_first header front) ≡ count_puts header.geometry.blocks (touched_first header front)
+  pub are_copied : AreCopied state.seen header front plan.copied
+  pub map_written : IsMapWritten plan.mapped state header states front plan.left
+
+abbrev pub IsInPhase : Option PlanState → State → Header → List Kind → List (List StoredGroup) → Type 0
+IsInPhase None state header states front = header.areas ≡ Areas.One
+IsInPhase (Some plan) state header states front = IsCopying plan state header states front
 
 -- The keeper, whose device is in this state, keeps this image with this last number: it works, the content stands for
 -- them, and what it shows and remembers is what stands there. No place is loose. Where one area is in use nothing is
@@ -73,9 +97,12 @@ pub record Keeps {D : Type 0} (keeper : KeeperState D) (state : State) (image : 
   pub sizes : keeper.geometry ≡ stands.header.geometry
   pub generation : keeper.generation ≡ stands.header.generation
   pub from_base : keeper.base ≡ stands.header.base
+  pub headed : keeper.memory.header ≡ stands.header
+  pub slotted : keeper.memory.slot ≡ stands.slot
   pub counted : keeper.count ≡ number
   pub mapped : keeper.memory.map ≡ stands.states
-  pub areas : HoldsAreas state stands.header stands.lists keeper.memory.earlier keeper.memory.area
+  pub areas : HoldsAreas state stands.header stands.lists (earlier_of keeper.memory.plan) keeper.memory.area
   pub taken : keeper.used ≡ sizes_of areas.groups
-  pub phased : IsPhase keeper.phase stands.header.areas (count_puts stands.header.geometry.blocks (touched_first stands.header areas.front))
+  pub phase : keeper.phase ≡ phase_of keeper.memory.plan
+  pub phased : IsInPhase keeper.memory.plan state stands.header stands.states areas.front
   pub unsynced : (place : ℕ) → state.unsynced place → IsCopyPlace stands.header areas.front place

@@ -133,6 +133,7 @@ module _ (area : AreaState) (first : ℕ) (groups : List StoredGroup) (before : 
             synced = λ place within. opened.synced place;
           };
           others = record { size = wide.size; bytes = wide.bytes; same = wide.same };
+          same = λ place outside steady. opened.same place (λ within. outside (omega (arith, within.0), omega (arith, within.1, length-written group, fits))) steady;
           synced = opened.synced;
         }
 

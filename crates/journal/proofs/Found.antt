@@ -10,10 +10,10 @@ use Rattle.image_model.specs.Change.{Change, Written, Cleared, IsChange, AreChan
 use Rattle.journal.specs.declared.touch.Touch.TheVariants.{Put, Clear}
 use Rattle.journal.specs.declared.touch.Touch.{Touch}
 use Rattle.journal.specs.declared.touch.TouchedRange.{TouchedRange}
-use Rattle.journal.specs.Touches.{HasBytesWithin, EndsWithin, touched_by, touched_by_changes}
+use Rattle.journal.specs.Touches.{AreWithin, HasBytesWithin, IsWithin, touched_by, touched_by_changes}
 use Rattle.journal.specs.Spelling.{clear_byte, change_head, change_bytes}
 use Rattle.journal.specs.GroupList.{StandsAt}
-use Rattle.journal.specs.Scanning.{IsHead, touch_of_head, FoundChange, HasNoChange, StandBetween, FoundChanges, HasNoChanges, AreWithin}
+use Rattle.journal.specs.Scanning.{IsHead, touch_of_head, FoundChange, HasNoChange, StandBetween, FoundChanges, HasNoChanges}
 use Rattle.journal.proofs.Heads.{stands_append}
 use Rattle.journal.proofs.OneList.{front, back, same_bytes, same_heads}
 use Rattle.journal.proofs.Spelled.{length-change_head}
@@ -281,35 +281,35 @@ module _ (image : ℕ) (fits : image < 2 ^ 64) (content : List ℕ) (from place 
       no_end [] between is = elsewhere (omega (arith, between.end_is))
       no_end (x ∷ xs) between is = absurd (omega (arith, is))
 
--- the bytes of changes that end in time do so
-pub touched_within : (end place : ℕ) (changes : List Change) → place + length (flat_map change_bytes changes) ≤ end → AreWithin end (touched_by_changes place changes)
+-- the bytes of changes that stand between two places do so
+pub touched_within : (from end place : ℕ) (changes : List Change) → from ≤ place → place + length (flat_map change_bytes changes) ≤ end → AreWithin from end (touched_by_changes place changes)
 unfolding change_bytes
-touched_within end place [] inside = tt
-touched_within end place (c ∷ changes) inside =
+touched_within from end place [] low inside = tt
+touched_within from end place (c ∷ changes) low inside =
     let long = length-append (change_bytes c) (flat_map change_bytes changes) in
-    (one_within end place c (omega (arith, long, inside)), touched_within end (place + length (change_bytes c)) changes (omega (arith, long, inside)))
+    (one_within end place c low (omega (arith, long, inside)), touched_within from end (place + length (change_bytes c)) changes (omega (arith, low)) (omega (arith, long, inside)))
   where
-    one_within : (end place : ℕ) (change : Change) → place + length (change_bytes change) ≤ end → EndsWithin end (touched_by place change)
-    one_within end place (Written first bytes) inside =
-        omega (arith, inside, length-append (change_head 1 first (length bytes / 4096)) bytes, length-change_head 1 first (length bytes / 4096))
-    one_within end place (Cleared first blocks kind) inside = tt
+    one_within : (end place : ℕ) (change : Change) → from ≤ place → place + length (change_bytes change) ≤ end → IsWithin from end (touched_by place change)
+    one_within end place (Written first bytes) low inside =
+        (omega (arith, low), omega (arith, inside, length-append (change_head 1 first (length bytes / 4096)) bytes, length-change_head 1 first (length bytes / 4096)))
+    one_within end place (Cleared first blocks kind) low inside = tt
 
-pub within_append : (end : ℕ) (xs ys : List TouchedRange) → AreWithin end xs → AreWithin end ys → AreWithin end (xs ++ ys)
-within_append end [] ys first second = second
-within_append end (x ∷ xs) ys first second = (first.0, within_append end xs ys first.1 second)
+pub within_append : (from end : ℕ) (xs ys : List TouchedRange) → AreWithin from end xs → AreWithin from end ys → AreWithin from end (xs ++ ys)
+within_append from end [] ys first second = second
+within_append from end (x ∷ xs) ys first second = (first.0, within_append from end xs ys first.1 second)
 
-pub range_within : (end later : ℕ) → end ≤ later → (range : TouchedRange) → EndsWithin end range → EndsWithin later range
-range_within end later more range inside = wider range.blocks range.touch inside
+pub range_within : (from end lower later : ℕ) → lower ≤ from → end ≤ later → (range : TouchedRange) → IsWithin from end range → IsWithin lower later range
+range_within from end lower later less more range inside = wider range.blocks range.touch inside
   where
-    wider : (blocks : ℕ) (touch : Touch) → HasBytesWithin end blocks touch → HasBytesWithin later blocks touch
-    wider blocks (Put place) inside = omega (arith, inside, more)
+    wider : (blocks : ℕ) (touch : Touch) → HasBytesWithin from end blocks touch → HasBytesWithin lower later blocks touch
+    wider blocks (Put place) inside = (omega (arith, inside.0, less), omega (arith, inside.1, more))
     wider blocks (Clear kind) inside = tt
 
-pub within_more : (end later : ℕ) → end ≤ later → (ranges : List TouchedRange) → AreWithin end ranges → AreWithin later ranges
-within_more end later more [] inside = tt
-within_more end later more (range ∷ ranges) inside = (range_within end later more range inside.0, within_more end later more ranges inside.1)
+pub within_more : (from end later : ℕ) → end ≤ later → (ranges : List TouchedRange) → AreWithin from end ranges → AreWithin from later ranges
+within_more from end later more [] inside = tt
+within_more from end later more (range ∷ ranges) inside = (range_within from end from later (omega arith) more range inside.0, within_more from end later more ranges inside.1)
 
-pub within_at : (end : ℕ) (ranges : List TouchedRange) (index : ℕ) (d : TouchedRange) → AreWithin end ranges → index < length ranges → EndsWithin end (get_or ranges index d)
-within_at end [] index d inside below = absurd (omega arith)
-within_at end (range ∷ ranges) zero d inside below = inside.0
-within_at end (range ∷ ranges) (suc index) d inside below = within_at end ranges index d inside.1 (omega arith)
+pub within_at : (from end : ℕ) (ranges : List TouchedRange) (index : ℕ) (d : TouchedRange) → AreWithin from end ranges → index < length ranges → IsWithin from end (get_or ranges index d)
+within_at from end [] index d inside below = absurd (omega arith)
+within_at from end (range ∷ ranges) zero d inside below = inside.0
+within_at from end (range ∷ ranges) (suc index) d inside below = within_at from end ranges index d inside.1 (omega arith)

@@ -12,3 +12,4 @@ pub mod OneList
 pub mod Spelled
 pub mod Torn
 pub mod Windows
+pub mod Within

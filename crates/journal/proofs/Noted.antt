@@ -11,9 +11,8 @@ use Rattle.image_model.specs.Command.{body_of, bodies_of}
 use Rattle.journal.specs.declared.fault.JournalFault.{JournalFault}
 use Rattle.journal.specs.declared.touch.Touch.{Touch}
 use Rattle.journal.specs.declared.touch.TouchedRange.{TouchedRange}
-use Rattle.journal.specs.Scanning.{AreWithin}
 use Rattle.journal.specs.Spelling.{change_bytes}
-use Rattle.journal.specs.Touches.{last_touch, later, touch_in, touched_by, touched_by_changes}
+use Rattle.journal.specs.Touches.{AreWithin, last_touch, later, touch_in, touched_by, touched_by_changes}
 use Rattle.journal.proofs.Found.{touched-push, touched_within, within_append}
 use Rattle.journal.proofs.Spelled.{length-body}
 
@@ -30,13 +29,13 @@ noted_more place here commands index command below is here_is =
     ∙ ap (λ (p : ℕ). touched_by_changes place (map change_of front) ++ touched_by p (change_of command) ∷ []) at
 
 -- what was noted of the first commands ends in time
-pub noted_within : (end place : ℕ) (commands : List Command) (index : ℕ) (old new : List TouchedRange) → place + bodies_of commands ≤ end → new ≡ old ++ touched_by_changes place (map change_of (take index commands))
-    → AreWithin end old → AreWithin end new
-noted_within end place commands index old new inside new_is within =
+pub noted_within : (from end place : ℕ) (commands : List Command) (index : ℕ) (old new : List TouchedRange) → from ≤ place → place + bodies_of commands ≤ end → new ≡ old ++ touched_by_changes place (map change_of (take index commands))
+    → AreWithin from end old → AreWithin from end new
+noted_within from end place commands index old new low inside new_is within =
     let front = take index commands in
-    subst (AreWithin end) (sym new_is)
-    (within_append end old (touched_by_changes place (map change_of front)) within
-    (touched_within end place (map change_of front) (omega (arith, length-body front, sum_by-take-le body_of commands index, inside))))
+    subst (AreWithin from end) (sym new_is)
+    (within_append from end old (touched_by_changes place (map change_of front)) within
+    (touched_within from end place (map change_of front) low (omega (arith, length-body front, sum_by-take-le body_of commands index, inside))))
 
 -- the last range that has the block
 last_found : (block : ℕ) (ranges : List TouchedRange) (index : ℕ) (range : TouchedRange) (touch : Touch) → index < length ranges → range ≡ get_or ranges index range

@@ -47,6 +47,9 @@ module _ (extent : ℕ) (before : State) (gate : ℕ) (bytes : List ℕ) (sound 
         bytes = after_sound.as_read.bytes;
         same = λ place synced outside. stays place (λ within. outside (omega (arith, within.0), omega (arith, within.1))) ∙ mid_others place synced outside;
       };
+      same = λ place outside steady.
+          stays place (λ within. outside (omega (arith, within.0), omega (arith, within.1)))
+          ∙ stored.others place (λ within. outside (omega (arith, within.0), omega (arith, within.1))) steady;
       synced = opening.synced;
     }
       where

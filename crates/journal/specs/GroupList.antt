@@ -1,6 +1,6 @@
 -- The list of groups that the bytes of an area hold, by docs/FORMATS.md, "Group". A place is a byte of the device.
 use Rattle.std.specs.Prelude.{ℕ, ◌≡◌, ◌+◌, ◌%◌, ◌≤◌, ◌<◌, ◌⊎◌, List, [], ◌∷◌, ◌++◌, length, slice_index, sum_by, ⊤}
-use Rattle.disk_model.specs.Disk.{State, IsAllSynced, IsSyncedIn, MayLeaveTorn}
+use Rattle.disk_model.specs.Disk.{State, InRange, IsAllSynced, IsSyncedIn, MayLeaveTorn}
 use Rattle.std.specs.List.{flat_map}
 use Rattle.image_model.specs.Change.{Change, AreChanges}
 use Rattle.journal.specs.Area.{AreaState}
@@ -87,11 +87,12 @@ pub record HoldsList (area : AreaState) (first : ℕ) (state : State) : Type 0 w
   pub groups : List StoredGroup
   pub held : IsHeld area first groups state
 
--- after the area's list was stored: the area holds it, what was stable outside the area stays, and nothing on the
--- device is unsynced
+-- after the area's list was stored: the area holds it, outside the area what was stable stays and a read gives what it
+-- gave, and nothing on the device is unsynced
 pub record IsListStored (area : AreaState) (first : ℕ) (groups : List StoredGroup) (before after : State) : Type 0 where
   pub held : IsHeld area first groups after
   pub others : MayLeaveTorn before area.from area.bytes after.seen
+  pub same : (place : ℕ) → (InRange area.from area.bytes place → ⊥) → (before.loose place → ⊥) → slice_index after.seen place ≡ slice_index before.seen place
   pub synced : IsAllSynced after
 
 -- what a crash may leave while a group is added: the list without the group or with the whole of it, and what was
@@ -111,4 +112,5 @@ pub record IsOpenBefore (before : State) (gate : ℕ) (bytes : List ℕ) (after 
   pub gate_open : IsOpen after.seen gate
   pub whole : StandsAt after.seen (gate + 1) bytes
   pub others : MayLeaveTorn before gate (1 + length bytes) after.seen
+  pub same : (place : ℕ) → (InRange gate (1 + length bytes) place → ⊥) → (before.loose place → ⊥) → slice_index after.seen place ≡ slice_index before.seen place
   pub synced : IsAllSynced after

@@ -1,6 +1,6 @@
 -- What a scan of an area finds, piece by piece. A place is a byte of the device.
 use Rattle.std.specs.Prelude.{ℕ, ◌≡◌, ◌+◌, ◌*◌, ◌≤◌, ◌<◌, ◌⊎◌, List, ◌++◌, length, slice_index, if◌then◌else◌, ◌==◌}
-use Rattle.std.specs.List.{flat_map, AllByRecursion}
+use Rattle.std.specs.List.{flat_map}
 use Rattle.disk_model.specs.Disk.{State, InRange, IsSyncedIn}
 use Rattle.image_model.specs.Change.{Change, IsChange, AreChanges}
 use Rattle.journal.specs.declared.fault.JournalFault.{JournalFault}
@@ -11,7 +11,7 @@ use Rattle.journal.specs.declared.touch.Touch.TheVariants.{Put, Clear}
 use Rattle.journal.specs.declared.touch.TouchedRange.{TouchedRange}
 use Rattle.journal.specs.GroupList.{StandsAt, IsOpen, size_of, sizes_of, number_behind, next_behind, IsNextGroup, Lead, Stand}
 use Rattle.journal.specs.Spelling.{StoredGroup, change_bytes, group_bytes}
-use Rattle.journal.specs.Touches.{EndsWithin, touched_by, touched_by_changes, touched_by_groups}
+use Rattle.journal.specs.Touches.{touched_by, touched_by_changes, touched_by_groups}
 
 -- why a scan is refused
 abbrev pub IsScanFault : JournalFault → Type 0
@@ -116,7 +116,3 @@ pub record FoundDamage (image : ℕ) (content : List ℕ) (place bytes first : �
   pub lead : Lead image content place first groups
   pub inside : sizes_of groups < bytes
   pub damage : HasNoGroup image content (place + sizes_of groups) (next_behind first groups) (place + bytes)
-
--- the bytes of all puts end at this place of the device at the latest
-abbrev pub AreWithin : ℕ → List TouchedRange → Type 0
-AreWithin end ranges = AllByRecursion (EndsWithin end) ranges

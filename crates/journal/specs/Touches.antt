@@ -1,5 +1,6 @@
 -- Which blocks the commands of an area's groups touch, and the last touch of each block.
 use Rattle.std.specs.Prelude.{ℕ, ◌≡◌, ◌+◌, ◌-◌, ◌*◌, ◌/◌, ◌≤◌, ◌<◌, min, IfSome, if◌then◌else◌, List, [], ◌∷◌, ◌++◌, length, slice_index, Option, Some, None}
+use Rattle.std.specs.List.{AllByRecursion}
 use Rattle.image_model.specs.declared.command.Kind.{Kind}
 use Rattle.image_model.specs.declared.command.Kind.TheVariants.{Data}
 use Rattle.image_model.specs.Change.{Change, Written, Cleared}
@@ -62,13 +63,17 @@ earlier None b = b
 earlier (Some x) None = Some x
 earlier (Some x) (Some y) = Some (min x y)
 
--- the bytes of a put end at this place of the device at the latest
-abbrev pub HasBytesWithin : ℕ → ℕ → Touch → Type 0
-HasBytesWithin end blocks (Put place) = place + 4096 * blocks ≤ end
-HasBytesWithin end blocks (Clear kind) = Unit {0}
+-- the bytes of a put of so many blocks stand between these places of the device
+abbrev pub HasBytesWithin : ℕ → ℕ → ℕ → Touch → Type 0
+HasBytesWithin from end blocks (Put place) = (from ≤ place) × (place + 4096 * blocks ≤ end)
+HasBytesWithin from end blocks (Clear kind) = Unit {0}
 
-abbrev pub EndsWithin : ℕ → TouchedRange → Type 0
-EndsWithin end range = HasBytesWithin end range.blocks range.touch
+abbrev pub IsWithin : ℕ → ℕ → TouchedRange → Type 0
+IsWithin from end range = HasBytesWithin from end range.blocks range.touch
+
+-- and those of all puts
+abbrev pub AreWithin : ℕ → ℕ → List TouchedRange → Type 0
+AreWithin from end ranges = AllByRecursion (IsWithin from end) ranges
 
 -- the state of a block after its last touch, where it was `kind` before all
 abbrev pub kind_after : Option Touch → Kind → Kind

@@ -8,7 +8,7 @@ ghost use Rattle.journal.specs.GroupList.{HoldsList, IsDamaged, IsHeld, IsList, 
 ghost use Rattle.journal.specs.Reading.{IsOnlyRead};
 ghost use Rattle.journal.specs.Scanning.{IsScanFault};
 ghost use Rattle.journal.specs.Spelling.{StoredGroup, stored_of};
-ghost use Rattle.journal.specs.Touches.{HasBytesWithin, IsNextTouched, last_touch};
+ghost use Rattle.journal.specs.Touches.{AreWithin, HasBytesWithin, IsNextTouched, last_touch};
 
 use crate::fault::JournalFault;
 use crate::group::Group;
@@ -43,7 +43,7 @@ pub struct Area {
 impl Model for Area {
     ghost use Rattle.std.specs.Prelude.{◌+◌, ◌<◌, ◌^◌};
     ghost use Rattle.journal.specs.Area.{AreaState};
-    ghost use Rattle.journal.specs.Scanning.{AreWithin};
+    ghost use Rattle.journal.specs.Touches.{AreWithin};
 
     ghost Value = { AreaState };
 
@@ -57,7 +57,7 @@ impl Model for Area {
     } };
 
     ghost invariant = { λ area. (area.from + area.bytes < 2 ^ 64) × (area.gate < area.bytes)
-        × AreWithin (area.from + area.bytes) area.touched.items };
+        × AreWithin area.from (area.from + area.bytes) area.touched.items };
 }
 
 impl Area {
@@ -77,6 +77,13 @@ impl Area {
             touched: Vec::new(alloc),
             buffer: Vec::new(alloc),
         }
+    }
+
+    /// The area's first byte on the device.
+    pub fn start(&self) -> u64
+        ensures { result ≡ self.now.from }
+    {
+        self.from
     }
 
     /// The number that the next group has to begin with; 0 where no number is left.
@@ -246,10 +253,18 @@ impl Area {
         Ok(())
     }
 
+    /// What the commands of the area's list touched, in their order.
+    pub fn touched(&self) -> &[TouchedRange]
+        ensures value { result.now ≡ self.now.touched }
+        ensures within { (end : ℕ) → self.now.from + self.now.bytes ≤ end → AreWithin self.now.from end self.now.touched }
+    {
+        &self.touched
+    }
+
     /// The last touch of the block by a command of the area's list; none where no command touches it.
     pub fn last_touch(&self, block: u64) -> Option<Touch>
         ensures exact { result ≡ last_touch block self.now.touched }
-        ensures readable { IfSome result (HasBytesWithin (self.now.from + self.now.bytes) 1) }
+        ensures readable { IfSome result (HasBytesWithin self.now.from (self.now.from + self.now.bytes) 1) }
     {
         let mut index = self.touched.len();
         while index > 0 {
@@ -275,7 +290,7 @@ impl Area {
             → IfSome result (λ touch. last_touch block self.now.touched ≡ Some touch) }
         ensures none { last_touch block (drop (index + 1) self.now.touched) ≡ None
             → IfNone result (last_touch block (drop index self.now.touched) ≡ None) }
-        ensures readable { IfSome result (HasBytesWithin (self.now.from + self.now.bytes) 1) }
+        ensures readable { IfSome result (HasBytesWithin self.now.from (self.now.from + self.now.bytes) 1) }
     {
         self.touched[index].of_block(block)
     }

@@ -2,8 +2,7 @@ ghost use Rattle.std.specs.Prelude.{◌≡◌, ℕ, take, ◌+◌, ◌≤◌, �
 ghost use Rattle.image_model.specs.Change.{change_of};
 ghost use Rattle.image_model.specs.Command.{bodies_of, body_of};
 ghost use Rattle.journal.specs.Group.{IsGroup, number_after};
-ghost use Rattle.journal.specs.Scanning.{AreWithin};
-ghost use Rattle.journal.specs.Touches.{touched_by, touched_by_changes};
+ghost use Rattle.journal.specs.Touches.{AreWithin, touched_by, touched_by_changes};
 ghost use Rattle.journal.specs.Spelling.{stored_of, clear_byte, change_head, change_bytes, group_head, group_bytes};
 
 use crate::scan::COMMAND_HEAD_BYTES;
@@ -117,8 +116,8 @@ impl Group {
         requires { place + bodies_of self.now.commands < 2 ^ 64 }
         ensures noted { OnOk result (touched.new.items ≡ touched.old.items ++ touched_by_changes place (stored_of self.now).changes) }
         ensures begins { take (length touched.old.items) touched.new.items ≡ touched.old.items }
-        ensures within { (end : ℕ) → place + bodies_of self.now.commands ≤ end → AreWithin end touched.old.items
-            → AreWithin end touched.new.items }
+        ensures within { (from end : ℕ) → from ≤ place → place + bodies_of self.now.commands ≤ end → AreWithin from end touched.old.items
+            → AreWithin from end touched.new.items }
     {
         let mut place = place;
         for command in &self.commands {

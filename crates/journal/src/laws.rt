@@ -1,9 +1,11 @@
-ghost use Rattle.std.specs.Prelude.{◌≡◌, ℕ, ◌+◌, ◌*◌, ◌<◌, ◌^◌, List};
+ghost use Rattle.std.specs.Prelude.{◌≡◌, ℕ, ◌+◌, ◌*◌, ◌<◌, ◌≤◌, ◌^◌, List, Some};
 ghost use Rattle.image_model.specs.Image.{Image, apply_all};
 ghost use Rattle.journal.specs.Area.{AreaState};
 ghost use Rattle.journal.specs.GroupList.{IsDamaged, IsList, changes_of};
 ghost use Rattle.journal.specs.Spelling.{StoredGroup};
-ghost use Rattle.journal.specs.Touches.{byte_after_touch, kind_after, last_touch, touched_by_groups};
+ghost use Rattle.journal.specs.declared.touch.Touch.TheVariants.{Put};
+ghost use Rattle.journal.specs.declared.touch.TouchedRange.{TouchedRange};
+ghost use Rattle.journal.specs.Touches.{AreWithin, byte_after_touch, kind_after, last_touch, touched_by_groups};
 
 /// A law: the bytes of an area hold at most one list of groups, where its first number is known.
 pub fn holds_one_list()
@@ -27,4 +29,11 @@ pub fn last_touches_tell()
         → area.touched ≡ touched_by_groups area.from groups → (image : Image) (block offset : ℕ) → offset < 4096
         → (apply_all (changes_of groups) image).byte (4096 * block + offset)
         ≡ byte_after_touch (last_touch block area.touched) content offset (image.byte (4096 * block + offset)) }
+{}
+
+/// A law: where the bytes of all puts stand between two places of the device, so do those of a block whose last touch is
+/// a put.
+pub fn last_puts_within()
+    ensures { (from end block place : ℕ) (touched : List TouchedRange) → AreWithin from end touched
+        → last_touch block touched ≡ Some (Put place) → (from ≤ place) × (place + 4096 ≤ end) }
 {}

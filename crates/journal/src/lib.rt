@@ -12,6 +12,6 @@ mod window;
 pub use area::Area;
 pub use fault::JournalFault;
 pub use group::Group;
-pub use laws::{damaged_holds_none, holds_one_list, last_touches_tell};
+pub use laws::{damaged_holds_none, holds_one_list, last_puts_within, last_touches_tell};
 pub use scan::MOST_BODY_BYTES;
-pub use touch::Touch;
+pub use touch::{Touch, TouchedRange};

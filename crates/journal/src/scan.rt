@@ -3,9 +3,9 @@ ghost use Rattle.disk_model.specs.Faults.{faults_after};
 ghost use Rattle.journal.specs.Append.{faults_by};
 ghost use Rattle.journal.specs.GroupList.{IsOpen, StandsAt};
 ghost use Rattle.journal.specs.Reading.{IsOnlyRead};
-ghost use Rattle.journal.specs.Scanning.{AreWithin, FoundChange, FoundChanges, FoundGroup, FoundList, HasNoChange, HasNoChanges, HasNoGroup, IsHead, IsNextHead, touch_of_head, IsReadAs, IsScanFault, IsScanned, FoundDamage};
+ghost use Rattle.journal.specs.Scanning.{FoundChange, FoundChanges, FoundGroup, FoundList, HasNoChange, HasNoChanges, HasNoGroup, IsHead, IsNextHead, touch_of_head, IsReadAs, IsScanFault, IsScanned, FoundDamage};
 ghost use Rattle.journal.specs.Spelling.{change_head, group_head};
-ghost use Rattle.journal.specs.Touches.{EndsWithin};
+ghost use Rattle.journal.specs.Touches.{AreWithin, IsWithin};
 
 use crate::area::GROUP_HEAD_BYTES;
 use crate::fault::JournalFault;
@@ -89,7 +89,7 @@ impl Place {
         ensures honest { D.honest disk.new ↔ D.honest disk.old }
         ensures only_read { D.honest disk.old → IsOnlyRead (D.state disk.old) (D.state disk.new) }
         ensures inside { IfOk result (λ end. end.gate < self.now.bytes) }
-        ensures within { OnOk result (AreWithin (self.now.from + self.now.bytes) touched.new.items) }
+        ensures within { OnOk result (AreWithin self.now.from (self.now.from + self.now.bytes) touched.new.items) }
         ensures found { D.honest disk.old → (content : List ℕ) → IsScanned content (D.state disk.old) self.now.from self.now.bytes
             → IfOk result (λ end. FoundList self.now.blocks content self.now.from next end.gate end.next touched.new.items) }
         ensures damaged { D.honest disk.old → (content : List ℕ) → IsScanned content (D.state disk.old) self.now.from self.now.bytes
@@ -122,8 +122,8 @@ impl Place {
         ensures read_as { D.honest disk.old → (content : List ℕ) → IsReadAs content (D.state disk.old) self.now.from self.now.bytes window.old
             → IsReadAs content (D.state disk.new) self.now.from self.now.bytes window.new }
         ensures later { IfOk result (λ found. IfSome found (λ behind. (at.gate < behind.gate) × (behind.gate < self.now.bytes))) }
-        ensures within { OnOk result (AreWithin (self.now.from + self.now.bytes) touched.old.items
-            → AreWithin (self.now.from + self.now.bytes) touched.new.items) }
+        ensures within { OnOk result (AreWithin self.now.from (self.now.from + self.now.bytes) touched.old.items
+            → AreWithin self.now.from (self.now.from + self.now.bytes) touched.new.items) }
         ensures same { IfOk result (λ found. IfNone found (touched.new.items ≡ touched.old.items)) }
         ensures closed { D.honest disk.old → (content : List ℕ) → IsReadAs content (D.state disk.old) self.now.from self.now.bytes window.old
             → IfOk result (λ found. IfNone found (IsOpen content (self.now.from + at.gate) → ⊥)) }
@@ -160,8 +160,8 @@ impl Place {
         ensures read_as { D.honest disk.old → (content : List ℕ) → IsReadAs content (D.state disk.old) self.now.from self.now.bytes window.old
             → IsReadAs content (D.state disk.new) self.now.from self.now.bytes window.new }
         ensures later { IfOk result (λ behind. (at.gate < behind.gate) × (behind.gate < self.now.bytes)) }
-        ensures within { OnOk result (AreWithin (self.now.from + self.now.bytes) touched.old.items
-            → AreWithin (self.now.from + self.now.bytes) touched.new.items) }
+        ensures within { OnOk result (AreWithin self.now.from (self.now.from + self.now.bytes) touched.old.items
+            → AreWithin self.now.from (self.now.from + self.now.bytes) touched.new.items) }
         ensures found { D.honest disk.old → (content : List ℕ) → IsReadAs content (D.state disk.old) self.now.from self.now.bytes window.old
             → IsOpen content (self.now.from + at.gate)
             → IfOk result (λ behind. FoundGroup self.now.blocks content (self.now.from + at.gate) at.next
@@ -206,8 +206,8 @@ impl Place {
         ensures only_read { D.honest disk.old → IsOnlyRead (D.state disk.old) (D.state disk.new) }
         ensures read_as { D.honest disk.old → (content : List ℕ) → IsReadAs content (D.state disk.old) self.now.from self.now.bytes window.old
             → IsReadAs content (D.state disk.new) self.now.from self.now.bytes window.new }
-        ensures within { OnOk result (AreWithin (self.now.from + self.now.bytes) touched.old.items
-            → AreWithin (self.now.from + self.now.bytes) touched.new.items) }
+        ensures within { OnOk result (AreWithin self.now.from (self.now.from + self.now.bytes) touched.old.items
+            → AreWithin self.now.from (self.now.from + self.now.bytes) touched.new.items) }
         ensures found { D.honest disk.old → (content : List ℕ) → IsReadAs content (D.state disk.old) self.now.from self.now.bytes window.old
             → OnOk result (FoundChanges self.now.blocks content (self.now.from + from) (self.now.from + end) count
             touched.old.items touched.new.items) }
@@ -248,7 +248,7 @@ impl Place {
         ensures read_as { D.honest disk.old → (content : List ℕ) → IsReadAs content (D.state disk.old) self.now.from self.now.bytes window.old
             → IsReadAs content (D.state disk.new) self.now.from self.now.bytes window.new }
         ensures inside { IfOk result (λ found. (place ≤ found.end) × (found.end ≤ end)) }
-        ensures within { IfOk result (λ found. EndsWithin (self.now.from + found.end) found.range) }
+        ensures within { IfOk result (λ found. IsWithin self.now.from (self.now.from + found.end) found.range) }
         ensures found { D.honest disk.old → (content : List ℕ) → IsReadAs content (D.state disk.old) self.now.from self.now.bytes window.old
             → IfOk result (λ found. FoundChange self.now.blocks content (self.now.from + place) (self.now.from + found.end) found.range) }
         ensures damaged { D.honest disk.old → (content : List ℕ) → IsReadAs content (D.state disk.old) self.now.from self.now.bytes window.old

@@ -1,5 +1,5 @@
 ghost use Rattle.std.specs.Prelude.{◌≡◌, ℕ, IfSome, ◌+◌, ◌*◌, ◌<◌, ◌^◌, [], ◌∷◌, ◌++◌, OnOk, OnErr};
-ghost use Rattle.journal.specs.Touches.{EndsWithin, HasBytesWithin, IsNextTouched, earlier, touch_in};
+ghost use Rattle.journal.specs.Touches.{HasBytesWithin, IsNextTouched, IsWithin, earlier, touch_in};
 
 use image_model::{BLOCK_BYTES, Kind};
 use std::alloc::AllocError;
@@ -27,9 +27,9 @@ pub struct TouchedRange {
 impl TouchedRange {
     // What the range says of the block; none where the block isn't in it.
     pub fn of_block(self, block: u64) -> Option<Touch>
-        requires { EndsWithin 18446744073709551615 self }
+        requires { IsWithin 0 18446744073709551615 self }
         ensures exact { result ≡ touch_in block self }
-        ensures readable { (end : ℕ) → EndsWithin end self → IfSome result (HasBytesWithin end 1) }
+        ensures readable { (from end : ℕ) → IsWithin from end self → IfSome result (HasBytesWithin from end 1) }
     {
         if block < self.first || block - self.first >= self.blocks as u64 {
             return None;

@@ -2,13 +2,14 @@
 #![tactic(auto)]
 
 ghost use Rattle.std.specs.Prelude.{◌≤◌};
-ghost use Rattle.last_touches.specs.Touches.{AreWithin};
+ghost use Rattle.journal.specs.Touches.{AreWithin};
 
 mod scanning;
 mod touches;
 
 use anyhow::Result;
-use last_touches::{LastTouches, TouchedRange};
+use journal::TouchedRange;
+use last_touches::LastTouches;
 use std::alloc::Global;
 use std::env;
 use std::time::Instant;
@@ -23,10 +24,10 @@ fn measure_touches(
     name: &str,
     touched: &[TouchedRange],
 ) -> Result<()>
-    requires { AreWithin 4294967295 touched.now }
+    requires { AreWithin 0 4294967295 touched.now }
 {
     let begin = Instant::now(rt)?;
-    let touches = LastTouches::resolve(alloc, touched, BLOCKS)?;
+    let touches = LastTouches::resolve(alloc, 0, touched, BLOCKS)?;
     let resolving = begin.elapsed(rt)?.as_millis();
     let begin = Instant::now(rt)?;
     let (puts, blocks) = touches::copied(&touches);

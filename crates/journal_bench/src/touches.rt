@@ -1,9 +1,10 @@
 ghost use Rattle.std.specs.Prelude.{◌≡◌, ◌+◌, ◌*◌, ◌≤◌, ◌<◌, ◌^◌, IfOk};
-ghost use Rattle.last_touches.specs.Touches.{AreWithin, HasBytesWithin};
+ghost use Rattle.journal.specs.Touches.{AreWithin, IsWithin};
 
 use anyhow::Result;
 use image_model::Kind;
-use last_touches::{LastTouches, Touch, TouchedRange};
+use journal::{Touch, TouchedRange};
+use last_touches::LastTouches;
 use std::alloc::{AllocError, Global};
 
 /// The bytes of a put of 4 KiB in a group, with its head.
@@ -18,12 +19,12 @@ const CLEARS: u32 = 161_000;
 // The `index`-th put of 4 KiB in an area.
 fn put(first: u64, index: u32) -> TouchedRange
     requires { index < 1000000 }
-    ensures { HasBytesWithin 4294967295 result.blocks result.touch }
+    ensures { IsWithin 0 4294967295 result }
 {
     TouchedRange {
         first,
         blocks: 1,
-        touch: Touch::Put(30 + PUT_BYTES * index),
+        touch: Touch::Put(30 + (PUT_BYTES * index) as u64),
     }
 }
 
@@ -36,7 +37,7 @@ fn following(number: u64) -> u64 {
 
 /// A clear of all blocks of the largest image.
 pub fn clear() -> TouchedRange
-    ensures { HasBytesWithin 4294967295 result.blocks result.touch }
+    ensures { IsWithin 0 4294967295 result }
 {
     TouchedRange {
         first: 0,
@@ -47,8 +48,8 @@ pub fn clear() -> TouchedRange
 
 /// Puts of 4 KiB at random blocks of the largest image, over what was touched first.
 pub fn random_puts(alloc: Global, first: &[TouchedRange]) -> Result<Vec<TouchedRange>, AllocError>
-    requires { AreWithin 4294967295 first.now }
-    ensures { IfOk result (λ touched. AreWithin 4294967295 touched.items) }
+    requires { AreWithin 0 4294967295 first.now }
+    ensures { IfOk result (λ touched. AreWithin 0 4294967295 touched.items) }
 {
     let mut touched = Vec::with_capacity(alloc, PUTS as usize + 1)?;
     touched.extend_from_slice(first)?;
@@ -62,7 +63,7 @@ pub fn random_puts(alloc: Global, first: &[TouchedRange]) -> Result<Vec<TouchedR
 
 /// Clears of all blocks of the largest image, each followed by a put of 4 KiB at a random block.
 pub fn clears_and_puts(alloc: Global) -> Result<Vec<TouchedRange>, AllocError>
-    ensures { IfOk result (λ touched. AreWithin 4294967295 touched.items) }
+    ensures { IfOk result (λ touched. AreWithin 0 4294967295 touched.items) }
 {
     let mut touched = Vec::with_capacity(alloc, 2 * CLEARS as usize)?;
     let mut number = 1;
@@ -90,7 +91,7 @@ pub fn copied(touches: &LastTouches) -> (u32, u64) {
 
 // Puts and clears over one another in an image of 30 blocks.
 fn example(alloc: Global) -> Result<Vec<TouchedRange>, AllocError>
-    ensures { IfOk result (λ touched. AreWithin 4294967295 touched.items) }
+    ensures { IfOk result (λ touched. AreWithin 0 4294967295 touched.items) }
 {
     Ok(vec![in alloc;
         TouchedRange {
@@ -133,7 +134,7 @@ fn example(alloc: Global) -> Result<Vec<TouchedRange>, AllocError>
 
 /// What is resolved of them: the ranges, the number of blocks to copy, and the next put from some blocks on.
 pub fn print_example(rt: &impl Print, alloc: Global) -> Result<()> {
-    let touches = LastTouches::resolve(alloc, &example(alloc)?, 30)?;
+    let touches = LastTouches::resolve(alloc, 0, &example(alloc)?, 30)?;
     for range in touches.ranges() {
         println!(rt;
             "{} blocks from {}: {:?}",

@@ -2,8 +2,8 @@
 use Rattle.std.proofs.Common.{◌≡◌, ℕ, zero, suc, ◌+◌, ◌-◌, ◌≤◌, ◌<◌, Bool, true, false, cond, count_by, sum_by, Option, Some, List, [], ◌∷◌, sym, ◌∙◌, ap, refl, arith}
 use Rattle.std.specs.List.{range_with_len}
 use Rattle.std.proofs.lemmas.List.Sums.{sum_by-append, sum_by-cons}
-use Rattle.last_touches.specs.declared.touch.Touch.{Touch}
-use Rattle.last_touches.specs.declared.touch.Touch.TheVariants.{Put, Clear}
+use Rattle.last_touches.specs.declared.touch.LastTouch.{LastTouch}
+use Rattle.last_touches.specs.declared.touch.LastTouch.TheVariants.{Put, Clear}
 use Rattle.last_touches.specs.declared.range.LastRange.{LastRange}
 use Rattle.last_touches.specs.declared.range.PutRange.{PutRange}
 use Rattle.last_touches.specs.Touches.{touch_within}
@@ -60,7 +60,7 @@ counted_same p q from (suc n) same =
     omega (arith, rest, counted_one p from n, counted_one q from n, one)
 
 -- the blocks of a range
-blocks_of_put : (p : ℕ → Bool) (first blocks : ℕ) (touch : Touch) → ((k : ℕ) → first ≤ k → k < first + blocks → p k ≡ is_put (Some (touch_within (k - first) touch)))
+blocks_of_put : (p : ℕ → Bool) (first blocks : ℕ) (touch : LastTouch) → ((k : ℕ) → first ≤ k → k < first + blocks → p k ≡ is_put (Some (touch_within (k - first) touch)))
     → counted p first blocks ≡ sum_by (λ (put : PutRange). put.blocks) (put_of first blocks touch)
 blocks_of_put p first blocks (Put place) same = counted_all p first blocks same ∙ omega arith
 blocks_of_put p first blocks (Clear kind) same = counted_nothing p first blocks same
@@ -73,10 +73,10 @@ counted_puts from to n (range ∷ ranges) apart is =
     let end = range.first + range.blocks in
     let order = AreRanges-order end to ranges apart.2 in
     let before = counted_nothing p from (range.first - from)
-    (λ k low high. ap (λ (t : Option Touch). is_put t) (said_by_none_before k range.first to (range ∷ ranges) (omega arith, apart.1, apart.2) (omega (arith, high, apart.0)))) in
+    (λ k low high. ap (λ (t : Option LastTouch). is_put t) (said_by_none_before k range.first to (range ∷ ranges) (omega arith, apart.1, apart.2) (omega (arith, high, apart.0)))) in
     let own = blocks_of_put p range.first range.blocks range.touch
-    (λ k low high. ap (λ (t : Option Touch). is_put t) (touch_at_first from to range ranges k apart high ∙ said_inside range.first range.blocks range.touch k low high)) in
-    let behind = counted_same p (λ block. is_put (touch_at block ranges)) end (to - end) (λ k low. ap (λ (t : Option Touch). is_put t) (touch_at_rest range ranges k low))
+    (λ k low high. ap (λ (t : Option LastTouch). is_put t) (touch_at_first from to range ranges k apart high ∙ said_inside range.first range.blocks range.touch k low high)) in
+    let behind = counted_same p (λ block. is_put (touch_at block ranges)) end (to - end) (λ k low. ap (λ (t : Option LastTouch). is_put t) (touch_at_rest range ranges k low))
     ∙ counted_puts end to (to - end) ranges apart.2 (omega (arith, order)) in
     let parts = counted_parts p from (range.first - from) (n - (range.first - from)) n range.first (omega (arith, is, apart.0, order)) (omega (arith, apart.0)) in
     let rest = counted_parts p range.first range.blocks (to - end) (n - (range.first - from)) end (omega (arith, is, apart.0, order)) refl in
@@ -87,7 +87,7 @@ unfolding counted
 counted_is p from n = refl
 
 -- they are no more than there are blocks
-own_within : (first blocks : ℕ) (touch : Touch) → sum_by (λ (put : PutRange). put.blocks) (put_of first blocks touch) ≤ blocks
+own_within : (first blocks : ℕ) (touch : LastTouch) → sum_by (λ (put : PutRange). put.blocks) (put_of first blocks touch) ≤ blocks
 own_within first blocks (Put place) = omega arith
 own_within first blocks (Clear kind) = omega arith
 

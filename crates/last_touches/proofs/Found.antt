@@ -5,8 +5,8 @@ use Rattle.std.specs.List.Sorted.{IsNonDecreasingBy}
 use Rattle.std.proofs.lemmas.Bool.{cases_lt}
 use Rattle.std.proofs.lemmas.List.{get_or_default}
 use Rattle.image_model.specs.Image.{covers}
-use Rattle.last_touches.specs.declared.touch.Touch.{Touch}
-use Rattle.last_touches.specs.declared.touch.Touch.TheVariants.{Put, Clear}
+use Rattle.last_touches.specs.declared.touch.LastTouch.{LastTouch}
+use Rattle.last_touches.specs.declared.touch.LastTouch.TheVariants.{Put, Clear}
 use Rattle.last_touches.specs.declared.range.LastRange.{LastRange}
 use Rattle.last_touches.specs.declared.range.PutRange.{PutRange}
 use Rattle.last_touches.specs.Touches.{HasBytesWithin, later, said_by, touch_within}
@@ -56,7 +56,7 @@ touch_behind range to (next ∷ ranges) apart ends more = ⊎_elim
     let said = touch_at_first (range.first + range.blocks) to next ranges (range.first + range.blocks) apart inside
     ∙ said_inside next.first next.blocks next.touch (range.first + range.blocks) close inside in
     let none : range.first + range.blocks - next.first ≡ 0 = omega (arith, begins) in
-    let touch = same_some (sym more ∙ said ∙ ap (λ (n : ℕ). Some (touch_within n next.touch)) none ∙ ap (λ (t : Touch). Some t) (touch_within_zero next.touch)) in
+    let touch = same_some (sym more ∙ said ∙ ap (λ (n : ℕ). Some (touch_within n next.touch)) none ∙ ap (λ (t : LastTouch). Some t) (touch_within_zero next.touch)) in
     ends (begins, touch))
     (cases_lt (range.first + range.blocks) next.first)
 
@@ -66,7 +66,7 @@ found_own first blocks place from to range ranges is apart ends =
     let first_is = ap (λ (r : LastRange). r.first) is in
     let blocks_is = ap (λ (r : LastRange). r.blocks) is in
     let touch_is = ap (λ (r : LastRange). r.touch) is in
-    let bytes : HasBytesWithin 4294967295 range.blocks (Put place) = subst (λ (t : Touch). HasBytesWithin 4294967295 range.blocks t) touch_is apart.1.bytes_fit in
+    let bytes : HasBytesWithin 4294967295 range.blocks (Put place) = subst (λ (t : LastTouch). HasBytesWithin 4294967295 range.blocks t) touch_is apart.1.bytes_fit in
     record {
       behind = omega (arith, apart.0, first_is);
       some = omega (arith, apart.1.some, blocks_is);
@@ -75,7 +75,7 @@ found_own first blocks place from to range ranges is apart ends =
       puts = λ block low high.
           touch_at_first from to range ranges block apart (omega (arith, high, first_is, blocks_is))
           ∙ said_inside range.first range.blocks range.touch block (omega (arith, low, first_is)) (omega (arith, high, first_is, blocks_is))
-          ∙ ap (λ (t : Touch). Some (touch_within (block - range.first) t)) touch_is
+          ∙ ap (λ (t : LastTouch). Some (touch_within (block - range.first) t)) touch_is
           ∙ ap (λ (n : ℕ). Some (Put (place + 4096 * (block - n)))) first_is;
       longest = λ more.
           let at : first + blocks ≡ range.first + range.blocks = omega (arith, first_is, blocks_is) in
@@ -83,10 +83,10 @@ found_own first blocks place from to range ranges is apart ends =
           (sym (touch_at_rest range ranges (range.first + range.blocks) (omega arith))
           ∙ ap (λ (n : ℕ). touch_at n (range ∷ ranges)) (sym at) ∙ more
           ∙ ap (λ (n : ℕ). Some (Put (place + 4096 * n))) (sym blocks_is)
-          ∙ ap (λ (t : Touch). Some (touch_within range.blocks t)) (sym touch_is));
+          ∙ ap (λ (t : LastTouch). Some (touch_within range.blocks t)) (sym touch_is));
     }
 
-found_first : (first blocks : ℕ) (touch : Touch) (from to : ℕ) (range : LastRange) (ranges : List LastRange) → range ≡ record { first = first; blocks = blocks; touch = touch } → AreRanges from to (range ∷ ranges) → EndsBefore range ranges
+found_first : (first blocks : ℕ) (touch : LastTouch) (from to : ℕ) (range : LastRange) (ranges : List LastRange) → range ≡ record { first = first; blocks = blocks; touch = touch } → AreRanges from to (range ∷ ranges) → EndsBefore range ranges
     → All (IsFound from (range ∷ ranges)) (puts_of ranges) → All (IsFound from (range ∷ ranges)) (put_of first blocks touch ++ puts_of ranges)
 found_first first blocks (Put place) from to range ranges is apart ends rest = All-cons (IsFound from (range ∷ ranges)) _ (puts_of ranges) (found_own first blocks place from to range ranges is apart ends) rest
 found_first first blocks (Clear kind) from to range ranges is apart ends rest = rest
@@ -114,7 +114,7 @@ ascending_cons put puts behind ascending = record {
   firsts = NonDecreasing-cons (λ put. put.first) put puts (All-weaker (λ (next : PutRange). put.first + put.blocks ≤ next.first) (λ (next : PutRange). put.first ≤ next.first) puts (λ next after. omega (arith, after)) behind) ascending.firsts;
 }
 
-ascending_first : (first blocks : ℕ) (touch : Touch) (puts : List PutRange) → All (λ next. first + blocks ≤ next.first) puts → AreAscending puts → AreAscending (put_of first blocks touch ++ puts)
+ascending_first : (first blocks : ℕ) (touch : LastTouch) (puts : List PutRange) → All (λ next. first + blocks ≤ next.first) puts → AreAscending puts → AreAscending (put_of first blocks touch ++ puts)
 ascending_first first blocks (Put place) puts behind ascending = ascending_cons _ puts behind ascending
 ascending_first first blocks (Clear kind) puts behind ascending = ascending
 
@@ -129,21 +129,21 @@ ascending_puts from to (range ∷ ranges) apart longest =
 abbrev pub Misses : ℕ → PutRange → Type 0
 Misses block put = put.first ≤ block → block < put.first + put.blocks → ⊥
 
-no_put_later : (a b : Option Touch) → is_put a ≡ false → is_put b ≡ false → is_put (later a b) ≡ false
+no_put_later : (a b : Option LastTouch) → is_put a ≡ false → is_put b ≡ false → is_put (later a b) ≡ false
 no_put_later a None first second = first
 no_put_later a (Some touch) first second = second
 
-no_put_cleared : (test : Bool) (touch : Touch) → is_put (Some touch) ≡ false → is_put (if test then Some touch else None) ≡ false
+no_put_cleared : (test : Bool) (touch : LastTouch) → is_put (Some touch) ≡ false → is_put (if test then Some touch else None) ≡ false
 no_put_cleared true touch none = none
 no_put_cleared false touch none = refl
 
-no_put_first : (first blocks : ℕ) (touch : Touch) (puts : List PutRange) (block : ℕ) → All (Misses block) (put_of first blocks touch ++ puts)
+no_put_first : (first blocks : ℕ) (touch : LastTouch) (puts : List PutRange) (block : ℕ) → All (Misses block) (put_of first blocks touch ++ puts)
     → (is_put (said_by first blocks touch block) ≡ false) × All (Misses block) puts
 no_put_first first blocks (Put place) puts block all =
     let misses = all 0 (record { first = first; blocks = blocks; place = place }) (omega arith) in (
       ⊎_elim
-          (λ low. ap (λ (t : Option Touch). is_put t) (said_before first blocks (Put place) block low))
-          (λ high. ⊎_elim (λ inside. absurd (misses high inside)) (λ behind. ap (λ (t : Option Touch). is_put t) (said_behind first blocks (Put place) block behind)) (cases_lt block (first + blocks)))
+          (λ low. ap (λ (t : Option LastTouch). is_put t) (said_before first blocks (Put place) block low))
+          (λ high. ⊎_elim (λ inside. absurd (misses high inside)) (λ behind. ap (λ (t : Option LastTouch). is_put t) (said_behind first blocks (Put place) block behind)) (cases_lt block (first + blocks)))
           (cases_lt block first),
       All-tail (Misses block) _ puts all,
     )

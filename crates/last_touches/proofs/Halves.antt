@@ -1,25 +1,32 @@
 -- The last touches of a list by those of its halves.
-use Rattle.std.proofs.Common.{◌≡◌, ℕ, Bool, true, false, if◌then◌else◌, nat_lt, Option, None, List, ◌++◌, sym, ◌∙◌, ap, refl}
-use Rattle.last_touches.specs.declared.touch.Touch.{Touch}
-use Rattle.last_touches.specs.declared.touch.TouchedRange.{TouchedRange}
+use Rattle.std.proofs.Common.{◌≡◌, ℕ, Option, Some, None, List, ◌++◌, sym, ◌∙◌, ap, refl}
+use Rattle.journal.specs.declared.touch.Touch.{Touch}
+use Rattle.journal.specs.declared.touch.TouchedRange.{TouchedRange}
+use Rattle.journal.specs.Touches as journal
+use Rattle.journal.proofs.LastTouches.{last_touch-append}
+use Rattle.last_touches.specs.declared.touch.LastTouch.{LastTouch}
 use Rattle.last_touches.specs.declared.range.LastRange.{LastRange}
-use Rattle.last_touches.specs.Touches.{last_touch, later}
+use Rattle.last_touches.specs.Touches.{later, touch_on_device}
 use Rattle.last_touches.specs.Ranges.{AreLaidOver, AreLastTouches, touch_at}
-use Rattle.last_touches.proofs.Said.{last_touch-append}
 
-later_if : (test : Bool) (first second : Option Touch) → later (if test then first else None) (if test then second else None) ≡ (if test then later first second else None)
-later_if true first second = refl
-later_if false first second = refl
+later_on_device : (from : ℕ) (first second : Option LastTouch) → touch_on_device from (later first second) ≡ journal.later (touch_on_device from first) (touch_on_device from second)
+later_on_device from first None = refl
+later_on_device from first (Some second) = refl
 
-pub laid_halves : (blocks : ℕ) (touched earlier behind : List TouchedRange) (older newer ranges : List LastRange) → earlier ++ behind ≡ touched
-    → AreLastTouches blocks earlier older → AreLastTouches blocks behind newer → AreLaidOver older newer ranges → AreLastTouches blocks touched ranges
-laid_halves blocks touched earlier behind older newer ranges are one two laid = record {
+pub laid_halves : (from blocks : ℕ) (touched earlier behind : List TouchedRange) (older newer ranges : List LastRange) → earlier ++ behind ≡ touched
+    → AreLastTouches from blocks earlier older → AreLastTouches from blocks behind newer → AreLaidOver older newer ranges → AreLastTouches from blocks touched ranges
+laid_halves from blocks touched earlier behind older newer ranges are one two laid = record {
   apart = laid.apart;
   longest = laid.longest;
-  exact = λ block.
+  exact = λ block below.
+      ap (touch_on_device from) (laid.exact block)
+      ∙ later_on_device from (touch_at block older) (touch_at block newer)
+      ∙ ap (λ (t : Option Touch). journal.later t (touch_on_device from (touch_at block newer))) (one.exact block below)
+      ∙ ap (λ (t : Option Touch). journal.later (journal.last_touch block earlier) t) (two.exact block below)
+      ∙ sym (last_touch-append block earlier behind)
+      ∙ ap (λ (l : List TouchedRange). journal.last_touch block l) are;
+  none = λ block high.
       laid.exact block
-      ∙ ap (λ (t : Option Touch). later t (touch_at block newer)) (one.exact block)
-      ∙ ap (λ (t : Option Touch). later (if nat_lt block blocks then last_touch block earlier else None) t) (two.exact block)
-      ∙ later_if (nat_lt block blocks) (last_touch block earlier) (last_touch block behind)
-      ∙ ap (λ (t : Option Touch). if nat_lt block blocks then t else None) (sym (last_touch-append block earlier behind) ∙ ap (λ (l : List TouchedRange). last_touch block l) are);
+      ∙ ap (λ (t : Option LastTouch). later t (touch_at block newer)) (one.none block high)
+      ∙ ap (λ (t : Option LastTouch). later None t) (two.none block high);
 }

@@ -1,7 +1,7 @@
 -- One more range behind others.
 use Rattle.std.proofs.Common.{◌≡◌, ⊎_elim, ℕ, ◌+◌, ◌-◌, ◌≤◌, Option, Some, None, List, [], ◌∷◌, ◌++◌, sym, ◌∙◌, ap, subst, refl, arith}
 use Rattle.std.proofs.lemmas.Bool.{cases_lt}
-use Rattle.last_touches.specs.declared.touch.Touch.{Touch}
+use Rattle.last_touches.specs.declared.touch.LastTouch.{LastTouch}
 use Rattle.last_touches.specs.declared.range.LastRange.{LastRange}
 use Rattle.last_touches.specs.Touches.{later, said_by, touch_within}
 use Rattle.last_touches.specs.Ranges.{AreLongest, AreRanges, GoesOn, IsRange, touch_at}
@@ -36,21 +36,21 @@ pub said_by_both : (last range : LastRange) → GoesOn last range → (block : �
     → said_by last.first (last.blocks + range.blocks) last.touch block ≡ later (said_by last.first last.blocks last.touch block) (said_by range.first range.blocks range.touch block)
 said_by_both last range goes_on block = ⊎_elim
     (λ low. said_before last.first (last.blocks + range.blocks) last.touch block low
-    ∙ sym (ap (λ (t : Option Touch). later t (said_by range.first range.blocks range.touch block)) (said_before last.first last.blocks last.touch block low)
-    ∙ ap (λ (t : Option Touch). later None t) (said_before range.first range.blocks range.touch block (omega (arith, low, goes_on.0)))))
+    ∙ sym (ap (λ (t : Option LastTouch). later t (said_by range.first range.blocks range.touch block)) (said_before last.first last.blocks last.touch block low)
+    ∙ ap (λ (t : Option LastTouch). later None t) (said_before range.first range.blocks range.touch block (omega (arith, low, goes_on.0)))))
     (λ high. ⊎_elim
     (λ inside. said_inside last.first (last.blocks + range.blocks) last.touch block high (omega (arith, inside))
-    ∙ sym (ap (λ (t : Option Touch). later (said_by last.first last.blocks last.touch block) t) (said_before range.first range.blocks range.touch block (omega (arith, inside, goes_on.0)))
+    ∙ sym (ap (λ (t : Option LastTouch). later (said_by last.first last.blocks last.touch block) t) (said_before range.first range.blocks range.touch block (omega (arith, inside, goes_on.0)))
     ∙ said_inside last.first last.blocks last.touch block high inside))
     (λ behind. ⊎_elim
     (λ within. said_inside last.first (last.blocks + range.blocks) last.touch block high (omega (arith, within, goes_on.0))
-    ∙ ap (λ (t : Touch). Some t)
+    ∙ ap (λ (t : LastTouch). Some t)
     (sym (touch_within-touch_within (block - range.first) last.blocks (block - last.first) last.touch (omega (arith, behind, goes_on.0)))
-    ∙ ap (λ (t : Touch). touch_within (block - range.first) t) goes_on.1)
-    ∙ sym (ap (λ (t : Option Touch). later (said_by last.first last.blocks last.touch block) t) (said_inside range.first range.blocks range.touch block (omega (arith, behind, goes_on.0)) within)))
+    ∙ ap (λ (t : LastTouch). touch_within (block - range.first) t) goes_on.1)
+    ∙ sym (ap (λ (t : Option LastTouch). later (said_by last.first last.blocks last.touch block) t) (said_inside range.first range.blocks range.touch block (omega (arith, behind, goes_on.0)) within)))
     (λ past. said_behind last.first (last.blocks + range.blocks) last.touch block (omega (arith, past, goes_on.0))
-    ∙ sym (ap (λ (t : Option Touch). later t (said_by range.first range.blocks range.touch block)) (said_behind last.first last.blocks last.touch block behind)
-    ∙ ap (λ (t : Option Touch). later None t) (said_behind range.first range.blocks range.touch block past)))
+    ∙ sym (ap (λ (t : Option LastTouch). later t (said_by range.first range.blocks range.touch block)) (said_behind last.first last.blocks last.touch block behind)
+    ∙ ap (λ (t : Option LastTouch). later None t) (said_behind range.first range.blocks range.touch block past)))
     (cases_lt block (range.first + range.blocks)))
     (cases_lt block (last.first + last.blocks)))
     (cases_lt block last.first)
@@ -77,9 +77,9 @@ module _ (old front : List LastRange) (last range : LastRange) (are : old ≡ fr
       → touch_at block (front ++ (record last { blocks = last.blocks + range.blocks }) ∷ []) ≡ later (touch_at block old) (said_by range.first range.blocks range.touch block)
   joined_exact goes_on block =
       touch_at-append block front ((record last { blocks = last.blocks + range.blocks }) ∷ [])
-      ∙ ap (λ (t : Option Touch). later (touch_at block front) t) (said_by_both last range goes_on block)
+      ∙ ap (λ (t : Option LastTouch). later (touch_at block front) t) (said_by_both last range goes_on block)
       ∙ later_later (touch_at block front) (said_by last.first last.blocks last.touch block) (said_by range.first range.blocks range.touch block)
-      ∙ ap (λ (t : Option Touch). later t (said_by range.first range.blocks range.touch block)) (sym (touch_at-append block front (last ∷ [])) ∙ ap (λ (l : List LastRange). touch_at block l) (sym are))
+      ∙ ap (λ (t : Option LastTouch). later t (said_by range.first range.blocks range.touch block)) (sym (touch_at-append block front (last ∷ [])) ∙ ap (λ (l : List LastRange). touch_at block l) (sym are))
 
   pub pushed_longest : AreLongest old → (GoesOn last range → ⊥) → AreLongest (old ++ range ∷ [])
   pushed_longest longest ends =

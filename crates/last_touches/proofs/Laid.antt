@@ -3,7 +3,7 @@ use Rattle.std.proofs.Common.{◌≡◌, ⊎_elim, ℕ, ◌+◌, ◌-◌, ◌≤
 use Rattle.std.specs.Option.{option_map_or}
 use Rattle.std.proofs.lemmas.Bool.{cases_lt}
 use Rattle.std.proofs.lemmas.Bool.Decides.{nat_tests}
-use Rattle.last_touches.specs.declared.touch.Touch.{Touch}
+use Rattle.last_touches.specs.declared.touch.LastTouch.{LastTouch}
 use Rattle.last_touches.specs.declared.range.LastRange.{LastRange}
 use Rattle.last_touches.specs.Touches.{later, said_by, touch_within}
 use Rattle.last_touches.specs.Ranges.{AreRanges, IsNextLaid, IsPartOf, left_at, touch_at}
@@ -29,16 +29,16 @@ next_is_part older newer done limit part apart is = record {
   end_is = refl;
   exact = λ block. ⊎_elim
       (λ low. left_before older newer done block low
-      ∙ sym (ap (λ (t : Option Touch). later t (left_at older newer (part.first + part.blocks) block)) (said_before part.first part.blocks part.touch block (omega (arith, low, is.behind)))
-      ∙ ap (λ (t : Option Touch). later None t) (left_before older newer (part.first + part.blocks) block (omega (arith, low, is.behind)))))
+      ∙ sym (ap (λ (t : Option LastTouch). later t (left_at older newer (part.first + part.blocks) block)) (said_before part.first part.blocks part.touch block (omega (arith, low, is.behind)))
+      ∙ ap (λ (t : Option LastTouch). later None t) (left_before older newer (part.first + part.blocks) block (omega (arith, low, is.behind)))))
       (λ high. ⊎_elim
       (λ inside. left_behind older newer done block high
-      ∙ ap (λ (t : Option Touch). later (touch_at block older) t) (said_by_none_before block limit 4294967295 newer apart (omega (arith, inside, is.before)))
+      ∙ ap (λ (t : Option LastTouch). later (touch_at block older) t) (said_by_none_before block limit 4294967295 newer apart (omega (arith, inside, is.before)))
       ∙ is.same block high inside
-      ∙ sym (ap (λ (t : Option Touch). later (said_by part.first part.blocks part.touch block) t) (left_before older newer (part.first + part.blocks) block inside)))
+      ∙ sym (ap (λ (t : Option LastTouch). later (said_by part.first part.blocks part.touch block) t) (left_before older newer (part.first + part.blocks) block inside)))
       (λ behind. left_behind older newer done block high
       ∙ sym (left_behind older newer (part.first + part.blocks) block behind)
-      ∙ sym (ap (λ (t : Option Touch). later t (left_at older newer (part.first + part.blocks) block)) (said_behind part.first part.blocks part.touch block behind)
+      ∙ sym (ap (λ (t : Option LastTouch). later t (left_at older newer (part.first + part.blocks) block)) (said_behind part.first part.blocks part.touch block behind)
       ∙ later_none (left_at older newer (part.first + part.blocks) block)))
       (cases_lt block (part.first + part.blocks)))
       (cases_lt block done);
@@ -57,20 +57,20 @@ next_is_newer older range newer done apart none = record {
       let left = left_at older newer (range.first + range.blocks) block in
       ⊎_elim
       (λ low. left_before older (range ∷ newer) done block low
-      ∙ sym (ap (λ (t : Option Touch). later t left) (said_before range.first range.blocks range.touch block (omega (arith, low, apart.0)))
-      ∙ ap (λ (t : Option Touch). later None t) (left_before older newer (range.first + range.blocks) block (omega (arith, low, apart.0)))))
+      ∙ sym (ap (λ (t : Option LastTouch). later t left) (said_before range.first range.blocks range.touch block (omega (arith, low, apart.0)))
+      ∙ ap (λ (t : Option LastTouch). later None t) (left_before older newer (range.first + range.blocks) block (omega (arith, low, apart.0)))))
       (λ high. ⊎_elim
       (λ inside. left_behind older (range ∷ newer) done block high
-      ∙ ap (λ (t : Option Touch). later (touch_at block older) (later said t)) (said_by_none_before block (range.first + range.blocks) 4294967295 newer apart.2 inside)
+      ∙ ap (λ (t : Option LastTouch). later (touch_at block older) (later said t)) (said_by_none_before block (range.first + range.blocks) 4294967295 newer apart.2 inside)
       ∙ ⊎_elim
-      (λ before. ap (λ (t : Option Touch). later t said) (none block high before) ∙ later_none said)
-      (λ within. ap (λ (t : Option Touch). later (touch_at block older) t) (said_inside range.first range.blocks range.touch block within inside) ∙ sym (said_inside range.first range.blocks range.touch block within inside))
+      (λ before. ap (λ (t : Option LastTouch). later t said) (none block high before) ∙ later_none said)
+      (λ within. ap (λ (t : Option LastTouch). later (touch_at block older) t) (said_inside range.first range.blocks range.touch block within inside) ∙ sym (said_inside range.first range.blocks range.touch block within inside))
       (cases_lt block range.first)
-      ∙ sym (ap (λ (t : Option Touch). later said t) (left_before older newer (range.first + range.blocks) block inside)))
+      ∙ sym (ap (λ (t : Option LastTouch). later said t) (left_before older newer (range.first + range.blocks) block inside)))
       (λ behind. left_behind older (range ∷ newer) done block high
-      ∙ ap (λ (t : Option Touch). later (touch_at block older) t) (touch_at_rest range newer block behind)
+      ∙ ap (λ (t : Option LastTouch). later (touch_at block older) t) (touch_at_rest range newer block behind)
       ∙ sym (left_behind older newer (range.first + range.blocks) block behind)
-      ∙ sym (ap (λ (t : Option Touch). later t left) (said_behind range.first range.blocks range.touch block behind) ∙ later_none left))
+      ∙ sym (ap (λ (t : Option LastTouch). later t left) (said_behind range.first range.blocks range.touch block behind) ∙ later_none left))
       (cases_lt block (range.first + range.blocks)))
       (cases_lt block done);
 }
@@ -88,7 +88,7 @@ pub left_by_older : (older others newer : List LastRange) (done : ℕ) → ((blo
     → (block : ℕ) → left_at older newer done block ≡ left_at others newer done block
 left_by_older older others newer done same block = ⊎_elim
     (λ low. left_before older newer done block low ∙ sym (left_before others newer done block low))
-    (λ high. left_behind older newer done block high ∙ sym (ap (λ (t : Option Touch). later t (touch_at block newer)) (same block high)) ∙ sym (left_behind others newer done block high))
+    (λ high. left_behind older newer done block high ∙ sym (ap (λ (t : Option LastTouch). later t (touch_at block newer)) (same block high)) ∙ sym (left_behind others newer done block high))
     (cases_lt block done)
 
 pub next_by_older : (older others newer : List LastRange) (done : ℕ) (range : LastRange) (older_left newer_left : List LastRange) (end : ℕ)
@@ -136,7 +136,7 @@ part_of_first all rest range from to first blocks are apart behind first_is befo
           ∙ ⊎_elim
           (λ under. said_before range.first range.blocks range.touch block (omega (arith, under, low, first_is)) ∙ sym (said_before first blocks (touch_within (first - range.first) range.touch) block under))
           (λ over. said_inside range.first range.blocks range.touch block (omega (arith, over, first_is)) end
-          ∙ ap (λ (t : Touch). Some t) (sym (touch_within-touch_within (block - first) (first - range.first) (block - range.first) range.touch (omega (arith, over, first_is))))
+          ∙ ap (λ (t : LastTouch). Some t) (sym (touch_within-touch_within (block - first) (first - range.first) (block - range.first) range.touch (omega (arith, over, first_is))))
           ∙ sym (said_inside first blocks (touch_within (first - range.first) range.touch) block over high))
           (cases_lt block first);
     }

@@ -4,4 +4,3 @@ pub mod Joined
 pub mod Halves
 pub mod Copied
 pub mod Found
-pub mod Within

@@ -3,63 +3,62 @@ use Rattle.std.proofs.Common.{◌≡◌, ⊎_elim, ℕ, ◌+◌, ◌-◌, ◌*�
 use Rattle.std.proofs.lemmas.Bool.{cases_lt}
 use Rattle.std.proofs.lemmas.Bool.Decides.{nat_tests}
 use Rattle.image_model.specs.Image.{covers}
-use Rattle.last_touches.specs.declared.touch.Touch.{Touch}
-use Rattle.last_touches.specs.declared.touch.Touch.TheVariants.{Put, Clear}
-use Rattle.last_touches.specs.declared.touch.TouchedRange.{TouchedRange}
+use Rattle.last_touches.specs.declared.touch.LastTouch.{LastTouch}
+use Rattle.last_touches.specs.declared.touch.LastTouch.TheVariants.{Put, Clear}
 use Rattle.last_touches.specs.declared.range.LastRange.{LastRange}
-use Rattle.last_touches.specs.Touches.{HasBytesWithin, last_touch, later, said_by, touch_within}
+use Rattle.last_touches.specs.Touches.{HasBytesWithin, later, said_by, touch_within}
 use Rattle.last_touches.specs.Ranges.{AreRanges, touch_at}
 
 -- the later of two touches
-pub later_none : (touch : Option Touch) → later None touch ≡ touch
+pub later_none : (touch : Option LastTouch) → later None touch ≡ touch
 later_none None = refl
 later_none (Some touch) = refl
 
-pub later_later : (a b c : Option Touch) → later a (later b c) ≡ later (later a b) c
+pub later_later : (a b c : Option LastTouch) → later a (later b c) ≡ later (later a b) c
 later_later a b None = refl
 later_later a b (Some touch) = refl
 
-pub same_some : {a b : Touch} → Some a ≡ Some b → a ≡ b
+pub same_some : {a b : LastTouch} → Some a ≡ Some b → a ≡ b
 same_some is = cc
 
-pub some_is_none : {touch : Touch} → Some touch ≡ None → ⊥
+pub some_is_none : {touch : LastTouch} → Some touch ≡ None → ⊥
 some_is_none is = cc
 
 -- a touch of some blocks, for one of them
-pub touch_within_zero : (touch : Touch) → touch_within 0 touch ≡ touch
+pub touch_within_zero : (touch : LastTouch) → touch_within 0 touch ≡ touch
 touch_within_zero (Put place) = ap Put (omega arith)
 touch_within_zero (Clear kind) = refl
 
-pub touch_within-touch_within : (a b c : ℕ) (touch : Touch) → a + b ≡ c → touch_within a (touch_within b touch) ≡ touch_within c touch
+pub touch_within-touch_within : (a b c : ℕ) (touch : LastTouch) → a + b ≡ c → touch_within a (touch_within b touch) ≡ touch_within c touch
 touch_within-touch_within a b c (Put place) is = ap Put (omega (arith, is))
 touch_within-touch_within a b c (Clear kind) is = refl
 
-pub HasBytesWithin-fewer : (end a b : ℕ) (touch : Touch) → a ≤ b → HasBytesWithin end b touch → HasBytesWithin end a touch
+pub HasBytesWithin-fewer : (end a b : ℕ) (touch : LastTouch) → a ≤ b → HasBytesWithin end b touch → HasBytesWithin end a touch
 HasBytesWithin-fewer end a b (Put place) fewer within = omega (arith, fewer, within)
 HasBytesWithin-fewer end a b (Clear kind) fewer within = tt
 
-pub HasBytesWithin-behind : (end a b : ℕ) (touch : Touch) → HasBytesWithin end (a + b) touch → HasBytesWithin end b (touch_within a touch)
+pub HasBytesWithin-behind : (end a b : ℕ) (touch : LastTouch) → HasBytesWithin end (a + b) touch → HasBytesWithin end b (touch_within a touch)
 HasBytesWithin-behind end a b (Put place) within = omega (arith, within)
 HasBytesWithin-behind end a b (Clear kind) within = tt
 
-pub HasBytesWithin-joined : (end a b : ℕ) (touch next : Touch) → touch_within a touch ≡ next → HasBytesWithin end b next → HasBytesWithin end (a + b) touch
+pub HasBytesWithin-joined : (end a b : ℕ) (touch next : LastTouch) → touch_within a touch ≡ next → HasBytesWithin end b next → HasBytesWithin end (a + b) touch
 HasBytesWithin-joined end a b (Put place) next is within =
-    let bytes : HasBytesWithin end b (Put (place + 4096 * a)) = subst (λ (t : Touch). HasBytesWithin end b t) (sym is) within in
+    let bytes : HasBytesWithin end b (Put (place + 4096 * a)) = subst (λ (t : LastTouch). HasBytesWithin end b t) (sym is) within in
     omega (arith, bytes)
 HasBytesWithin-joined end a b (Clear kind) next is within = tt
 
 -- what a touch of blocks says of one that it has, and of one that it hasn't
-pub said_inside : (first blocks : ℕ) (touch : Touch) (block : ℕ) → first ≤ block → block < first + blocks → said_by first blocks touch block ≡ Some (touch_within (block - first) touch)
+pub said_inside : (first blocks : ℕ) (touch : LastTouch) (block : ℕ) → first ≤ block → block < first + blocks → said_by first blocks touch block ≡ Some (touch_within (block - first) touch)
 said_inside first blocks touch block low high =
     let inside : covers first blocks block ≡ true = grind (arith, nat_tests) in
     ap (λ (b : Bool). if b then Some (touch_within (block - first) touch) else None) inside
 
-pub said_before : (first blocks : ℕ) (touch : Touch) (block : ℕ) → block < first → said_by first blocks touch block ≡ None
+pub said_before : (first blocks : ℕ) (touch : LastTouch) (block : ℕ) → block < first → said_by first blocks touch block ≡ None
 said_before first blocks touch block low =
     let outside : covers first blocks block ≡ false = grind (arith, nat_tests) in
     ap (λ (b : Bool). if b then Some (touch_within (block - first) touch) else None) outside
 
-pub said_behind : (first blocks : ℕ) (touch : Touch) (block : ℕ) → first + blocks ≤ block → said_by first blocks touch block ≡ None
+pub said_behind : (first blocks : ℕ) (touch : LastTouch) (block : ℕ) → first + blocks ≤ block → said_by first blocks touch block ≡ None
 said_behind first blocks touch block high =
     let outside : covers first blocks block ≡ false = grind (arith, nat_tests) in
     ap (λ (b : Bool). if b then Some (touch_within (block - first) touch) else None) outside
@@ -74,7 +73,7 @@ AreRanges-order from to (range ∷ ranges) apart =
 pub said_by_none_before : (block from to : ℕ) (ranges : List LastRange) → AreRanges from to ranges → block < from → touch_at block ranges ≡ None
 said_by_none_before block from to [] apart low = refl
 said_by_none_before block from to (range ∷ ranges) apart low =
-    ap (λ (t : Option Touch). later t (touch_at block ranges)) (said_before range.first range.blocks range.touch block (omega (arith, apart.0, low)))
+    ap (λ (t : Option LastTouch). later t (touch_at block ranges)) (said_before range.first range.blocks range.touch block (omega (arith, apart.0, low)))
     ∙ later_none (touch_at block ranges)
     ∙ said_by_none_before block (range.first + range.blocks) to ranges apart.2 (omega (arith, apart.0, low))
 
@@ -82,7 +81,7 @@ pub said_by_none_behind : (block from to : ℕ) (ranges : List LastRange) → Ar
 said_by_none_behind block from to [] apart high = refl
 said_by_none_behind block from to (range ∷ ranges) apart high =
     let end = AreRanges-order (range.first + range.blocks) to ranges apart.2 in
-    ap (λ (t : Option Touch). later t (touch_at block ranges)) (said_behind range.first range.blocks range.touch block (omega (arith, end, high)))
+    ap (λ (t : Option LastTouch). later t (touch_at block ranges)) (said_behind range.first range.blocks range.touch block (omega (arith, end, high)))
     ∙ later_none (touch_at block ranges)
     ∙ said_by_none_behind block (range.first + range.blocks) to ranges apart.2 high
 
@@ -95,24 +94,18 @@ AreRanges-earlier earlier from to (range ∷ ranges) before apart = (omega (arit
 pub touch_at_first : (from to : ℕ) (range : LastRange) (ranges : List LastRange) (block : ℕ) → AreRanges from to (range ∷ ranges) → block < range.first + range.blocks
     → touch_at block (range ∷ ranges) ≡ said_by range.first range.blocks range.touch block
 touch_at_first from to range ranges block apart low =
-    ap (λ (t : Option Touch). later (said_by range.first range.blocks range.touch block) t) (said_by_none_before block (range.first + range.blocks) to ranges apart.2 low)
+    ap (λ (t : Option LastTouch). later (said_by range.first range.blocks range.touch block) t) (said_by_none_before block (range.first + range.blocks) to ranges apart.2 low)
 
 pub touch_at_rest : (range : LastRange) (ranges : List LastRange) (block : ℕ) → range.first + range.blocks ≤ block → touch_at block (range ∷ ranges) ≡ touch_at block ranges
 touch_at_rest range ranges block high =
-    ap (λ (t : Option Touch). later t (touch_at block ranges)) (said_behind range.first range.blocks range.touch block high) ∙ later_none (touch_at block ranges)
+    ap (λ (t : Option LastTouch). later t (touch_at block ranges)) (said_behind range.first range.blocks range.touch block high) ∙ later_none (touch_at block ranges)
 
 -- lists one behind the other
 pub touch_at-append : (block : ℕ) (xs ys : List LastRange) → touch_at block (xs ++ ys) ≡ later (touch_at block xs) (touch_at block ys)
 touch_at-append block [] ys = sym (later_none (touch_at block ys))
 touch_at-append block (x ∷ xs) ys =
-    ap (λ (t : Option Touch). later (said_by x.first x.blocks x.touch block) t) (touch_at-append block xs ys)
+    ap (λ (t : Option LastTouch). later (said_by x.first x.blocks x.touch block) t) (touch_at-append block xs ys)
     ∙ later_later (said_by x.first x.blocks x.touch block) (touch_at block xs) (touch_at block ys)
-
-pub last_touch-append : (block : ℕ) (xs ys : List TouchedRange) → last_touch block (xs ++ ys) ≡ later (last_touch block xs) (last_touch block ys)
-last_touch-append block [] ys = sym (later_none (last_touch block ys))
-last_touch-append block (x ∷ xs) ys =
-    ap (λ (t : Option Touch). later (said_by x.first x.blocks x.touch block) t) (last_touch-append block xs ys)
-    ∙ later_later (said_by x.first x.blocks x.touch block) (last_touch block xs) (last_touch block ys)
 
 -- ranges up to a later block
 pub AreRanges-later : (from to later : ℕ) (ranges : List LastRange) → to ≤ later → AreRanges from to ranges → AreRanges from later ranges

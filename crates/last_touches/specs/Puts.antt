@@ -1,14 +1,14 @@
 -- The blocks whose last touch is a put.
 use Rattle.std.specs.Prelude.{ℕ, ◌≡◌, ◌≢◌, ◌+◌, ◌-◌, ◌*◌, ◌<◌, ◌≤◌, Bool, true, false, List, [], ◌∷◌, Option, Some, None}
 use Rattle.std.specs.List.{flat_map}
-use Rattle.last_touches.specs.declared.touch.Touch.{Touch}
-use Rattle.last_touches.specs.declared.touch.Touch.TheVariants.{Put, Clear}
+use Rattle.last_touches.specs.declared.touch.LastTouch.{LastTouch}
+use Rattle.last_touches.specs.declared.touch.LastTouch.TheVariants.{Put, Clear}
 use Rattle.last_touches.specs.declared.range.LastRange.{LastRange}
 use Rattle.last_touches.specs.declared.range.PutRange.{PutRange}
 use Rattle.last_touches.specs.Ranges.{touch_at}
 
 -- whether the last touch of a block is a put
-abbrev pub is_put : Option Touch → Bool
+abbrev pub is_put : Option LastTouch → Bool
 is_put None = false
 is_put (Some (Put place)) = true
 is_put (Some (Clear kind)) = false
@@ -35,7 +35,7 @@ put_from block put = record {
 }
 
 -- what of a range are puts
-abbrev pub put_of : ℕ → ℕ → Touch → List PutRange
+abbrev pub put_of : ℕ → ℕ → LastTouch → List PutRange
 put_of first blocks (Put place) = record { first = first; blocks = blocks; place = place } ∷ []
 put_of first blocks (Clear kind) = []
 

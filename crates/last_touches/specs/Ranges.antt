@@ -1,13 +1,14 @@
 -- The last touches of an area as ranges, each of blocks that follow one another in the image, and where they were put
 -- also in the area.
 use Rattle.std.specs.Prelude.{ℕ, ◌≡◌, ◌+◌, ◌<◌, ◌≤◌, nat_lt, if◌then◌else◌, List, [], ◌∷◌, Option, None}
-use Rattle.last_touches.specs.declared.touch.Touch.{Touch}
-use Rattle.last_touches.specs.declared.touch.TouchedRange.{TouchedRange}
+use Rattle.last_touches.specs.declared.touch.LastTouch.{LastTouch}
+use Rattle.journal.specs.Touches.{last_touch}
+use Rattle.journal.specs.declared.touch.TouchedRange.{TouchedRange}
 use Rattle.last_touches.specs.declared.range.LastRange.{LastRange}
-use Rattle.last_touches.specs.Touches.{HasBytesWithin, last_touch, later, said_by, touch_within}
+use Rattle.last_touches.specs.Touches.{HasBytesWithin, later, said_by, touch_on_device, touch_within}
 
 -- what the ranges say of the block
-abbrev pub touch_at : ℕ → List LastRange → Option Touch
+abbrev pub touch_at : ℕ → List LastRange → Option LastTouch
 touch_at block [] = None
 touch_at block (range ∷ ranges) = later (said_by range.first range.blocks range.touch block) (touch_at block ranges)
 
@@ -35,11 +36,12 @@ abbrev pub AreLongest : List LastRange → Type 0
 AreLongest [] = Unit {0}
 AreLongest (range ∷ ranges) = EndsBefore range ranges × AreLongest ranges
 
--- the ranges say of each block below `blocks` its last touch, and nothing of other blocks
-pub record AreLastTouches (blocks : ℕ) (touched : List TouchedRange) (ranges : List LastRange) : Type 0 where
+-- the ranges say of each block before `blocks` its last touch by an area that begins at this place, and nothing of others
+pub record AreLastTouches (from blocks : ℕ) (touched : List TouchedRange) (ranges : List LastRange) : Type 0 where
   pub apart : AreRanges 0 4294967295 ranges
   pub longest : AreLongest ranges
-  pub exact : (block : ℕ) → touch_at block ranges ≡ (if nat_lt block blocks then last_touch block touched else None)
+  pub exact : (block : ℕ) → block < blocks → touch_on_device from (touch_at block ranges) ≡ last_touch block touched
+  pub none : (block : ℕ) → blocks ≤ block → touch_at block ranges ≡ None
 
 -- the newer ranges laid over the older ones
 pub record AreLaidOver (older newer ranges : List LastRange) : Type 0 where
@@ -48,7 +50,7 @@ pub record AreLaidOver (older newer ranges : List LastRange) : Type 0 where
   pub exact : (block : ℕ) → touch_at block ranges ≡ later (touch_at block older) (touch_at block newer)
 
 -- what newer ranges laid over older ones say of the block, from `done` on
-abbrev pub left_at : List LastRange → List LastRange → ℕ → ℕ → Option Touch
+abbrev pub left_at : List LastRange → List LastRange → ℕ → ℕ → Option LastTouch
 left_at older newer done block = if nat_lt block done then None else later (touch_at block older) (touch_at block newer)
 
 -- older ranges, and newer ones from `done` on, that are still to be laid

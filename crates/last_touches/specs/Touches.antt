@@ -1,34 +1,35 @@
--- Which blocks the commands of an area touch, and the last touch of each block. A place is a byte of the area.
-use Rattle.std.specs.Prelude.{ℕ, ◌+◌, ◌-◌, ◌*◌, ◌≤◌, if◌then◌else◌, List, [], ◌∷◌, Option, Some, None, All}
+-- The last touches of blocks. A place is a byte of the area.
+use Rattle.std.specs.Prelude.{ℕ, ◌+◌, ◌-◌, ◌*◌, ◌≤◌, if◌then◌else◌, Option, Some, None}
 use Rattle.image_model.specs.Image.{covers}
-use Rattle.last_touches.specs.declared.touch.Touch.{Touch}
-use Rattle.last_touches.specs.declared.touch.Touch.TheVariants.{Put, Clear}
-use Rattle.last_touches.specs.declared.touch.TouchedRange.{TouchedRange}
+use Rattle.journal.specs.declared.touch.Touch.{Touch}
+use Rattle.journal.specs.declared.touch.Touch.TheVariants as journal
+use Rattle.last_touches.specs.declared.touch.LastTouch.{LastTouch}
+use Rattle.last_touches.specs.declared.touch.LastTouch.TheVariants.{Put, Clear}
 
 -- what a touch of some blocks is for one of them, so many behind the first
-abbrev pub touch_within : ℕ → Touch → Touch
+abbrev pub touch_within : ℕ → LastTouch → LastTouch
 touch_within blocks (Put place) = Put (place + 4096 * blocks)
 touch_within blocks (Clear kind) = Clear kind
 
 -- what a touch of so many blocks from `first` on says of a block
-abbrev pub said_by : ℕ → ℕ → Touch → ℕ → Option Touch
+abbrev pub said_by : ℕ → ℕ → LastTouch → ℕ → Option LastTouch
 said_by first blocks touch block = if covers first blocks block then Some (touch_within (block - first) touch) else None
 
 -- the later of two touches of a block
-abbrev pub later : Option Touch → Option Touch → Option Touch
+abbrev pub later : Option LastTouch → Option LastTouch → Option LastTouch
 later touch None = touch
 later touch (Some second) = Some second
 
--- the last touch of the block, where the ranges stand in the order of their commands
-abbrev pub last_touch : ℕ → List TouchedRange → Option Touch
-last_touch block [] = None
-last_touch block (range ∷ ranges) = later (said_by range.first range.blocks range.touch block) (last_touch block ranges)
-
 -- the bytes of a put of so many blocks end at this place at the latest
-abbrev pub HasBytesWithin : ℕ → ℕ → Touch → Type 0
+abbrev pub HasBytesWithin : ℕ → ℕ → LastTouch → Type 0
 HasBytesWithin end blocks (Put place) = place + 4096 * blocks ≤ end
 HasBytesWithin end blocks (Clear kind) = Unit {0}
 
--- the bytes of all puts end at this place at the latest
-abbrev pub AreWithin : ℕ → List TouchedRange → Type 0
-AreWithin end ranges = All (λ range. HasBytesWithin end range.blocks range.touch) ranges
+-- a touch by an area that begins at this place of the device, as its journal has it
+abbrev pub on_device : ℕ → LastTouch → Touch
+on_device from (Put place) = journal.Put (from + place)
+on_device from (Clear kind) = journal.Clear kind
+
+abbrev pub touch_on_device : ℕ → Option LastTouch → Option Touch
+touch_on_device from None = None
+touch_on_device from (Some touch) = Some (on_device from touch)

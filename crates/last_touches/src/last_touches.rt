@@ -1,13 +1,14 @@
 ghost use Rattle.std.specs.Prelude.{◌≡◌, ◌+◌, ◌<◌, ◌≤◌, ℕ, length, IfOk, IfSome, IfNone, count_by, sum_by};
 ghost use Rattle.std.specs.List.{AllWithin, range_with_len};
 ghost use Rattle.std.specs.List.Sorted.{IsNonDecreasingBy};
+ghost use Rattle.journal.specs.Touches.{AreWithin};
 ghost use Rattle.last_touches.specs.Puts.{EndsBehind, EndsBy, HasNoPut, IsNextPut, is_put, puts_of};
 ghost use Rattle.last_touches.specs.Ranges.{AreLastTouches, AreRanges, touch_at};
-ghost use Rattle.last_touches.specs.Touches.{AreWithin};
 
 use crate::overlay::overlay;
 use crate::range::{LastRange, PutRange, clip};
-use crate::touch::{Touch, TouchedRange};
+use crate::touch::LastTouch;
+use journal::TouchedRange;
 use std::alloc::{AllocError, Global};
 use std::marker::Model;
 
@@ -33,19 +34,21 @@ impl Model for LastTouches {
 }
 
 impl LastTouches {
-    /// The last touches of the blocks before `blocks`, where the ranges stand in the order of their commands.
+    /// The last touches of the blocks before `blocks` by an area that begins at byte `from` of the device, where the
+    /// ranges stand in the order of their commands.
     ///
     /// The time it takes goes with the number n of commands, as n log n, and not with that of blocks.
     pub fn resolve(
         alloc: Global,
+        from: u64,
         touched: &[TouchedRange],
         blocks: u32,
     ) -> Result<LastTouches, AllocError>
-        requires { AreWithin 4294967295 touched.now }
+        requires { AreWithin from (from + 4294967295) touched.now }
         ensures blocks { IfOk result (λ touches. touches.blocks ≡ blocks) }
-        ensures exact { IfOk result (λ touches. AreLastTouches blocks touched.now touches.ranges) }
+        ensures exact { IfOk result (λ touches. AreLastTouches from blocks touched.now touches.ranges) }
     {
-        let ranges = resolved(alloc, touched, blocks)?;
+        let ranges = resolved(alloc, from, touched, blocks)?;
         let puts = puts(alloc, &ranges)?;
         let blocks_to_copy = sum_of_blocks(&puts);
         Ok(LastTouches {
@@ -89,18 +92,19 @@ impl LastTouches {
 // The last touches as ranges, by halves: the later half is laid over the earlier one.
 fn resolved(
     alloc: Global,
+    from: u64,
     touched: &[TouchedRange],
     blocks: u32,
 ) -> Result<Vec<LastRange>, AllocError>
-    requires { AreWithin 4294967295 touched.now }
-    ensures { IfOk result (λ ranges. AreLastTouches blocks touched.now ranges.items) }
+    requires { AreWithin from (from + 4294967295) touched.now }
+    ensures { IfOk result (λ ranges. AreLastTouches from blocks touched.now ranges.items) }
 {
     if touched.len() < 2 {
-        return one(alloc, touched, blocks);
+        return one(alloc, from, touched, blocks);
     }
     let (earlier, later) = touched.split_at(touched.len() / 2);
-    let older = resolved(alloc, earlier, blocks)?;
-    let newer = resolved(alloc, later, blocks)?;
+    let older = resolved(alloc, from, earlier, blocks)?;
+    let newer = resolved(alloc, from, later, blocks)?;
     overlay(
         alloc,
         most_ranges(touched.len(), older.len(), newer.len()),
@@ -117,14 +121,19 @@ fn most_ranges(commands: usize, older: usize, newer: usize) -> usize {
 }
 
 // What one command touched, or none.
-fn one(alloc: Global, touched: &[TouchedRange], blocks: u32) -> Result<Vec<LastRange>, AllocError>
+fn one(
+    alloc: Global,
+    from: u64,
+    touched: &[TouchedRange],
+    blocks: u32,
+) -> Result<Vec<LastRange>, AllocError>
     requires some { length touched.now < 2 }
-    requires within { AreWithin 4294967295 touched.now }
-    ensures { IfOk result (λ ranges. AreLastTouches blocks touched.now ranges.items) }
+    requires within { AreWithin from (from + 4294967295) touched.now }
+    ensures { IfOk result (λ ranges. AreLastTouches from blocks touched.now ranges.items) }
 {
     let mut ranges = Vec::new(alloc);
     if let [range] = touched
-        && let Some(clipped) = clip(*range, blocks)
+        && let Some(clipped) = clip(from, *range, blocks)
     {
         ranges.reserve_exact(1)?;
         ranges.push(clipped)?;
@@ -138,7 +147,7 @@ fn puts(alloc: Global, ranges: &[LastRange]) -> Result<Vec<PutRange>, AllocError
 {
     let mut puts = Vec::with_capacity(alloc, ranges.len())?;
     for range in ranges {
-        if let Touch::Put(place) = range.touch {
+        if let LastTouch::Put(place) = range.touch {
             puts.push(PutRange {
                 first: range.first,
                 blocks: range.blocks,

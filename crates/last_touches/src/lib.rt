@@ -2,12 +2,10 @@
 #![tactic(auto)]
 
 mod last_touches;
-mod laws;
 mod overlay;
 mod range;
 mod touch;
 
 pub use last_touches::LastTouches;
-pub use laws::last_puts_within;
 pub use range::{LastRange, PutRange};
-pub use touch::{Touch, TouchedRange};
+pub use touch::LastTouch;

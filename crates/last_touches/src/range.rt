@@ -1,11 +1,13 @@
-ghost use Rattle.std.specs.Prelude.{◌≡◌, ◌+◌, ◌-◌, ◌*◌, ◌<◌, ◌≤◌, ◌↔◌, min, nat_lt, nat_le, if◌then◌else◌, ℕ, IsTrue, IfSome};
+ghost use Rattle.std.specs.Prelude.{◌≡◌, ◌+◌, ◌-◌, ◌*◌, ◌<◌, ◌≤◌, ◌↔◌, min, nat_le, ℕ, None, IsTrue, IfSome};
 ghost use Rattle.std.specs.Option.{option_to_list};
 ghost use Rattle.last_touches.specs.Puts.{put_from};
 ghost use Rattle.last_touches.specs.Ranges.{GoesOn, IsRange, touch_at};
-ghost use Rattle.last_touches.specs.Touches.{HasBytesWithin, said_by, touch_within};
+ghost use Rattle.last_touches.specs.Touches.{HasBytesWithin, on_device, touch_on_device, touch_within};
+ghost use Rattle.journal.specs.Touches.{IsWithin, touch_in};
 
-use crate::touch::{Touch, TouchedRange};
+use crate::touch::LastTouch;
 use image_model::BLOCK_BYTES;
+use journal::{Touch, TouchedRange};
 
 /// Blocks that follow one another and have their last touches from one command, or are of one kind of clear; the touch
 /// is that of the first of them.
@@ -13,7 +15,7 @@ use image_model::BLOCK_BYTES;
 pub struct LastRange {
     pub first: u32,
     pub blocks: u32,
-    pub touch: Touch,
+    pub touch: LastTouch,
 }
 
 /// Blocks whose last touch is a put and that follow one another in the image and in the area; the place is that of the
@@ -97,12 +99,12 @@ impl PutRange {
     }
 }
 
-// What a command touched of the blocks before this one, if anything.
-pub fn clip(range: TouchedRange, blocks: u32) -> Option<LastRange>
-    requires { HasBytesWithin 4294967295 range.blocks range.touch }
+// What a command of an area that begins at byte `from` of the device touched of the blocks before this one, if anything.
+pub fn clip(from: u64, range: TouchedRange, blocks: u32) -> Option<LastRange>
+    requires { IsWithin from (from + 4294967295) range }
     ensures range { IfSome result IsRange }
-    ensures exact { (block : ℕ) → touch_at block (option_to_list result)
-        ≡ (if nat_lt block blocks then said_by range.first range.blocks range.touch block else None) }
+    ensures exact { (block : ℕ) → block < blocks → touch_on_device from (touch_at block (option_to_list result)) ≡ touch_in block range }
+    ensures none { (block : ℕ) → blocks ≤ block → touch_at block (option_to_list result) ≡ None }
 {
     if range.blocks == 0 || range.first >= blocks as u64 {
         return None;
@@ -111,6 +113,18 @@ pub fn clip(range: TouchedRange, blocks: u32) -> Option<LastRange>
     Some(LastRange {
         first,
         blocks: range.blocks.min(blocks - first),
-        touch: range.touch,
+        touch: in_area(from, range),
     })
+}
+
+// What a command made of its blocks, of an area that begins at byte `from` of the device.
+fn in_area(from: u64, range: TouchedRange) -> LastTouch
+    requires { IsWithin from (from + 4294967295) range }
+    ensures same { on_device from result ≡ range.touch }
+    ensures within { HasBytesWithin 4294967295 range.blocks result }
+{
+    match range.touch {
+        Touch::Put(place) => LastTouch::Put((place - from) as u32),
+        Touch::Clear(kind) => LastTouch::Clear(kind),
+    }
 }

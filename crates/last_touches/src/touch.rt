@@ -3,32 +3,24 @@ ghost use Rattle.last_touches.specs.Touches.{HasBytesWithin, touch_within};
 
 use image_model::{BLOCK_BYTES, Kind};
 
-/// What a command made of its blocks.
+/// What the last command that touched some blocks made of them.
 #[derive(Clone, Copy, Debug, PartialEq, Eq)]
-pub enum Touch {
+pub enum LastTouch {
     /// A put: the bytes of the first of the blocks stand from this byte of the area on, the others' behind them.
     Put(u32),
     /// A clear to this kind.
     Clear(Kind),
 }
 
-/// What a command of an area touched.
-#[derive(Clone, Copy, Debug)]
-pub struct TouchedRange {
-    pub first: u64,
-    pub blocks: u32,
-    pub touch: Touch,
-}
-
-impl Touch {
+impl LastTouch {
     // What a touch of more blocks is for the one so many behind the first.
-    pub fn within(self, blocks: u32) -> Touch
+    pub fn within(self, blocks: u32) -> LastTouch
         requires { HasBytesWithin 4294967295 blocks self }
         ensures { result ≡ touch_within blocks self }
     {
         match self {
-            Touch::Put(place) => Touch::Put(place + BLOCK_BYTES as u32 * blocks),
-            Touch::Clear(kind) => Touch::Clear(kind),
+            LastTouch::Put(place) => LastTouch::Put(place + BLOCK_BYTES as u32 * blocks),
+            LastTouch::Clear(kind) => LastTouch::Clear(kind),
         }
     }
 }

@@ -5,7 +5,7 @@ use Rattle.checkpoint.specs.declared.fault.KeeperFault.TheVariants as keeper
 use Rattle.nbd_wire.specs.declared.error.WireFault.{WireFault}
 use Rattle.nbd_wire.specs.declared.error.WireFault.TheVariants as wire
 use Rattle.nbdj_pipe.specs.declared.refusal.Refusal.{Refusal}
-use Rattle.nbdj_pipe.specs.declared.refusal.Refusal.TheVariants.{NoMemory, DeviceFault, BadMap, NoHeader, BadHeader, AreaFull, OutOfOrder, DamagedGroup, Failed, NoRoom, PeerClosed, ProtocolEnd, StreamFault}
+use Rattle.nbdj_pipe.specs.declared.refusal.Refusal.TheVariants.{NoMemory, DeviceFault, BadMap, NoHeader, BadHeader, NumbersFull, AreaFull, OutOfOrder, DamagedGroup, NotNow, Failed, NoRoom, PeerClosed, ProtocolEnd, StreamFault}
 
 abbrev pub number_of : Refusal → ℕ
 number_of NoMemory = 0
@@ -13,9 +13,11 @@ number_of DeviceFault = 1
 number_of BadMap = 6
 number_of NoHeader = 7
 number_of BadHeader = 8
+number_of NumbersFull = 9
 number_of AreaFull = 10
 number_of OutOfOrder = 11
 number_of DamagedGroup = 12
+number_of NotNow = 15
 number_of Failed = 16
 number_of NoRoom = 17
 number_of PeerClosed = 19
@@ -28,9 +30,11 @@ of_keeper keeper.DeviceFault = DeviceFault
 of_keeper keeper.BadMap = BadMap
 of_keeper keeper.NoHeader = NoHeader
 of_keeper keeper.BadHeader = BadHeader
+of_keeper keeper.NumbersFull = NumbersFull
 of_keeper keeper.AreaFull = AreaFull
 of_keeper keeper.OutOfOrder = OutOfOrder
 of_keeper keeper.DamagedGroup = DamagedGroup
+of_keeper keeper.NotNow = NotNow
 of_keeper keeper.Failed = Failed
 
 abbrev pub of_wire : WireFault → Refusal
@@ -44,9 +48,11 @@ IsEarly DeviceFault = ⊥
 IsEarly BadMap = ⊥
 IsEarly NoHeader = ⊥
 IsEarly BadHeader = ⊥
+IsEarly NumbersFull = ⊥
 IsEarly AreaFull = Unit {0}
 IsEarly OutOfOrder = ⊥
 IsEarly DamagedGroup = ⊥
+IsEarly NotNow = ⊥
 IsEarly Failed = Unit {0}
 IsEarly NoRoom = Unit {0}
 IsEarly PeerClosed = ⊥
@@ -60,9 +66,11 @@ IsOfSession DeviceFault = Unit {0}
 IsOfSession BadMap = ⊥
 IsOfSession NoHeader = ⊥
 IsOfSession BadHeader = ⊥
+IsOfSession NumbersFull = ⊥
 IsOfSession AreaFull = Unit {0}
 IsOfSession OutOfOrder = ⊥
 IsOfSession DamagedGroup = ⊥
+IsOfSession NotNow = ⊥
 IsOfSession Failed = Unit {0}
 IsOfSession NoRoom = Unit {0}
 IsOfSession PeerClosed = Unit {0}

@@ -21,12 +21,16 @@ pub enum Refusal {
     NoHeader,
     #[error("bad header")]
     BadHeader,
+    #[error("numbers full")]
+    NumbersFull,
     #[error("area full")]
     AreaFull,
     #[error("out of order")]
     OutOfOrder,
     #[error("damaged group")]
     DamagedGroup,
+    #[error("not now")]
+    NotNow,
     #[error("failed")]
     Failed,
     #[error("no room")]
@@ -50,9 +54,11 @@ impl Refusal {
             Refusal::BadMap => 6,
             Refusal::NoHeader => 7,
             Refusal::BadHeader => 8,
+            Refusal::NumbersFull => 9,
             Refusal::AreaFull => 10,
             Refusal::OutOfOrder => 11,
             Refusal::DamagedGroup => 12,
+            Refusal::NotNow => 15,
             Refusal::Failed => 16,
             Refusal::NoRoom => 17,
             Refusal::PeerClosed => 19,
@@ -88,9 +94,11 @@ impl From<KeeperFault> for Refusal {
             KeeperFault::BadMap => Refusal::BadMap,
             KeeperFault::NoHeader => Refusal::NoHeader,
             KeeperFault::BadHeader => Refusal::BadHeader,
+            KeeperFault::NumbersFull => Refusal::NumbersFull,
             KeeperFault::AreaFull => Refusal::AreaFull,
             KeeperFault::OutOfOrder => Refusal::OutOfOrder,
             KeeperFault::DamagedGroup => Refusal::DamagedGroup,
+            KeeperFault::NotNow => Refusal::NotNow,
             KeeperFault::Failed => Refusal::Failed,
         }
     }

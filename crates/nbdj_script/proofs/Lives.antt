@@ -30,10 +30,13 @@ module _ {D : Type 0} (keeper : KeeperState D) (disk : D) (state : State) where
     sizes = keeps.sizes;
     generation = keeps.generation;
     from_base = keeps.from_base;
+    headed = keeps.headed;
+    slotted = keeps.slotted;
     counted = keeps.counted;
     mapped = keeps.mapped;
     areas = keeps.areas;
     taken = keeps.taken;
+    phase = keeps.phase;
     phased = keeps.phased;
     unsynced = keeps.unsynced;
   }

@@ -179,6 +179,7 @@ module _ {D : Type 0} (state : D → State) (faults extent : D → ℕ) (honest 
     appended_refused fault.BadMap new only failed full out_of_order same level stays_honest any = absurd only
     appended_refused fault.NoHeader new only failed full out_of_order same level stays_honest any = absurd only
     appended_refused fault.BadHeader new only failed full out_of_order same level stays_honest any = absurd only
+    appended_refused fault.NumbersFull new only failed full out_of_order same level stays_honest any = absurd only
     appended_refused fault.AreaFull new only failed full out_of_order same level stays_honest any =
         let is = full.0 refl in (Fine, appended_full new is.0 is.1 same)
     appended_refused fault.OutOfOrder new only failed full out_of_order same level stays_honest any =
@@ -187,5 +188,6 @@ module _ {D : Type 0} (state : D → State) (faults extent : D → ℕ) (honest 
         let count = kept.count in
         absurd (is.2 (omega (arith, first, count)))
     appended_refused fault.DamagedGroup new only failed full out_of_order same level stays_honest any = absurd only
+    appended_refused fault.NotNow new only failed full out_of_order same level stays_honest any = absurd only
     appended_refused fault.Failed new only failed full out_of_order same level stays_honest any =
         (Fine, appended_failed new (failed.0 refl) same)

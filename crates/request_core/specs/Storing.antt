@@ -18,9 +18,11 @@ event_of fault.DeviceFault = Failed DeviceFault
 event_of fault.BadMap = Held
 event_of fault.NoHeader = Held
 event_of fault.BadHeader = Held
+event_of fault.NumbersFull = Held
 event_of fault.AreaFull = Held
 event_of fault.OutOfOrder = Held
 event_of fault.DamagedGroup = Held
+event_of fault.NotNow = Held
 event_of fault.Failed = Failed FailedBefore
 
 -- the order after it: the group is pending again, but where memory was refused, and a device fault stops the order
@@ -30,9 +32,11 @@ order_after fault.DeviceFault order group = record (with_group order group) { st
 order_after fault.BadMap order group = with_group order group
 order_after fault.NoHeader order group = with_group order group
 order_after fault.BadHeader order group = with_group order group
+order_after fault.NumbersFull order group = with_group order group
 order_after fault.AreaFull order group = with_group order group
 order_after fault.OutOfOrder order group = with_group order group
 order_after fault.DamagedGroup order group = with_group order group
+order_after fault.NotNow order group = with_group order group
 order_after fault.Failed order group = with_group order group
 
 -- the group in hand after it
@@ -42,9 +46,11 @@ hand_after fault.DeviceFault group = None
 hand_after fault.BadMap group = None
 hand_after fault.NoHeader group = None
 hand_after fault.BadHeader group = None
+hand_after fault.NumbersFull group = None
 hand_after fault.AreaFull group = None
 hand_after fault.OutOfOrder group = None
 hand_after fault.DamagedGroup group = None
+hand_after fault.NotNow group = None
 hand_after fault.Failed group = None
 
 -- something is pending, and all that was sealed is durable

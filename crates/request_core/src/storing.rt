@@ -97,9 +97,11 @@ fn give_back(hand: &mut Option<Group>, order: &mut Order, fault: KeeperFault, gr
         KeeperFault::BadMap
         | KeeperFault::NoHeader
         | KeeperFault::BadHeader
+        | KeeperFault::NumbersFull
         | KeeperFault::AreaFull
         | KeeperFault::OutOfOrder
-        | KeeperFault::DamagedGroup => {
+        | KeeperFault::DamagedGroup
+        | KeeperFault::NotNow => {
             order.put_back(group);
             Event::Held
         }

@@ -3,7 +3,7 @@ ghost use Rattle.std.specs.Prelude.{◌≡◌, ◌+◌, ◌<◌, ◌^◌, length
 ghost use Rattle.image_model.specs.Geometry.{device_bytes_of};
 
 use checkpoint::{Keeper, KeeperFault};
-use disk_model::{CrashChoice, Disk, SimDisk};
+use disk_model::{CrashChoice, DeviceFault, Disk, SimDisk};
 use image_model::{Command, Geometry, Kind};
 use journal::Group;
 use std::alloc::{AllocError, Global};
@@ -86,6 +86,52 @@ fn stores_and_reads(rt: HostRuntime) -> Result<(), Fail> {
     check_stored(&rt, &mut keeper);
     let mut keeper = opened(alloc, keeper.into_disk())?;
     check_stored(&rt, &mut keeper);
+    Ok(())
+}
+
+// The bytes of header slot 0 after the first checkpoint: generation 3, one area in use, the second, map slot 1, base 2.
+const AFTER_ONE: [u8; 40] = [
+    1, 0x4e, 0x42, 0x44, 0x4a, 0x52, 0x4e, 0x4c, 0x31, 0, 0, 0, 0, 0, 0, 0, 3, 0, 0, 0, 0, 0, 0, 0,
+    16, 0, 0x20, 0, 0, 0, 1, 1, 0, 0, 0, 0, 0, 0, 0, 2,
+];
+
+// Carries a checkpoint through; a step that isn't due is refused.
+fn check_steps(rt: &impl Abort, keeper: &mut Keeper<SimDisk>) -> Result<(), KeeperFault> {
+    let late = Err(KeeperFault::NotNow);
+    assert!(rt; keeper.copy_one() == late && keeper.write_map() == late && keeper.finish() == late);
+    keeper.rotate()?;
+    assert!(rt; keeper.rotate() == late && keeper.write_map() == late && keeper.finish() == late);
+    assert!(rt; keeper.copy_some(256) == Ok(1));
+    assert!(rt; keeper.copy_one() == late && keeper.finish() == late);
+    keeper.write_map()?;
+    assert!(rt; keeper.copy_one() == late && keeper.write_map() == late);
+    keeper.finish()
+}
+
+// What slot 0 holds then.
+fn check_header(rt: &impl Abort, disk: &mut SimDisk) -> Result<(), DeviceFault> {
+    assert!(rt; disk.size() == 4_276_224);
+    let mut header = [0; 40];
+    disk.read(0, &mut header)?;
+    assert!(rt; header == AFTER_ONE);
+    Ok(())
+}
+
+#[test]
+fn checkpoint_moves_the_image_out_of_the_journal(rt: HostRuntime) -> Result<(), Fail> {
+    let alloc = rt.alloc();
+    let geometry = Geometry::new(16, 2_097_152).ok_or("outside the limits")?;
+    let mut keeper = opened(alloc, formatted(alloc, geometry)?)?;
+    assert!(rt; keeper.rotate() == Err(KeeperFault::NotNow));
+    store_two(&rt, alloc, &mut keeper)?;
+    check_steps(&rt, &mut keeper)?;
+    assert!(rt; keeper.count() == 2 && keeper.base() == 2 && keeper.generation() == 3);
+    let mut disk = keeper.into_disk();
+    check_header(&rt, &mut disk)?;
+    let mut keeper = opened(alloc, disk)?;
+    assert!(rt; keeper.count() == 2 && keeper.base() == 2);
+    assert!(rt; block_of(&rt, &mut keeper, 3, 0x42) == Kind::Data);
+    assert!(rt; block_of(&rt, &mut keeper, 4, 0) == Kind::Hole);
     Ok(())
 }
 

@@ -1,6 +1,6 @@
-use Rattle.std.proofs.Common.{List, sym, subst}
-use Rattle.journal.specs.Area.{AreaState}
+use Rattle.std.proofs.Common.{List, [], ◌∷◌, sym, subst}
 use Rattle.journal.specs.Spelling.{StoredGroup}
+use Rattle.device_image.specs.Keeper.{PlanState}
 use Rattle.device_image.specs.Keeps.{HoldsAreas}
 use Rattle.journal.proofs.Chained.{reads_on}
 use Rattle.checkpoint.proofs.Areas.{last_damaged, one_held, two_held}
@@ -9,7 +9,6 @@ use Rattle.checkpoint.proofs.opening.read_areas.Goals as goal
 
 pub returns-in_ok-area-in-One-clause-read : goal.returns-in_ok-area-in-One-clause-read
 returns-in_ok-area-in-One-clause-read g c honest synced =
-    subst (λ (earlier : List AreaState). (lists : List (List StoredGroup)) × HoldsAreas (g.D.Disk.state c.read_area.new.disk) c.args.header.now lists earlier c.in_ok-area-in-One.area) (sym c.new.ensures.items)
     (one_held c.args.header.now c.in-One.is (g.D.Disk.state c.read_area.new.disk) c.in_ok-area-in-One.area c.in_ok-area-in-One.ensures.placed (c.in_ok-area-in-One.ensures.read honest synced))
 
 pub returns-in_err-area-in-Two-clause-only_read : goal.returns-in_err-area-in-Two-clause-only_read
@@ -29,7 +28,7 @@ returns-in_err-area-in-Two-clause-read g c honest synced =
     let same = seen_same (g.met.D.Disk.sound c.read_area-in-Two.new.disk mid_honest) mid_synced (second.only_read mid_honest) in
     at_refusal _ _ _ _ c.from_residual-in_err-area-in-Two.ensures.1
     (damage_weaker c.in_err-area-in-Two.field-0.0
-    (last_damaged header c.in-Two.is mid c.in_ok-first-in-Two.first first.placed (first.read honest synced) after.seen c.other-side.result c.next-next.result same c.next-next.ensures c.other-side.ensures)
+    (last_damaged header c.in-Two.is mid c.in_ok-first-in-Two.first first.placed (first.read honest synced) after.seen c.other-side.result c.next.result same c.next.ensures c.other-side.ensures)
     (second.read mid_honest mid_synced))
 
 pub returns-in_ok-area-in-Two-clause-only_read : goal.returns-in_ok-area-in-Two-clause-only_read
@@ -47,9 +46,9 @@ returns-in_ok-area-in-Two-clause-read g c honest synced =
     let mid_honest = first.honest.1 honest in
     let mid_synced = still_synced synced (first.only_read honest) in
     let same = seen_same (g.met.D.Disk.sound c.read_area-in-Two.new.disk mid_honest) mid_synced (second.only_read mid_honest) in
-    subst (λ (earlier : List AreaState). (lists : List (List StoredGroup)) × HoldsAreas after header lists earlier c.in_ok-area-in-Two.area) (sym c.in_ok-earlier-in-Two.ensures)
-    (two_held header c.in-Two.is mid c.in_ok-first-in-Two.first first.placed (first.read honest synced) after c.in_ok-area-in-Two.area c.next-next.result c.other-side.result same
-    (still_synced mid_synced (second.only_read mid_honest)) c.next-next.ensures c.other-side.ensures second.placed (second.read mid_honest mid_synced))
+    subst (λ (plan : PlanState). (lists : List (List StoredGroup)) × HoldsAreas after header lists (plan.first ∷ []) c.in_ok-area-in-Two.area) (sym c.of.ensures)
+    (two_held header c.in-Two.is mid c.in_ok-first-in-Two.first first.placed (first.read honest synced) after c.in_ok-area-in-Two.area c.next.result c.other-side.result same
+    (still_synced mid_synced (second.only_read mid_honest)) c.next.ensures c.other-side.ensures second.placed (second.read mid_honest mid_synced))
 
 pub returns-in_err-area-in-Two-clause-honest : goal.returns-in_err-area-in-Two-clause-honest
 returns-in_err-area-in-Two-clause-honest g c =

@@ -28,24 +28,24 @@ returns-in_err-map-clause-read g c honest synced =
     let sound = g.met.D.Disk.sound c.read_current.new.disk one_honest in
     let one_synced = still_synced synced (one_read (first.kept honest) (first.any_moment honest)) in
     let same = seen_same sound one_synced (one_read (second.kept one_honest) (second.any_moment one_honest)) in
-    let header = header_read _ _ c.in_ok-header.header c.in_ok-header._slot (sym first.extent ∙ sym sound.size) (first.reading honest) in
-    let held = subst (λ (content : List ℕ). HoldsHeader content (length content) c.in_ok-header.header c.in_ok-header._slot) same header in
+    let header = header_read _ _ c.in_ok-header.header c.in_ok-header.slot (sym first.extent ∙ sym sound.size) (first.reading honest) in
+    let held = subst (λ (content : List ℕ). HoldsHeader content (length content) c.in_ok-header.header c.in_ok-header.slot) same header in
     let reading = subst (λ (size : Geometry). IsMapReading (g.D.Disk.state c.read_slot.new.disk).seen (map_at size c.in_ok-header.header.map_slot) size.blocks (Err c.in_err-map.field-0.0)) c.of.ensures (second.reading one_honest) in
-    at_refusal _ _ _ _ c.from_residual-in_err-map.ensures.1 (map_refused _ c.in_ok-header.header c.in_ok-header._slot c.in_err-map.field-0.0 held reading)
+    at_refusal _ _ _ _ c.from_residual-in_err-map.ensures.1 (map_refused _ c.in_ok-header.header c.in_ok-header.slot c.in_err-map.field-0.0 held reading)
 
-pub returns-in_err-earlier-clause-only_read : goal.returns-in_err-earlier-clause-only_read
-returns-in_err-earlier-clause-only_read g c honest =
+pub returns-in_err-plan-clause-only_read : goal.returns-in_err-plan-clause-only_read
+returns-in_err-plan-clause-only_read g c honest =
     let first = c.in_ok-header.ensures in
     let second = c.in_ok-map.ensures in
     let one_honest = first.honest.1 honest in
     reads_on (g.met.D.Disk.sound c.args.disk.now honest) (one_read (first.kept honest) (first.any_moment honest))
-    (reads_on (g.met.D.Disk.sound c.read_current.new.disk one_honest) (one_read (second.kept one_honest) (second.any_moment one_honest)) (c.in_err-earlier.ensures.only_read (second.honest.1 one_honest)))
+    (reads_on (g.met.D.Disk.sound c.read_current.new.disk one_honest) (one_read (second.kept one_honest) (second.any_moment one_honest)) (c.in_err-plan.ensures.only_read (second.honest.1 one_honest)))
 
-pub returns-in_err-earlier-clause-read : goal.returns-in_err-earlier-clause-read
-returns-in_err-earlier-clause-read g c honest synced =
+pub returns-in_err-plan-clause-read : goal.returns-in_err-plan-clause-read
+returns-in_err-plan-clause-read g c honest synced =
     let first = c.in_ok-header.ensures in
     let second = c.in_ok-map.ensures in
-    let third = c.in_err-earlier.ensures in
+    let third = c.in_err-plan.ensures in
     let one_honest = first.honest.1 honest in
     let two_honest = second.honest.1 one_honest in
     let header = c.in_ok-header.header in
@@ -56,12 +56,12 @@ returns-in_err-earlier-clause-read g c honest synced =
     let also = subst (λ e. IsSound e two) second.extent (g.met.D.Disk.sound c.read_slot.new.disk two_honest) in
     let one_synced = still_synced synced (one_read (first.kept honest) (first.any_moment honest)) in
     let map_read = one_read (second.kept one_honest) (second.any_moment one_honest) in
-    let held = header_stays one two three sound also one_synced map_read (third.only_read two_honest) header c.in_ok-header._slot c.in_ok-map.map
-    (header_read _ _ header c.in_ok-header._slot (sym first.extent ∙ sym sound.size) (first.reading honest)) in
-    let map = map_stays one two three sound also one_synced map_read (third.only_read two_honest) header c.in_ok-header._slot c.in_ok-map.map
+    let held = header_stays one two three sound also one_synced map_read (third.only_read two_honest) header c.in_ok-header.slot c.in_ok-map.map
+    (header_read _ _ header c.in_ok-header.slot (sym first.extent ∙ sym sound.size) (first.reading honest)) in
+    let map = map_stays one two three sound also one_synced map_read (third.only_read two_honest) header c.in_ok-header.slot c.in_ok-map.map
     (subst (λ (size : Geometry). HoldsMap two.seen (map_at size header.map_slot) size.blocks c.in_ok-map.map) c.of.ensures (second.reading one_honest)) in
-    at_refusal _ _ _ _ c.from_residual-in_err-earlier.ensures.1
-    (groups_refused three.seen header c.in_ok-header._slot c.in_ok-map.map c.in_err-earlier.field-0.0 held map (third.read two_honest (still_synced one_synced map_read)))
+    at_refusal _ _ _ _ c.from_residual-in_err-plan.ensures.1
+    (groups_refused three.seen header c.in_ok-header.slot c.in_ok-map.map c.in_err-plan.field-0.0 held map (third.read two_honest (still_synced one_synced map_read)))
 
 pub returns-clause-only_read : goal.returns-clause-only_read
 returns-clause-only_read g c honest =
@@ -69,13 +69,13 @@ returns-clause-only_read g c honest =
     let second = c.in_ok-map.ensures in
     let one_honest = first.honest.1 honest in
     reads_on (g.met.D.Disk.sound c.args.disk.now honest) (one_read (first.kept honest) (first.any_moment honest))
-    (reads_on (g.met.D.Disk.sound c.read_current.new.disk one_honest) (one_read (second.kept one_honest) (second.any_moment one_honest)) (c.in_ok-earlier.ensures.only_read (second.honest.1 one_honest)))
+    (reads_on (g.met.D.Disk.sound c.read_current.new.disk one_honest) (one_read (second.kept one_honest) (second.any_moment one_honest)) (c.in_ok-plan.ensures.only_read (second.honest.1 one_honest)))
 
 pub returns-clause-read : goal.returns-clause-read
 returns-clause-read g c honest synced =
     let first = c.in_ok-header.ensures in
     let second = c.in_ok-map.ensures in
-    let third = c.in_ok-earlier.ensures in
+    let third = c.in_ok-plan.ensures in
     let one_honest = first.honest.1 honest in
     let two_honest = second.honest.1 one_honest in
     let header = c.in_ok-header.header in
@@ -86,18 +86,18 @@ returns-clause-read g c honest synced =
     let also = subst (λ e. IsSound e two) second.extent (g.met.D.Disk.sound c.read_slot.new.disk two_honest) in
     let one_synced = still_synced synced (one_read (first.kept honest) (first.any_moment honest)) in
     let map_read = one_read (second.kept one_honest) (second.any_moment one_honest) in
-    let held = header_stays one two three sound also one_synced map_read (third.only_read two_honest) header c.in_ok-header._slot c.in_ok-map.map
-    (header_read _ _ header c.in_ok-header._slot (sym first.extent ∙ sym sound.size) (first.reading honest)) in
-    let map = map_stays one two three sound also one_synced map_read (third.only_read two_honest) header c.in_ok-header._slot c.in_ok-map.map
+    let held = header_stays one two three sound also one_synced map_read (third.only_read two_honest) header c.in_ok-header.slot c.in_ok-map.map
+    (header_read _ _ header c.in_ok-header.slot (sym first.extent ∙ sym sound.size) (first.reading honest)) in
+    let map = map_stays one two three sound also one_synced map_read (third.only_read two_honest) header c.in_ok-header.slot c.in_ok-map.map
     (subst (λ (size : Geometry). HoldsMap two.seen (map_at size header.map_slot) size.blocks c.in_ok-map.map) c.of.ensures (second.reading one_honest)) in
     let areas = third.read two_honest (still_synced one_synced map_read) in
     record {
-      slot = c.in_ok-header._slot;
       lists = areas.0;
       synced = still_synced (still_synced one_synced map_read) (third.only_read two_honest);
       in_force = held;
       map = map;
       areas = areas.1;
+      fresh = third.fresh;
     }
 
 pub returns-in_err-map-clause-honest : goal.returns-in_err-map-clause-honest
@@ -106,16 +106,16 @@ returns-in_err-map-clause-honest g c =
     let second = c.in_err-map.ensures in
     (λ honest. first.honest.0 (second.honest.0 honest), λ honest. second.honest.1 (first.honest.1 honest))
 
-pub returns-in_err-earlier-clause-honest : goal.returns-in_err-earlier-clause-honest
-returns-in_err-earlier-clause-honest g c =
+pub returns-in_err-plan-clause-honest : goal.returns-in_err-plan-clause-honest
+returns-in_err-plan-clause-honest g c =
     let first = c.in_ok-header.ensures in
     let second = c.in_ok-map.ensures in
-    let third = c.in_err-earlier.ensures in
+    let third = c.in_err-plan.ensures in
     (λ honest. first.honest.0 (second.honest.0 (third.honest.0 honest)), λ honest. third.honest.1 (second.honest.1 (first.honest.1 honest)))
 
 pub returns-clause-honest : goal.returns-clause-honest
 returns-clause-honest g c =
     let first = c.in_ok-header.ensures in
     let second = c.in_ok-map.ensures in
-    let third = c.in_ok-earlier.ensures in
+    let third = c.in_ok-plan.ensures in
     (λ honest. first.honest.0 (second.honest.0 (third.honest.0 honest)), λ honest. third.honest.1 (second.honest.1 (first.honest.1 honest)))

@@ -1,10 +1,8 @@
-use Rattle.std.proofs.lemmas.List.Elements.{All-push}
-use Rattle.last_touches.specs.declared.touch.TouchedRange.{TouchedRange}
-use Rattle.last_touches.specs.Touches.{HasBytesWithin}
+use Rattle.std.proofs.Common.{[], ◌∷◌}
+use Rattle.journal.proofs.Found.{within_append}
 use Rattle.journal_bench.proofs.touches.clears_and_puts.Goals as goal
 
 pub loop-index-preserved : goal.loop-index-preserved
 loop-index-preserved c =
-    let P = λ (range : TouchedRange). HasBytesWithin 4294967295 range.blocks range.touch in
-    let cleared = All-push P _ _ c.loop-index.invariant c.clear.ensures in
-    rw (c.in_ok-push-2.ensures.items, c.in_ok-push.ensures.items) (All-push P _ _ cleared c.put.ensures)
+    let cleared = within_append 0 4294967295 _ (_ ∷ []) c.loop-index.invariant (c.clear.ensures, tt) in
+    rw (c.in_ok-push-2.ensures.items, c.in_ok-push.ensures.items) (within_append 0 4294967295 _ (_ ∷ []) cleared (c.put.ensures, tt))

@@ -1,5 +1,5 @@
 use Rattle.std.proofs.Common.{ap, sym, ◌∙◌, Option}
-use Rattle.last_touches.specs.declared.touch.Touch.{Touch}
+use Rattle.last_touches.specs.declared.touch.LastTouch.{LastTouch}
 use Rattle.last_touches.specs.Ranges.{touch_at}
 use Rattle.last_touches.specs.Touches.{later}
 use Rattle.last_touches.proofs.Said.{AreRanges-later}
@@ -14,5 +14,5 @@ returns c =
     record {
       apart = AreRanges-later 0 c.loop-range.laid.done 4294967295 c.loop-range.ranges.items known.fits known.apart;
       longest = known.longest;
-      exact = λ block. sym (known.exact block ∙ ap (λ (t : Option Touch). later (touch_at block c.loop-range.ranges.items) t) (c.in_default.ensures.none block));
+      exact = λ block. sym (known.exact block ∙ ap (λ (t : Option LastTouch). later (touch_at block c.loop-range.ranges.items) t) (c.in_default.ensures.none block));
     }

@@ -57,8 +57,8 @@ returns-in-Ok-clause-stored g c honest image number keeps changes =
     (omega (arith, long))
     (c.in-Ok.ensures.stored sound (first _ (g.D.Disk.state keeper.disk) image number inside) inside.areas.groups inside.areas.held (taken _ _ image number group inside sizes))
     (ap (λ (area : AreaState). area.from) grown_is) (ap (λ (area : AreaState). area.bytes) grown_is) (ap (λ (area : AreaState). area.blocks) grown_is)
-    refl refl refl refl refl refl
-    (count_on keeper.area.next group.first (length group.commands) keeper.count number c.next.result c.self.invariant.5 (omega arith) next whole.some whole.numbers (c.next.ensures ∙ ap (λ (area : AreaState). area.next) grown_is) inside.counted)
+    refl refl refl refl refl refl refl refl
+    (count_on keeper.area.next group.first (length group.commands) keeper.count number c.next.result c.self.invariant.4 (omega arith) next whole.some whole.numbers (c.next.ensures ∙ ap (λ (area : AreaState). area.next) grown_is) inside.counted)
     (omega (arith, ap (λ (area : AreaState). area.gate) grown_is, size-stored group)) refl
 
 pub returns-in-Ok-clause-any_moment : goal.returns-in-Ok-clause-any_moment
@@ -77,9 +77,9 @@ returns-in-Err-clause-out_of_order g c =
     let invariant = c.self.invariant in (
       λ is.
           let given = c.in-Err.ensures.out_of_order.0 (ordered c.in-Err.fault (sym c.from-fault.ensures ∙ is)) in
-          (working, omega (arith, given.0, used, size, invariant.4), λ same. given.1 (count_below keeper.area.next group.first c.self.inside.count invariant.5 (omega (arith, whole.some, whole.numbers)) (same ∙ ap (λ (n : ℕ). n + 1) (sym count)))),
+          (working, omega (arith, given.0, used, size, invariant.3.bytes), λ same. given.1 (count_below keeper.area.next group.first c.self.inside.count invariant.4 (omega (arith, whole.some, whole.numbers)) (same ∙ ap (λ (n : ℕ). n + 1) (sym count)))),
       λ given.
-          let fault = c.in-Err.ensures.out_of_order.1 (omega (arith, given.1, used, size, invariant.4), λ follows. given.2 (count_above keeper.area.next group.first keeper.count invariant.5 (omega arith) follows ∙ ap (λ (n : ℕ). n + 1) count)) in
+          let fault = c.in-Err.ensures.out_of_order.1 (omega (arith, given.1, used, size, invariant.3.bytes), λ follows. given.2 (count_above keeper.area.next group.first keeper.count invariant.4 (omega arith) follows ∙ ap (λ (n : ℕ). n + 1) count)) in
           c.from-fault.ensures ∙ ap of_journal fault,
     )
 

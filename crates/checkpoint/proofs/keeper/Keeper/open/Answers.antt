@@ -14,9 +14,9 @@ returns-in-Ok-clause-found g c honest =
       state.seen,
       call.fixed honest,
       (
-        opened_image state read.header read.map read.earlier.items read.area opened fits,
-        opened_stands state read.header read.map read.earlier.items read.area opened fits _ (last_number state read.header read.map read.earlier.items read.area opened fits _ counted),
-        opened_keeps state read.header read.map read.earlier.items read.area opened fits _ sound refl refl refl refl refl refl refl refl refl counted,
+        opened_image state read.header read.slot read.map read.plan read.area opened fits,
+        opened_stands state read.header read.slot read.map read.plan read.area opened fits _ (last_number state read.header read.slot read.map read.plan read.area opened fits _ counted),
+        opened_keeps state read.header read.slot read.map read.plan read.area opened fits _ sound refl refl refl refl refl refl refl refl refl refl refl counted,
       ),
     )
 
@@ -28,8 +28,8 @@ returns-in-Ok-clause-same g c honest synced image number stands =
     let state = g.D.Disk.state c.read_device.new.disk in
     let sound = g.met.D.Disk.sound c.read_device.new.disk (call.honest.1 honest) in
     let fits : read.header.base < 18446744073709551616 = search rules in
-    keeps_same _ state (opened_image state read.header read.map read.earlier.items read.area opened fits) image _ number
-    (opened_keeps state read.header read.map read.earlier.items read.area opened fits _ sound refl refl refl refl refl refl refl refl refl (ap (λ n. (n + 18446744073709551615) % 18446744073709551616) c.next.ensures))
+    keeps_same _ state (opened_image state read.header read.slot read.map read.plan read.area opened fits) image _ number
+    (opened_keeps state read.header read.slot read.map read.plan read.area opened fits _ sound refl refl refl refl refl refl refl refl refl refl refl (ap (λ n. (n + 18446744073709551615) % 18446744073709551616) c.next.ensures))
     (stood (g.D.Disk.state c.args.disk) state image number synced (call.fixed honest) stands)
 
 pub returns-in-Err-clause-found : goal.returns-in-Err-clause-found

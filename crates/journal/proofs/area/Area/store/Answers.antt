@@ -67,7 +67,7 @@ returns-clause-any_moment g c honest first groups held changes =
 
 pub invariant_of-self-in_err-note : goal.invariant_of-self-in_err-note
 invariant_of-self-in_err-note g c =
-    (c.self.invariant.0, c.self.invariant.1, c.in_err-note.ensures.within (c.self.inside.from + c.self.inside.bytes) (omega (arith, c.in_ok-check.ensures.fits, ap (λ (area : AreaState). area.gate) c.self.view_is, ap (λ (area : AreaState). area.bytes) c.self.view_is)) c.self.invariant.2)
+    (c.self.invariant.0, c.self.invariant.1, c.in_err-note.ensures.within c.self.inside.from (c.self.inside.from + c.self.inside.bytes) (omega arith) (omega (arith, c.in_ok-check.ensures.fits, ap (λ (area : AreaState). area.gate) c.self.view_is, ap (λ (area : AreaState). area.bytes) c.self.view_is)) c.self.invariant.2)
 
 pub returns-in_err-note-clause-any_moment : goal.returns-in_err-note-clause-any_moment
 returns-in_err-note-clause-any_moment g c honest first groups held changes =
@@ -75,8 +75,8 @@ returns-in_err-note-clause-any_moment g c honest first groups held changes =
 
 pub invariant_of-self-in_err-write_group : goal.invariant_of-self-in_err-write_group
 invariant_of-self-in_err-write_group g c =
-    (c.self.invariant.0, c.self.invariant.1, c.in_ok-note.ensures.within (c.self.inside.from + c.self.inside.bytes) (omega (arith, c.in_ok-check.ensures.fits, ap (λ (area : AreaState). area.gate) c.self.view_is, ap (λ (area : AreaState). area.bytes) c.self.view_is)) c.self.invariant.2)
+    (c.self.invariant.0, c.self.invariant.1, c.in_ok-note.ensures.within c.self.inside.from (c.self.inside.from + c.self.inside.bytes) (omega arith) (omega (arith, c.in_ok-check.ensures.fits, ap (λ (area : AreaState). area.gate) c.self.view_is, ap (λ (area : AreaState). area.bytes) c.self.view_is)) c.self.invariant.2)
 
 pub invariant_of-self-2 : goal.invariant_of-self-2
 invariant_of-self-2 g c =
-    (c.self.invariant.0, c.self.invariant.1, c.in_ok-note.ensures.within (c.self.inside.from + c.self.inside.bytes) (omega (arith, c.in_ok-check.ensures.fits, ap (λ (area : AreaState). area.gate) c.self.view_is, ap (λ (area : AreaState). area.bytes) c.self.view_is)) c.self.invariant.2)
+    (c.self.invariant.0, c.self.invariant.1, c.in_ok-note.ensures.within c.self.inside.from (c.self.inside.from + c.self.inside.bytes) (omega arith) (omega (arith, c.in_ok-check.ensures.fits, ap (λ (area : AreaState). area.gate) c.self.view_is, ap (λ (area : AreaState). area.bytes) c.self.view_is)) c.self.invariant.2)

@@ -10,8 +10,8 @@ use Rattle.journal.proofs.Noted.{noted_more, noted_within}
 use Rattle.journal.proofs.group.Group.note.Goals as goal
 
 pub returns-in_err-note-clause-within : goal.returns-in_err-note-clause-within
-returns-in_err-note-clause-within c end inside within =
-    noted_within end c.args.place c.args.self.now.commands c.loop-command.command-index _ _ inside (c.in_err-note.ensures.err ∙ c.loop-command.invariant.noted) within
+returns-in_err-note-clause-within c from end low inside within =
+    noted_within from end c.args.place c.args.self.now.commands c.loop-command.command-index _ _ low inside (c.in_err-note.ensures.err ∙ c.loop-command.invariant.noted) within
 
 pub loop-command-preserved : goal.loop-command-preserved
 loop-command-preserved c =
@@ -31,5 +31,5 @@ loop-command-preserved c =
     }
 
 pub returns-clause-within : goal.returns-clause-within
-returns-clause-within c end inside within =
-    noted_within end c.args.place c.args.self.now.commands c.loop-command.command-index _ _ inside c.loop-command.invariant.noted within
+returns-clause-within c from end low inside within =
+    noted_within from end c.args.place c.args.self.now.commands c.loop-command.command-index _ _ low inside c.loop-command.invariant.noted within

@@ -1,6 +1,6 @@
 use Rattle.std.proofs.Common.{◌+◌, ◌∙◌, ◌∷◌, [], List, sym, subst, refl, arith}
 use Rattle.journal.specs.declared.touch.TouchedRange.{TouchedRange}
-use Rattle.journal.specs.Scanning.{AreWithin}
+use Rattle.journal.specs.Touches.{AreWithin}
 use Rattle.journal.proofs.Chained.{none_read, reads_on}
 use Rattle.journal.proofs.Found.{found_none, left_none, found_more, left_more, none_next, within_append, range_within}
 use Rattle.journal.proofs.Noted.{passed_on}
@@ -33,9 +33,9 @@ loop-preserved g c =
       only_read = λ honest. reads_on (g.met.D.Disk.sound c.args.disk.now honest) (loop.only_read honest) (read.only_read (loop.honest.1 honest));
       order = read.inside.1;
       within = λ within.
-          subst (AreWithin (area.from + area.bytes)) (sym {A = List TouchedRange} c.in_ok-note.ensures.ok)
-          (within_append (area.from + area.bytes) c.loop.touched.items (c.in_ok-found.found.range ∷ []) (loop.within within)
-          (range_within (area.from + c.in_ok-found.found.end) (area.from + area.bytes) (omega (arith, read.inside.1, c.requires.inside)) c.in_ok-found.found.range read.within, tt));
+          subst (AreWithin area.from (area.from + area.bytes)) (sym {A = List TouchedRange} c.in_ok-note.ensures.ok)
+          (within_append area.from (area.from + area.bytes) c.loop.touched.items (c.in_ok-found.found.range ∷ []) (loop.within within)
+          (range_within area.from (area.from + c.in_ok-found.found.end) area.from (area.from + area.bytes) (omega arith) (omega (arith, read.inside.1, c.requires.inside)) c.in_ok-found.found.range read.within, tt));
       read_as = λ honest content known. read.read_as (loop.honest.1 honest) content (loop.read_as honest content known);
       found = λ honest content known. found_more area.blocks content (area.from + c.args.from) _ _ _ _ _ _ _ (loop.found honest content known) (read.found (loop.honest.1 honest) content (loop.read_as honest content known)) c.in_ok-note.ensures.ok;
       left = λ honest content known. left_more area.blocks area.blocks_fit content (area.from + c.args.from) _ _ _ _ (loop.left honest content known) _ _ (read.found (loop.honest.1 honest) content (loop.read_as honest content known)) c.loop-test.true;

@@ -1,6 +1,7 @@
 use Rattle.std.proofs.Common.{◌≡◌, ◌≤◌, ◌+◌, ◌↔◌, List, ℕ}
 use Rattle.journal.specs.Reading.{IsOnlyRead}
-use Rattle.journal.specs.Scanning.{AreWithin, FoundChanges, IsReadAs}
+use Rattle.journal.specs.Scanning.{FoundChanges, IsReadAs}
+use Rattle.journal.specs.Touches.{AreWithin}
 use Rattle.journal.proofs.Found.{AreLeft}
 use Rattle.journal.proofs.scan.Place.commands.Given as goal
 
@@ -11,7 +12,7 @@ invariant-loop g l = record {
   honest : g.D.Disk.honest l.disk ↔ g.D.Disk.honest l.fn.disk;
   only_read : g.D.Disk.honest l.fn.disk → IsOnlyRead (g.D.Disk.state l.fn.disk) (g.D.Disk.state l.disk);
   order : l.place ≤ l.end;
-  within : AreWithin (l.self.from + l.self.bytes) l.fn.touched.items → AreWithin (l.self.from + l.self.bytes) l.touched.items;
+  within : AreWithin l.self.from (l.self.from + l.self.bytes) l.fn.touched.items → AreWithin l.self.from (l.self.from + l.self.bytes) l.touched.items;
   read_as : g.D.Disk.honest l.fn.disk → (content : List ℕ) → IsReadAs content (g.D.Disk.state l.fn.disk) l.self.from l.self.bytes l.fn.window → IsReadAs content (g.D.Disk.state l.disk) l.self.from l.self.bytes l.window;
   found : g.D.Disk.honest l.fn.disk → (content : List ℕ) → IsReadAs content (g.D.Disk.state l.fn.disk) l.self.from l.self.bytes l.fn.window
       → FoundChanges l.self.blocks content (l.self.from + l.from) (l.self.from + l.place) l.counter l.fn.touched.items l.touched.items;

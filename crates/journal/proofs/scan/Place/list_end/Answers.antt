@@ -1,6 +1,7 @@
 use Rattle.std.proofs.Common.{◌+◌, ◌∙◌, List, sym, subst, refl, arith}
 use Rattle.journal.specs.declared.touch.TouchedRange.{TouchedRange}
-use Rattle.journal.specs.Scanning.{AreWithin, FoundList}
+use Rattle.journal.specs.Scanning.{FoundList}
+use Rattle.journal.specs.Touches.{AreWithin}
 use Rattle.journal.proofs.Chained.{none_read, reads_on}
 use Rattle.journal.proofs.Groups.{lead_none, lead_more, lead_ends, lead_damaged}
 use Rattle.journal.proofs.Noted.{passed_on}
@@ -15,7 +16,7 @@ loop-window-init g c =
       honest = (λ honest. honest, λ honest. honest);
       only_read = λ honest. none_read (g.met.D.Disk.sound c.args.disk.now honest);
       within = c.requires.some;
-      noted = subst (AreWithin (area.from + area.bytes)) (sym c.requires.none_noted) tt;
+      noted = subst (AreWithin area.from (area.from + area.bytes)) (sym c.requires.none_noted) tt;
       read_as = λ honest content known. record { scanned = known; held = λ k below. absurd (omega (arith, below, c.in_ok-window.ensures)) };
       found = λ honest content known. lead_none area.blocks content area.from c.args.next c.args.touched.now.items c.requires.none_noted;
     }

@@ -1,8 +1,6 @@
-use Rattle.std.proofs.Common.{◌≡◌, List, Bool, false, nat_lt, if◌then◌else◌, None, ap, sum_by, ◌∙◌, arith}
-use Rattle.std.proofs.lemmas.Bool.Decides.{nat_tests}
+use Rattle.std.proofs.Common.{List, ap, sum_by, ◌∙◌, arith}
 use Rattle.last_touches.specs.declared.range.PutRange.{PutRange}
 use Rattle.last_touches.specs.Puts.{puts_of}
-use Rattle.last_touches.specs.Touches.{last_touch}
 use Rattle.last_touches.proofs.Copied.{puts_within}
 use Rattle.last_touches.proofs.Said.{AreRanges-before}
 use Rattle.last_touches.proofs.last_touches.LastTouches.resolve.Goals as goal
@@ -17,9 +15,7 @@ invariant_of-result c =
     let touches = c.in_ok-ranges.ensures in
     record {
       blocks_fit = omega arith;
-      apart = AreRanges-before 0 4294967295 c.args.blocks c.in_ok-ranges.ranges.items (omega arith) touches.apart
-          (λ block high. touches.exact block
-          ∙ ap (λ (b : Bool). if b then last_touch block c.args.touched.now else None) (let behind : nat_lt block c.args.blocks ≡ false = grind (arith, nat_tests) in behind));
+      apart = AreRanges-before 0 4294967295 c.args.blocks c.in_ok-ranges.ranges.items (omega arith) touches.apart touches.none;
       longest = touches.longest;
       puts_are = c.in_ok-puts.ensures ∙ ap puts_of c.deref.ensures.value;
       copies_are = c.sum_of_blocks-blocks_to_copy.ensures ∙ ap (λ (l : List PutRange). sum_by (λ (put : PutRange). put.blocks) l) c.deref-2.ensures.value;

@@ -1,0 +1,52 @@
+-- What a device is while an area comes into use.
+use Rattle.std.proofs.Common.{◌≡◌, ◌≢◌, ⊎_elim, inl, inr, ℕ, ◌+◌, ◌≤◌, ◌<◌, List, [], ◌∷◌, length, slice_index, Ok, sym, ◌∙◌, ap, subst, arith}
+use Rattle.disk_model.specs.Disk.{State, InRange, IsAllSynced, IsSound, IsStored, IsSyncedIn, MayLeaveTorn}
+use Rattle.disk_model.proofs.Contents.{stored_first}
+use Rattle.header_slots.specs.Change.{IsInPlace, LeavesEither}
+use Rattle.header_slots.specs.Slots.{HoldsHeader, IsReading}
+use Rattle.header_slots.specs.declared.header.Header.{Header}
+use Rattle.header_slots.proofs.Frame.{same_reading}
+use Rattle.image_model.specs.Side.{other_of}
+use Rattle.image_model.specs.declared.side.Side.{Side}
+use Rattle.device_image.specs.Copied.{IsTurnBegun, LeavesTurn}
+
+module _ (before : State) (extent from : ℕ) (synced : IsAllSynced before) (behind : 8192 ≤ from) (current : Header) (slot : Side) (held : HoldsHeader before.seen extent current slot) (header : Header) where
+  -- while the gate is closed
+  pub closing_left : (content : List ℕ) → MayLeaveTorn before from 1 content → LeavesTurn before extent from current slot header content
+  closing_left content left = record {
+    size = left.size;
+    others = λ place above other. left.same place (synced place) (λ within. other (omega (arith, within)));
+    either = inl (same_reading before.seen content (λ k below. sym (left.same k (synced k) (λ within. omega (arith, below, within.0, behind)))) extent (Ok (current, slot)) held);
+  }
+
+  module _ (mid : State) (sound : IsSound extent before) (mid_sound : IsSound extent mid) (stored : IsStored before from (0 ∷ []) mid) where
+    steady : (place : ℕ) → before.loose place → ⊥
+    steady place loose = synced place (sound.loose place loose)
+
+    mid_same : (place : ℕ) → place ≢ from → slice_index mid.seen place ≡ slice_index before.seen place
+    mid_same place other = stored.others place (λ within. other (omega (arith, within))) (steady place)
+
+    mid_closed : slice_index mid.seen from ≡ 0
+    mid_closed = stored_first before mid from (0 ∷ []) stored (omega arith) (steady from)
+
+    pub held_still : HoldsHeader mid.seen extent current slot
+    held_still = same_reading before.seen mid.seen (λ k below. sym (mid_same k (λ is. omega (arith, below, is, behind)))) extent (Ok (current, slot)) held
+
+    pub slots_synced : IsSyncedIn mid 0 8192
+    slots_synced place within = stored.synced place
+
+    -- while the header changes
+    pub change_left : (content : List ℕ) → LeavesEither mid extent current slot header content → LeavesTurn before extent from current slot header content
+    change_left content left = record {
+      size = left.outside.size ∙ mid_sound.size ∙ sym sound.size;
+      others = λ place above other. left.outside.same place above (stored.synced place) ∙ mid_same place other;
+      either = ⊎_elim (λ old. inl old) (λ new. inr (left.outside.same from behind (stored.synced from) ∙ mid_closed, new)) left.either;
+    }
+
+    pub begun_at : (after : State) (other : Side) → IsInPlace mid extent header other after → IsTurnBegun before extent from header other after
+    begun_at after other placed = record {
+      held = placed.held;
+      closed = placed.others from behind (λ loose. stored.synced from (mid_sound.loose from loose)) ∙ mid_closed;
+      others = λ place above apart. placed.others place above (λ loose. stored.synced place (mid_sound.loose place loose)) ∙ mid_same place apart;
+      synced = placed.synced;
+    }

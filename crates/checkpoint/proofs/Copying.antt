@@ -1,0 +1,90 @@
+-- The keeper after its next blocks were copied.
+use Rattle.std.proofs.Common.{◌≡◌, ℕ, ◌+◌, ◌-◌, ◌*◌, ◌≤◌, ◌<◌, Option, Some, None, List, [], ◌∷◌, length, refl, sym, ◌∙◌, ap, subst, arith, false}
+use Rattle.disk_model.specs.Disk.{State, InRange, MayLeave, MayLeaveTorn}
+use Rattle.header_slots.specs.Header.{mode_of}
+use Rattle.header_slots.specs.declared.header.Areas.{Areas}
+use Rattle.header_slots.specs.declared.header.Header.{Header}
+use Rattle.image_model.specs.Image.{Image}
+use Rattle.image_model.specs.declared.command.Kind.{Kind}
+use Rattle.image_model.specs.declared.geometry.Geometry.{Geometry}
+use Rattle.image_model.specs.declared.side.Side.{Side}
+use Rattle.journal.specs.Area.{AreaState}
+use Rattle.journal.specs.Spelling.{StoredGroup}
+use Rattle.journal.specs.Touches.{last_touch, touched_by_groups}
+use Rattle.journal.specs.declared.touch.Touch.TheVariants.{Put}
+use Rattle.journal.specs.declared.touch.TouchedRange.{TouchedRange}
+use Rattle.last_touches.specs.declared.range.PutRange.{PutRange}
+use Rattle.regions.specs.Layout.{area_at, block_at, ring}
+use Rattle.device_image.specs.Copied.{IsCopiedOver}
+use Rattle.device_image.specs.Free.{to_be_copied}
+use Rattle.device_image.specs.Keeper.{KeeperState, PlanState, count_puts, earlier_of, is_put, phase_of}
+use Rattle.device_image.specs.Keeps.{AreHeld, IsCopying, IsInPhase, IsPlaced, Keeps, touched_first}
+use Rattle.device_image.specs.Stands.{StandsFor, next_number}
+use Rattle.device_image.proofs.Copied.{copy_places, keeps_copied}
+use Rattle.device_image.proofs.Free.{torn_free}
+use Rattle.copy_plan.specs.Plan.{IsNextCopy}
+use Rattle.copy_plan.proofs.Counts.{all_counted, none_counted}
+
+-- the first area, where two are in use
+pub record IsFirst (area : AreaState) (header : Header) (front : List (List StoredGroup)) : Type 0 where
+  pub placed : IsPlaced area header.geometry header.first_area
+  pub touched : area.touched ≡ touched_first header front
+
+pub first_area : (area : AreaState) (header : Header) (front : List (List StoredGroup)) (state : State) (next : ℕ) → AreHeld (header.first_area ∷ []) header.geometry next front (area ∷ []) state → IsFirst area header front
+first_area area header [] state next held = absurd held
+first_area area header (groups ∷ front) state next held = record {
+  placed = held.0;
+  touched = held.1.touched ∙ ap (λ (place : ℕ). touched_by_groups place groups) held.0.from;
+}
+
+module _ {D : Type 0} (keeper : KeeperState D) (state : State) (image : Image) (number : ℕ) (keeps : Keeps keeper state image number) (plan : PlanState) (is : keeper.memory.plan ≡ Some plan) where
+  pub copying : IsCopying plan state keeps.stands.header keeps.stands.states keeps.areas.front
+  copying = subst (λ (p : Option PlanState). IsInPhase p state keeps.stands.header keeps.stands.states keeps.areas.front) is keeps.phased
+
+  pub first : IsFirst plan.first keeps.stands.header keeps.areas.front
+  first =
+      let header = keeps.stands.header in
+      let planned = subst (λ (p : Option PlanState). AreHeld (ring (mode_of header.areas) header.first_area) header.geometry (next_number header.base) keeps.areas.front (earlier_of p) state) is keeps.areas.earlier_held in
+      first_area plan.first header keeps.areas.front state (next_number header.base)
+      (subst (λ (areas : Areas). AreHeld (ring (mode_of areas) header.first_area) header.geometry (next_number header.base) keeps.areas.front (plan.first ∷ []) state) copying.areas planned)
+
+  module _ (put : PutRange) (most : ℕ) (next : IsNextCopy plan most put) (unmapped : plan.mapped ≡ None) where
+    blocks_inside : put.first + put.blocks ≤ keeps.stands.header.geometry.blocks
+    blocks_inside = omega (arith, next.inside, first.placed.blocks)
+
+    none_before : (block : ℕ) → plan.copied ≤ block → block < put.first → is_put (last_touch block (touched_first keeps.stands.header keeps.areas.front)) ≡ false
+    none_before block low high = ap (λ (l : List TouchedRange). is_put (last_touch block l)) (sym first.touched) ∙ next.first block low high
+
+    each_put : (k : ℕ) → k < put.blocks → last_touch (put.first + k) (touched_first keeps.stands.header keeps.areas.front) ≡ Some (Put (plan.first.from + put.place + 4096 * k))
+    each_put k below =
+        let at : plan.first.from + (put.place + 4096 * k) ≡ plan.first.from + put.place + 4096 * k = omega arith in
+        ap (λ (l : List TouchedRange). last_touch (put.first + k) l) (sym first.touched) ∙ next.puts k below ∙ ap (λ (p : ℕ). Some (Put p)) at
+
+    still_counted : plan.left - put.blocks + count_puts (put.first + put.blocks) (touched_first keeps.stands.header keeps.areas.front) ≡ count_puts keeps.stands.header.geometry.blocks (touched_first keeps.stands.header keeps.areas.front)
+    still_counted =
+        let touches = touched_first keeps.stands.header keeps.areas.front in
+        let gap = put.first - plan.copied in
+        let at : plan.copied + gap ≡ put.first = omega (arith, next.behind) in
+        let none = none_counted plan.copied gap touches (λ block low high. none_before block low (omega (arith, high, at))) in
+        let all = all_counted put.first put.blocks touches (λ k below. ap is_put (each_put k below)) in
+        omega (arith, copying.counted, none, all, next.left, ap (λ (b : ℕ). count_puts b touches) at)
+
+    -- while they are written
+    pub copy_left : (offset count : ℕ) → offset ≡ block_at keeps.stands.header.geometry put.first → count ≡ 4096 * put.blocks → (content : List ℕ) → MayLeaveTorn state offset count content → StandsFor content image number
+    copy_left offset count offset_is count_is content left =
+        torn_free keeper state image number keeps offset count
+        (λ place within. to_be_copied (copy_places keeper state image number keeps plan copying unmapped put.first put.blocks (plan.first.from + put.place) (plan.left - put.blocks)
+        next.some next.behind blocks_inside none_before each_put still_counted place (omega (arith, within.0, offset_is), omega (arith, within.1, offset_is, count_is)))) content left
+
+    -- and when they are
+    pub copy_kept : (after : State) (now : KeeperState D) (offset count from : ℕ) (advanced : PlanState) → offset ≡ block_at keeps.stands.header.geometry put.first → count ≡ 4096 * put.blocks → from ≡ plan.first.from + put.place
+        → IsCopiedOver state from offset count after → advanced ≡ record plan { copied = put.first + put.blocks; left = plan.left - put.blocks }
+        → now ≡ record keeper { disk = now.disk; turned = now.turned; phase = phase_of (Some advanced); memory = record keeper.memory { plan = Some advanced } } → Keeps now after image number
+    copy_kept after now offset count from advanced offset_is count_is from_is done advanced_is now_is =
+        keeps_copied keeper state image number keeps plan copying unmapped put.first put.blocks (plan.first.from + put.place) (plan.left - put.blocks)
+        next.some next.behind blocks_inside none_before each_put still_counted after
+        (subst (λ (n : ℕ). IsCopiedOver state (plan.first.from + put.place) (block_at keeps.stands.header.geometry put.first) n after) count_is
+        (subst (λ (p : ℕ). IsCopiedOver state (plan.first.from + put.place) p count after) offset_is
+        (subst (λ (p : ℕ). IsCopiedOver state p offset count after) from_is done)))
+        now (ap earlier_of is)
+        (subst (λ (p : PlanState). now ≡ record keeper { disk = now.disk; turned = now.turned; phase = phase_of (Some p); memory = record keeper.memory { plan = Some p } }) advanced_is now_is)

@@ -1,0 +1,62 @@
+-- The keeper after the map was written.
+use Rattle.std.proofs.Common.{◌≡◌, ℕ, ◌+◌, ◌*◌, ◌≤◌, ◌<◌, Option, Some, List, [], ◌∷◌, length, slice_index, refl, sym, ◌∙◌, ap, subst, arith}
+use Rattle.disk_model.specs.Disk.{State, InRange, IsSound, MayLeaveTorn}
+use Rattle.image_model.specs.Geometry.{map_bytes_of}
+use Rattle.image_model.specs.Image.{Image}
+use Rattle.image_model.specs.Side.{other_of}
+use Rattle.image_model.specs.declared.command.Kind.{Kind}
+use Rattle.journal.specs.declared.touch.TouchedRange.{TouchedRange}
+use Rattle.regions.specs.Layout.{area_at, block_at, map_at}
+use Rattle.device_image.specs.Copied.{IsMapStored}
+use Rattle.device_image.specs.Free.{in_spare_map}
+use Rattle.device_image.specs.Keeper.{AreStatesAfter, KeeperState, PlanState, earlier_of, phase_of}
+use Rattle.device_image.specs.Keeps.{AreCopied, Keeps, touched_first}
+use Rattle.device_image.specs.Stands.{StandsFor}
+use Rattle.device_image.proofs.Copied.{first_puts}
+use Rattle.device_image.proofs.Frame.{area_high, map_high, map_low}
+use Rattle.device_image.proofs.Free.{torn_free}
+use Rattle.device_image.proofs.Steps.{keeps_after}
+use Rattle.checkpoint.proofs.Copying.{copying, first}
+
+module _ {D : Type 0} (keeper : KeeperState D) (state : State) (image : Image) (number : ℕ) (keeps : Keeps keeper state image number) where
+  -- while the map slot that isn't in force is written
+  pub map_left : (offset count : ℕ) → offset ≡ map_at keeps.stands.header.geometry (other_of keeps.stands.header.map_slot) → count ≡ map_bytes_of keeps.stands.header.geometry.blocks → (content : List ℕ)
+      → MayLeaveTorn state offset count content → StandsFor content image number
+  map_left offset count offset_is count_is content left =
+      torn_free keeper state image number keeps offset count (λ place within. in_spare_map (omega (arith, within.0, offset_is), omega (arith, within.1, offset_is, count_is))) content left
+
+  module _ (plan : PlanState) (is : keeper.memory.plan ≡ Some plan) (none_left : plan.left ≡ 0) (after : State) {extent : ℕ} (sound : IsSound extent after) (states : List Kind)
+      (done : IsMapStored state (map_at keeps.stands.header.geometry (other_of keeps.stands.header.map_slot)) keeps.stands.header.geometry.blocks states after)
+      (states_after : AreStatesAfter plan.first.touched keeper.memory.map states) where
+    still_copied : AreCopied after.seen keeps.stands.header keeps.areas.front plan.copied
+    still_copied block from below put k small =
+        let geometry = keeps.stands.header.geometry in
+        let slot = other_of keeps.stands.header.map_slot in
+        let there = first_puts keeper state image number keeps block from put in
+        done.others (block_at geometry block + k) (λ within. omega (arith, within.1, map_high geometry slot))
+        ∙ (copying keeper state image number keeps plan is).are_copied block from below put k small
+        ∙ sym (done.others (from + k) (λ within. omega (arith, within.0, map_low geometry slot, there.2, small, area_high geometry keeps.stands.header.first_area)))
+
+    pub map_kept : (now : KeeperState D) (mapped : PlanState) → mapped ≡ record plan { mapped = Some states }
+        → now ≡ record keeper { disk = now.disk; turned = now.turned; phase = phase_of (Some mapped); memory = record keeper.memory { plan = Some mapped } } → Keeps now after image number
+    map_kept now mapped mapped_is now_is =
+        let phased = copying keeper state image number keeps plan is in
+        let touched = (first keeper state image number keeps plan is).touched in
+        keeps_after keeper state image number keeps after done.size
+        (λ place used. done.others place (λ within. used (in_spare_map within)))
+        (λ place unsynced. absurd (done.synced place unsynced))
+        (λ place loose. done.synced place (sound.loose place loose))
+        now (Some (record plan { mapped = Some states })) (sym (ap earlier_of is))
+        (record {
+          areas = phased.areas;
+          within = phased.within;
+          counted = phased.counted;
+          are_copied = still_copied;
+          map_written = (
+            none_left,
+            subst (λ (map : List Kind). AreStatesAfter (touched_first keeps.stands.header keeps.areas.front) map states) keeps.mapped (subst (λ (l : List TouchedRange). AreStatesAfter l keeper.memory.map states) touched states_after),
+            done.map,
+            done.synced,
+          );
+        })
+        (subst (λ (p : PlanState). now ≡ record keeper { disk = now.disk; turned = now.turned; phase = phase_of (Some p); memory = record keeper.memory { plan = Some p } }) mapped_is now_is)

@@ -1,0 +1,337 @@
+ghost use Rattle.std.specs.Prelude.{◌≡◌, ◌≢◌, ◌⊎◌, ℕ, ◌≤◌, ◌↔◌, [], false, IfErr, IfNone, IfOk, IfSome, IsTrue, Err, None, OnOk};
+ghost use Rattle.checkpoint.specs.Keeper.{faults_by, refused_by};
+ghost use Rattle.checkpoint.specs.Steps.{IsCopyTime, IsFinishTime, IsMapTime, IsRotateTime, IsStepFault, copied_by, finished_by, map_after, mapped_by, rotated_by};
+ghost use Rattle.checkpoint.specs.declared.fault.KeeperFault.TheVariants as KeeperFault;
+ghost use Rattle.device_image.specs.Keeps.{Keeps};
+ghost use Rattle.device_image.specs.Keeper.{One};
+ghost use Rattle.device_image.specs.Stands.{StandsFor};
+ghost use Rattle.device_image.specs.Turn.{with_both, with_second};
+ghost use Rattle.disk_model.specs.Disk.{LeavesOnly};
+ghost use Rattle.image_model.specs.Image.{Image};
+ghost use Rattle.image_model.specs.Side.{other_of};
+ghost use Rattle.regions.specs.Layout.{area_at};
+
+use crate::device_steps::{begin_turn, copy_over, store_map};
+use crate::fault::KeeperFault;
+use crate::keeper::Keeper;
+use copy_plan::{CopyPlan, last_touches};
+use disk_model::Disk;
+use header_slots::{Areas, Header, HeaderChange, change_header};
+use image_model::BLOCK_BYTES;
+use journal::Area;
+use regions::Regions;
+use std::mem;
+
+impl<D: Disk> Keeper<D> {
+    /// Copies the next blocks, at most `most`, that follow one another in the image and in the area, in one read and one
+    /// write of the device, and answers how many. Its time is where two areas are in use and a block is left to copy.
+    ///
+    /// Of the blocks whose last touch in the first area is a put, in ascending order, their bytes go from there to the
+    /// data region. It takes memory for these bytes, and refuses with 0, 1, 15 and 16.
+    pub fn copy_some(&mut self, most: u32) -> Result<u32, KeeperFault>
+        requires { 1 ≤ most }
+        ensures ok { IfOk result (λ blocks. (1 ≤ blocks) × (blocks ≤ most) × (self.new ≡ copied_by self.old blocks self.new.disk self.new.memory)) }
+        ensures err { IfErr result (λ fault. self.new ≡ refused_by fault self.old self.new.disk) }
+        ensures failed { (result ≡ Err KeeperFault.Failed) ↔ IsTrue self.old.failed }
+        ensures not_now { (result ≡ Err KeeperFault.NotNow) ↔ ((self.old.failed ≡ false) × (IsCopyTime self.old.phase → ⊥)) }
+        ensures only { IfErr result IsStepFault }
+        ensures not_full { result ≢ Err KeeperFault.NumbersFull }
+        ensures unchanged { IfErr result (λ fault. (fault ≡ KeeperFault.DeviceFault) ⊎ (self.new.disk ≡ self.old.disk)) }
+        ensures extent { D.extent self.new.disk ≡ D.extent self.old.disk }
+        ensures faults_ok { OnOk result (D.faults self.new.disk ≡ D.faults self.old.disk) }
+        ensures faults_err { IfErr result (λ fault. D.faults self.new.disk ≡ faults_by fault (D.faults self.old.disk)) }
+        ensures honest { D.honest self.new.disk ↔ D.honest self.old.disk }
+
+        // On an honest device, where the keeper keeps an image: at `Ok` it keeps the same, and whatever a crash at any
+        // moment leaves stands for the same.
+        ensures kept { D.honest self.old.disk → (image : Image) (number : ℕ) → Keeps self.old (D.state self.old.disk) image number
+            → OnOk result (Keeps self.new (D.state self.new.disk) image number) }
+        ensures any_moment { D.honest self.old.disk → (image : Image) (number : ℕ) → Keeps self.old (D.state self.old.disk) image number
+            → LeavesOnly (D.state self.old.disk) (D.state self.new.disk) (λ content. StandsFor content image number) }
+    {
+        if self.failed {
+            return Err(KeeperFault::Failed);
+        }
+        let Some(plan) = &mut self.plan else {
+            return Err(KeeperFault::NotNow);
+        };
+        let Some(put) = plan.next_copy(most) else {
+            return Err(KeeperFault::NotNow);
+        };
+        let mut buffer = vec![in self.alloc; 0; put.blocks as usize * BLOCK_BYTES as usize]?;
+        let from = plan.first().start() + put.place as u64;
+        let regions = Regions::of(&self.header.geometry);
+        match copy_over(
+            &mut self.disk,
+            &regions,
+            from,
+            put.first as u64,
+            &mut buffer,
+        ) {
+            Ok(()) => {
+                plan.advance(put);
+                Ok(put.blocks)
+            }
+            Err(fault) => {
+                self.failed = true;
+                Err(KeeperFault::from(fault))
+            }
+        }
+    }
+
+    /// Copies the next block, as [`Keeper::copy_some`] does.
+    pub fn copy_one(&mut self) -> Result<(), KeeperFault>
+        ensures ok { OnOk result (self.new ≡ copied_by self.old 1 self.new.disk self.new.memory) }
+        ensures err { IfErr result (λ fault. self.new ≡ refused_by fault self.old self.new.disk) }
+        ensures failed { (result ≡ Err KeeperFault.Failed) ↔ IsTrue self.old.failed }
+        ensures not_now { (result ≡ Err KeeperFault.NotNow) ↔ ((self.old.failed ≡ false) × (IsCopyTime self.old.phase → ⊥)) }
+        ensures only { IfErr result IsStepFault }
+        ensures not_full { result ≢ Err KeeperFault.NumbersFull }
+        ensures unchanged { IfErr result (λ fault. (fault ≡ KeeperFault.DeviceFault) ⊎ (self.new.disk ≡ self.old.disk)) }
+        ensures extent { D.extent self.new.disk ≡ D.extent self.old.disk }
+        ensures faults_ok { OnOk result (D.faults self.new.disk ≡ D.faults self.old.disk) }
+        ensures faults_err { IfErr result (λ fault. D.faults self.new.disk ≡ faults_by fault (D.faults self.old.disk)) }
+        ensures honest { D.honest self.new.disk ↔ D.honest self.old.disk }
+
+        // As for `copy_some`.
+        ensures kept { D.honest self.old.disk → (image : Image) (number : ℕ) → Keeps self.old (D.state self.old.disk) image number
+            → OnOk result (Keeps self.new (D.state self.new.disk) image number) }
+        ensures any_moment { D.honest self.old.disk → (image : Image) (number : ℕ) → Keeps self.old (D.state self.old.disk) image number
+            → LeavesOnly (D.state self.old.disk) (D.state self.new.disk) (λ content. StandsFor content image number) }
+    {
+        let _one = self.copy_some(1)?;
+        Ok(())
+    }
+}
+
+impl<D: Disk> Keeper<D> {
+    /// Takes the other area into use, behind the one that is: groups go there from now on. Its time is where one area is in
+    /// use and its list isn't empty.
+    ///
+    /// The other area's first gate is closed and synced, and then the header changes. It takes memory for the last touches
+    /// of the blocks, and refuses with 0, 1, 9, 15 and 16.
+    pub fn rotate(&mut self) -> Result<(), KeeperFault>
+        ensures ok { OnOk result (self.new ≡ rotated_by self.old self.new.disk self.new.memory) }
+        ensures err { IfErr result (λ fault. self.new ≡ refused_by fault self.old self.new.disk) }
+        ensures failed { (result ≡ Err KeeperFault.Failed) ↔ IsTrue self.old.failed }
+        ensures not_now { (result ≡ Err KeeperFault.NotNow) ↔ ((self.old.failed ≡ false) × (IsRotateTime self.old.phase self.old.used → ⊥)) }
+        ensures full { (result ≡ Err KeeperFault.NumbersFull)
+            ↔ ((self.old.failed ≡ false) × IsRotateTime self.old.phase self.old.used × (self.old.generation ≡ 18446744073709551615)) }
+        ensures only { IfErr result IsStepFault }
+        ensures unchanged { IfErr result (λ fault. (fault ≡ KeeperFault.DeviceFault) ⊎ (self.new.disk ≡ self.old.disk)) }
+        ensures extent { D.extent self.new.disk ≡ D.extent self.old.disk }
+        ensures faults_ok { OnOk result (D.faults self.new.disk ≡ D.faults self.old.disk) }
+        ensures faults_err { IfErr result (λ fault. D.faults self.new.disk ≡ faults_by fault (D.faults self.old.disk)) }
+        ensures honest { D.honest self.new.disk ↔ D.honest self.old.disk }
+
+        // As for `copy_some`.
+        ensures kept { D.honest self.old.disk → (image : Image) (number : ℕ) → Keeps self.old (D.state self.old.disk) image number
+            → OnOk result (Keeps self.new (D.state self.new.disk) image number) }
+        ensures any_moment { D.honest self.old.disk → (image : Image) (number : ℕ) → Keeps self.old (D.state self.old.disk) image number
+            → LeavesOnly (D.state self.old.disk) (D.state self.new.disk) (λ content. StandsFor content image number) }
+    {
+        if self.failed {
+            return Err(KeeperFault::Failed);
+        }
+        if self.plan.is_some() || self.area.is_empty() {
+            return Err(KeeperFault::NotNow);
+        }
+        let Some(header) = self.header.next(&self.with_both()) else {
+            return Err(KeeperFault::NumbersFull);
+        };
+        let geometry = self.header.geometry;
+        let touches = last_touches(self.alloc, &self.area, geometry.blocks as u32)?;
+        let mut next = self.other_area();
+        match begin_turn(&mut self.disk, &mut next, self.slot, &header) {
+            Ok(()) => {
+                let first = mem::replace(&mut self.area, next);
+                self.plan = Some(CopyPlan::of(first, touches));
+                self.header = header;
+                self.slot = self.slot.other();
+                Ok(())
+            }
+            Err(fault) => {
+                self.failed = true;
+                Err(KeeperFault::from(fault))
+            }
+        }
+    }
+
+    // The other area in use too, behind the one that is.
+    fn with_both(&self) -> HeaderChange
+        ensures { result ≡ with_both self.now.memory.header }
+    {
+        HeaderChange {
+            areas: Areas::Two,
+            first_area: self.header.first_area,
+            map_slot: self.header.map_slot,
+            base: self.header.base,
+        }
+    }
+
+    // The second area alone in use, over the other map slot and this base.
+    fn with_second(&self, base: u64) -> HeaderChange
+        ensures { result ≡ with_second self.now.memory.header base }
+    {
+        HeaderChange {
+            areas: Areas::One,
+            first_area: self.header.first_area.other(),
+            map_slot: self.header.map_slot.other(),
+            base,
+        }
+    }
+
+    // The area behind the one in use, whose list is empty.
+    fn other_area(&self) -> Area
+        ensures { result ≡ record {
+          from = area_at self.now.geometry (other_of self.now.memory.header.first_area);
+          bytes = self.now.geometry.area;
+          blocks = self.now.geometry.blocks;
+          next = self.now.memory.area.next;
+          gate = 0;
+          touched = [];
+        } }
+    {
+        let geometry = self.header.geometry;
+        let from = Regions::of(&geometry).area_from(self.header.first_area.other());
+        Area::new(
+            self.alloc,
+            from,
+            geometry.area,
+            geometry.blocks,
+            self.area.next(),
+        )
+    }
+}
+
+impl<D: Disk> Keeper<D> {
+    /// Writes the map after the first area into the map slot that isn't in force, and syncs. Its time is where two areas are
+    /// in use, no block is left to copy, and the map isn't written.
+    ///
+    /// It takes memory for one map, and refuses with 0, 1, 15 and 16.
+    pub fn write_map(&mut self) -> Result<(), KeeperFault>
+        ensures ok { OnOk result (self.new ≡ mapped_by self.old self.new.disk self.new.memory) }
+        ensures err { IfErr result (λ fault. self.new ≡ refused_by fault self.old self.new.disk) }
+        ensures failed { (result ≡ Err KeeperFault.Failed) ↔ IsTrue self.old.failed }
+        ensures not_now { (result ≡ Err KeeperFault.NotNow) ↔ ((self.old.failed ≡ false) × (IsMapTime self.old.phase → ⊥)) }
+        ensures full { result ≢ Err KeeperFault.NumbersFull }
+        ensures only { IfErr result IsStepFault }
+        ensures unchanged { IfErr result (λ fault. (fault ≡ KeeperFault.DeviceFault) ⊎ (self.new.disk ≡ self.old.disk)) }
+        ensures extent { D.extent self.new.disk ≡ D.extent self.old.disk }
+        ensures faults_ok { OnOk result (D.faults self.new.disk ≡ D.faults self.old.disk) }
+        ensures faults_err { IfErr result (λ fault. D.faults self.new.disk ≡ faults_by fault (D.faults self.old.disk)) }
+        ensures honest { D.honest self.new.disk ↔ D.honest self.old.disk }
+
+        // As for `copy_some`.
+        ensures kept { D.honest self.old.disk → (image : Image) (number : ℕ) → Keeps self.old (D.state self.old.disk) image number
+            → OnOk result (Keeps self.new (D.state self.new.disk) image number) }
+        ensures any_moment { D.honest self.old.disk → (image : Image) (number : ℕ) → Keeps self.old (D.state self.old.disk) image number
+            → LeavesOnly (D.state self.old.disk) (D.state self.new.disk) (λ content. StandsFor content image number) }
+    {
+        if self.failed {
+            return Err(KeeperFault::Failed);
+        }
+        let Some(plan) = &mut self.plan else {
+            return Err(KeeperFault::NotNow);
+        };
+        if plan.left() > 0 {
+            return Err(KeeperFault::NotNow);
+        }
+        if plan.is_mapped() {
+            return Err(KeeperFault::NotNow);
+        }
+        let map = plan.map_after(self.alloc, &self.map)?;
+        let slot = self.header.map_slot.other();
+        match store_map(
+            &mut self.disk,
+            &Regions::of(&self.header.geometry),
+            slot,
+            &map,
+        ) {
+            Ok(()) => {
+                plan.set_map(map);
+                Ok(())
+            }
+            Err(fault) => {
+                self.failed = true;
+                Err(KeeperFault::from(fault))
+            }
+        }
+    }
+
+    /// Lets the first area go: the second is alone in use, and map and data hold what the first did. Its time is where the
+    /// map is written.
+    ///
+    /// The header changes. It refuses with 1, 9, 15 and 16.
+    pub fn finish(&mut self) -> Result<(), KeeperFault>
+        ensures ok { OnOk result (self.new ≡ finished_by self.old self.new.disk self.new.memory) }
+        ensures err { IfErr result (λ fault. self.new ≡ refused_by fault self.old self.new.disk) }
+        ensures failed { (result ≡ Err KeeperFault.Failed) ↔ IsTrue self.old.failed }
+        ensures not_now { (result ≡ Err KeeperFault.NotNow) ↔ ((self.old.failed ≡ false) × (IsFinishTime self.old.phase → ⊥)) }
+        ensures full { (result ≡ Err KeeperFault.NumbersFull)
+            ↔ ((self.old.failed ≡ false) × IsFinishTime self.old.phase × (self.old.generation ≡ 18446744073709551615)) }
+        ensures only { IfErr result IsStepFault }
+        ensures unchanged { IfErr result (λ fault. (fault ≡ KeeperFault.DeviceFault) ⊎ (self.new.disk ≡ self.old.disk)) }
+        ensures extent { D.extent self.new.disk ≡ D.extent self.old.disk }
+        ensures faults_ok { OnOk result (D.faults self.new.disk ≡ D.faults self.old.disk) }
+        ensures faults_err { IfErr result (λ fault. D.faults self.new.disk ≡ faults_by fault (D.faults self.old.disk)) }
+        ensures honest { D.honest self.new.disk ↔ D.honest self.old.disk }
+
+        // As for `copy_some`.
+        ensures kept { D.honest self.old.disk → (image : Image) (number : ℕ) → Keeps self.old (D.state self.old.disk) image number
+            → OnOk result (Keeps self.new (D.state self.new.disk) image number) }
+        ensures any_moment { D.honest self.old.disk → (image : Image) (number : ℕ) → Keeps self.old (D.state self.old.disk) image number
+            → LeavesOnly (D.state self.old.disk) (D.state self.new.disk) (λ content. StandsFor content image number) }
+    {
+        if self.failed {
+            return Err(KeeperFault::Failed);
+        }
+        let Some(base) = self.base_after() else {
+            return Err(KeeperFault::NotNow);
+        };
+        let Some(header) = self.header.next(&self.with_second(base)) else {
+            return Err(KeeperFault::NumbersFull);
+        };
+        match change_header(&mut self.disk, self.slot, &header) {
+            Ok(()) => {
+                self.take_over(header);
+                Ok(())
+            }
+            Err(fault) => {
+                self.failed = true;
+                Err(KeeperFault::from(fault))
+            }
+        }
+    }
+
+    // The second area is alone in use, by this header, and map and data hold what the first area did.
+    fn take_over(&mut self, header: Header)
+        requires { header.geometry ≡ self.old.geometry }
+        ensures { self.new ≡ record self.old {
+          generation = header.generation;
+          base = header.base;
+          turned = header.base;
+          phase = One;
+          memory = record self.old.memory { header = header; slot = other_of self.old.memory.slot; map = map_after self.old.memory.plan self.old.memory.map; plan = None };
+        } }
+    {
+        if let Some(plan) = self.plan.take()
+            && let Some(map) = plan.into_map()
+        {
+            self.map = map;
+        }
+        self.header = header;
+        self.slot = self.slot.other();
+    }
+
+    // The number of the last command in the first area, where the map after it is written.
+    fn base_after(&self) -> Option<u64>
+        ensures some { IfSome result (λ base. IsFinishTime self.now.phase × (base ≡ self.now.turned)) }
+        ensures none { IfNone result (IsFinishTime self.now.phase → ⊥) }
+    {
+        match &self.plan {
+            Some(plan) if plan.is_mapped() => Some(plan.first().next().wrapping_sub(1)),
+            _ => None,
+        }
+    }
+}

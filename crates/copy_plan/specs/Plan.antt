@@ -1,0 +1,41 @@
+-- A checkpoint that is under way, in memory: what is left of it, and what comes next.
+use Rattle.std.specs.Prelude.{ℕ, ◌≡◌, ◌+◌, ◌*◌, ◌<◌, ◌≤◌, false, List, length, Option, Some, IfSome}
+use Rattle.journal.specs.Area.{AreaState}
+use Rattle.journal.specs.Touches.{AreWithin, last_touch}
+use Rattle.image_model.specs.declared.command.Kind.{Kind}
+use Rattle.image_model.specs.declared.command.Kind.TheVariants.{Data}
+use Rattle.journal.specs.declared.touch.Touch.TheVariants.{Put}
+use Rattle.last_touches.specs.Ranges.{AreLastTouches}
+use Rattle.last_touches.specs.Resolved.{ResolvedTouches}
+use Rattle.last_touches.specs.declared.range.PutRange.{PutRange}
+use Rattle.last_touches.specs.declared.touch.LastTouch.{LastTouch}
+use Rattle.last_touches.specs.declared.touch.LastTouch.TheVariants as last
+use Rattle.device_image.specs.Keeper.{PlanState, count_puts, is_put}
+
+-- what is kept with the first area: the last touches of its blocks, and how many of them are left to copy
+pub record IsPlan (first : AreaState) (touches : ResolvedTouches) (copied left : ℕ) (mapped : Option (List Kind)) : Type 0 where
+  pub blocks : touches.blocks ≡ first.blocks
+  pub few : first.blocks ≤ 16777216
+  pub last : AreLastTouches first.from first.blocks first.touched touches.ranges
+  pub puts_within : AreWithin first.from (first.from + first.bytes) first.touched
+  pub within : copied ≤ first.blocks
+  pub counted : left + count_puts copied first.touched ≡ count_puts first.blocks first.touched
+  pub done : IfSome mapped (λ states. (left ≡ 0) × (length states ≡ first.blocks))
+
+-- The next blocks to copy, at most so many: they are those of puts from the first block on that is left, and follow one
+-- another in the image and in the area.
+pub record IsNextCopy (plan : PlanState) (most : ℕ) (put : PutRange) : Type 0 where
+  pub behind : plan.copied ≤ put.first
+  pub some : 1 ≤ put.blocks
+  pub few : put.blocks ≤ most
+  pub inside : put.first + put.blocks ≤ plan.first.blocks
+  pub fits : put.first + put.blocks ≤ 16777216
+  pub first : (block : ℕ) → plan.copied ≤ block → block < put.first → is_put (last_touch block plan.first.touched) ≡ false
+  pub puts : (k : ℕ) → k < put.blocks → last_touch (put.first + k) plan.first.touched ≡ Some (Put (plan.first.from + (put.place + 4096 * k)))
+  pub left : put.blocks ≤ plan.left
+  pub bytes : put.place + 4096 * put.blocks ≤ plan.first.bytes
+
+-- the state that a touch gives to its blocks
+abbrev pub kind_given : LastTouch → Kind
+kind_given (last.Put place) = Data
+kind_given (last.Clear kind) = kind

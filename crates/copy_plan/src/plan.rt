@@ -1,0 +1,160 @@
+ghost use Rattle.std.specs.Prelude.{◌≡◌, ◌+◌, ◌-◌, ◌*◌, ◌≤◌, length, is_some, IfNone, IfOk, IfSome, None, Some};
+ghost use Rattle.copy_plan.specs.Plan.{IsNextCopy, kind_given};
+ghost use Rattle.device_image.specs.Keeper.{AreStatesAfter, count_puts};
+ghost use Rattle.journal.specs.Touches.{AreWithin};
+ghost use Rattle.last_touches.specs.Ranges.{AreLastTouches};
+
+use alloc_map::AllocMap;
+use image_model::Kind;
+use journal::Area;
+use last_touches::{LastTouch, LastTouches, PutRange};
+use std::alloc::{AllocError, Global};
+use std::marker::Model;
+
+/// A checkpoint that is under way: the first area in use, what is left to copy of it, and the map after it, once that is
+/// written.
+#[derive(Drop)]
+pub struct CopyPlan {
+    first: Area,
+    touches: LastTouches,
+    copied: u32,
+    left: u32,
+    map: Option<AllocMap>,
+}
+
+impl Model for CopyPlan {
+    ghost use Rattle.copy_plan.specs.Plan.{IsPlan};
+    ghost use Rattle.device_image.specs.Keeper.{PlanState};
+
+    ghost Value = { PlanState };
+
+    ghost view = { λ plan. record { first = plan.first; copied = plan.copied; left = plan.left; mapped = plan.map } };
+
+    ghost invariant = { λ plan. IsPlan plan.first plan.touches plan.copied plan.left plan.map };
+}
+
+/// The last touches of the blocks of an area.
+pub fn last_touches(alloc: Global, area: &Area, blocks: u32) -> Result<LastTouches, AllocError>
+    requires bytes { area.now.bytes ≤ 1073741824 }
+    requires blocks { blocks ≡ area.now.blocks }
+    ensures blocks { IfOk result (λ touches. touches.blocks ≡ area.now.blocks) }
+    ensures last { IfOk result (λ touches. AreLastTouches area.now.from area.now.blocks area.now.touched touches.ranges) }
+    ensures within { AreWithin area.now.from (area.now.from + area.now.bytes) area.now.touched }
+{
+    LastTouches::resolve(alloc, area.start(), area.touched(), blocks)
+}
+
+// The state that a touch gives to its blocks.
+fn kind_given(touch: LastTouch) -> Kind
+    ensures { result ≡ kind_given touch }
+{
+    match touch {
+        LastTouch::Put(_) => Kind::Data,
+        LastTouch::Clear(kind) => kind,
+    }
+}
+
+impl CopyPlan {
+    /// A checkpoint of this area, with its last touches, of which nothing is copied.
+    pub fn of(first: Area, touches: LastTouches) -> CopyPlan
+        requires blocks { touches.blocks ≡ first.blocks }
+        requires few { first.blocks ≤ 16777216 }
+        requires last { AreLastTouches first.from first.blocks first.touched touches.ranges }
+        requires within { AreWithin first.from (first.from + first.bytes) first.touched }
+        ensures { result ≡ record { first = first; copied = 0; left = count_puts first.blocks first.touched; mapped = None } }
+    {
+        let left = touches.blocks_to_copy();
+        CopyPlan {
+            first,
+            touches,
+            copied: 0,
+            left,
+            map: None,
+        }
+    }
+
+    /// How many blocks are left to copy.
+    pub fn left(&self) -> u32
+        ensures { result ≡ self.now.left }
+    {
+        self.left
+    }
+
+    /// The area that is copied.
+    pub fn first(&self) -> &Area
+        ensures { result.now ≡ self.now.first }
+    {
+        &self.first
+    }
+
+    /// Whether the map is written.
+    pub fn is_mapped(&self) -> bool
+        ensures { result ≡ is_some self.now.mapped }
+    {
+        self.map.is_some()
+    }
+
+    /// The next blocks to copy, at most so many.
+    pub fn next_copy(&self, most: u32) -> Option<PutRange>
+        requires { 1 ≤ most }
+        ensures some { IfSome result (IsNextCopy self.now most) }
+        ensures unmapped { IfSome result (λ put. self.now.mapped ≡ None) }
+        ensures none { IfNone result (self.now.left ≡ 0) }
+    {
+        let put = self.touches.next_put(self.copied)?;
+        Some(PutRange {
+            blocks: put.blocks.min(most),
+            ..put
+        })
+    }
+
+    /// These blocks are copied.
+    pub fn advance(&mut self, put: PutRange)
+        requires next { IsNextCopy self.old put.blocks put }
+        requires unmapped { self.old.mapped ≡ None }
+        ensures { self.new ≡ record self.old { copied = put.first + put.blocks; left = self.old.left - put.blocks } }
+    {
+        self.copied = put.first + put.blocks;
+        self.left -= put.blocks;
+    }
+
+    /// The map is written.
+    pub fn set_map(&mut self, map: AllocMap)
+        requires none_left { self.old.left ≡ 0 }
+        requires count { length map ≡ self.old.first.blocks }
+        ensures { self.new ≡ record self.old { mapped = Some map } }
+    {
+        self.map = Some(map);
+    }
+
+    /// The map, where it is written.
+    pub fn into_map(self) -> Option<AllocMap>
+        ensures map { result ≡ self.mapped }
+        ensures count { IfSome result (λ map. length map ≡ self.first.blocks) }
+    {
+        let CopyPlan {
+            first: _,
+            touches: _,
+            copied: _,
+            left: _,
+            map,
+        } = self;
+        map
+    }
+
+    /// The map after the area, where this is the one before.
+    pub fn map_after(&self, alloc: Global, map: &AllocMap) -> Result<AllocMap, AllocError>
+        requires { length map.now ≡ self.now.first.blocks }
+        ensures { IfOk result (λ after. AreStatesAfter self.now.first.touched map.now after) }
+    {
+        let mut after = map.copy(alloc)?;
+        for range in self.touches.ranges() {
+            after.set_range(
+                range.first as u64,
+                range.blocks as u64,
+                kind_given(range.touch),
+            );
+        }
+        Ok(after)
+    }
+}
