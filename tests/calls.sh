@@ -103,10 +103,66 @@ fresh 16 2097152
 called '' pipe d.img
 is 'a pipe' "0|$(reply 1 0)$(reply 2 0)$(reply 3 0)$(reply 4 0)$(reply 5 0)|" "$status|$output|$errors"
 made 'the calls of a pipe' "$pipe_calls"
+cp d.img stored.img
 is 'after a pipe' 'commands 3' "$(: | found)"
 : >input
 called '' recover d.img
-made 'the calls of a recovery' 'fdatasync'
+made 'the calls of a recovery of an empty journal' 'fdatasync'
+called '' check d.img
+made 'the calls of a check' ''
+
+# A recovery closes the first gate of the other area and syncs; the header with both areas goes to slot 1, whose gate is closed: its
+# body, a sync, its gate, a sync. The puts are copied, the longest runs of blocks in one write each; then the map with a sync, and the
+# header with the second area alone, to slot 0, whose gate is closed first.
+recovery_calls='fdatasync
+pwrite 2105344 1
+fdatasync
+pwrite 4097 39
+fdatasync
+pwrite 4096 1
+fdatasync
+pwrite 4210688 4096
+pwrite 4218880 8192
+pwrite 4251648 8192
+pwrite 4206592 4096
+fdatasync
+pwrite 0 1
+fdatasync
+pwrite 1 39
+fdatasync
+pwrite 0 1
+fdatasync'
+{
+    filled 4096 A
+    filled 4096 '\000'
+    cat first
+    filled 24576 '\000'
+    cat second
+    filled 16384 '\000'
+} >image
+# recovered NAME: the data region is the image, by the map that says which blocks are data
+recovered() {
+    tail -c 65536 d.img >found
+    same "$1: the blocks" image found
+    is "$1: the map" a200a000 "$(part d.img 4206592 4)"
+    is "$1: the check" "0|$(printf 'blocks 16\nmode 0\nbase 3\ncommands 3\ndata 5\nzero 0\nhole 11\n' | hex)|" "$("$NBDJ" check d.img >report 2>&1; echo "$?|$(hex <report)|")"
+}
+cp stored.img d.img
+called '' recover d.img
+is 'a recovery' "0|$(text 'commands 3')|" "$status|$output|$errors"
+made 'the calls of a recovery' "$recovery_calls"
+recovered 'a recovery'
+for fail in 'fdatasync 1' 'pwrite 1' 'fdatasync 2' 'pwrite 2' 'fdatasync 3' 'pwrite 3' 'fdatasync 4' 'pwrite 4' 'pwrite 5' 'pwrite 6' 'pwrite 7' 'fdatasync 5' \
+    'pwrite 8' 'fdatasync 6' 'pwrite 9' 'fdatasync 7' 'pwrite 10' 'fdatasync 8'; do
+    cp stored.img d.img
+    called "$fail" recover d.img
+    is "recovery where $fail fails" '1||nbdj: device fault (1)' "$status|$output|$errors"
+    made_until "the calls of a recovery where $fail fails" "$recovery_calls" "$fail"
+    "$NBDJ" check d.img >report 2>errors
+    is "check after a recovery where $fail failed" 'commands 3|data 5' "$(sed -n 4p report)|$(sed -n 5p report)"
+    is "after a recovery where $fail failed" 'commands 3' "$(found)"
+    recovered "after a recovery where $fail failed"
+done
 cp requests input
 for fail in 'fdatasync 1' 'pwrite 1' 'fdatasync 2' 'pwrite 2' 'fdatasync 3' 'pwrite 3' 'fdatasync 4' 'pwrite 4' 'fdatasync 5'; do
     fresh 16 2097152

@@ -1,6 +1,6 @@
 #!/bin/sh
 # Runs the built program NBDJ again and again, and refuses it another call for memory each time, up to the first run that meets
-# none: over the table of scripts, and over format, pipe and recover on a file; and so the built tests of each crate that has some.
+# none: over the table of scripts, and over format, pipe, recover and check on a file; and so the built tests of each crate that has some.
 # Prints a line for each run that does anything but what a refusal may do, what was skipped, how many runs there were, and last
 # 'N passed, M failed': a script, a command and a test are one check each, however many runs that takes.
 set -u
@@ -204,9 +204,24 @@ while "$NBDJ" format d.img --blocks 16 --area 2097152 >/dev/null; [ "$n" -le "$m
 done
 checked pipe "$(cmp wanted output 2>&1)"
 
+# A recovery that ends for want of memory is carried on by the next one.
+"$NBDJ" format d.img --blocks 16 --area 2097152 >/dev/null
+"$NBDJ" pipe d.img <input >replies
+cp d.img stored.img
 : >input
-whole recover d.img
-is 'recover leaves the image' "$(cat wanted)" "$("$NBDJ" recover d.img)"
+n=1
+while cp stored.img d.img; [ "$n" -le "$most" ] && refusing "$n" recover d.img; do
+    amiss=
+    [ "$status" -eq 0 ] || [ "$(cat errors)" = 'nbdj: no memory (0)' ] || grep -q 'cannot open' errors || amiss="errors $(cat errors)"
+    found=$("$NBDJ" recover d.img 2>&1)
+    [ "$found" = 'commands 3' ] || amiss="found $found"
+    tell "recover, call $n" "$amiss"
+    n=$((n + 1))
+done
+checked recover "$([ "$(cat output)" = 'commands 3' ] || cat output)"
+cp stored.img d.img
+whole check d.img
+is 'check leaves the image' same "$(cmp -s d.img stored.img && echo same)"
 
 # test_refusing N PROGRAM TEST: the like for a built test
 test_refusing() {

@@ -15,13 +15,22 @@ refused() {
 # patch FILE OFFSET HEX: bytes in the middle of a file
 patch() { bytes "$3" | dd of="$1" bs=1 seek="$2" conv=notrunc 2>/dev/null; }
 
-# unchanged NAME MESSAGE: recover refuses d.img with this message and leaves it as it is
+# unchanged NAME MESSAGE: recover, pipe and check refuse d.img with this message and leave it as it is
 unchanged() {
     cp d.img before.img
     ends "$1" 1 '' "$2" recover d.img
     is "$1: the file" same "$(cmp -s d.img before.img && echo same)"
     ends "$1: pipe" 1 '' "$2" pipe d.img
     is "$1: the file after pipe" same "$(cmp -s d.img before.img && echo same)"
+    ends "$1: check" 3 '' "$2" check d.img
+    is "$1: the file after check" same "$(cmp -s d.img before.img && echo same)"
+}
+
+# checks NAME BLOCKS MODE BASE COMMANDS DATA ZERO HOLE: check prints these numbers, and leaves d.img as it is
+checks() {
+    cp d.img before.img
+    ends "$1" 0 "$(printf 'blocks %s\nmode %s\nbase %s\ncommands %s\ndata %s\nzero %s\nhole %s\n' "$2" "$3" "$4" "$5" "$6" "$7" "$8" | hex)" '' check d.img
+    is "$1: the file" same "$(cmp -s d.img before.img && echo same)"
 }
 
 : >input
@@ -42,13 +51,14 @@ refused 'frames too few' pipe new.img --frames 511
 refused 'frames too many' pipe new.img --frames 65537
 refused 'unknown cache mode' pipe new.img --cache unsafe
 refused 'a word too many' recover new.img more
+refused 'check without a path' check
 # The version is that of the first heading of the list of changes.
 version=$(sed -n 's/^## \([0-9][0-9.]*\).*/\1/p' "$here/CHANGELOG.md" | head -n 1)
 run --version
 is 'version' "0|$(text "nbdj $version")|" "$status|$output|$errors"
 run pipe --help
 is 'help' '0|yes|' "$status|$(grep -q FLUSH output && echo yes)|$errors"
-for command in format pipe recover rehearse; do
+for command in format pipe recover check rehearse; do
     run "$command" --version
     is "version of $command" "0|$version|" "$status|$(sed 's/.* //' output)|$errors"
     run "$command" --help
@@ -57,6 +67,7 @@ done
 
 # Files.
 ends 'a missing file' 1 '' 'nbdj: cannot open none.img' recover none.img
+ends 'check a missing file' 1 '' 'nbdj: cannot open none.img' check none.img
 ends 'a folder' 1 '' 'nbdj: cannot open .' pipe .
 ends 'a missing folder' 1 '' 'nbdj: cannot open none/d.img' format none/d.img --blocks 16 --area 2097152
 ends 'format a folder' 1 '' 'nbdj: cannot open .' format . --blocks 16 --area 2097152
@@ -69,6 +80,7 @@ unchanged '4,096 zero bytes' 'nbdj: no header (7)'
 ends 'format' 0 "$(text 'formatted 4276224')" '' format d.img --blocks 16 --area 2097152
 is 'header slot 0' 014e42444a524e4c31000000000000000100000000000000100020000000000000000000000000000000 "$(part d.img 0 42)"
 is 'length of the file' 4276224 "$(wc -c <d.img | tr -d ' ')"
+checks 'check of a fresh device' 16 0 0 0 0 0 16
 ends 'a fresh device' 0 "$(text 'commands 0')" '' recover d.img
 printf x >>d.img
 unchanged 'one byte longer' 'nbdj: bad header (8)'
@@ -92,7 +104,11 @@ ends 'no number is left' 0 "$(reply 1 28)" '' pipe d.img
 : >input
 fresh 16 2097152
 patch d.img 8192 '01 0000000d 0000000000000001 00000001 02 0000000000000000 00000004 00'
+checks 'check of a stored group' 16 0 0 1 0 0 16
+cp d.img stored.img
 ends 'a stored group' 0 "$(text 'commands 1')" '' recover d.img
+checks 'check of the recovered group' 16 0 1 1 0 0 16
+cp stored.img d.img
 patch d.img 8205 00000000
 unchanged 'a group of no commands' 'nbdj: damaged group (12)'
 
@@ -157,7 +173,18 @@ is '41 commands' "0|656|" "$status|$((${#output} / 2))|$errors"
 is 'the head of their group' 010002921500000000000000010000002901000000000000000100000001 "$(part d.img 8192 30)"
 is 'the gate behind it' 00 "$(part d.img $((8192 + 168486)) 1)"
 : >input
+checks 'check of the group' 64 0 0 41 41 0 23
 ends 'commands of the group' 0 "$(text 'commands 41')" '' recover d.img
+checks 'check of the group in the image' 64 0 41 41 41 0 23
+# Recovered by a checkpoint: two headers later the second area is alone in use, map slot 1 holds the states, and the blocks
+# stand in the data region.
+is 'the header after the recovery' 014e42444a524e4c3100000000000000030000000000000040002000000001010000000000000029 "$(part d.img 0 40)"
+is 'the map after the recovery' aaaaaaaaaaaaaaaaaaaa0200000000000000 "$(part d.img $((8192 + 2 * 2097152 + 4096)) 18)"
+data=$((8192 + 2 * 2097152 + 2 * 4096))
+{ filled 4096 C; filled 163840 B; filled 94208 '\000'; } >wanted
+tail -c "+$((data + 1))" d.img >found
+same 'the blocks after the recovery' wanted found
+ends 'a recovered device again' 0 "$(text 'commands 41')" '' recover d.img
 
 # A full journal, and no frames left: what was stored is found.
 fresh 256 2097152

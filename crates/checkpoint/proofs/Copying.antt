@@ -23,7 +23,7 @@ use Rattle.device_image.specs.Stands.{StandsFor, next_number}
 use Rattle.device_image.proofs.Copied.{copy_places, keeps_copied}
 use Rattle.device_image.proofs.Free.{torn_free}
 use Rattle.copy_plan.specs.Plan.{IsNextCopy}
-use Rattle.copy_plan.proofs.Counts.{all_counted, none_counted}
+use Rattle.device_image.proofs.Puts.{all_counted, none_counted}
 
 -- the first area, where two are in use
 pub record IsFirst (area : AreaState) (header : Header) (front : List (List StoredGroup)) : Type 0 where

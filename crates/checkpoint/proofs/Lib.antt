@@ -8,5 +8,8 @@ pub mod MapStored
 pub mod Mapping
 pub mod Opened
 pub mod Readings
+pub mod Recovered
 pub mod Refused
+pub mod Reopened
+pub mod Reported
 pub mod Rotating

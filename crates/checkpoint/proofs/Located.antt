@@ -88,7 +88,7 @@ module _ (block : ℕ) (areas : List AreaState) (index : ℕ) (area : AreaState)
   found_here touch found = in_area block areas index area touch below is none_later found
 
 -- the lists of the areas in front of the last
-front_kind : (sides : List Side) (geometry : Geometry) (next : ℕ) (lists : List (List StoredGroup)) (areas : List AreaState) (state : State) → AreHeld sides geometry next lists areas state → (image : Image) (block : ℕ)
+pub front_kind : (sides : List Side) (geometry : Geometry) (next : ℕ) (lists : List (List StoredGroup)) (areas : List AreaState) (state : State) → AreHeld sides geometry next lists areas state → (image : Image) (block : ℕ)
     → (apply_all (all_changes lists) image).kind block ≡ kind_after (last_touch_in block areas) (image.kind block)
 front_kind [] geometry next [] [] state held image block = refl
 front_kind [] geometry next [] (area ∷ areas) state held image block = absurd held

@@ -16,16 +16,17 @@ use Rattle.journal.specs.GroupList.{IsHeld, Stand, next_behind, number_behind, s
 use Rattle.journal.specs.Spelling.{StoredGroup}
 use Rattle.journal.specs.Touches.{touched_by_groups}
 use Rattle.regions.specs.Layout.{area_at, behind, ring}
-use Rattle.device_image.specs.Keeper.{KeeperState, PlanState, count_puts, earlier_of, phase_of}
+use Rattle.device_image.specs.Keeper.{KeeperState, PlanState, count_puts, earlier_of, phase_in, phase_of}
 use Rattle.device_image.specs.Keeps.{AreHeld, IsCopying, IsInPhase, IsMapWritten, IsPlaced, Keeps, behind_lists}
-use Rattle.checkpoint.specs.Opening.{IsFresh, IsOpened, IsPassing, IsRefused}
+use Rattle.checkpoint.specs.Opening.{IsOpened, IsPassing, IsRefused, IsUncopied}
+use Rattle.checkpoint.specs.Recovery.{IsBegun}
 use Rattle.device_image.specs.Stands.{StandsFor, HoldLists, all_changes, area_of, in_use, next_number, stored_image}
 use Rattle.checkpoint.specs.declared.fault.KeeperFault.{KeeperFault}
 use Rattle.checkpoint.specs.declared.fault.KeeperFault.TheVariants.{NoMemory, DeviceFault, BadMap, NoHeader, BadHeader, NumbersFull, AreaFull, OutOfOrder, DamagedGroup, NotNow, Failed}
 use Rattle.device_image.proofs.Frame.{all_changes-append, held_lists, moved_list, ring-last, with_last}
 use Rattle.device_image.proofs.Sole.{one_image, one_number}
 use Rattle.device_image.proofs.Turned.{Follows, follows}
-use Rattle.copy_plan.proofs.Counts.{count_zero}
+use Rattle.device_image.proofs.Puts.{count_zero}
 use Rattle.checkpoint.proofs.Refused.{never_refused}
 
 -- and the same behind lists of such groups
@@ -48,12 +49,17 @@ follows_lists (area ∷ areas) content geometry next last (groups ∷ lists) fit
       fits = omega (arith, rest.fits, same);
     }
 
+-- a checkpoint of which nothing was copied has begun
+pub uncopied_begun : (areas : Areas) (plan : Option PlanState) → IsUncopied areas plan → IsBegun (phase_of plan)
+uncopied_begun areas None uncopied = tt
+uncopied_begun areas (Some plan) uncopied = subst (λ (mapped : Option (List Kind)). IsBegun (phase_in plan.left mapped)) (sym (ap (λ (p : PlanState). p.mapped) uncopied.1)) tt
+
 -- nothing was copied yet
 phase_sound : (header : Header) (plan : Option PlanState) (next : ℕ) (front : List (List StoredGroup)) (state : State) (states : List Kind)
-    → AreHeld (ring (mode_of header.areas) header.first_area) header.geometry next front (earlier_of plan) state → IsFresh header.areas plan → IsInPhase plan state header states front
-phase_sound header None next front state states held fresh = fresh
-phase_sound header (Some plan) next front state states held fresh =
-    copying front (subst (λ (areas : Areas). AreHeld (ring (mode_of areas) header.first_area) header.geometry next front (plan.first ∷ []) state) fresh.0 held)
+    → AreHeld (ring (mode_of header.areas) header.first_area) header.geometry next front (earlier_of plan) state → IsUncopied header.areas plan → IsInPhase plan state header states front
+phase_sound header None next front state states held uncopied = uncopied
+phase_sound header (Some plan) next front state states held uncopied =
+    copying front (subst (λ (areas : Areas). AreHeld (ring (mode_of areas) header.first_area) header.geometry next front (plan.first ∷ []) state) uncopied.0 held)
   where
     copying : (front : List (List StoredGroup)) → AreHeld (header.first_area ∷ []) header.geometry next front (plan.first ∷ []) state → IsCopying plan state header states front
     copying [] held = absurd held
@@ -61,16 +67,16 @@ phase_sound header (Some plan) next front state states held fresh =
         let touched : plan.first.touched ≡ touched_by_groups (area_at header.geometry header.first_area) groups = held.1.touched ∙ ap (λ (place : ℕ). touched_by_groups place groups) held.0.from in
         let puts : count_puts plan.first.blocks plan.first.touched ≡ count_puts header.geometry.blocks (touched_by_groups (area_at header.geometry header.first_area) groups) =
         ap (λ (blocks : ℕ). count_puts blocks plan.first.touched) held.0.blocks ∙ ap (count_puts header.geometry.blocks) touched in
-        let none : plan.copied ≡ 0 = ap (λ (p : PlanState). p.copied) fresh.1 in
-        let left = ap (λ (p : PlanState). p.left) fresh.1 in
+        let none : plan.copied ≡ 0 = ap (λ (p : PlanState). p.copied) uncopied.1 in
+        let left = ap (λ (p : PlanState). p.left) uncopied.1 in
         let zero : count_puts plan.copied (touched_by_groups (area_at header.geometry header.first_area) groups) ≡ 0 =
         ap (λ (block : ℕ). count_puts block (touched_by_groups (area_at header.geometry header.first_area) groups)) none ∙ count_zero (touched_by_groups (area_at header.geometry header.first_area) groups) in
         record {
-          areas = fresh.0;
+          areas = uncopied.0;
           within = omega (arith, none);
           counted = omega (arith, left, puts, zero);
           are_copied = λ block from below. absurd (omega (arith, none, below));
-          map_written = subst (λ (mapped : Option (List Kind)). IsMapWritten mapped state header states (groups ∷ front) plan.left) (sym (ap (λ (p : PlanState). p.mapped) fresh.1)) tt;
+          map_written = subst (λ (mapped : Option (List Kind)). IsMapWritten mapped state header states (groups ∷ front) plan.left) (sym (ap (λ (p : PlanState). p.mapped) uncopied.1)) tt;
         }
 
 module _ (state : State) (header : Header) (slot : Side) (states : List Kind) (plan : Option PlanState) (area : AreaState) (opened : IsOpened state header slot states plan area) (fits : header.base < 18446744073709551616) where
@@ -131,7 +137,7 @@ module _ (state : State) (header : Header) (slot : Side) (states : List Kind) (p
     taken = used ∙ opened.areas.held.gate;
     phase = phase;
     phased = subst (λ (p : Option PlanState). IsInPhase p state header states opened.areas.front) (sym plan_is)
-        (phase_sound header plan (next_number header.base) opened.areas.front state states opened.areas.earlier_held opened.fresh);
+        (phase_sound header plan (next_number header.base) opened.areas.front state states opened.areas.earlier_held opened.uncopied);
     unsynced = λ place unsynced. absurd (opened.synced place unsynced);
   }
 
@@ -151,7 +157,7 @@ passes content image number DeviceFault refused stands = tt
 passes content image number BadMap refused stands = never_refused content image number stands BadMap refused (λ passing. passing)
 passes content image number NoHeader refused stands = never_refused content image number stands NoHeader refused (λ passing. passing)
 passes content image number BadHeader refused stands = never_refused content image number stands BadHeader refused (λ passing. passing)
-passes content image number NumbersFull refused stands = refused
+passes content image number NumbersFull refused stands = tt
 passes content image number AreaFull refused stands = refused
 passes content image number OutOfOrder refused stands = refused
 passes content image number DamagedGroup refused stands = never_refused content image number stands DamagedGroup refused (λ passing. passing)

@@ -21,15 +21,11 @@ use Rattle.device_image.specs.Stands.{StandsFor}
 use Rattle.device_image.specs.Turn.{begun, ended}
 use Rattle.device_image.proofs.Frame.{area_low}
 use Rattle.device_image.proofs.Turning.{all_synced, base_is, begin_left, end_left, keeps_begun, keeps_ended, two, written}
-use Rattle.copy_plan.proofs.Counts.{count_zero}
+use Rattle.device_image.proofs.Puts.{count_zero}
 
 pub none_of : {X : Type 0} (option : Option X) → is_some option ≡ false → option ≡ None
 none_of None is = refl
 none_of (Some x) is = cc
-
-pub some_of : {X : Type 0} (option : Option X) → is_some option ≡ true → (x : X) × (option ≡ Some x)
-some_of None is = cc
-some_of (Some x) is = (x, refl)
 
 module _ {D : Type 0} (keeper : KeeperState D) (state : State) (image : Image) (number : ℕ) (keeps : Keeps keeper state image number) {extent : ℕ} (sound : IsSound extent state) where
   pub current_held : HoldsHeader state.seen extent keeper.memory.header keeper.memory.slot

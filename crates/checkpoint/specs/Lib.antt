@@ -2,5 +2,7 @@ pub mod Faults
 pub mod Format
 pub mod Keeper
 pub mod Opening
+pub mod Recovery
+pub mod Report
 pub mod Steps
 pub mod Stored

@@ -1,13 +1,14 @@
--- what an opening refuses
-use Rattle.std.specs.Prelude.{ℕ, ◌≡◌, List, length, Option, Some, None, Result, Ok, Err}
+-- what an opening finds, and what it refuses
+use Rattle.std.specs.Prelude.{ℕ, ◌≡◌, ◌≢◌, ◌⊎◌, List, [], length, Option, Some, None, Result, Ok, Err, IfErr}
 use Rattle.header_slots.specs.Slots.{HoldsHeader, HoldsNone, HoldsBad}
 use Rattle.header_slots.specs.declared.header.Areas.{Areas}
 use Rattle.header_slots.specs.declared.header.Header.{Header}
 use Rattle.image_model.specs.declared.side.Side.{Side}
 use Rattle.image_model.specs.Image.{Image}
 use Rattle.image_model.specs.declared.command.Kind.{Kind}
-use Rattle.disk_model.specs.Disk.{State, IsAllSynced}
+use Rattle.disk_model.specs.Disk.{State, IsAllSynced, LeavesOnly, MayLeave}
 use Rattle.journal.specs.Area.{AreaState}
+use Rattle.journal.specs.GroupList.{IsList}
 use Rattle.journal.specs.Spelling.{StoredGroup}
 use Rattle.regions.specs.Layout.{map_at}
 use Rattle.regions.specs.Map.{HoldsMap}
@@ -15,7 +16,7 @@ use Rattle.device_image.specs.Keeper.{KeeperState, PlanState, count_puts, earlie
 use Rattle.checkpoint.specs.Keeper.{faults_by}
 use Rattle.device_image.specs.Keeps.{HoldsAreas, Keeps}
 use Rattle.device_image.specs.Damage.{HasBadMap, HasDamagedGroup}
-use Rattle.device_image.specs.Stands.{StandsFor}
+use Rattle.device_image.specs.Stands.{StandsFor, area_of, next_number}
 use Rattle.checkpoint.specs.declared.fault.KeeperFault.{KeeperFault}
 use Rattle.checkpoint.specs.declared.fault.KeeperFault.TheVariants.{NoMemory, DeviceFault, BadMap, NoHeader, BadHeader, NumbersFull, AreaFull, OutOfOrder, DamagedGroup, NotNow, Failed}
 
@@ -48,9 +49,9 @@ IsGroupsRefused NotNow damaged = ⊥
 IsGroupsRefused Failed damaged = ⊥
 
 -- what is to be copied where so many areas are in use and nothing was copied yet
-abbrev pub IsFresh : Areas → Option PlanState → Type 0
-IsFresh areas None = areas ≡ Areas.One
-IsFresh areas (Some plan) = (areas ≡ Areas.Two)
+abbrev pub IsUncopied : Areas → Option PlanState → Type 0
+IsUncopied areas None = areas ≡ Areas.One
+IsUncopied areas (Some plan) = (areas ≡ Areas.Two)
     × (plan ≡ record { first = plan.first; copied = 0; left = count_puts plan.first.blocks plan.first.touched; mapped = None })
 
 -- A device that is good was read: this is its header and the slot of it, its map, what is to be copied of the area in use
@@ -61,16 +62,16 @@ pub record IsOpened (state : State) (header : Header) (slot : Side) (states : Li
   pub in_force : HoldsHeader state.seen (length state.seen) header slot
   pub map : HoldsMap state.seen (map_at header.geometry header.map_slot) header.geometry.blocks states
   pub areas : HoldsAreas state header lists (earlier_of plan) area
-  pub fresh : IsFresh header.areas plan
+  pub uncopied : IsUncopied header.areas plan
 
--- a refusal that says nothing of the content
+-- a refusal that comes of a content which stands for an image too
 abbrev pub IsPassing : KeeperFault → Type 0
 IsPassing NoMemory = Unit {0}
 IsPassing DeviceFault = Unit {0}
 IsPassing BadMap = ⊥
 IsPassing NoHeader = ⊥
 IsPassing BadHeader = ⊥
-IsPassing NumbersFull = ⊥
+IsPassing NumbersFull = Unit {0}
 IsPassing AreaFull = ⊥
 IsPassing OutOfOrder = ⊥
 IsPassing DamagedGroup = ⊥
@@ -87,8 +88,50 @@ abbrev pub faults_after_opening : {D : Type 0} → Result (KeeperState D) (Keepe
 faults_after_opening (Ok keeper) faults = faults
 faults_after_opening (Err refused) faults = faults_by refused.0 faults
 
--- What an opening says of the content that it found: at `Ok` it stands for an image, which the keeper keeps, and a refusal
--- says what is bad of it.
-abbrev pub IsOpening : {D : Type 0} → (D → State) → Result (KeeperState D) (KeeperFault × D) → List ℕ → Type 0
-IsOpening state (Ok keeper) content = (image : Image) × StandsFor content image keeper.count × Keeps keeper (state keeper.disk) image keeper.count
-IsOpening state (Err refused) content = IsRefused refused.0 content
+-- the content stands for the image and the number that the one which was found stands for
+abbrev pub StandsAs : List ℕ → List ℕ → Type 0
+StandsAs found content = (image : Image) × (number : ℕ) × StandsFor found image number × StandsFor content image number
+
+-- No generation is greater than that of the header in force.
+pub record HasLastGeneration (content : List ℕ) : Type 0 where
+  pub header : Header
+  pub slot : Side
+  pub in_force : HoldsHeader content (length content) header slot
+  pub last : header.generation ≡ 18446744073709551615
+
+-- What a refusal of an opening says of the content that it found, and of what is read after it: where the numbers are full
+-- it stands for the same.
+abbrev pub IsOpeningRefused : KeeperFault → List ℕ → List ℕ → Type 0
+IsOpeningRefused NoMemory found after = Unit {0}
+IsOpeningRefused DeviceFault found after = Unit {0}
+IsOpeningRefused BadMap found after = HasBadMap found
+IsOpeningRefused NoHeader found after = HoldsNone found (length found)
+IsOpeningRefused BadHeader found after = HoldsBad found (length found)
+IsOpeningRefused NumbersFull found after = StandsAs found after × HasLastGeneration after
+IsOpeningRefused AreaFull found after = ⊥
+IsOpeningRefused OutOfOrder found after = ⊥
+IsOpeningRefused DamagedGroup found after = HasDamagedGroup found
+IsOpeningRefused NotNow found after = ⊥
+IsOpeningRefused Failed found after = ⊥
+
+-- what an outcome says of the content that was found
+abbrev pub IsOutcome : {D : Type 0} → (D → State) → Result (KeeperState D) (KeeperFault × D) → List ℕ → Type 0
+IsOutcome state (Ok keeper) found = (image : Image) × StandsFor found image keeper.count × Keeps keeper (state keeper.disk) image keeper.count × (keeper.base ≡ keeper.count)
+IsOutcome state (Err refused) found = IsOpeningRefused refused.0 found (state refused.1).seen
+
+-- A device in this state was opened, and this content was found, which its first sync fixes.
+pub record IsOpening {D : Type 0} (before : State) (state : D → State) (result : Result (KeeperState D) (KeeperFault × D)) (found : List ℕ) : Type 0 where
+  pub fixed : MayLeave before found
+  pub outcome : IsOutcome state result found
+  -- what a crash may leave meanwhile
+  pub crash : LeavesOnly before (state (disk_after result)) (λ content. MayLeave before content ⊎ StandsAs found content)
+  -- and after a refusal that no fault of the device is the cause of
+  pub settled : IfErr result (λ refused. refused.0 ≢ DeviceFault → (content : List ℕ) → MayLeave (state refused.1) content → (content ≡ found) ⊎ StandsAs found content)
+
+-- One area is in use, and its list is empty.
+pub record IsAtRest (content : List ℕ) : Type 0 where
+  pub header : Header
+  pub slot : Side
+  pub in_force : HoldsHeader content (length content) header slot
+  pub one : header.areas ≡ Areas.One
+  pub list : IsList (area_of header.geometry header.first_area) (next_number header.base) [] content

@@ -1,7 +1,6 @@
 ghost use Rattle.std.specs.Prelude.{◌≡◌, ◌≢◌, ℕ, ◌+◌, ◌≤◌, ◌<◌, ◌⊎◌, ◌↔◌, List, length, map, IfErr, IfOk, OnOk, IsErrAnd, IsTrue, false};
 ghost use Rattle.checkpoint.specs.Keeper.{end_after, faults_by, grown_by, refused_by, IsAppendFault};
 ghost use Rattle.device_image.specs.Keeps.{Keeps};
-ghost use Rattle.checkpoint.specs.Opening.{disk_after, faults_after_opening, IsOpening, IsPassing};
 ghost use Rattle.device_image.specs.Stands.{StandsFor};
 ghost use Rattle.checkpoint.specs.declared.fault.KeeperFault.TheVariants as KeeperFault;
 ghost use Rattle.disk_model.specs.Disk.{IsAllSynced, LeavesOnly, MayLeave};
@@ -9,7 +8,6 @@ ghost use Rattle.image_model.specs.Change.{AreChanges, change_of};
 ghost use Rattle.image_model.specs.Image.{Image, apply_all};
 
 use crate::fault::KeeperFault;
-use crate::opening::{Opened, read_device};
 use alloc_map::AllocMap;
 use copy_plan::CopyPlan;
 use disk_model::Disk;
@@ -67,53 +65,6 @@ impl<D: Disk> Model for Keeper<D> {
 }
 
 impl<D: Disk> Keeper<D> {
-    /// Opens the device: it is synced, its header in force is read, its map, and the groups of its areas in use.
-    ///
-    /// Nothing is written. A refusal hands the device back: 7 where no header is in force, 8 where it is bad, 6 where
-    /// its map is, 12 where an area in use is damaged, the first of these that applies; 0 and 1 say nothing of the
-    /// content.
-    pub fn open(alloc: Global, mut disk: D) -> Result<Keeper<D>, (KeeperFault, D)>
-        ensures extent { D.extent (disk_after result) ≡ D.extent disk }
-        ensures faults { D.faults (disk_after result) ≡ faults_after_opening result (D.faults disk) }
-        ensures honest { D.honest (disk_after result) ↔ D.honest disk }
-        ensures works { IfOk result (λ keeper. keeper.failed ≡ false) }
-
-        // On an honest device there is a content, one that a crash at the start may leave, that is found: at `Ok` it stands
-        // for an image, which the keeper keeps, and a refusal says what is bad of it.
-        ensures found { D.honest disk → (content : List ℕ) × MayLeave (D.state disk) content × IsOpening D.state result content }
-        ensures any_moment { D.honest disk → LeavesOnly (D.state disk) (D.state (disk_after result)) (MayLeave (D.state disk)) }
-
-        // Where nothing is unsynced at the start and the content stands for an image, the keeper keeps that one, and
-        // only want of memory and a device fault refuse it.
-        ensures same { D.honest disk → IsAllSynced (D.state disk) → (image : Image) (number : ℕ) → StandsFor (D.state disk).seen image number
-            → IfOk result (λ keeper. Keeps keeper (D.state keeper.disk) image number) }
-        ensures passing { D.honest disk → IsAllSynced (D.state disk) → (image : Image) (number : ℕ) → StandsFor (D.state disk).seen image number
-            → IfErr result (λ refused. IsPassing refused.0) }
-    {
-        match read_device(alloc, &mut disk) {
-            Ok(
-                Opened {
-                    header,
-                    slot,
-                    map,
-                    plan,
-                    area,
-                },
-            ) => Ok(Keeper {
-                alloc,
-                disk,
-                header,
-                slot,
-                count: area.next().wrapping_sub(1),
-                map,
-                plan,
-                area,
-                failed: false,
-            }),
-            Err(fault) => Err((fault, disk)),
-        }
-    }
-
     /// The device, as it is.
     pub fn into_disk(self) -> D
         ensures { result ≡ self.disk }

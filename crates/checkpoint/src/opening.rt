@@ -1,19 +1,23 @@
-ghost use Rattle.std.specs.Prelude.{◌≡◌, ◌+◌, ◌≤◌, ◌↔◌, List, length, IfErr, IfOk, IfSome, MatchResult, OnOk};
+ghost use Rattle.std.specs.Prelude.{◌≡◌, ◌≢◌, ◌+◌, ◌≤◌, ◌↔◌, List, length, false, IfErr, IfOk, IfSome, MatchResult, OnOk};
 ghost use Rattle.checkpoint.specs.Keeper.{IsSized, faults_by};
-ghost use Rattle.device_image.specs.Keeps.{HoldsAreas, IsPlaced};
+ghost use Rattle.device_image.specs.Keeps.{HoldsAreas, IsPlaced, Keeps};
 ghost use Rattle.device_image.specs.Damage.{IsAreaDamaged};
-ghost use Rattle.checkpoint.specs.Opening.{IsFresh, IsGroupsRefused, IsOpened, IsRefused};
+ghost use Rattle.checkpoint.specs.Opening.{IsGroupsRefused, IsOpened, IsRefused, IsUncopied, disk_after, faults_after_opening};
+ghost use Rattle.checkpoint.specs.Recovery.{IsBegun};
+ghost use Rattle.checkpoint.specs.declared.fault.KeeperFault.TheVariants as KeeperFault;
 ghost use Rattle.device_image.specs.Keeper.{earlier_of};
 ghost use Rattle.journal.specs.GroupList.{HoldsList, IsDamaged};
 ghost use Rattle.device_image.specs.Stands.{area_of, next_number};
 ghost use Rattle.disk_model.specs.Disk.{IsAllSynced, LeavesOnly, MayLeave};
 ghost use Rattle.image_model.specs.Geometry.{device_bytes_of};
+ghost use Rattle.image_model.specs.Image.{Image};
 ghost use Rattle.header_slots.specs.Header.{mode_of};
 ghost use Rattle.journal.specs.Reading.{IsOnlyRead};
 ghost use Rattle.journal.specs.Spelling.{StoredGroup};
 ghost use Rattle.regions.specs.Layout.{behind};
 
 use crate::fault::KeeperFault;
+use crate::keeper::Keeper;
 use alloc_map::AllocMap;
 use copy_plan::{CopyPlan, last_touches};
 use disk_model::Disk;
@@ -23,7 +27,7 @@ use journal::Area;
 use regions::Regions;
 use std::alloc::Global;
 
-// What an opening reads of a device: its header in force and the slot of it, the map that the header names, what is to be
+// What is read of a device: its header in force and the slot of it, the map that the header names, what is to be
 // copied where more than one area is in use, and the last one, to which the next group goes.
 #[derive(Drop)]
 pub struct Opened {
@@ -34,8 +38,48 @@ pub struct Opened {
     pub area: Area,
 }
 
+// The keeper of a device as it stands: it is synced, its header in force is read, its map, and the groups of its areas in
+// use. Nothing is written, and a refusal hands the device back.
+pub fn load<D: Disk>(alloc: Global, mut disk: D) -> Result<Keeper<D>, (KeeperFault, D)>
+    ensures extent { D.extent (disk_after result) ≡ D.extent disk }
+    ensures faults { D.faults (disk_after result) ≡ faults_after_opening result (D.faults disk) }
+    ensures honest { D.honest (disk_after result) ↔ D.honest disk }
+    ensures works { IfOk result (λ keeper. keeper.failed ≡ false) }
+    ensures begun { IfOk result (λ keeper. IsBegun keeper.phase) }
+
+    ensures found { D.honest disk → MatchResult result
+        (λ keeper. (image : Image) × Keeps keeper (D.state keeper.disk) image keeper.count)
+        (λ refused. IsRefused refused.0 (D.state refused.1).seen) }
+    ensures fixed { D.honest disk → MayLeave (D.state disk) (D.state (disk_after result)).seen }
+    ensures settled { D.honest disk → IfErr result (λ refused. refused.0 ≢ KeeperFault.DeviceFault → IsAllSynced (D.state refused.1)) }
+    ensures any_moment { D.honest disk → LeavesOnly (D.state disk) (D.state (disk_after result)) (MayLeave (D.state disk)) }
+{
+    match read_device(alloc, &mut disk) {
+        Ok(
+            Opened {
+                header,
+                slot,
+                map,
+                plan,
+                area,
+            },
+        ) => Ok(Keeper {
+            alloc,
+            disk,
+            header,
+            slot,
+            count: area.next().wrapping_sub(1),
+            map,
+            plan,
+            area,
+            failed: false,
+        }),
+        Err(fault) => Err((fault, disk)),
+    }
+}
+
 // Syncs the device and reads it.
-pub fn read_device<D: Disk>(alloc: Global, disk: &mut D) -> Result<Opened, KeeperFault>
+fn read_device<D: Disk>(alloc: Global, disk: &mut D) -> Result<Opened, KeeperFault>
     ensures extent { D.extent disk.new ≡ D.extent disk.old }
     ensures faults_ok { OnOk result (D.faults disk.new ≡ D.faults disk.old) }
     ensures faults_err { IfErr result (λ fault. D.faults disk.new ≡ faults_by fault (D.faults disk.old)) }
@@ -46,8 +90,10 @@ pub fn read_device<D: Disk>(alloc: Global, disk: &mut D) -> Result<Opened, Keepe
 
     ensures sized { IfOk result (λ opened. IfSome opened.plan (λ plan. IsSized plan.first opened.header.geometry (D.extent disk.old))) }
     ensures blocks { IfOk result (λ opened. length opened.map ≡ opened.header.geometry.blocks) }
+    ensures uncopied { IfOk result (λ opened. IsUncopied opened.header.areas opened.plan) }
 
     ensures fixed { D.honest disk.old → MayLeave (D.state disk.old) (D.state disk.new).seen }
+    ensures settled { D.honest disk.old → IfErr result (λ fault. fault ≢ KeeperFault.DeviceFault → IsAllSynced (D.state disk.new)) }
     ensures read { D.honest disk.old → MatchResult result
         (λ opened. IsOpened (D.state disk.new) opened.header opened.slot opened.map opened.plan opened.area)
         (λ fault. IsRefused fault (D.state disk.new).seen) }
@@ -57,8 +103,8 @@ pub fn read_device<D: Disk>(alloc: Global, disk: &mut D) -> Result<Opened, Keepe
     read_parts(alloc, disk)
 }
 
-// Reads a device that is synced.
-fn read_parts<D: Disk>(alloc: Global, disk: &mut D) -> Result<Opened, KeeperFault>
+// Reads a device as it stands.
+pub fn read_parts<D: Disk>(alloc: Global, disk: &mut D) -> Result<Opened, KeeperFault>
     ensures extent { D.extent disk.new ≡ D.extent disk.old }
     ensures faults_ok { OnOk result (D.faults disk.new ≡ D.faults disk.old) }
     ensures faults_err { IfErr result (λ fault. D.faults disk.new ≡ faults_by fault (D.faults disk.old)) }
@@ -68,6 +114,7 @@ fn read_parts<D: Disk>(alloc: Global, disk: &mut D) -> Result<Opened, KeeperFaul
         IsPlaced opened.area opened.header.geometry (behind (mode_of opened.header.areas) opened.header.first_area)) }
     ensures sized { IfOk result (λ opened. IfSome opened.plan (λ plan. IsSized plan.first opened.header.geometry (D.extent disk.old))) }
     ensures blocks { IfOk result (λ opened. length opened.map ≡ opened.header.geometry.blocks) }
+    ensures uncopied { IfOk result (λ opened. IsUncopied opened.header.areas opened.plan) }
 
     ensures only_read { D.honest disk.old → IsOnlyRead (D.state disk.old) (D.state disk.new) }
     ensures read { D.honest disk.old → IsAllSynced (D.state disk.old) → MatchResult result
@@ -100,7 +147,7 @@ fn read_areas<D: Disk>(
     ensures placed { IfOk result (λ areas.
         IsPlaced areas.1 header.now.geometry (behind (mode_of header.now.areas) header.now.first_area)) }
     ensures sized { IfOk result (λ areas. IfSome areas.0 (λ plan. IsSized plan.first header.now.geometry (D.extent disk.old))) }
-    ensures fresh { IfOk result (λ areas. IsFresh header.now.areas areas.0) }
+    ensures uncopied { IfOk result (λ areas. IsUncopied header.now.areas areas.0) }
 
     ensures only_read { D.honest disk.old → IsOnlyRead (D.state disk.old) (D.state disk.new) }
     ensures read { D.honest disk.old → IsAllSynced (D.state disk.old) → MatchResult result

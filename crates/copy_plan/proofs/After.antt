@@ -1,5 +1,5 @@
 -- The map after an area, range by range.
-use Rattle.std.proofs.Common.{◌≡◌, ℕ, zero, suc, ◌+◌, ◌-◌, ◌≤◌, ◌<◌, Bool, true, false, if◌then◌else◌, Option, Some, None, List, [], ◌∷◌, ◌++◌, length, get_or, replicate, take, sym, ◌∙◌, ap, refl, arith, rules}
+use Rattle.std.proofs.Common.{◌≡◌, ℕ, zero, suc, Result, Ok, Err, IfOk, ◌+◌, ◌-◌, ◌≤◌, ◌<◌, Bool, true, false, if◌then◌else◌, Option, Some, None, List, [], ◌∷◌, ◌++◌, length, get_or, replicate, take, sym, ◌∙◌, ap, refl, arith, rules}
 use Rattle.std.proofs.lemmas.List.{places, length-replicate, take_more}
 use Rattle.alloc_map.specs.Codes.{state_at}
 use Rattle.image_model.specs.Image.{covers}
@@ -69,3 +69,9 @@ laid_states from blocks touched ranges before after count last laid = record {
   count = laid.count;
   each = λ block below. laid.each block ∙ ap (λ (t : Option Touch). kind_after t (state_at before block)) (last.exact block (omega (arith, below, count)));
 }
+
+-- the map that was made, where these are the last touches
+pub laid_of : {E : Type 0} (result : Result (List Kind) E) (from : ℕ) (touched : List TouchedRange) (ranges : List LastRange) (before : List Kind) → AreLastTouches from (length before) touched ranges
+    → IfOk result (λ after. (from : ℕ) (touched : List TouchedRange) → AreLastTouches from (length before) touched ranges → AreStatesAfter touched before after) → IfOk result (AreStatesAfter touched before)
+laid_of (Ok after) from touched ranges before last laid = laid from touched last
+laid_of (Err fault) from touched ranges before last laid = tt

@@ -1,5 +1,5 @@
 -- How many blocks of an area are left to copy.
-use Rattle.std.proofs.Common.{◌≡◌, ℕ, zero, suc, ◌+◌, ◌≤◌, ◌<◌, Bool, true, false, cond, if◌then◌else◌, count_by, Option, Some, None, List, [], ◌∷◌, ◌++◌, sym, ◌∙◌, ap, refl, arith}
+use Rattle.std.proofs.Common.{◌≡◌, ℕ, zero, suc, ◌+◌, ◌≤◌, ◌<◌, cond, if◌then◌else◌, count_by, Option, Some, None, List, [], ◌∷◌, ◌++◌, sym, ◌∙◌, ap, refl, arith}
 use Rattle.std.specs.List.{range_with_len}
 use Rattle.std.proofs.lemmas.List.Sums.{sum_by_push}
 use Rattle.journal.specs.Touches.{last_touch}
@@ -11,40 +11,7 @@ use Rattle.last_touches.specs.Touches.{touch_on_device}
 use Rattle.last_touches.specs.Ranges.{AreLastTouches, touch_at}
 use Rattle.last_touches.specs.Puts as puts
 use Rattle.device_image.specs.Keeper.{count_puts, is_put}
-
-abbrev one_if : Bool → ℕ
-one_if b = if b then 1 else 0
-
-count_suc : (block : ℕ) (touched : List TouchedRange) → count_puts (suc block) touched ≡ count_puts block touched + (if is_put (last_touch block touched) then 1 else 0)
-unfolding count_puts
-count_suc block touched = refl
-
-pub count_zero : (touched : List TouchedRange) → count_puts 0 touched ≡ 0
-unfolding count_puts
-count_zero touched = refl
-
--- where none of some blocks is a put, and where each is
-pub none_counted : (from n : ℕ) (touched : List TouchedRange) → ((block : ℕ) → from ≤ block → block < from + n → is_put (last_touch block touched) ≡ false) → count_puts (from + n) touched ≡ count_puts from touched
-none_counted from zero touched none = ap (λ (b : ℕ). count_puts b touched) (let same : from + 0 ≡ from = omega arith in same)
-none_counted from (suc n) touched none =
-    let rest = none_counted from n touched (λ block low high. none block low (omega (arith, high))) in
-    let next : from + suc n ≡ suc (from + n) = omega arith in
-    let one : (if is_put (last_touch (from + n) touched) then 1 else 0) ≡ 0 = ap one_if (none (from + n) (omega arith) (omega arith)) in
-    omega (arith, rest, ap (λ (b : ℕ). count_puts b touched) next, count_suc (from + n) touched, one)
-
-pub all_counted : (from n : ℕ) (touched : List TouchedRange) → ((k : ℕ) → k < n → is_put (last_touch (from + k) touched) ≡ true) → count_puts (from + n) touched ≡ count_puts from touched + n
-all_counted from zero touched all = let same : from + 0 ≡ from = omega arith in omega (arith, ap (λ (b : ℕ). count_puts b touched) same)
-all_counted from (suc n) touched all =
-    let rest = all_counted from n touched (λ k below. all k (omega (arith, below))) in
-    let next : from + suc n ≡ suc (from + n) = omega arith in
-    let one : (if is_put (last_touch (from + n) touched) then 1 else 0) ≡ 1 = ap one_if (all n (omega arith)) in
-    omega (arith, rest, ap (λ (b : ℕ). count_puts b touched) next, count_suc (from + n) touched, one)
-
-pub count_more : (from n : ℕ) (touched : List TouchedRange) → count_puts from touched ≤ count_puts (from + n) touched
-count_more from zero touched = let same : from + 0 ≡ from = omega arith in omega (arith, ap (λ (b : ℕ). count_puts b touched) same)
-count_more from (suc n) touched =
-    let next : from + suc n ≡ suc (from + n) = omega arith in
-    omega (arith, count_more from n touched, ap (λ (b : ℕ). count_puts b touched) next, count_suc (from + n) touched)
+use Rattle.device_image.proofs.Puts.{count_suc, count_zero, one_if}
 
 -- a last touch is a put in the area where it is one on the device
 put_on_device : (from : ℕ) (touch : Option LastTouch) → is_put (touch_on_device from touch) ≡ puts.is_put touch

@@ -13,7 +13,8 @@ use Rattle.last_touches.specs.declared.range.PutRange.{PutRange}
 use Rattle.last_touches.specs.declared.touch.LastTouch.{LastTouch}
 use Rattle.device_image.specs.Keeper.{PlanState, count_puts, is_put}
 use Rattle.copy_plan.specs.Plan.{IsNextCopy, IsPlan}
-use Rattle.copy_plan.proofs.Counts.{all_counted, count_more, is_put_at, none_counted}
+use Rattle.copy_plan.proofs.Counts.{is_put_at}
+use Rattle.device_image.proofs.Puts.{all_counted, count_more, none_counted}
 
 some_is_none : {touch : LastTouch} → Some touch ≡ None → ⊥
 some_is_none is = cc

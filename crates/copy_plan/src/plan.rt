@@ -1,7 +1,8 @@
-ghost use Rattle.std.specs.Prelude.{◌≡◌, ◌+◌, ◌-◌, ◌*◌, ◌≤◌, length, is_some, IfNone, IfOk, IfSome, None, Some};
+ghost use Rattle.std.specs.Prelude.{◌≡◌, ℕ, ◌+◌, ◌-◌, ◌*◌, ◌≤◌, List, length, is_some, IfNone, IfOk, IfSome, None, Some};
 ghost use Rattle.copy_plan.specs.Plan.{IsNextCopy, kind_given};
 ghost use Rattle.device_image.specs.Keeper.{AreStatesAfter, count_puts};
 ghost use Rattle.journal.specs.Touches.{AreWithin};
+ghost use Rattle.journal.specs.declared.touch.TouchedRange.{TouchedRange};
 ghost use Rattle.last_touches.specs.Ranges.{AreLastTouches};
 
 use alloc_map::AllocMap;
@@ -52,6 +53,39 @@ fn kind_given(touch: LastTouch) -> Kind
         LastTouch::Put(_) => Kind::Data,
         LastTouch::Clear(kind) => kind,
     }
+}
+
+/// The map after an area of an image of so many blocks, where this is the one before.
+pub fn map_behind(
+    alloc: Global,
+    area: &Area,
+    blocks: u32,
+    map: &AllocMap,
+) -> Result<AllocMap, AllocError>
+    requires bytes { area.now.bytes ≤ 1073741824 }
+    requires blocks { blocks ≡ area.now.blocks }
+    requires count { length map.now ≡ area.now.blocks }
+    ensures { IfOk result (λ after. AreStatesAfter area.now.touched map.now after) }
+{
+    let touches = last_touches(alloc, area, blocks)?;
+    laid_over(alloc, &touches, map)
+}
+
+// The map with the states that these last touches give to their blocks.
+fn laid_over(alloc: Global, touches: &LastTouches, map: &AllocMap) -> Result<AllocMap, AllocError>
+    requires { length map.now ≡ touches.now.blocks }
+    ensures { IfOk result (λ after. (from : ℕ) (touched : List TouchedRange) → AreLastTouches from (length map.now) touched touches.now.ranges
+        → AreStatesAfter touched map.now after) }
+{
+    let mut after = map.copy(alloc)?;
+    for range in touches.ranges() {
+        after.set_range(
+            range.first as u64,
+            range.blocks as u64,
+            kind_given(range.touch),
+        );
+    }
+    Ok(after)
 }
 
 impl CopyPlan {
@@ -147,14 +181,6 @@ impl CopyPlan {
         requires { length map.now ≡ self.now.first.blocks }
         ensures { IfOk result (λ after. AreStatesAfter self.now.first.touched map.now after) }
     {
-        let mut after = map.copy(alloc)?;
-        for range in self.touches.ranges() {
-            after.set_range(
-                range.first as u64,
-                range.blocks as u64,
-                kind_given(range.touch),
-            );
-        }
-        Ok(after)
+        laid_over(alloc, &self.touches, map)
     }
 }

@@ -2,6 +2,7 @@ pub mod Copied
 pub mod Frame
 pub mod Free
 pub mod Kept
+pub mod Puts
 pub mod Sole
 pub mod Steps
 pub mod Touched

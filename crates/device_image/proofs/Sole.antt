@@ -62,7 +62,7 @@ lists_sound (area ∷ areas) content geometry next (groups ∷ lists) holds dama
     damaged
 
 -- two headers in force are one
-same_header : (content : List ℕ) (size : ℕ) (header other : Header) (slot side : Side) → HoldsHeader content size header slot → HoldsHeader content size other side → header ≡ other
+pub same_header : (content : List ℕ) (size : ℕ) (header other : Header) (slot side : Side) → HoldsHeader content size header slot → HoldsHeader content size other side → header ≡ other
 same_header content size header other slot side holds also =
     one_header content (slot_at slot + 1) header other holds.spelled
     (subst (λ (s : Side). SpellsAt content (slot_at s + 1) other) (sym (one_slot content slot side holds.in_force also.in_force)) also.spelled)

@@ -28,6 +28,7 @@ use Rattle.device_image.specs.Turn.{begun, ended}
 use Rattle.device_image.proofs.Frame.{area_low, apart, moved_list, one_kept}
 use Rattle.device_image.proofs.Free.{stands_still}
 use Rattle.device_image.proofs.Kept.{held}
+use Rattle.device_image.proofs.Puts.{count_more, count_one}
 use Rattle.device_image.proofs.Turned.{begins_turn, ends_turn, follows}
 
 front_none : (areas : Areas) (first : Side) (geometry : Geometry) (next : ℕ) (front : List (List StoredGroup)) (earlier : List AreaState) (state : State) → areas ≡ Areas.One
@@ -40,22 +41,6 @@ front_none Areas.Two first geometry next front earlier state one held = absurd (
     two_is_one : Areas.Two ≡ Areas.One → ⊥
     two_is_one is = cc
 
-count_next : (block : ℕ) (touched : List TouchedRange) → count_puts (suc block) touched ≡ count_puts block touched + (if is_put (last_touch block touched) then 1 else 0)
-unfolding count_puts
-count_next block touched = refl
-
-count_grows : (from n : ℕ) (touched : List TouchedRange) → count_puts from touched ≤ count_puts (from + n) touched
-count_grows from zero touched = let same : from + 0 ≡ from = omega arith in omega (arith, ap (λ (b : ℕ). count_puts b touched) same)
-count_grows from (suc n) touched =
-    let next : from + suc n ≡ suc (from + n) = omega arith in
-    omega (arith, count_grows from n touched, ap (λ (b : ℕ). count_puts b touched) next, count_next (from + n) touched)
-
-abbrev one_if : Bool → ℕ
-one_if b = if b then 1 else 0
-
-count_one : (block : ℕ) (touched : List TouchedRange) → is_put (last_touch block touched) ≡ true → count_puts (suc block) touched ≡ count_puts block touched + 1
-count_one block touched put = let one : (if is_put (last_touch block touched) then 1 else 0) ≡ 1 = ap one_if put in omega (arith, count_next block touched, one)
-
 -- where as many puts are before a block as before a later one, there is none between
 copied_all : (touched : List TouchedRange) (copied blocks block : ℕ) → copied ≤ blocks → count_puts copied touched ≡ count_puts blocks touched → block < blocks → is_put (last_touch block touched) ≡ true → block < copied
 copied_all touched copied blocks block within same below put = ⊎_elim
@@ -65,8 +50,8 @@ copied_all touched copied blocks block within same below put = ⊎_elim
     let here : copied + gap ≡ block = omega (arith, late) in
     let rest = blocks - suc block in
     let end : suc block + rest ≡ blocks = omega (arith, below) in
-    let before_it = count_grows copied gap touched in
-    let behind_it = count_grows (suc block) rest touched in
+    let before_it = count_more copied gap touched in
+    let behind_it = count_more (suc block) rest touched in
     let one : count_puts (suc block) touched ≡ count_puts block touched + 1 = count_one block touched put in
     absurd (omega (arith, same, before_it, behind_it, one, ap (λ (b : ℕ). count_puts b touched) here, ap (λ (b : ℕ). count_puts b touched) end)))
     (cases_lt block copied)

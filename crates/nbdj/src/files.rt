@@ -12,6 +12,13 @@ pub fn open<R: Files>(rt: &R, path: &str) -> io::Result<(R::File, u64)> {
     Ok((file, size))
 }
 
+// Opens a device's file so that it can't be written, and gives its length.
+pub fn open_for_reading<R: Files>(rt: &R, path: &str) -> io::Result<(R::File, u64)> {
+    let file = fs::open(rt, path)?;
+    let size = file.metadata()?.len();
+    Ok((file, size))
+}
+
 // Makes or empties a file, and gives it its full length, which is stable with its name where the system lets a folder be
 // synced.
 pub fn make<R: Files>(rt: &R, path: &str, size: u64) -> io::Result<(R::File, u64)>

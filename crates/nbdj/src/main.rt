@@ -5,7 +5,7 @@ ghost use Rattle.nbdj_run.specs.Plan.{Suits};
 
 mod files;
 
-use crate::files::{make, open};
+use crate::files::{make, open, open_for_reading};
 use clap::error::ErrorKind;
 use disk_model::FileDisk;
 use nbdj_line::line;
@@ -45,6 +45,7 @@ fn run(rt: &HostRuntime, plan: &Plan<'_>) -> u8 {
     let (path, opened) = match *plan {
         Plan::Format { path, geometry } => (path, make(rt, path, geometry.device_bytes())),
         Plan::Pipe { path, .. } | Plan::Recover { path } => (path, open(rt, path)),
+        Plan::Check { path } => (path, open_for_reading(rt, path)),
         Plan::Rehearse => return run_script(rt),
     };
     let Ok((file, size)) = opened else {

@@ -36,6 +36,9 @@ pipe_app modes = with_rule (with_rule (with_rule (new_app (codes "pipe")) path_r
 abbrev pub recover_app : App
 recover_app = with_rule (new_app (codes "recover")) path_rule
 
+abbrev pub check_app : App
+check_app = with_rule (new_app (codes "check")) path_rule
+
 abbrev pub rehearse_app : App
 rehearse_app = new_app (codes "rehearse")
 
@@ -54,5 +57,5 @@ bare_app =
 -- the whole command line; the modes are the values that `--cache` takes
 abbrev pub nbdj_app : ValueParser → App
 nbdj_app modes =
-    with_subcommand (with_subcommand (with_subcommand (with_subcommand bare_app format_app.top) (pipe_app modes).top)
-    recover_app.top) rehearse_app.top
+    with_subcommand (with_subcommand (with_subcommand (with_subcommand (with_subcommand bare_app format_app.top) (pipe_app modes).top)
+    recover_app.top) check_app.top) rehearse_app.top

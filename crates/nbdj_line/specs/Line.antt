@@ -6,7 +6,7 @@ use Rattle.clap.specs.Words.{Row, Text, first_of, one_of}
 use Rattle.world.specs.declared.step.Mode.{Mode}
 use Rattle.world.specs.declared.step.Mode.TheVariants.{Writeback, Writethrough}
 use Rattle.nbdj_run.specs.declared.plan.Plan.{Plan}
-use Rattle.nbdj_run.specs.declared.plan.Plan.TheVariants.{Format, Pipe, Recover, Rehearse}
+use Rattle.nbdj_run.specs.declared.plan.Plan.TheVariants.{Format, Pipe, Recover, Check, Rehearse}
 
 -- the option was given this number, in decimal digits
 pub record IsGiven (rows : List Row) (name : Text) (number : ℕ) : Type 0 where
@@ -31,4 +31,5 @@ IsAsked (Some (name, rows)) (Pipe path options) =
     (name ≡ codes "pipe") × HasPath rows path.now × IsGiven rows (codes "frames") options.frames
     × (first_of (codes "cache") rows ≡ Some (mode_name options.mode))
 IsAsked (Some (name, rows)) (Recover path) = (name ≡ codes "recover") × HasPath rows path.now
+IsAsked (Some (name, rows)) (Check path) = (name ≡ codes "check") × HasPath rows path.now
 IsAsked (Some (name, rows)) Rehearse = name ≡ codes "rehearse"

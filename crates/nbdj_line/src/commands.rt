@@ -1,6 +1,6 @@
 ghost use Rattle.std.specs.Prelude.{◌≡◌, false, IfOk};
 ghost use Rattle.clap.specs.Words.{app_of, rule_of};
-ghost use Rattle.nbdj_line.specs.Commands.{area_rule, bare_app, blocks_rule, cache_rule, format_app, frames_rule, nbdj_app, option_rule, path_rule, pipe_app, recover_app, rehearse_app};
+ghost use Rattle.nbdj_line.specs.Commands.{area_rule, bare_app, blocks_rule, cache_rule, check_app, format_app, frames_rule, nbdj_app, option_rule, path_rule, pipe_app, recover_app, rehearse_app};
 
 use clap::builder::ValueParser;
 use clap::{Arg, Command, value_parser};
@@ -15,6 +15,7 @@ pub fn program<'a>(alloc: Global, modes: ValueParser<'a>) -> Result<Command<'a>,
         .subcommand(format(alloc)?)?
         .subcommand(pipe(alloc, modes)?)?
         .subcommand(recover(alloc)?)?
+        .subcommand(check(alloc)?)?
         .subcommand(rehearse(alloc))
 }
 
@@ -117,7 +118,19 @@ fn recover<'a>(alloc: Global) -> Result<Command<'a>, AllocError>
     ensures { IfOk result (λ command. app_of command ≡ recover_app) }
 {
     Command::new(alloc, "recover")
-        .about("Opens the device and prints the number of its last command")
+        .about("Recovers the device and prints the number of its last command")
+        .after_help(
+            "The journal is copied into the image and is empty then. A kill or a power cut loses nothing.",
+        )
+        .arg(path(alloc))
+}
+
+fn check<'a>(alloc: Global) -> Result<Command<'a>, AllocError>
+    ensures { IfOk result (λ command. app_of command ≡ check_app) }
+{
+    Command::new(alloc, "check")
+        .about("Prints what the device holds, and writes nothing")
+        .after_help("The exit status is 3 where the device is bad.")
         .arg(path(alloc))
 }
 

@@ -36,6 +36,9 @@ fn asked<'a>(alloc: Global, name: &str, matches: &ArgMatches<'a>) -> Result<Plan
         "recover" => Ok(Plan::Recover {
             path: path(alloc, matches)?,
         }),
+        "check" => Ok(Plan::Check {
+            path: path(alloc, matches)?,
+        }),
         "rehearse" => Ok(Plan::Rehearse),
         _ => Err(fault(alloc, "no such command")),
     }

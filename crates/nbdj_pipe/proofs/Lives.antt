@@ -1,10 +1,13 @@
 -- the run of a pipe, from the opening of its device to the end
-use Rattle.std.proofs.Common.{◌≡◌, inl, inr, ℕ, suc, ◌<◌, Bool, true, false, List, [], ◌∷◌, ◌++◌, length, arith, Option, Some, None, Result, Err, refl, sym, ap, subst, ◌∙◌}
+use Rattle.std.proofs.Common.{◌≡◌, inl, inr, ℕ, suc, ◌<◌, Bool, true, false, List, [], ◌∷◌, ◌++◌, length, arith, Option, Some, None, Result, Ok, Err, refl, sym, ap, subst, ◌∙◌}
 use Rattle.std.proofs.lemmas.List.{append-nil}
 use Rattle.std.specs.List.{AllByRecursion}
+use Rattle.checkpoint.specs.Opening.{IsOpening}
+use Rattle.checkpoint.specs.declared.fault.KeeperFault.TheVariants.{NoMemory}
 use Rattle.device_image.specs.Keeper.{KeeperState}
 use Rattle.device_image.specs.Keeps.{Keeps}
 use Rattle.device_image.specs.Stands.{StandsFor, holes}
+use Rattle.device_image.proofs.Kept.{kept_content}
 use Rattle.disk_model.specs.Disk.{State, LeavesOnly, MayLeave}
 use Rattle.disk_model.specs.Faults.{HasRisen}
 use Rattle.image_model.specs.Image.{Image}
@@ -59,6 +62,17 @@ told_talk : (Q : Type 0) (exchanges : List Exchange) (last : Option Message) →
 told_talk Q exchanges None each = told_exchanges Q exchanges each
 told_talk Q exchanges (Some request) each = told_exchanges Q exchanges (front_of (λ event. TellsFault event → Q) (talk exchanges) (Sent 0 request ∷ []) each)
 
+-- the keeper of a device that was opened is let go, where memory for the connections was refused
+pub starved_opening : {D : Type 0} (state : D → State) (keeper : KeeperState D) (before : State) (found : List ℕ) → IsOpening before state (Ok keeper) found → IsOpening before state (Err (NoMemory, keeper.disk)) found
+starved_opening state keeper before found opening =
+    let (image, stands, keeps, base) = opening.outcome in
+    record {
+      fixed = opening.fixed;
+      outcome = tt;
+      crash = opening.crash;
+      settled = λ other content left. inr (image, keeper.count, stands, kept_content keeper (state keeper.disk) image keeper.count keeps content left);
+    }
+
 module _ {D : Type 0} (state : D → State) (faults : D → ℕ) (honest : D → Type 0) (law : LeadsLaw state faults honest) (truth : (world : World) → IsReached world → TellsTruth world) (within : (world : World) → IsReached world → IsWithin world)
     (fresh_law : (trusted : Bool) (keeper : KeeperState D) (found : Image) (frames connections : ℕ) (flags : SessionFlags) (mode : Mode) → keeper.failed ≡ false → keeper.count < 18446744073709551616
     → (Trusts trusted (honest keeper.disk) → Keeps keeper (state keeper.disk) found keeper.count)
@@ -66,8 +80,7 @@ module _ {D : Type 0} (state : D → State) (faults : D → ℕ) (honest : D →
     keeper (faults keeper.disk) (new_connections connections flags mode) (Trusts trusted (honest keeper.disk)) (state keeper.disk))
     (start : D) (keeper keeper' keeper'' : KeeperState D) (order' order'' : OrderState) (connections' connections'' : ConnectionsState) (frames : ℕ) (mode : Mode)
     (works : keeper.failed ≡ false) (few : keeper.count < 18446744073709551616) (count_same : faults keeper.disk ≡ faults start)
-    (found : honest start → (content : List ℕ) × MayLeave (state start) content × ((image : Image) × StandsFor content image keeper.count × Keeps keeper (state keeper.disk) image keeper.count))
-    (any_moment : honest start → LeavesOnly (state start) (state keeper.disk) (MayLeave (state start)))
+    (found : honest start → (content : List ℕ) × IsOpening (state start) state (Ok keeper) content)
     (back : honest keeper''.disk → honest keeper'.disk) (on : honest start → honest keeper''.disk)
     (exchanges : List Exchange) (last : Option Message)
     (runs : Runs state faults honest (new_order keeper.count frames keeper.geometry.area) keeper (new_connections 1 plain mode) order' keeper' connections' exchanges last)
@@ -75,11 +88,11 @@ module _ {D : Type 0} (state : D → State) (faults : D → ℕ) (honest : D →
     → (next : World) × Settles world next order'' keeper'' (faults keeper''.disk) connections'' (Trusts trusted (honest keeper''.disk)) (state keeper'.disk) (state keeper''.disk)) where
   -- the image that the life begins with; on a device that isn't trusted any
   abbrev image_of : (trusted : Bool) → (trusted ≡ true → honest start) → Image
-  image_of true given = (found (given refl)).2.0
+  image_of true given = (found (given refl)).1.outcome.0
   image_of false given = holes keeper.geometry.blocks
 
   keeps_of : (trusted : Bool) (given : trusted ≡ true → honest start) → Trusts trusted (honest keeper.disk) → Keeps keeper (state keeper.disk) (image_of trusted given) keeper.count
-  keeps_of true given is = (found (given refl)).2.2
+  keeps_of true given is = (found (given refl)).1.outcome.2
   keeps_of false given is = absurd is
 
   trusts_of : (trusted : Bool) → trusted ≡ true → (trusted ≡ true → honest start) → Trusts trusted (honest keeper''.disk)
@@ -89,8 +102,9 @@ module _ {D : Type 0} (state : D → State) (faults : D → ℕ) (honest : D →
   found_of : (trusted : Bool) (given : trusted ≡ true → honest start) → trusted ≡ true
       → IsFound ((first_world keeper (image_of trusted given) (faults keeper.disk) frames 1 plain mode).stage.setting) (state start) (state keeper.disk)
   found_of true given is =
-      let (content, fixed, (image, stands, keeps)) = found (given refl) in
-      record { content = content; fixed = fixed; stands = stands; seen = keeps.stands; geometry = keeps.sizes; base = keeps.from_base; any_moment = any_moment (given refl) }
+      let (content, opening) = found (given refl) in
+      let (image, stands, keeps, base) = opening.outcome in
+      record { content = content; fixed = opening.fixed; stands = stands; seen = keeps.stands; geometry = keeps.sizes; base = keeps.from_base; any_moment = opening.crash }
   found_of false given is = cc
 
   -- the device has failed since the life began

@@ -1,6 +1,7 @@
 -- the run of a pipe, from the opening of its device to the end
-use Rattle.std.specs.Prelude.{ℕ, ◌≡◌, Bool, true, List, length, Option, Result}
+use Rattle.std.specs.Prelude.{ℕ, ◌≡◌, ◌⊎◌, Bool, true, List, length, Option, Result}
 use Rattle.std.specs.List.{AllByRecursion}
+use Rattle.checkpoint.specs.Opening.{StandsAs}
 use Rattle.device_image.specs.Stands.{StandsFor}
 use Rattle.disk_model.specs.Disk.{State, LeavesOnly, MayLeave}
 use Rattle.disk_model.specs.Faults.{HasRisen}
@@ -19,7 +20,7 @@ use Rattle.nbdj_pipe.specs.declared.refusal.Refusal.{Refusal}
 
 -- What an opening found on an honest device: a content that a crash at its start may leave stands for the image and the
 -- number with which the life begins, and so does what the device gives from then on, whose sizes and base are the life's.
--- A crash in the opening leaves what it could leave before.
+-- A crash in the opening leaves what it could leave before, or what stands for the same.
 pub record IsFound (setting : Setting) (start opened : State) : Type 0 where
   pub content : List ℕ
   pub fixed : MayLeave start content
@@ -27,7 +28,7 @@ pub record IsFound (setting : Setting) (start opened : State) : Type 0 where
   pub seen : StandsFor opened.seen setting.image setting.opening
   pub geometry : setting.geometry ≡ seen.header.geometry
   pub base : setting.base ≡ seen.header.base
-  pub any_moment : LeavesOnly start opened (MayLeave start)
+  pub any_moment : LeavesOnly start opened (λ left. MayLeave start left ⊎ StandsAs content left)
 
 -- The run of a pipe is one of a world, from the opening of its device to the end, in which the requests were sent and
 -- answered in turn. What is said of a device's content has its honesty as a premise.

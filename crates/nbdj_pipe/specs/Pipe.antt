@@ -3,9 +3,9 @@ use Rattle.std.specs.Prelude.{ℕ, ◌≡◌, ◌≢◌, ◌⊎◌, List, [], �
 use Rattle.std.specs.Io.KnownBytes.{Appends, Consumes, IsAtEnd, Keeps}
 use Rattle.std.specs.List.{AllByRecursion}
 use Rattle.checkpoint.specs.Keeper.{faults_by}
-use Rattle.checkpoint.specs.Opening.{IsRefused}
+use Rattle.checkpoint.specs.Opening.{IsOpening}
 use Rattle.checkpoint.specs.declared.fault.KeeperFault.{KeeperFault}
-use Rattle.disk_model.specs.Disk.{State, LeavesOnly, MayLeave}
+use Rattle.disk_model.specs.Disk.{State}
 use Rattle.nbd_wire.specs.Request.{Message}
 use Rattle.nbd_wire.specs.Stream.{Begins, Reader, Reads, end_of, failed, reading, starved}
 use Rattle.nbd_wire.specs.declared.error.RequestFault.{RequestFault}
@@ -95,9 +95,9 @@ pub record IsPiped (input input_left output output_made : Option (List ℕ)) (ou
   pub end : IsEnd told reader input_left outcome
   pub runs : run told.exchanges told.last
 
--- An opening that was refused reads and writes nothing, and a crash leaves of an honest device what it could leave before.
--- The device counts a fault where it failed, and the other refusals but want of memory say what is bad of a content that a
--- crash at the start may leave of an honest device.
+-- An opening that was refused reads nothing of the input and writes no reply. The device counts a fault where it failed.
+-- Of an honest device a content was found that a crash at the start may leave: the other refusals but want of memory say
+-- what is bad of it, and a crash leaves what it could leave before or what stands for the same.
 pub record IsUnopened {D : Type 0} (state : D → State) (faults : D → ℕ) (honest : D → Type 0) (disk left : D)
     (input input_left output output_made : Option (List ℕ)) (outcome : Result (Unit {0}) Refusal) : Type 0 where
   pub unread : Keeps input input_left
@@ -105,8 +105,7 @@ pub record IsUnopened {D : Type 0} (state : D → State) (faults : D → ℕ) (h
   pub fault : KeeperFault
   pub told : outcome ≡ Err (of_keeper fault)
   pub counted : faults left ≡ faults_by fault (faults disk)
-  pub bad : honest disk → (content : List ℕ) × MayLeave (state disk) content × IsRefused fault content
-  pub kept : honest disk → LeavesOnly (state disk) (state left) (MayLeave (state disk))
+  pub found : honest disk → (content : List ℕ) × IsOpening (state disk) state (Err (fault, left)) content
 
 -- the exit status of a program that ends so
 abbrev pub status_of : Result (Unit {0}) Refusal → ℕ

@@ -8,8 +8,10 @@ pub enum Plan<'a> {
     Format { path: &'a str, geometry: Geometry },
     /// Serves one connection over standard input and output.
     Pipe { path: &'a str, options: PipeOptions },
-    /// Opens the device and says what it holds.
+    /// Opens the device, which recovers it, and says the number of its last command.
     Recover { path: &'a str },
+    /// Says what the device holds, which is read alone.
+    Check { path: &'a str },
     /// Runs a script from standard input on a simulated device.
     Rehearse,
 }

@@ -1,10 +1,15 @@
 -- what a crash leaves of a device that was only read, and lives whose device counts other calls
-use Rattle.std.proofs.Common.{◌≡◌, ◌∙◌, ℕ, List, Option, Some, Result, Ok, Err, IfOk, subst}
+use Rattle.std.proofs.Common.{◌≡◌, ◌⊎◌, ⊎_elim, ◌∙◌, ℕ, List, Option, Some, Result, Ok, Err, IfOk, subst}
 use Rattle.std.specs.Prelude.{IfSome}
 use Rattle.device_image.specs.Keeper.{KeeperState}
 use Rattle.device_image.specs.Keeps.{Keeps}
-use Rattle.disk_model.specs.Disk.{IsKept, IsSound, MayLeave, State}
+use Rattle.checkpoint.specs.Opening.{StandsAs}
+use Rattle.device_image.specs.Stands.{StandsFor}
+use Rattle.device_image.proofs.Sole.{one_image, one_number}
+use Rattle.disk_model.specs.Disk.{IsKept, IsSound, LeavesOnly, MayLeave, State}
+use Rattle.disk_model.proofs.Moments.{ends}
 use Rattle.image_model.specs.Image.{Image}
+use Rattle.nbdj_script.specs.Life.{FindsNoMore}
 use Rattle.order_book.specs.Order.{OrderState}
 use Rattle.request_core.specs.Bench.{BenchState}
 use Rattle.request_core.specs.Parts.{IsWorldOf}
@@ -16,6 +21,16 @@ read_leaves extent before after sound kept content may = record {
   bytes = may.bytes;
   same = λ place synced. may.same place (λ unsynced. synced (kept.unsynced place unsynced)) ∙ kept.seen.same place (λ loose. synced (sound.loose place loose));
 }
+
+-- what an opening leaves finds no more than what it found
+pub finds_no_more : {extent : ℕ} (before after : State) (found : List ℕ) → MayLeave before found → LeavesOnly before after (λ content. MayLeave before content ⊎ StandsAs found content) → IsSound extent after → FindsNoMore before after
+finds_no_more before after found fixed crash sound content image number left stands = ⊎_elim
+    (λ was. (content, was, stands))
+    (λ again.
+    let images = one_image content again.0 image again.1 number again.3 stands in
+    let numbers = one_number content again.0 image again.1 number again.3 stands in
+    (found, fixed, subst (λ (i : Image). StandsFor found i number) images (subst (λ (n : ℕ). StandsFor found again.0 n) numbers again.2)))
+    (ends crash sound content left)
 
 -- what holds of what there is, if anything, holds of whatever is there
 pub some_has : {X : Type 0} (P : X → Type 0) (o : Option X) → IfSome o P → (x : X) → o ≡ Some x → P x

@@ -27,6 +27,10 @@ pub record IsOpened {D : Type 0} (start : State) (keeper : KeeperState D) (state
 abbrev pub LeavesNoMore : State → State → Type 0
 LeavesNoMore before after = (content : List ℕ) → MayLeave after content → MayLeave before content
 
--- a content that a crash might have left of the device stands for some image and this number
+-- a content that a crash might have left of the device stands for this image and this number
 abbrev pub IsFoundFrom : State → Image → ℕ → Type 0
 IsFoundFrom start image number = (content : List ℕ) × MayLeave start content × StandsFor content image number
+
+-- whatever a crash may leave of the later device stands for nothing but what a crash might have left of the earlier one
+abbrev pub FindsNoMore : State → State → Type 0
+FindsNoMore before after = (content : List ℕ) (image : Image) (number : ℕ) → MayLeave after content → StandsFor content image number → IsFoundFrom before image number

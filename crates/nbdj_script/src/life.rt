@@ -2,7 +2,7 @@ ghost use Rattle.std.specs.Prelude.{◌≡◌, ◌↔◌, ◌<◌, ◌≤◌, �
 ghost use Rattle.std.specs.Option.{ForSome};
 ghost use Rattle.device_image.specs.Keeps.{Keeps};
 ghost use Rattle.image_model.specs.Image.{Image};
-ghost use Rattle.nbdj_script.specs.Life.{IsLifeOf, IsOpened, LeavesNoMore};
+ghost use Rattle.nbdj_script.specs.Life.{FindsNoMore, IsLifeOf, IsOpened, LeavesNoMore};
 ghost use Rattle.order_book.specs.Order.{IsInHand};
 ghost use Rattle.request_core.specs.Life.{IsRehearsed};
 ghost use Rattle.world.specs.World.{World};
@@ -49,7 +49,7 @@ pub fn open<D: Disk>(alloc: Global, disk: D) -> Result<(Keeper<D>, Vec<BlockRun>
     ensures works { IfOk result (λ opened. opened.0.failed ≡ false) }
     ensures honest { D.honest disk → IfOk result (λ opened. D.honest opened.0.disk) }
     ensures opened { D.honest disk → IfOk result (λ opened. IsOpened (D.state disk) opened.0 (D.state opened.0.disk)) }
-    ensures refused { D.honest disk → IfErr result (λ refused. LeavesNoMore (D.state disk) (D.state refused.1)) }
+    ensures refused { D.honest disk → IfErr result (λ refused. FindsNoMore (D.state disk) (D.state refused.1)) }
 {
     match Keeper::open(alloc, disk) {
         Ok(mut keeper) => match runs(alloc, &mut keeper) {

@@ -71,7 +71,6 @@ fn store_two(
 // What stands there then.
 fn check_stored(rt: &impl Abort, keeper: &mut Keeper<SimDisk>) {
     assert!(rt; keeper.count() == 2);
-    assert!(rt; keeper.base() == 0);
     assert!(rt; block_of(rt, keeper, 3, 0x42) == Kind::Data);
     assert!(rt; block_of(rt, keeper, 4, 0) == Kind::Hole);
 }
@@ -84,8 +83,11 @@ fn stores_and_reads(rt: HostRuntime) -> Result<(), Fail> {
     assert!(rt; keeper.count() == 0);
     store_two(&rt, alloc, &mut keeper)?;
     check_stored(&rt, &mut keeper);
+    assert!(rt; keeper.base() == 0 && keeper.generation() == 1);
+    // An opening copies what is stored into the image.
     let mut keeper = opened(alloc, keeper.into_disk())?;
     check_stored(&rt, &mut keeper);
+    assert!(rt; keeper.base() == 2 && keeper.generation() == 3);
     Ok(())
 }
 

@@ -6,6 +6,8 @@ mod journal_tests;
 #[cfg(test)]
 mod keeper_tests;
 #[cfg(test)]
+mod recovery_tests;
+#[cfg(test)]
 mod scrambling;
 #[cfg(test)]
 mod scrambling_tests;

@@ -97,7 +97,7 @@ returns-clause-read g c honest synced =
       in_force = held;
       map = map;
       areas = areas.1;
-      fresh = third.fresh;
+      uncopied = third.uncopied;
     }
 
 pub returns-in_err-map-clause-honest : goal.returns-in_err-map-clause-honest

@@ -1,6 +1,6 @@
-use Rattle.std.proofs.Common.{◌≡◌, ◌<◌, inl, inr, ℕ, List, Option, arith, refl, sym, ap, subst, ◌∙◌}
+use Rattle.std.proofs.Common.{◌≡◌, ◌<◌, inl, inr, ℕ, List, Option, Err, arith, refl, sym, ap, subst, ◌∙◌}
+use Rattle.checkpoint.specs.Opening.{IsOpening}
 use Rattle.checkpoint.specs.declared.fault.KeeperFault.TheVariants as fault
-use Rattle.disk_model.specs.Disk.{LeavesOnly, MayLeave}
 use Rattle.disk_model.specs.Faults.{HasRisen}
 use Rattle.image_model.specs.declared.geometry.Geometry.{Geometry}
 use Rattle.nbd_wire.specs.Request.{Message}
@@ -11,7 +11,7 @@ use Rattle.nbdj_pipe.specs.Pipe.{IsPiped}
 use Rattle.nbdj_pipe.specs.Session.{Runs}
 use Rattle.nbdj_pipe.specs.Talk.{Exchange}
 use Rattle.nbdj_pipe.proofs.Bytes.{keeps_same}
-use Rattle.nbdj_pipe.proofs.Lives.{lived, told_fault}
+use Rattle.nbdj_pipe.proofs.Lives.{lived, starved_opening, told_fault}
 use Rattle.nbdj_pipe.proofs.Sessions.{piped_or}
 use Rattle.nbdj_pipe.proofs.session.pipe.Goals as goal
 
@@ -22,8 +22,12 @@ returns-in-Err-new-clause-dialog g c = inl (record {
   fault = fault.NoMemory;
   told = refl;
   counted = ap g.D.Disk.faults c.into_disk.ensures ∙ c.in-Ok.ensures.faults;
-  bad = λ is. let found = c.in-Ok.ensures.found is in (found.0, found.1, tt);
-  kept = λ is. subst (λ left. LeavesOnly (g.D.Disk.state c.args.disk) (g.D.Disk.state left) (MayLeave (g.D.Disk.state c.args.disk))) (sym c.into_disk.ensures) (c.in-Ok.ensures.any_moment is);
+  found = λ is.
+      let (content, opening) = c.in-Ok.ensures.found is in (
+        content,
+        subst (λ left. IsOpening (g.D.Disk.state c.args.disk) g.D.Disk.state (Err (fault.NoMemory, left)) content) (sym c.into_disk.ensures)
+            (starved_opening g.D.Disk.state c.in-Ok.keeper (g.D.Disk.state c.args.disk) content opening),
+      );
 })
 
 pub returns-clause-dialog : goal.returns-clause-dialog
@@ -48,7 +52,7 @@ returns-clause-dialog g c =
     (Runs disk.state disk.faults disk.honest c.new-order.result keeper c.in-Ok-new.connections ran.order ran.keeper ran.connections)
     (IsLived disk.state disk.faults disk.honest frames c.args.options.mode start done.keeper.disk c.finish-outcome.result)
     (λ exchanges last runs. lived disk.state disk.faults disk.honest c.leads_law.ensures c.schedule_law.ensures.truth c.schedule_law.ensures.within c.fresh_parts_law.ensures start keeper ran.keeper done.keeper ran.order done.order ran.connections done.connections
-    frames c.args.options.mode c.in-Ok.ensures.works few c.in-Ok.ensures.faults c.in-Ok.ensures.found c.in-Ok.ensures.any_moment
+    frames c.args.options.mode c.in-Ok.ensures.recovered.works few c.in-Ok.ensures.faults c.in-Ok.ensures.found
     c.finish-outcome.ensures.honest.0 (λ is. c.finish-outcome.ensures.honest.1 (c.run-end.ensures.honest.1 (c.in-Ok.ensures.honest.1 is))) exchanges last
     (fresh_runs exchanges last runs) c.finish-outcome.ensures.world c.finish-outcome.result c.finish-outcome.ensures.stored c.finish-outcome.ensures.works)
     c.run-end.result c.finish-outcome.result done.order.stopped piped c.finish-outcome.ensures.end))
@@ -71,6 +75,6 @@ returns-clause-device g c = λ is.
     (subst (λ (order : OrderState). Runs disk.state disk.faults disk.honest order keeper c.in-Ok-new.connections ran.order ran.keeper ran.connections exchanges last) order_is runs) in
     subst (λ end. HasRisen (disk.faults start) (disk.faults end)) (sym c.into_disk-2.ensures)
     (told_fault disk.state disk.faults disk.honest c.leads_law.ensures c.schedule_law.ensures.truth c.schedule_law.ensures.within c.fresh_parts_law.ensures start keeper ran.keeper done.keeper ran.order done.order ran.connections done.connections
-    frames c.args.options.mode c.in-Ok.ensures.works few c.in-Ok.ensures.faults c.in-Ok.ensures.found c.in-Ok.ensures.any_moment
+    frames c.args.options.mode c.in-Ok.ensures.recovered.works few c.in-Ok.ensures.faults c.in-Ok.ensures.found
     c.finish-outcome.ensures.honest.0 (λ is. c.finish-outcome.ensures.honest.1 (c.run-end.ensures.honest.1 (c.in-Ok.ensures.honest.1 is))) piped.told.exchanges piped.told.last
     (fresh_runs piped.told.exchanges piped.told.last piped.runs) c.finish-outcome.ensures.world c.run-end.result c.finish-outcome.result c.run-end.ensures.early c.finish-outcome.ensures.end is)

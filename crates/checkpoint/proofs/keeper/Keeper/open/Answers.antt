@@ -1,43 +1,148 @@
-use Rattle.std.proofs.Common.{◌+◌, ◌%◌, ◌<◌, refl, ap, rules}
-use Rattle.checkpoint.proofs.Opened.{last_number, opened_image, opened_keeps, opened_stands, keeps_same, passes, stood}
+use Rattle.std.proofs.Common.{◌≡◌, ◌⊎◌, inl, inr, ℕ, List, Err, sym, ◌∙◌, ap, subst}
+use Rattle.disk_model.specs.Disk.{LeavesOnly, MayLeave}
+use Rattle.disk_model.proofs.Contents.{leaves_seen}
+use Rattle.disk_model.proofs.Moments.{goes_on, weakens}
+use Rattle.device_image.specs.Keeper.{KeeperState}
+use Rattle.device_image.specs.Keeps.{Keeps}
+use Rattle.device_image.proofs.Kept.{kept_content}
+use Rattle.image_model.specs.Image.{Image}
+use Rattle.device_image.specs.Stands.{StandsFor}
+use Rattle.checkpoint.specs.Opening.{IsAtRest, IsOpeningRefused, StandsAs}
+use Rattle.checkpoint.specs.declared.fault.KeeperFault.TheVariants.{DeviceFault, NumbersFull}
+use Rattle.checkpoint.proofs.Opened.{keeps_same, passes, stood}
+use Rattle.checkpoint.proofs.Reopened.{empty_base, is_full, recovers, refused_opening, refused_recovery, rests, stood_content}
 use Rattle.checkpoint.proofs.keeper.Keeper.open.Goals as goal
 
-pub returns-in-Ok-clause-found : goal.returns-in-Ok-clause-found
-returns-in-Ok-clause-found g c honest =
-    let call = c.in-Ok.ensures in
-    let opened = call.read honest in
-    let read = c.in-Ok.field-0 in
-    let state = g.D.Disk.state c.read_device.new.disk in
-    let sound = g.met.D.Disk.sound c.read_device.new.disk (call.honest.1 honest) in
-    let counted = ap (λ n. (n + 18446744073709551615) % 18446744073709551616) c.next.ensures in
-    let fits : read.header.base < 18446744073709551616 = search rules in (
-      state.seen,
-      call.fixed honest,
-      (
-        opened_image state read.header read.slot read.map read.plan read.area opened fits,
-        opened_stands state read.header read.slot read.map read.plan read.area opened fits _ (last_number state read.header read.slot read.map read.plan read.area opened fits _ counted),
-        opened_keeps state read.header read.slot read.map read.plan read.area opened fits _ sound refl refl refl refl refl refl refl refl refl refl refl counted,
-      ),
+pub returns-in-Ok-recover-clause-found : goal.returns-in-Ok-recover-clause-found
+returns-in-Ok-recover-clause-found g c honest =
+    let read = c.in-Ok.ensures in
+    let call = c.in-Ok-recover.ensures in
+    let keeper = c.in-Ok.keeper in
+    let trusted = read.honest.1 honest in
+    let found = read.found honest in
+    let kept = call.kept trusted found.0 keeper.count found.1 in
+    let counted = kept.counted in (
+      (g.D.Disk.state keeper.disk).seen,
+      record {
+        fixed = read.fixed honest;
+        outcome = (
+          found.0,
+          subst (λ (n : ℕ). StandsFor (g.D.Disk.state keeper.disk).seen found.0 n) (sym counted) found.1.stands,
+          subst (λ (n : ℕ). Keeps c.recover.new.self (g.D.Disk.state c.recover.new.self.disk) found.0 n) (sym counted) kept,
+          empty_base c.recover.new.self (g.D.Disk.state c.recover.new.self.disk) found.0 keeper.count kept call.ok.phase call.ok.used ∙ sym counted,
+        );
+        crash = recovers _ _ _ found.0 keeper.count found.1.stands (read.any_moment honest) (call.any_moment trusted found.0 keeper.count found.1);
+        settled = tt;
+      },
     )
 
-pub returns-in-Ok-clause-same : goal.returns-in-Ok-clause-same
-returns-in-Ok-clause-same g c honest synced image number stands =
-    let call = c.in-Ok.ensures in
-    let opened = call.read honest in
-    let read = c.in-Ok.field-0 in
-    let state = g.D.Disk.state c.read_device.new.disk in
-    let sound = g.met.D.Disk.sound c.read_device.new.disk (call.honest.1 honest) in
-    let fits : read.header.base < 18446744073709551616 = search rules in
-    keeps_same _ state (opened_image state read.header read.slot read.map read.plan read.area opened fits) image _ number
-    (opened_keeps state read.header read.slot read.map read.plan read.area opened fits _ sound refl refl refl refl refl refl refl refl refl refl refl (ap (λ n. (n + 18446744073709551615) % 18446744073709551616) c.next.ensures))
-    (stood (g.D.Disk.state c.args.disk) state image number synced (call.fixed honest) stands)
+pub returns-in-Ok-recover-clause-same : goal.returns-in-Ok-recover-clause-same
+returns-in-Ok-recover-clause-same g c honest synced image number stands =
+    let read = c.in-Ok.ensures in
+    let call = c.in-Ok-recover.ensures in
+    let keeper = c.in-Ok.keeper in
+    let found = read.found honest in
+    let keeps = keeps_same keeper (g.D.Disk.state keeper.disk) found.0 image keeper.count number found.1 (stood (g.D.Disk.state c.args.disk) (g.D.Disk.state keeper.disk) image number synced (read.fixed honest) stands) in
+    let kept = call.kept (read.honest.1 honest) image number keeps in
+    (kept, empty_base c.recover.new.self (g.D.Disk.state c.recover.new.self.disk) image number kept call.ok.phase call.ok.used)
+
+pub returns-in-Ok-recover-clause-any_moment : goal.returns-in-Ok-recover-clause-any_moment
+returns-in-Ok-recover-clause-any_moment g c honest synced image number stands =
+    let read = c.in-Ok.ensures in
+    let keeper = c.in-Ok.keeper in
+    let found = read.found honest in
+    let keeps = keeps_same keeper (g.D.Disk.state keeper.disk) found.0 image keeper.count number found.1 (stood (g.D.Disk.state c.args.disk) (g.D.Disk.state keeper.disk) image number synced (read.fixed honest) stands) in
+    goes_on (weakens (read.any_moment honest) (stood_content (g.D.Disk.state c.args.disk) image number synced stands))
+    (c.in-Ok-recover.ensures.any_moment (read.honest.1 honest) image number keeps) (λ content stood. stood)
+
+pub returns-in-Ok-recover-clause-at_rest : goal.returns-in-Ok-recover-clause-at_rest
+returns-in-Ok-recover-clause-at_rest g c honest synced rest =
+    let read = c.in-Ok.ensures in
+    let keeper = c.in-Ok.keeper in
+    let before = g.D.Disk.state c.args.disk in
+    let mid = g.D.Disk.state keeper.disk in
+    let found = read.found honest in
+    let still = rests keeper mid found.0 keeper.count found.1 (subst (λ (content : List ℕ). IsAtRest content) (sym (leaves_seen before mid.seen synced (read.fixed honest))) rest) in
+    let same = c.in-Ok-recover.ensures.idle still.0 still.1 in
+    subst (λ (k : KeeperState g.row.D.Denot). LeavesOnly before (g.D.Disk.state k.disk) (λ content. content ≡ before.seen)) (sym same.0)
+    (weakens (read.any_moment honest) (λ content left. leaves_seen before content synced left))
+
+numbers_not_device : NumbersFull ≡ DeviceFault → ⊥
+numbers_not_device is = cc
+
+pub returns-in-Err-recover-clause-found : goal.returns-in-Err-recover-clause-found
+returns-in-Err-recover-clause-found g c honest =
+    let read = c.in-Ok.ensures in
+    let call = c.in-Err-recover.ensures in
+    let keeper = c.in-Ok.keeper in
+    let left = c.recover.new.self in
+    let trusted = read.honest.1 honest in
+    let found = read.found honest in
+    let mid = g.D.Disk.state keeper.disk in
+    let kept = call.kept_still trusted found.0 keeper.count found.1 in (
+      mid.seen,
+      record {
+        fixed = read.fixed honest;
+        outcome = subst (λ (disk : g.row.D.Denot). IsOpeningRefused c.in-Err-recover.fault mid.seen (g.D.Disk.state disk).seen) (sym c.into_disk.ensures)
+            (refused_recovery c.in-Err-recover.fault mid.seen (g.D.Disk.state left.disk).seen call.only (λ is.
+            let still = kept (λ device. numbers_not_device (sym is ∙ device)) in
+            ((found.0, keeper.count, found.1.stands, still.stands), is_full left (g.D.Disk.state left.disk) found.0 keeper.count still (call.full (ap Err is)))));
+        crash = subst (λ (disk : g.row.D.Denot). LeavesOnly (g.D.Disk.state c.args.disk) (g.D.Disk.state disk) (λ content. MayLeave (g.D.Disk.state c.args.disk) content ⊎ StandsAs mid.seen content)) (sym c.into_disk.ensures)
+            (recovers _ _ _ found.0 keeper.count found.1.stands (read.any_moment honest) (call.any_moment trusted found.0 keeper.count found.1));
+        settled = λ other content left. inr (
+          found.0,
+          keeper.count,
+          found.1.stands,
+          kept_content c.recover.new.self (g.D.Disk.state c.recover.new.self.disk) found.0 keeper.count (kept other) content
+              (subst (λ (disk : g.row.D.Denot). MayLeave (g.D.Disk.state disk) content) c.into_disk.ensures left),
+        );
+      },
+    )
+
+pub returns-in-Err-recover-clause-any_moment : goal.returns-in-Err-recover-clause-any_moment
+returns-in-Err-recover-clause-any_moment g c honest synced image number stands =
+    let read = c.in-Ok.ensures in
+    let keeper = c.in-Ok.keeper in
+    let found = read.found honest in
+    let keeps = keeps_same keeper (g.D.Disk.state keeper.disk) found.0 image keeper.count number found.1 (stood (g.D.Disk.state c.args.disk) (g.D.Disk.state keeper.disk) image number synced (read.fixed honest) stands) in
+    subst (λ (disk : g.row.D.Denot). LeavesOnly (g.D.Disk.state c.args.disk) (g.D.Disk.state disk) (λ content. StandsFor content image number)) (sym c.into_disk.ensures)
+    (goes_on (weakens (read.any_moment honest) (stood_content (g.D.Disk.state c.args.disk) image number synced stands))
+    (c.in-Err-recover.ensures.any_moment (read.honest.1 honest) image number keeps) (λ content stood. stood))
+
+pub returns-in-Err-recover-clause-at_rest : goal.returns-in-Err-recover-clause-at_rest
+returns-in-Err-recover-clause-at_rest g c honest synced rest =
+    let read = c.in-Ok.ensures in
+    let keeper = c.in-Ok.keeper in
+    let before = g.D.Disk.state c.args.disk in
+    let mid = g.D.Disk.state keeper.disk in
+    let found = read.found honest in
+    let still = rests keeper mid found.0 keeper.count found.1 (subst (λ (content : List ℕ). IsAtRest content) (sym (leaves_seen before mid.seen synced (read.fixed honest))) rest) in
+    let same = c.in-Err-recover.ensures.idle still.0 still.1 in
+    cc
 
 pub returns-in-Err-clause-found : goal.returns-in-Err-clause-found
 returns-in-Err-clause-found g c honest =
-    let call = c.in-Err.ensures in
-    ((g.D.Disk.state c.read_device.new.disk).seen, call.fixed honest, call.read honest)
+    let read = c.in-Err.ensures in
+    let after = g.D.Disk.state c.in-Err.refused.1 in (
+      after.seen,
+      record {
+        fixed = read.fixed honest;
+        outcome = refused_opening c.in-Err.refused.0 after.seen after.seen (read.found honest);
+        crash = weakens (read.any_moment honest) (λ content left. inl left);
+        settled = λ other content left. inl (leaves_seen after content (read.settled honest other) left);
+      },
+    )
 
 pub returns-in-Err-clause-passing : goal.returns-in-Err-clause-passing
 returns-in-Err-clause-passing g c honest synced image number stands =
-    let call = c.in-Err.ensures in
-    passes (g.D.Disk.state c.read_device.new.disk).seen image number c.in-Err.fault (call.read honest) (stood (g.D.Disk.state c.args.disk) (g.D.Disk.state c.read_device.new.disk) image number synced (call.fixed honest) stands)
+    let read = c.in-Err.ensures in
+    let after = g.D.Disk.state c.in-Err.refused.1 in
+    passes after.seen image number c.in-Err.refused.0 (read.found honest) (stood (g.D.Disk.state c.args.disk) after image number synced (read.fixed honest) stands)
+
+pub returns-in-Err-clause-any_moment : goal.returns-in-Err-clause-any_moment
+returns-in-Err-clause-any_moment g c honest synced image number stands =
+    weakens (c.in-Err.ensures.any_moment honest) (stood_content (g.D.Disk.state c.args.disk) image number synced stands)
+
+pub returns-in-Err-clause-at_rest : goal.returns-in-Err-clause-at_rest
+returns-in-Err-clause-at_rest g c honest synced rest =
+    weakens (c.in-Err.ensures.any_moment honest) (λ content left. leaves_seen (g.D.Disk.state c.args.disk) content synced left)

@@ -1,0 +1,45 @@
+-- A keeper while an opening recovers it.
+use Rattle.std.proofs.Common.{◌≡◌, ◌≢◌, ℕ, ◌-◌, Result, Ok, Err, IfErr, refl, sym, ◌∙◌, ap, subst, arith}
+use Rattle.disk_model.specs.Disk.{State}
+use Rattle.device_image.specs.Keeper.{KeeperState, Memory, Phase, Copying}
+use Rattle.device_image.specs.Keeps.{Keeps}
+use Rattle.image_model.specs.Image.{Image}
+use Rattle.checkpoint.specs.Keeper.{refused_by}
+use Rattle.checkpoint.specs.Steps.{copied_by, left_in}
+use Rattle.checkpoint.specs.declared.fault.KeeperFault.{KeeperFault}
+use Rattle.checkpoint.specs.declared.fault.KeeperFault.TheVariants.{NoMemory, DeviceFault, BadMap, NoHeader, BadHeader, NumbersFull, AreaFull, OutOfOrder, DamagedGroup, NotNow, Failed}
+
+-- a keeper of which some blocks more were copied
+abbrev pub copied_to : {D : Type 0} → KeeperState D → D → ℕ → Memory → KeeperState D
+copied_to keeper disk left memory = record keeper { disk = disk; phase = Copying left; memory = memory }
+
+module _ {D : Type 0} where
+  pub copied_first : (keeper : KeeperState D) → keeper.phase ≡ Copying (left_in keeper.phase) → keeper ≡ copied_to keeper keeper.disk (left_in keeper.phase) keeper.memory
+  copied_first keeper is = ap (λ (phase : Phase). let with_phase : KeeperState D = record keeper { phase = phase } in with_phase) is
+
+  pub copied_next : (old mid new : KeeperState D) (blocks : ℕ) → mid ≡ copied_to old mid.disk (left_in mid.phase) mid.memory → new ≡ copied_by mid blocks new.disk new.memory
+      → new ≡ copied_to old new.disk (left_in new.phase) new.memory
+  copied_next old mid new blocks so_far is =
+      let left : left_in mid.phase - blocks ≡ left_in new.phase = sym (ap (λ (k : KeeperState D). left_in k.phase) is) in
+      is ∙ ap (λ (k : KeeperState D). copied_by k blocks new.disk new.memory) so_far ∙ ap (λ (n : ℕ). copied_to old new.disk n new.memory) left
+
+  pub copied_last : (old new : KeeperState D) → new ≡ copied_to old new.disk (left_in new.phase) new.memory → left_in new.phase ≡ 0 → new ≡ copied_by old (left_in old.phase) new.disk new.memory
+  copied_last old new so_far none =
+      let left : left_in new.phase ≡ left_in old.phase - left_in old.phase = omega (arith, none) in
+      so_far ∙ ap (λ (n : ℕ). copied_to old new.disk n new.memory) left
+
+  -- a refusal that isn't a fault of the device leaves the keeper as it was
+  pub still_kept : {T : Type 0} (state : D → State) (result : Result T KeeperFault) (old new : KeeperState D) (image : Image) (number : ℕ) → IfErr result (λ fault. new ≡ refused_by fault old new.disk)
+      → Keeps old (state old.disk) image number → IfErr result (λ fault. fault ≢ DeviceFault → Keeps new (state new.disk) image number)
+  still_kept state (Ok done) old new image number is keeps = tt
+  still_kept state (Err DeviceFault) old new image number is keeps = λ other. absurd (other refl)
+  still_kept state (Err NoMemory) old new image number is keeps = λ other. subst (λ (k : KeeperState D). Keeps k (state k.disk) image number) (sym is) keeps
+  still_kept state (Err BadMap) old new image number is keeps = λ other. subst (λ (k : KeeperState D). Keeps k (state k.disk) image number) (sym is) keeps
+  still_kept state (Err NoHeader) old new image number is keeps = λ other. subst (λ (k : KeeperState D). Keeps k (state k.disk) image number) (sym is) keeps
+  still_kept state (Err BadHeader) old new image number is keeps = λ other. subst (λ (k : KeeperState D). Keeps k (state k.disk) image number) (sym is) keeps
+  still_kept state (Err NumbersFull) old new image number is keeps = λ other. subst (λ (k : KeeperState D). Keeps k (state k.disk) image number) (sym is) keeps
+  still_kept state (Err AreaFull) old new image number is keeps = λ other. subst (λ (k : KeeperState D). Keeps k (state k.disk) image number) (sym is) keeps
+  still_kept state (Err OutOfOrder) old new image number is keeps = λ other. subst (λ (k : KeeperState D). Keeps k (state k.disk) image number) (sym is) keeps
+  still_kept state (Err DamagedGroup) old new image number is keeps = λ other. subst (λ (k : KeeperState D). Keeps k (state k.disk) image number) (sym is) keeps
+  still_kept state (Err NotNow) old new image number is keeps = λ other. subst (λ (k : KeeperState D). Keeps k (state k.disk) image number) (sym is) keeps
+  still_kept state (Err Failed) old new image number is keeps = λ other. subst (λ (k : KeeperState D). Keeps k (state k.disk) image number) (sym is) keeps

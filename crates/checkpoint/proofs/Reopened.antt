@@ -1,0 +1,134 @@
+-- What an opening finds, and what it leaves.
+use Rattle.std.proofs.Common.{◌≡◌, ◌≢◌, ◌⊎◌, inl, inr, ℕ, ◌+◌, ◌<◌, ◌^◌, Option, Some, None, List, [], ◌∷◌, ◌++◌, length, Result, Ok, Err, IfErr, refl, sym, ◌∙◌, ap, subst, arith}
+use Rattle.std.proofs.lemmas.List.Sums.{sum_by-cons}
+use Rattle.disk_model.specs.Disk.{State, IsAllSynced, IsSound, LeavesOnly, MayLeave}
+use Rattle.disk_model.proofs.Contents.{leaves_seen}
+use Rattle.disk_model.proofs.Moments.{goes_on, weakens}
+use Rattle.header_slots.specs.Header.{mode_of}
+use Rattle.header_slots.specs.declared.header.Areas.{Areas}
+use Rattle.header_slots.specs.declared.header.Header.{Header}
+use Rattle.image_model.specs.Image.{Image}
+use Rattle.image_model.specs.declared.command.Kind.{Kind}
+use Rattle.image_model.specs.declared.geometry.Geometry.{Geometry}
+use Rattle.image_model.specs.declared.side.Side.{Side}
+use Rattle.journal.specs.Area.{AreaState}
+use Rattle.journal.specs.GroupList.{IsList, Stand, size_of, sizes_of}
+use Rattle.journal.specs.Spelling.{StoredGroup}
+use Rattle.journal.proofs.OneList.{one_list}
+use Rattle.regions.specs.Layout.{area_at, behind, ring}
+use Rattle.device_image.specs.Keeper.{KeeperState, Phase, One, PlanState, earlier_of, phase_in, phase_of}
+use Rattle.device_image.specs.Keeps.{AreHeld, HoldsAreas, IsInPhase, Keeps, behind_lists}
+use Rattle.device_image.specs.Stands.{StandsFor, all_changes, next_number}
+use Rattle.device_image.proofs.Kept.{kept_content}
+use Rattle.device_image.proofs.Sole.{same_header}
+use Rattle.checkpoint.specs.Opening.{HasLastGeneration, IsAtRest, IsOpeningRefused, IsRefused, StandsAs}
+use Rattle.checkpoint.specs.Recovery.{IsRecoveryFault}
+use Rattle.checkpoint.specs.declared.fault.KeeperFault.{KeeperFault}
+use Rattle.checkpoint.specs.declared.fault.KeeperFault.TheVariants.{NoMemory, DeviceFault, BadMap, NoHeader, BadHeader, NumbersFull, AreaFull, OutOfOrder, DamagedGroup, NotNow, Failed}
+
+no_front : (sides : List Side) (geometry : Geometry) (next : ℕ) (front : List (List StoredGroup)) (state : State) → AreHeld sides geometry next front [] state → front ≡ []
+no_front [] geometry next [] state held = refl
+no_front [] geometry next (groups ∷ front) state held = absurd held
+no_front (side ∷ sides) geometry next [] state held = absurd held
+no_front (side ∷ sides) geometry next (groups ∷ front) state held = absurd held
+
+no_groups : (groups : List StoredGroup) → sizes_of groups ≡ 0 → groups ≡ []
+no_groups [] none = refl
+no_groups (group ∷ groups) none = absurd (omega (arith, none, sum_by-cons size_of group groups))
+
+no_plan : (plan : Option PlanState) → phase_of plan ≡ One → plan ≡ None
+no_plan None is = refl
+no_plan (Some plan) is = absurd (never plan.mapped is)
+  where
+    never : (mapped : Option (List Kind)) → phase_in plan.left mapped ≡ One → ⊥
+    never None is = cc
+    never (Some map) is = cc
+
+alone : (plan : Option PlanState) (state : State) (header : Header) (states : List Kind) (front : List (List StoredGroup)) → IsInPhase plan state header states front → header.areas ≡ Areas.One → plan ≡ None
+alone None state header states front phased one = refl
+alone (Some plan) state header states front phased one = absurd (never (sym phased.areas ∙ one))
+  where
+    never : Areas.Two ≡ Areas.One → ⊥
+    never is = cc
+
+module _ {D : Type 0} (keeper : KeeperState D) (state : State) (image : Image) (number : ℕ) (keeps : Keeps keeper state image number) where
+  front_empty : keeper.memory.plan ≡ None → keeps.areas.front ≡ []
+  front_empty none =
+      let header = keeps.stands.header in
+      no_front (ring (mode_of header.areas) header.first_area) header.geometry (next_number header.base) keeps.areas.front state
+      (subst (λ (list : List AreaState). AreHeld (ring (mode_of header.areas) header.first_area) header.geometry (next_number header.base) keeps.areas.front list state) (ap earlier_of none) keeps.areas.earlier_held)
+
+  -- where the journal is empty all is at the base
+  pub empty_base : keeper.phase ≡ One → keeper.used ≡ 0 → keeper.base ≡ number
+  empty_base one none =
+      let front = front_empty (no_plan keeper.memory.plan (sym keeps.phase ∙ one)) in
+      let groups = no_groups keeps.areas.groups (sym keeps.taken ∙ none) in
+      let lists : keeps.stands.lists ≡ [] ∷ [] = keeps.areas.are ∙ (λ i. front i ++ groups i ∷ []) in
+      let changes : length (all_changes keeps.stands.lists) ≡ 0 = ap (λ (l : List (List StoredGroup)). length (all_changes l)) lists in
+      omega (arith, keeps.from_base, keeps.stands.count, changes)
+
+  -- and so it is where one area is in use and its list is empty
+  pub rests : IsAtRest state.seen → (keeper.phase ≡ One) × (keeper.used ≡ 0)
+  rests rest =
+      let header = keeps.stands.header in
+      let is : rest.header ≡ header = same_header state.seen (length state.seen) rest.header header rest.slot keeps.stands.slot rest.in_force keeps.stands.in_force in
+      let one : header.areas ≡ Areas.One = ap (λ (h : Header). h.areas) (sym is) ∙ rest.one in
+      let none = alone keeper.memory.plan state header keeps.stands.states keeps.areas.front keeps.phased one in
+      let front = front_empty none in
+      let area = keeper.memory.area in
+      let from : area.from ≡ area_at header.geometry header.first_area = keeps.areas.placed.from ∙ ap (λ (areas : Areas). area_at header.geometry (behind (mode_of areas) header.first_area)) one in
+      let few : header.geometry.blocks < 2 ^ 64 = omega (arith, header.geometry.not_too_many) in
+      let rested : Stand header.geometry.blocks state.seen (area_at header.geometry header.first_area) (next_number header.base) [] =
+      subst (λ (h : Header). Stand h.geometry.blocks state.seen (area_at h.geometry h.first_area) (next_number h.base) []) is rest.list.stand in
+      let here : Stand header.geometry.blocks state.seen (area_at header.geometry header.first_area) (next_number header.base) keeps.areas.groups =
+      subst (λ (blocks : ℕ). Stand blocks state.seen (area_at header.geometry header.first_area) (next_number header.base) keeps.areas.groups) keeps.areas.placed.blocks
+      (subst (λ (place : ℕ). Stand area.blocks state.seen place (next_number header.base) keeps.areas.groups) from
+      (subst (λ (lists : List (List StoredGroup)). Stand area.blocks state.seen area.from (behind_lists (next_number header.base) lists) keeps.areas.groups) front keeps.areas.held.list.stand)) in
+      let groups = one_list header.geometry.blocks few state.seen (area_at header.geometry header.first_area) (next_number header.base) keeps.areas.groups [] here rested in
+      (keeps.phase ∙ ap phase_of none, keeps.taken ∙ ap sizes_of groups)
+
+-- a refusal of reading a device, as one of an opening
+pub refused_opening : (fault : KeeperFault) (found after : List ℕ) → IsRefused fault found → IsOpeningRefused fault found after
+refused_opening NoMemory found after refused = tt
+refused_opening DeviceFault found after refused = tt
+refused_opening BadMap found after refused = refused
+refused_opening NoHeader found after refused = refused
+refused_opening BadHeader found after refused = refused
+refused_opening NumbersFull found after refused = absurd refused
+refused_opening AreaFull found after refused = refused
+refused_opening OutOfOrder found after refused = refused
+refused_opening DamagedGroup found after refused = refused
+refused_opening NotNow found after refused = refused
+refused_opening Failed found after refused = refused
+
+-- and one of a recovery
+pub refused_recovery : (fault : KeeperFault) (found after : List ℕ) → IsRecoveryFault fault → (fault ≡ NumbersFull → StandsAs found after × HasLastGeneration after) → IsOpeningRefused fault found after
+refused_recovery NoMemory found after cause full = tt
+refused_recovery DeviceFault found after cause full = tt
+refused_recovery BadMap found after cause full = absurd cause
+refused_recovery NoHeader found after cause full = absurd cause
+refused_recovery BadHeader found after cause full = absurd cause
+refused_recovery NumbersFull found after cause full = full refl
+refused_recovery AreaFull found after cause full = cause
+refused_recovery OutOfOrder found after cause full = cause
+refused_recovery DamagedGroup found after cause full = absurd cause
+refused_recovery NotNow found after cause full = cause
+refused_recovery Failed found after cause full = cause
+
+-- the numbers are full of a keeper whose generation is the last one
+pub is_full : {D : Type 0} (keeper : KeeperState D) (state : State) (image : Image) (number : ℕ) → Keeps keeper state image number → keeper.generation ≡ 18446744073709551615 → HasLastGeneration state.seen
+is_full keeper state image number keeps last = record {
+  header = keeps.stands.header;
+  slot = keeps.stands.slot;
+  in_force = keeps.stands.in_force;
+  last = sym keeps.generation ∙ last;
+}
+
+-- where nothing was unsynced, a crash leaves what stood
+pub stood_content : (before : State) (image : Image) (number : ℕ) → IsAllSynced before → StandsFor before.seen image number → (content : List ℕ) → MayLeave before content → StandsFor content image number
+stood_content before image number synced stands content left = subst (λ (c : List ℕ). StandsFor c image number) (sym (leaves_seen before content synced left)) stands
+
+-- what a crash leaves while a device that was read is recovered
+pub recovers : (before mid after : State) (image : Image) (number : ℕ) → StandsFor mid.seen image number → LeavesOnly before mid (MayLeave before) → LeavesOnly mid after (λ content. StandsFor content image number)
+    → LeavesOnly before after (λ content. MayLeave before content ⊎ StandsAs mid.seen content)
+recovers before mid after image number stands first second = goes_on (weakens first (λ content left. inl left)) second (λ content stood. inr (image, number, stands, stood))

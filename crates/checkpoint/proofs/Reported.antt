@@ -1,0 +1,101 @@
+-- The report of a device, by what was read of it.
+use Rattle.std.proofs.Common.{◌≡◌, ℕ, ◌+◌, ◌<◌, ◌%◌, Bool, cond, count_by, Option, Some, None, List, [], ◌∷◌, ◌++◌, length, map, refl, sym, ◌∙◌, ap, subst, arith}
+use Rattle.std.specs.List.{range_with_len}
+use Rattle.std.proofs.lemmas.List.{append-nil}
+use Rattle.std.proofs.lemmas.List.FromFn.{fill_by_all}
+use Rattle.std.proofs.lemmas.List.Sums.{sum_by-cons}
+use Rattle.alloc_map.specs.Codes.{is_state, state_at}
+use Rattle.disk_model.specs.Disk.{State}
+use Rattle.header_slots.specs.Header.{mode_of}
+use Rattle.header_slots.specs.declared.header.Header.{Header}
+use Rattle.image_model.specs.Change.{Change}
+use Rattle.image_model.specs.Image.{Image, apply_all}
+use Rattle.image_model.specs.declared.command.Kind.{Kind}
+use Rattle.image_model.specs.declared.command.Kind.TheVariants.{Data, Zero, Hole}
+use Rattle.image_model.specs.declared.side.Side.{Side}
+use Rattle.journal.specs.Area.{AreaState}
+use Rattle.journal.specs.GroupList.{changes_of}
+use Rattle.journal.specs.Spelling.{StoredGroup}
+use Rattle.journal.specs.Touches.{kind_after, last_touch}
+use Rattle.journal.specs.declared.touch.TouchedRange.{TouchedRange}
+use Rattle.journal.proofs.LastTouches.{groups_kind}
+use Rattle.regions.specs.Layout.{ring}
+use Rattle.device_image.specs.Keeper.{AreStatesAfter, PlanState, earlier_of}
+use Rattle.device_image.specs.Keeps.{AreHeld}
+use Rattle.device_image.specs.Stands.{all_changes, next_number, stored_image}
+use Rattle.device_image.proofs.Frame.{all_changes-append, apply_all-append, blocks-apply_all}
+use Rattle.checkpoint.specs.Opening.{IsOpened}
+use Rattle.checkpoint.specs.Report.{AreStatesBehind, IsReport, blocks_of}
+use Rattle.checkpoint.proofs.Located.{front_kind}
+use Rattle.checkpoint.proofs.Opened.{last_number, opened_image, opened_stands}
+
+count_map : (p : Kind → Bool) (f : ℕ → Kind) (places : List ℕ) → count_by p (map f places) ≡ count_by (λ place. p (f place)) places
+count_map p f [] = refl
+count_map p f (place ∷ places) =
+    sum_by-cons (λ kind. cond (p kind) 1 0) (f place) (map f places)
+    ∙ ap (λ (n : ℕ). cond (p (f place)) 1 0 + n) (count_map p f places)
+    ∙ sym (sum_by-cons (λ (k : ℕ). cond (p (f k)) 1 0) place places)
+
+-- the blocks of one state, counted in a map of an image's states
+pub blocks_counted : (kind : Kind) (image : Image) (states : List Kind) → length states ≡ image.blocks → ((block : ℕ) → block < image.blocks → state_at states block ≡ image.kind block) → count_by (is_state kind) states ≡ blocks_of kind image
+blocks_counted kind image states count each =
+    ap (count_by (is_state kind)) (fill_by_all image.kind states image.blocks Hole count each)
+    ∙ count_map (is_state kind) image.kind (range_with_len 0 image.blocks)
+
+module _ (state : State) (header : Header) (slot : Side) (states : List Kind) (plan : Option PlanState) (area : AreaState) (opened : IsOpened state header slot states plan area) (fits : header.base < 18446744073709551616) where
+  base : Image
+  base = stored_image state.seen header.geometry states
+
+  shown : opened_image state header slot states plan area opened fits ≡ apply_all (changes_of opened.areas.groups) (apply_all (all_changes opened.areas.front) base)
+  unfolding base
+  shown =
+      ap (λ (changes : List Change). apply_all changes base)
+      (ap all_changes opened.areas.are ∙ all_changes-append opened.areas.front (opened.areas.groups ∷ []) ∙ ap (λ (more : List Change). all_changes opened.areas.front ++ more) (append-nil (changes_of opened.areas.groups)))
+      ∙ apply_all-append (all_changes opened.areas.front) (changes_of opened.areas.groups) base
+
+  -- the states in front of the last area
+  front_states : (p : Option PlanState) → AreHeld (ring (mode_of header.areas) header.first_area) header.geometry (next_number header.base) opened.areas.front (earlier_of p) state
+      → (after : List Kind) → length states ≡ header.geometry.blocks → AreStatesBehind p area states after → (block : ℕ) → block < header.geometry.blocks
+      → state_at after block ≡ kind_after (last_touch block area.touched) ((apply_all (all_changes opened.areas.front) base).kind block)
+  unfolding base
+  front_states None held after count behind block below =
+      behind.each block (omega (arith, below, count))
+      ∙ ap (kind_after (last_touch block area.touched)) (sym (front_kind _ header.geometry _ opened.areas.front [] state held base block))
+  front_states (Some p) held after count behind block below =
+      let turned = behind.1 in
+      behind.2.each block (omega (arith, below, count, turned.count))
+      ∙ ap (kind_after (last_touch block area.touched)) (turned.each block (omega (arith, below, count))
+      ∙ sym (front_kind _ header.geometry _ opened.areas.front (p.first ∷ []) state held base block))
+
+  states_shown : (after : List Kind) → length states ≡ header.geometry.blocks → AreStatesBehind plan area states after → (block : ℕ) → block < header.geometry.blocks
+      → state_at after block ≡ (opened_image state header slot states plan area opened fits).kind block
+  states_shown after count behind block below =
+      front_states plan opened.areas.earlier_held after count behind block below
+      ∙ ap (λ (touched : List TouchedRange). kind_after (last_touch block touched) ((apply_all (all_changes opened.areas.front) base).kind block)) opened.areas.held.touched
+      ∙ sym (groups_kind area.blocks state.seen area.from _ opened.areas.groups opened.areas.held.list.stand (apply_all (all_changes opened.areas.front) base) block)
+      ∙ ap (λ (i : Image). i.kind block) (sym shown)
+
+  behind_count : (p : Option PlanState) (after : List Kind) → AreStatesBehind p area states after → length after ≡ length states
+  behind_count None after behind = behind.count
+  behind_count (Some p) after behind = behind.2.count ∙ behind.1.count
+
+  pub is_report : (commands data_blocks zero_blocks hole_blocks : ℕ) (after : List Kind) → length states ≡ header.geometry.blocks → AreStatesBehind plan area states after
+      → commands ≡ (area.next + 18446744073709551615) % 18446744073709551616
+      → data_blocks ≡ count_by (is_state Data) after → zero_blocks ≡ count_by (is_state Zero) after → hole_blocks ≡ count_by (is_state Hole) after
+      → IsReport (record { blocks = header.geometry.blocks; areas = header.areas; base = header.base; commands = commands; data_blocks = data_blocks; zero_blocks = zero_blocks; hole_blocks = hole_blocks }) state.seen
+  unfolding base
+  is_report commands data_blocks zero_blocks hole_blocks after count behind counted data_is zero_is hole_is =
+      let image = opened_image state header slot states plan area opened fits in
+      let sized : image.blocks ≡ header.geometry.blocks = blocks-apply_all (all_changes opened.lists) base in
+      let long : length after ≡ image.blocks = behind_count plan after behind ∙ count ∙ sym sized in
+      let each : (block : ℕ) → block < image.blocks → state_at after block ≡ image.kind block = λ block below. states_shown after count behind block (omega (arith, below, sized)) in
+      record {
+        image = image;
+        stands = opened_stands state header slot states plan area opened fits commands (last_number state header slot states plan area opened fits commands counted);
+        blocks = sym sized;
+        areas = refl;
+        base = refl;
+        data_blocks = data_is ∙ blocks_counted Data image after long each;
+        zero_blocks = zero_is ∙ blocks_counted Zero image after long each;
+        hole_blocks = hole_is ∙ blocks_counted Hole image after long each;
+      }

@@ -1,0 +1,38 @@
+use Rattle.std.proofs.Common.{◌∙◌, refl, arith}
+use Rattle.disk_model.proofs.Moments.{begins, goes_on}
+use Rattle.device_image.proofs.Kept.{kept_content}
+use Rattle.checkpoint.proofs.Recovered.{copied_first, copied_last, copied_next}
+use Rattle.checkpoint.proofs.keeper.Keeper.copy_all.Goals as goal
+
+pub loop-self-init : goal.loop-self-init
+loop-self-init g c = record {
+  copied = copied_first c.args.self.now c.requires.begun;
+  extent = refl;
+  faults = refl;
+  honest = (λ honest. honest, λ honest. honest);
+  kept = λ honest image number keeps. keeps;
+  any_moment = λ honest image number keeps. begins (g.met.D.Disk.sound c.args.self.now.disk honest) (λ content left. kept_content _ _ image number keeps content left);
+}
+
+pub returns-in_err-_blocks-clause-any_moment : goal.returns-in_err-_blocks-clause-any_moment
+returns-in_err-_blocks-clause-any_moment g c honest image number keeps =
+    let so_far = c.loop-self.invariant in
+    goes_on (so_far.any_moment honest image number keeps)
+    (c.in_err-_blocks.ensures.any_moment (so_far.honest.1 honest) image number (so_far.kept honest image number keeps)) (λ content stands. stands)
+
+pub loop-self-preserved : goal.loop-self-preserved
+loop-self-preserved g c =
+    let so_far = c.loop-self.invariant in
+    let call = c.in_ok-_blocks.ensures in
+    record {
+      copied = copied_next c.args.self.now c.loop-self.self c.copy_some.new.self c.in_ok-_blocks._blocks so_far.copied call.ok.2;
+      extent = call.extent ∙ so_far.extent;
+      faults = call.faults_ok ∙ so_far.faults;
+      honest = (λ honest. so_far.honest.0 (call.honest.0 honest), λ honest. call.honest.1 (so_far.honest.1 honest));
+      kept = λ honest image number keeps. call.kept (so_far.honest.1 honest) image number (so_far.kept honest image number keeps);
+      any_moment = λ honest image number keeps. goes_on (so_far.any_moment honest image number keeps)
+          (call.any_moment (so_far.honest.1 honest) image number (so_far.kept honest image number keeps)) (λ content stands. stands);
+    }
+
+pub returns-clause-ok : goal.returns-clause-ok
+returns-clause-ok g c = copied_last c.args.self.now c.loop-self.self c.loop-self.invariant.copied (omega (arith, c.left.ensures, c.loop-self-test.false))

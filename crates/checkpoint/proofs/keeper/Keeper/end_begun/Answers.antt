@@ -1,0 +1,7 @@
+use Rattle.disk_model.proofs.Moments.{begins}
+use Rattle.device_image.proofs.Kept.{kept_content}
+use Rattle.checkpoint.proofs.keeper.Keeper.end_begun.Goals as goal
+
+pub returns-then-not-is_turning-clause-any_moment : goal.returns-then-not-is_turning-clause-any_moment
+returns-then-not-is_turning-clause-any_moment g c honest image number keeps =
+    begins (g.met.D.Disk.sound c.args.self.now.disk honest) (λ content left. kept_content _ _ image number keeps content left)

@@ -1,0 +1,25 @@
+use Rattle.disk_model.proofs.Moments.{goes_on}
+use Rattle.checkpoint.proofs.Recovered.{still_kept}
+use Rattle.checkpoint.proofs.keeper.Keeper.end_checkpoint.Goals as goal
+
+pub returns-in_err-write_map-clause-any_moment : goal.returns-in_err-write_map-clause-any_moment
+returns-in_err-write_map-clause-any_moment g c honest image number keeps =
+    let first = c.in_ok-copy_all.ensures in
+    goes_on (first.any_moment honest image number keeps)
+    (c.in_err-write_map.ensures.any_moment (first.honest.1 honest) image number (first.kept honest image number keeps)) (λ content stands. stands)
+
+pub returns-clause-kept_still : goal.returns-clause-kept_still
+returns-clause-kept_still g c honest image number keeps =
+    let first = c.in_ok-copy_all.ensures in
+    let second = c.in_ok-write_map.ensures in
+    still_kept g.D.Disk.state c.finish.result c.write_map.new.self c.finish.new.self image number c.finish.ensures.err
+    (second.kept (first.honest.1 honest) image number (first.kept honest image number keeps))
+
+pub returns-clause-any_moment : goal.returns-clause-any_moment
+returns-clause-any_moment g c honest image number keeps =
+    let first = c.in_ok-copy_all.ensures in
+    let second = c.in_ok-write_map.ensures in
+    let first_honest = first.honest.1 honest in
+    let first_kept = first.kept honest image number keeps in
+    goes_on (goes_on (first.any_moment honest image number keeps) (second.any_moment first_honest image number first_kept) (λ content stands. stands))
+    (c.finish.ensures.any_moment (second.honest.1 first_honest) image number (second.kept first_honest image number first_kept)) (λ content stands. stands)

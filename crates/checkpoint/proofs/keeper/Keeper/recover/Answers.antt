@@ -1,0 +1,31 @@
+use Rattle.disk_model.proofs.Moments.{goes_on}
+use Rattle.checkpoint.proofs.keeper.Keeper.recover.Goals as goal
+
+pub returns-in_err-rotate-clause-any_moment : goal.returns-in_err-rotate-clause-any_moment
+returns-in_err-rotate-clause-any_moment g c honest image number keeps =
+    let first = c.in_ok-end_begun.ensures in
+    goes_on (first.any_moment honest image number keeps)
+    (c.in_err-rotate.ensures.any_moment (first.honest.1 honest) image number (first.kept honest image number keeps)) (λ content stands. stands)
+
+pub returns-clause-any_moment : goal.returns-clause-any_moment
+returns-clause-any_moment g c honest image number keeps =
+    let first = c.in_ok-end_begun.ensures in
+    let second = c.in_ok-rotate.ensures in
+    let first_honest = first.honest.1 honest in
+    let first_kept = first.kept honest image number keeps in
+    goes_on (goes_on (first.any_moment honest image number keeps) (second.any_moment first_honest image number first_kept) (λ content stands. stands))
+    (c.end_checkpoint.ensures.any_moment (second.honest.1 first_honest) image number (second.kept first_honest image number first_kept)) (λ content stands. stands)
+
+pub returns-clause-kept : goal.returns-clause-kept
+returns-clause-kept g c honest image number keeps =
+    let first = c.in_ok-end_begun.ensures in
+    let second = c.in_ok-rotate.ensures in
+    let first_honest = first.honest.1 honest in
+    c.end_checkpoint.ensures.kept (second.honest.1 first_honest) image number (second.kept first_honest image number (first.kept honest image number keeps))
+
+pub returns-clause-kept_still : goal.returns-clause-kept_still
+returns-clause-kept_still g c honest image number keeps =
+    let first = c.in_ok-end_begun.ensures in
+    let second = c.in_ok-rotate.ensures in
+    let first_honest = first.honest.1 honest in
+    c.end_checkpoint.ensures.kept_still (second.honest.1 first_honest) image number (second.kept first_honest image number (first.kept honest image number keeps))

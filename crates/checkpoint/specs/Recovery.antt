@@ -1,0 +1,31 @@
+-- what an opening makes of a device that it has read
+use Rattle.std.specs.Prelude.{ℕ, ◌≡◌, false}
+use Rattle.device_image.specs.Keeper.{KeeperState, Phase, One, Copying, Mapped}
+use Rattle.checkpoint.specs.declared.fault.KeeperFault.{KeeperFault}
+use Rattle.checkpoint.specs.declared.fault.KeeperFault.TheVariants.{NoMemory, DeviceFault, BadMap, NoHeader, BadHeader, NumbersFull, AreaFull, OutOfOrder, DamagedGroup, NotNow, Failed}
+
+-- no checkpoint is under way, or one whose map isn't written
+abbrev pub IsBegun : Phase → Type 0
+IsBegun One = Unit {0}
+IsBegun (Copying left) = Unit {0}
+IsBegun Mapped = ⊥
+
+-- the keeper works, one area is in use, and its list is empty
+pub record IsRecovered {D : Type 0} (keeper : KeeperState D) : Type 0 where
+  pub works : keeper.failed ≡ false
+  pub phase : keeper.phase ≡ One
+  pub used : keeper.used ≡ 0
+
+-- the refusals that the steps of a checkpoint give in their times
+abbrev pub IsRecoveryFault : KeeperFault → Type 0
+IsRecoveryFault NoMemory = Unit {0}
+IsRecoveryFault DeviceFault = Unit {0}
+IsRecoveryFault BadMap = ⊥
+IsRecoveryFault NoHeader = ⊥
+IsRecoveryFault BadHeader = ⊥
+IsRecoveryFault NumbersFull = Unit {0}
+IsRecoveryFault AreaFull = ⊥
+IsRecoveryFault OutOfOrder = ⊥
+IsRecoveryFault DamagedGroup = ⊥
+IsRecoveryFault NotNow = ⊥
+IsRecoveryFault Failed = ⊥

@@ -1,0 +1,31 @@
+-- the numbers of what a device holds
+use Rattle.std.specs.Prelude.{ℕ, ◌≡◌, count_by, List, Option, Some, None}
+use Rattle.std.specs.List.{range_with_len}
+use Rattle.alloc_map.specs.Codes.{is_state}
+use Rattle.image_model.specs.Image.{Image}
+use Rattle.image_model.specs.declared.command.Kind.{Kind}
+use Rattle.image_model.specs.declared.command.Kind.TheVariants.{Data, Zero, Hole}
+use Rattle.journal.specs.Area.{AreaState}
+use Rattle.device_image.specs.Keeper.{AreStatesAfter, PlanState}
+use Rattle.device_image.specs.Stands.{StandsFor}
+use Rattle.checkpoint.specs.declared.report.Report.{Report}
+
+-- how many blocks of an image have this state
+abbrev pub blocks_of : Kind → Image → ℕ
+blocks_of kind image = count_by (λ block. is_state kind (image.kind block)) (range_with_len 0 image.blocks)
+
+-- The content stands for an image, and these are the numbers of both.
+pub record IsReport (report : Report) (content : List ℕ) : Type 0 where
+  pub image : Image
+  pub stands : StandsFor content image report.commands
+  pub blocks : report.blocks ≡ image.blocks
+  pub areas : report.areas ≡ stands.header.areas
+  pub base : report.base ≡ stands.header.base
+  pub data_blocks : report.data_blocks ≡ blocks_of Data image
+  pub zero_blocks : report.zero_blocks ≡ blocks_of Zero image
+  pub hole_blocks : report.hole_blocks ≡ blocks_of Hole image
+
+-- the states behind the areas in use, where these are the ones in front of them
+abbrev pub AreStatesBehind : Option PlanState → AreaState → List Kind → List Kind → Type 0
+AreStatesBehind None area before after = AreStatesAfter area.touched before after
+AreStatesBehind (Some plan) area before after = (turned : List Kind) × AreStatesAfter plan.first.touched before turned × AreStatesAfter area.touched turned after

@@ -1,0 +1,194 @@
+ghost use Rattle.std.specs.Prelude.{◌≡◌, ◌≢◌, ◌⊎◌, ◌==◌, ℕ, ◌↔◌, List, false, IfErr, IfOk, IsTrue, OnOk, Err, Ok};
+ghost use Rattle.checkpoint.specs.Keeper.{faults_by};
+ghost use Rattle.checkpoint.specs.Opening.{IsAtRest, IsOpening, IsPassing, disk_after, faults_after_opening};
+ghost use Rattle.checkpoint.specs.Recovery.{IsBegun, IsRecovered, IsRecoveryFault};
+ghost use Rattle.checkpoint.specs.Steps.{copied_by, finished_by, left_in};
+ghost use Rattle.checkpoint.specs.declared.fault.KeeperFault.TheVariants as KeeperFault;
+ghost use Rattle.device_image.specs.Keeps.{Keeps};
+ghost use Rattle.device_image.specs.Keeper.{Copying, One};
+ghost use Rattle.device_image.specs.Stands.{StandsFor};
+ghost use Rattle.disk_model.specs.Disk.{IsAllSynced, LeavesOnly, MayLeave};
+ghost use Rattle.image_model.specs.Image.{Image};
+
+use crate::fault::KeeperFault;
+use crate::keeper::Keeper;
+use crate::opening::load;
+use disk_model::Disk;
+use std::alloc::Global;
+
+// The most blocks that are copied in one read and one write: 1 MiB.
+const MOST_COPIED: u32 = 256;
+
+impl<D: Disk> Keeper<D> {
+    /// Opens the device, and recovers it: a checkpoint that had begun is ended, and where groups are left in the journal
+    /// another one empties it.
+    ///
+    /// The device is synced first. Where one area is in use and its list is empty nothing is written; else the blocks are
+    /// copied up to 256 at a time, in one read and one write. It takes memory for the map, for what each command of the
+    /// journal touched, and for one copy.
+    ///
+    /// A refusal hands the device back: 7 where no header is in force, 8 where it is bad, 6 where its map is, 12 where an
+    /// area in use is damaged, the first of these that applies; 9 where a header of the recovery has no greater generation;
+    /// 0 and 1.
+    pub fn open(alloc: Global, disk: D) -> Result<Keeper<D>, (KeeperFault, D)>
+        ensures extent { D.extent (disk_after result) ≡ D.extent disk }
+        ensures faults { D.faults (disk_after result) ≡ faults_after_opening result (D.faults disk) }
+        ensures honest { D.honest (disk_after result) ↔ D.honest disk }
+        ensures recovered { IfOk result IsRecovered }
+
+        // On an honest device there is a content, one that a crash at the start may leave, that is found: at `Ok` it stands
+        // for an image, which the keeper keeps with an empty journal, and a refusal says what is bad of it. A crash at any
+        // moment leaves what it could leave at the start, or what stands for the same as the content found.
+        ensures found { D.honest disk → (content : List ℕ) × IsOpening (D.state disk) D.state result content }
+
+        // Where nothing is unsynced at the start and the content stands for an image, the keeper keeps that one, only want
+        // of memory, a device fault and the last generation refuse it, and a crash at any moment leaves what stands for it.
+        ensures same { D.honest disk → IsAllSynced (D.state disk) → (image : Image) (number : ℕ) → StandsFor (D.state disk).seen image number
+            → IfOk result (λ keeper. Keeps keeper (D.state keeper.disk) image number × (keeper.base ≡ number)) }
+        ensures passing { D.honest disk → IsAllSynced (D.state disk) → (image : Image) (number : ℕ) → StandsFor (D.state disk).seen image number
+            → IfErr result (λ refused. IsPassing refused.0) }
+        ensures any_moment { D.honest disk → IsAllSynced (D.state disk) → (image : Image) (number : ℕ) → StandsFor (D.state disk).seen image number
+            → LeavesOnly (D.state disk) (D.state (disk_after result)) (λ content. StandsFor content image number) }
+
+        // Where one area is in use and its list is empty, nothing is written.
+        ensures at_rest { D.honest disk → IsAllSynced (D.state disk) → IsAtRest (D.state disk).seen
+            → LeavesOnly (D.state disk) (D.state (disk_after result)) (λ content. content ≡ (D.state disk).seen) }
+    {
+        match load(alloc, disk) {
+            Ok(mut keeper) => match keeper.recover() {
+                Ok(()) => Ok(keeper),
+                Err(fault) => Err((fault, keeper.into_disk())),
+            },
+            Err(refused) => Err(refused),
+        }
+    }
+}
+
+impl<D: Disk> Keeper<D> {
+    // Ends a checkpoint that is under way, and empties the journal by another one where groups are left.
+    pub(crate) fn recover(&mut self) -> Result<(), KeeperFault>
+        requires works { self.old.failed ≡ false }
+        requires begun { IsBegun self.old.phase }
+        ensures ok { OnOk result (IsRecovered self.new) }
+        ensures idle { self.old.phase ≡ One → self.old.used ≡ 0 → (self.new ≡ self.old) × (result ≡ Ok tt) }
+        ensures only { IfErr result IsRecoveryFault }
+        ensures full { result ≡ Err KeeperFault.NumbersFull → self.new.generation ≡ 18446744073709551615 }
+        ensures extent { D.extent self.new.disk ≡ D.extent self.old.disk }
+        ensures faults_ok { OnOk result (D.faults self.new.disk ≡ D.faults self.old.disk) }
+        ensures faults_err { IfErr result (λ fault. D.faults self.new.disk ≡ faults_by fault (D.faults self.old.disk)) }
+        ensures honest { D.honest self.new.disk ↔ D.honest self.old.disk }
+
+        ensures kept { D.honest self.old.disk → (image : Image) (number : ℕ) → Keeps self.old (D.state self.old.disk) image number
+            → OnOk result (Keeps self.new (D.state self.new.disk) image number) }
+        ensures kept_still { D.honest self.old.disk → (image : Image) (number : ℕ) → Keeps self.old (D.state self.old.disk) image number
+            → IfErr result (λ fault. fault ≢ KeeperFault.DeviceFault → Keeps self.new (D.state self.new.disk) image number) }
+        ensures any_moment { D.honest self.old.disk → (image : Image) (number : ℕ) → Keeps self.old (D.state self.old.disk) image number
+            → LeavesOnly (D.state self.old.disk) (D.state self.new.disk) (λ content. StandsFor content image number) }
+    {
+        self.end_begun()?;
+        if self.is_empty() {
+            return Ok(());
+        }
+        self.rotate()?;
+        self.end_checkpoint()
+    }
+
+    // Ends a checkpoint that is under way.
+    fn end_begun(&mut self) -> Result<(), KeeperFault>
+        requires works { self.old.failed ≡ false }
+        requires begun { IsBegun self.old.phase }
+        ensures ok { OnOk result ((self.new.failed ≡ false) × (self.new.phase ≡ One)) }
+        ensures idle { self.old.phase ≡ One → (self.new ≡ self.old) × (result ≡ Ok tt) }
+        ensures only { IfErr result IsRecoveryFault }
+        ensures full { result ≡ Err KeeperFault.NumbersFull → self.new.generation ≡ 18446744073709551615 }
+        ensures extent { D.extent self.new.disk ≡ D.extent self.old.disk }
+        ensures faults_ok { OnOk result (D.faults self.new.disk ≡ D.faults self.old.disk) }
+        ensures faults_err { IfErr result (λ fault. D.faults self.new.disk ≡ faults_by fault (D.faults self.old.disk)) }
+        ensures honest { D.honest self.new.disk ↔ D.honest self.old.disk }
+
+        ensures kept { D.honest self.old.disk → (image : Image) (number : ℕ) → Keeps self.old (D.state self.old.disk) image number
+            → OnOk result (Keeps self.new (D.state self.new.disk) image number) }
+        ensures kept_still { D.honest self.old.disk → (image : Image) (number : ℕ) → Keeps self.old (D.state self.old.disk) image number
+            → IfErr result (λ fault. fault ≢ KeeperFault.DeviceFault → Keeps self.new (D.state self.new.disk) image number) }
+        ensures any_moment { D.honest self.old.disk → (image : Image) (number : ℕ) → Keeps self.old (D.state self.old.disk) image number
+            → LeavesOnly (D.state self.old.disk) (D.state self.new.disk) (λ content. StandsFor content image number) }
+    {
+        if !self.is_turning() {
+            return Ok(());
+        }
+        self.end_checkpoint()
+    }
+
+    // Carries a checkpoint to its end.
+    fn end_checkpoint(&mut self) -> Result<(), KeeperFault>
+        requires works { self.old.failed ≡ false }
+        requires begun { self.old.phase ≡ Copying (left_in self.old.phase) }
+        ensures ok { OnOk result (self.new ≡ finished_by self.old self.new.disk self.new.memory) }
+        ensures only { IfErr result IsRecoveryFault }
+        ensures full { result ≡ Err KeeperFault.NumbersFull → self.new.generation ≡ 18446744073709551615 }
+        ensures extent { D.extent self.new.disk ≡ D.extent self.old.disk }
+        ensures faults_ok { OnOk result (D.faults self.new.disk ≡ D.faults self.old.disk) }
+        ensures faults_err { IfErr result (λ fault. D.faults self.new.disk ≡ faults_by fault (D.faults self.old.disk)) }
+        ensures honest { D.honest self.new.disk ↔ D.honest self.old.disk }
+
+        ensures kept { D.honest self.old.disk → (image : Image) (number : ℕ) → Keeps self.old (D.state self.old.disk) image number
+            → OnOk result (Keeps self.new (D.state self.new.disk) image number) }
+        ensures kept_still { D.honest self.old.disk → (image : Image) (number : ℕ) → Keeps self.old (D.state self.old.disk) image number
+            → IfErr result (λ fault. fault ≢ KeeperFault.DeviceFault → Keeps self.new (D.state self.new.disk) image number) }
+        ensures any_moment { D.honest self.old.disk → (image : Image) (number : ℕ) → Keeps self.old (D.state self.old.disk) image number
+            → LeavesOnly (D.state self.old.disk) (D.state self.new.disk) (λ content. StandsFor content image number) }
+    {
+        self.copy_all()?;
+        self.write_map()?;
+        self.finish()
+    }
+
+    // Copies all that is left to copy.
+    fn copy_all(&mut self) -> Result<(), KeeperFault>
+        requires works { self.old.failed ≡ false }
+        requires begun { self.old.phase ≡ Copying (left_in self.old.phase) }
+        ensures ok { OnOk result (self.new ≡ copied_by self.old (left_in self.old.phase) self.new.disk self.new.memory) }
+        ensures only { IfErr result IsRecoveryFault }
+        ensures not_full { result ≢ Err KeeperFault.NumbersFull }
+        ensures extent { D.extent self.new.disk ≡ D.extent self.old.disk }
+        ensures faults_ok { OnOk result (D.faults self.new.disk ≡ D.faults self.old.disk) }
+        ensures faults_err { IfErr result (λ fault. D.faults self.new.disk ≡ faults_by fault (D.faults self.old.disk)) }
+        ensures honest { D.honest self.new.disk ↔ D.honest self.old.disk }
+
+        ensures kept { D.honest self.old.disk → (image : Image) (number : ℕ) → Keeps self.old (D.state self.old.disk) image number
+            → OnOk result (Keeps self.new (D.state self.new.disk) image number) }
+        ensures kept_still { D.honest self.old.disk → (image : Image) (number : ℕ) → Keeps self.old (D.state self.old.disk) image number
+            → IfErr result (λ fault. fault ≢ KeeperFault.DeviceFault → Keeps self.new (D.state self.new.disk) image number) }
+        ensures any_moment { D.honest self.old.disk → (image : Image) (number : ℕ) → Keeps self.old (D.state self.old.disk) image number
+            → LeavesOnly (D.state self.old.disk) (D.state self.new.disk) (λ content. StandsFor content image number) }
+    {
+        while self.left() > 0 {
+            let _blocks = self.copy_some(MOST_COPIED)?;
+        }
+        Ok(())
+    }
+
+    // Whether a checkpoint is under way.
+    fn is_turning(&self) -> bool
+        ensures { (IsTrue result → (self.now.phase ≡ One → ⊥)) × ((result ≡ false) → self.now.phase ≡ One) }
+    {
+        self.plan.is_some()
+    }
+
+    // How many blocks are left to copy.
+    fn left(&self) -> u32
+        ensures { result ≡ left_in self.now.phase }
+    {
+        match &self.plan {
+            Some(plan) if !plan.is_mapped() => plan.left(),
+            _ => 0,
+        }
+    }
+
+    // Whether the list of the area that groups go to is empty.
+    fn is_empty(&self) -> bool
+        ensures { result ≡ (self.now.used == 0) }
+    {
+        self.area.is_empty()
+    }
+}
