@@ -1,11 +1,9 @@
 -- what shows why a session ended early
-use Rattle.std.proofs.Common.{◌≡◌, ◌≢◌, ◌⊎◌, inl, inr, ℕ, ◌+◌, ◌<◌, ◌≤◌, ◌==◌, ◌&&◌, Bool, true, false, nat_le, nat_lt, if◌then◌else◌, List, [], ◌∷◌, ◌++◌, length, length-drop, take, drop, Result, Ok, Err, IfErr, IsErrAnd, MatchResult, refl, sym, ap, subst, ◌∙◌, arith}
+use Rattle.std.proofs.Common.{◌≡◌, ◌≢◌, ◌⊎◌, inl, inr, ℕ, ◌+◌, ◌<◌, ◌≤◌, ◌==◌, ◌&&◌, Bool, true, false, nat_le, nat_lt, List, [], ◌∷◌, ◌++◌, length, length-drop, take, drop, Result, Ok, Err, IfErr, IsErrAnd, MatchResult, refl, sym, ap, subst, ◌∙◌, arith}
 use Rattle.std.proofs.lemmas.Bool.{and_parts, both_ways, cases_lt, eqb-false, eqb-true, false_from_ne_true, leb-false, ltb-false, ltb-true}
 use Rattle.std.proofs.lemmas.List.{take-append-drop}
-use Rattle.std.specs.List.{AllByRecursion}
 use Rattle.image_model.specs.Bodies.{body_bytes, body_limit, longest}
 use Rattle.image_model.specs.Change.{Change, Written, Cleared, AreChanges, IsChange}
-use Rattle.image_model.specs.declared.geometry.Geometry.{Geometry}
 use Rattle.order_book.specs.Order.{OrderState}
 use Rattle.request_core.specs.Bench.{ConnectionsState}
 use Rattle.request_core.specs.Parts.{IsOrderOf}
@@ -13,7 +11,6 @@ use Rattle.request_core.proofs.Lives.{all_behind}
 use Rattle.world.specs.declared.connection.Connection.TheVariants.{Waiting}
 use Rattle.world.specs.declared.event.Event.{Event}
 use Rattle.world.specs.declared.event.Event.TheVariants.{Took, Held, Failed}
-use Rattle.world.specs.declared.event.StepFault.{StepFault}
 use Rattle.world.specs.declared.event.StepFault.TheVariants as fault
 use Rattle.world.specs.declared.step.Step.{Step}
 use Rattle.world.specs.declared.step.Step.TheVariants as steps

@@ -1,9 +1,9 @@
 -- a connection waits for a number of the order
-use Rattle.std.proofs.Common.{◌≡◌, ℕ, ◌+◌, ◌≤◌, ◌==◌, ◌&&◌, Bool, true, false, nat_le, nat_lt, if◌then◌else◌, Result, Ok, Err, [], ◌∷◌, ◌++◌, length, length-append, subst, arith}
+use Rattle.std.proofs.Common.{◌≡◌, ℕ, ◌+◌, ◌≤◌, ◌==◌, ◌&&◌, Bool, true, false, nat_le, nat_lt, Result, Ok, Err, [], ◌∷◌, ◌++◌, length, length-append, subst, arith}
 use Rattle.nbd_wire.specs.Request.{Message}
 use Rattle.nbd_wire.specs.declared.error.Errno.{Errno}
 use Rattle.nbd_wire.specs.declared.error.Errno.TheVariants.{Io, NoMemory, NoSpace}
-use Rattle.nbd_wire.specs.declared.message.Answer.TheVariants.{Done, Refused}
+use Rattle.nbd_wire.specs.declared.message.Answer.TheVariants.{Refused}
 use Rattle.world.specs.declared.action.Action.{Action}
 use Rattle.world.specs.declared.action.Action.TheVariants.{End, Serve}
 use Rattle.world.specs.declared.connection.Connection.{Connection}
@@ -13,7 +13,7 @@ use Rattle.world.specs.declared.step.Step.TheVariants as steps
 use Rattle.world.specs.Log.{command_of, is_flush, waits_for_store}
 use Rattle.world.specs.Run.{IsReached, Fresh, After}
 use Rattle.world.specs.Serve.{Failure, Nothing, OutOfMemory, DeviceFailure, accepted, answer, judged, passed, serve, state_after}
-use Rattle.world.specs.Step.{after_step, append, publish, seal, sealed_more, send, sent, stored_more}
+use Rattle.world.specs.Step.{after_step, append, sealed_more, send, sent, stored_more}
 use Rattle.world.specs.Verdict.{verdict}
 use Rattle.world.specs.World.{World, Setting, fits, fresh, has_room, last_number, put}
 use Rattle.world_law.proofs.Steps.{of_either}
