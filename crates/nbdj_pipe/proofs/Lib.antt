@@ -1,6 +1,7 @@
 pub mod Bytes
 pub mod Dialogs
-pub mod Sessions
 pub mod Steps
+pub mod Causes
+pub mod Sessions
 pub mod Runs
 pub mod Lives

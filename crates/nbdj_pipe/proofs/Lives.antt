@@ -1,5 +1,5 @@
 -- the run of a pipe, from the opening of its device to the end
-use Rattle.std.proofs.Common.{◌≡◌, inl, inr, ℕ, suc, ◌<◌, Bool, true, false, List, [], ◌∷◌, ◌++◌, length, arith, Option, Some, None, Result, Ok, Err, refl, sym, ap, subst, ◌∙◌}
+use Rattle.std.proofs.Common.{◌≡◌, inl, inr, ℕ, suc, ◌<◌, Bool, true, false, List, [], ◌∷◌, ◌++◌, length, arith, Option, Some, None, Result, Ok, Err, IfErr, refl, sym, ap, subst, ◌∙◌}
 use Rattle.std.proofs.lemmas.List.{append-nil}
 use Rattle.std.specs.List.{AllByRecursion}
 use Rattle.checkpoint.specs.Opening.{IsOpening}
@@ -26,13 +26,15 @@ use Rattle.world.specs.declared.event.Event.{Event}
 use Rattle.world.specs.declared.event.Event.TheVariants.{Sent, Answered, Numbered, Took, Held, Failed}
 use Rattle.world.specs.declared.step.Mode.{Mode}
 use Rattle.world_law.specs.Law.{HasFailed, IsWithin, TellsFault, TellsTruth}
+use Rattle.nbdj_pipe.specs.Causes.{HasCause}
 use Rattle.nbdj_pipe.specs.Export.{Follows, Settles}
 use Rattle.nbdj_pipe.specs.Life.{IsFound, IsLife, IsLived}
 use Rattle.nbdj_pipe.specs.Pipe.{IsOrderly}
-use Rattle.nbdj_pipe.specs.Session.{HasTalked, IsEndOr, Runs}
+use Rattle.nbdj_pipe.specs.Session.{HasTalked, IsEndOr, IsEndShown, Runs}
 use Rattle.nbdj_pipe.specs.Talk.{Exchange, plain, spoken, talk, talk_to}
 use Rattle.nbdj_pipe.specs.declared.refusal.Refusal.{Refusal}
 use Rattle.nbdj_pipe.specs.declared.refusal.Refusal.TheVariants.{DeviceFault}
+use Rattle.nbdj_pipe.proofs.Causes.{caused_before, caused_behind}
 use Rattle.nbdj_pipe.proofs.Sessions.{not_device}
 use Rattle.nbdj_pipe.proofs.Steps.{follows_on}
 
@@ -82,10 +84,11 @@ module _ {D : Type 0} (state : D → State) (faults : D → ℕ) (honest : D →
     (works : keeper.failed ≡ false) (few : keeper.count < 18446744073709551616) (count_same : faults keeper.disk ≡ faults start)
     (found : honest start → (content : List ℕ) × IsOpening (state start) state (Ok keeper) content)
     (back : honest keeper''.disk → honest keeper'.disk) (on : honest start → honest keeper''.disk)
-    (exchanges : List Exchange) (last : Option Message)
-    (runs : Runs state faults honest (new_order keeper.count frames keeper.geometry.area) keeper (new_connections 1 plain mode) order' keeper' connections' exchanges last)
+    (end outcome : Result (Unit {0}) Refusal) (exchanges : List Exchange) (last : Option Message)
+    (runs : Runs state faults honest (new_order keeper.count frames keeper.geometry.area) keeper (new_connections 1 plain mode) order' keeper' connections' exchanges last end)
     (settles : (world : World) (trusted : Bool) → IsExportOf world order' keeper' (faults keeper'.disk) connections' (Trusts trusted (honest keeper'.disk)) (state keeper'.disk)
-    → (next : World) × Settles world next order'' keeper'' (faults keeper''.disk) connections'' (Trusts trusted (honest keeper''.disk)) (state keeper'.disk) (state keeper''.disk)) where
+    → (next : World) × Settles world next order'' keeper'' (faults keeper''.disk) connections'' (Trusts trusted (honest keeper''.disk)) (state keeper'.disk) (state keeper''.disk)
+    × IsEndShown end outcome world next) where
   -- the image that the life begins with; on a device that isn't trusted any
   abbrev image_of : (trusted : Bool) → (trusted ≡ true → honest start) → Image
   image_of true given = (found (given refl)).1.outcome.0
@@ -119,6 +122,7 @@ module _ {D : Type 0} (state : D → State) (faults : D → ℕ) (honest : D →
     first = first_world keeper image (faults keeper.disk) frames 1 plain mode
 
     begun : (next : World) × HasTalked first next exchanges last × Follows first next (talk_to exchanges last) order' keeper' (faults keeper'.disk) connections' (Trusts trusted (honest keeper'.disk)) (state keeper.disk) (state keeper'.disk)
+        × IfErr end (λ refusal. HasCause refusal first next)
     begun =
         runs first trusted (fresh_law trusted keeper image frames 1 plain mode works few (keeps_of trusted given)) (record { idle = refl; flags = refl })
 
@@ -126,6 +130,7 @@ module _ {D : Type 0} (state : D → State) (faults : D → ℕ) (honest : D →
     mid = begun.0
 
     settled : (next : World) × Settles mid next order'' keeper'' (faults keeper''.disk) connections'' (Trusts trusted (honest keeper''.disk)) (state keeper'.disk) (state keeper''.disk)
+        × IsEndShown end outcome mid next
     settled = settles mid trusted begun.2.leads.of_export
 
     abbrev next : World
@@ -173,8 +178,14 @@ module _ {D : Type 0} (state : D → State) (faults : D → ℕ) (honest : D →
           stands = kept.stands;
         })
 
-    life : (outcome : Result (Unit {0}) Refusal) → (IsOrderly outcome → order''.durable ≡ order''.mark) → (IsOrderly outcome → order''.stopped ≡ false) → IsLife state faults frames mode start keeper''.disk outcome trusted exchanges last
-    life outcome stored works_on = record {
+    -- what shows why the session ended shows it in the whole run
+    shown : IsEndShown end outcome mid next → IfErr outcome (λ refusal. HasCause refusal first next)
+    shown (inl same) = subst (λ (o : Result (Unit {0}) Refusal). IfErr o (λ refusal. HasCause refusal first next)) (sym same)
+        (caused_before end first mid next settled.1.follows.steps settled.1.follows.leads.run begun.3)
+    shown (inr is) = caused_behind outcome first mid next begun.2.steps begun.2.leads.run is
+
+    life : (IsOrderly outcome → order''.durable ≡ order''.mark) → (IsOrderly outcome → order''.stopped ≡ false) → IsLife state faults frames mode start keeper''.disk outcome trusted exchanges last
+    life stored works_on = record {
       opened = keeper.disk;
       setting = first.stage.setting;
       used = keeper.used;
@@ -190,6 +201,7 @@ module _ {D : Type 0} (state : D → State) (faults : D → ℕ) (honest : D →
       truth = told_talk HasFailedSince exchanges last each_told;
       stored = λ is. all_stored (stored is);
       quiet = λ is. none_since (works_on is);
+      cause = shown settled.2;
       found = found_of trusted given;
       leaves = all_reached;
       durable = λ is. law.durable first next trusted whole.steps order'' keeper'' connections'' keeper.disk (Fresh first.stage.setting keeper.used) whole.leads (trusts_of trusted is given);
@@ -199,14 +211,14 @@ module _ {D : Type 0} (state : D → State) (faults : D → ℕ) (honest : D →
     stopped_since : order''.stopped ≡ true → HasFailedSince
     stopped_since is = failed_since (tells.stopped (sym whole.leads.of_export.of_order.stopped ∙ is))
 
-  pub lived : (outcome : Result (Unit {0}) Refusal) → (IsOrderly outcome → order''.durable ≡ order''.mark) → (IsOrderly outcome → order''.stopped ≡ false) → IsLived state faults honest frames mode start keeper''.disk outcome exchanges last
-  lived outcome stored works_on trusted given = life trusted given outcome stored works_on
+  pub lived : (IsOrderly outcome → order''.durable ≡ order''.mark) → (IsOrderly outcome → order''.stopped ≡ false) → IsLived state faults honest frames mode start keeper''.disk exchanges last outcome
+  lived stored works_on trusted given = life trusted given stored works_on
 
   -- a device fault that is told is one that the device has counted
-  pub told_fault : (end outcome : Result (Unit {0}) Refusal) → (end ≡ Err DeviceFault → ⊥) → IsEndOr end outcome order''.stopped → outcome ≡ Err DeviceFault → HasRisen (faults start) (faults keeper''.disk)
-  told_fault end outcome none (inl same) is = absurd (none (sym same ∙ is))
-  told_fault end outcome none (inr (inl (refusal, early, same))) is = absurd (not_device refusal early (refusal_is (sym same ∙ is)))
+  pub told_fault : (end ≡ Err DeviceFault → ⊥) → IsEndOr end outcome order''.stopped → outcome ≡ Err DeviceFault → HasRisen (faults start) (faults keeper''.disk)
+  told_fault none (inl same) is = absurd (none (sym same ∙ is))
+  told_fault none (inr (inl (refusal, early, same))) is = absurd (not_device refusal early (refusal_is (sym same ∙ is)))
     where
       refusal_is : (let other : Result (Unit {0}) Refusal = Err refusal in other ≡ Err DeviceFault) → refusal ≡ DeviceFault
       refusal_is is = cc
-  told_fault end outcome none (inr (inr (is_orderly, same, stopped))) is = stopped_since false (λ e. cc) stopped
+  told_fault none (inr (inr (is_orderly, same, stopped))) is = stopped_since false (λ e. cc) stopped

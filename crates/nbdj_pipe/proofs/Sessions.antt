@@ -12,16 +12,17 @@ use Rattle.nbd_wire.specs.declared.error.WireFault.TheVariants.{NoMemory, Malfor
 use Rattle.nbdj_pipe.specs.Refusals.{IsEarly, IsOfSession, of_wire}
 use Rattle.nbdj_pipe.specs.Talk.{Exchange, asked, dialog}
 use Rattle.nbdj_pipe.specs.Pipe.{Conversation, ReadsTo, IsEnd, IsFaulty, IsOpen, IsOrderly, IsPiped, IsServed, IsToDisc, IsWhole}
-use Rattle.nbdj_pipe.specs.Session.{IsFed, IsTaken, StaysOpen, Takes, TakesOn, IsEndOr, WritesPart}
+use Rattle.nbdj_pipe.specs.Session.{IsFed, IsTaken, StaysOpen, Takes, TakesOn, IsEndOr, WritesPart, ended_by}
 use Rattle.nbdj_pipe.specs.declared.session.Flow.{Flow}
 use Rattle.nbdj_pipe.specs.declared.refusal.Refusal.{Refusal}
 use Rattle.nbdj_pipe.specs.declared.refusal.Refusal.TheVariants.{DeviceFault, PeerClosed, ProtocolEnd}
+use Rattle.nbdj_pipe.proofs.Causes.{IsBare}
 use Rattle.nbdj_pipe.proofs.Bytes.{appends_none, appends_on, consumes_kept, consumes_none, consumes_on}
 use Rattle.nbdj_pipe.proofs.Dialogs.{HaveNoDisc, all_of, asked-append, asked_whole, behind, dialog-append, disc_behind, each_append, nothing, served_all, served_behind, served_cut, served_nothing, whole_all, whole_behind, whole_nothing}
 
 -- what a session does of requests and answers
 abbrev Run : Type 1
-Run = List Exchange → Option Message → Type 0
+Run = List Exchange → Option Message → Result (Unit {0}) Refusal → Type 0
 
 -- an early refusal isn't one that tells how the input ended, or of the device
 not_closed : (refusal : Refusal) → IsEarly refusal → refusal ≡ PeerClosed → ⊥
@@ -62,14 +63,8 @@ taken_early told reader refusal early = record {
   session = of_early refusal early;
 }
 
-pub no_memory : IsEarly Refusal.NoMemory
-no_memory = tt
-
-pub stream_fault : IsEarly Refusal.StreamFault
-stream_fault = tt
-
 -- two pieces, one after the other
-pub takes-on : (run more_run all_run : Run) → ((first more : List Exchange) (last : Option Message) → run first None → more_run more last → all_run (first ++ more) last)
+pub takes-on : (run more_run all_run : Run) → ((first more : List Exchange) (last : Option Message) (outcome : Result (Unit {0}) Refusal) → run first None (Ok tt) → more_run more last outcome → all_run (first ++ more) last outcome)
     → (old between new : Reader) (piece more : List ℕ) (before mid after : List ℕ) (outcome : Result Flow Refusal) → Takes old piece between before mid (Ok Flow.Open) run
     → Takes between more new mid after outcome more_run → Takes old (piece ++ more) new before after outcome all_run
 takes-on run more_run all_run join old between new piece more before mid after outcome first second =
@@ -95,11 +90,11 @@ takes-on run more_run all_run join old between new piece more before mid after o
         device = second.taken.device;
         session = second.taken.session;
       };
-      runs = join exchanges second.told.exchanges second.told.last (subst (run exchanges) whole.none first.runs) second.runs;
+      runs = join exchanges second.told.exchanges second.told.last (ended_by outcome) (subst (λ (last : Option Message). run exchanges last (Ok tt)) whole.none first.runs) second.runs;
     }
 
 -- what was read, and what was written for it, as long as nothing ended it
-pub record IsGoing (input input_left output output_made : Option (List ℕ)) (reader : Reader) (run : List Exchange → Option Message → Type 0) : Type 0 where
+pub record IsGoing (input input_left output output_made : Option (List ℕ)) (reader : Reader) (run : List Exchange → Option Message → Result (Unit {0}) Refusal → Type 0) : Type 0 where
   pub stream : List ℕ
   pub exchanges : List Exchange
   pub read : Consumes input input_left stream
@@ -107,7 +102,7 @@ pub record IsGoing (input input_left output output_made : Option (List ℕ)) (re
   pub handed : ReadsTo stream (asked exchanges) reader
   pub is_open : IsOpen reader
   pub no_disc : HaveNoDisc exchanges
-  pub runs : run exchanges None
+  pub runs : run exchanges None (Ok tt)
 
 -- a reader that hands out nothing more for a fault of the stream
 faulty_end : (reader : Reader) (fault : RequestFault) → end_of reader ≡ Some (Malformed fault) → IsFaulty reader
@@ -121,7 +116,7 @@ faulty_end starved fault is = absurd (apart is)
     apart is = cc
 
 -- a call that hands out nothing more, for a fault of the stream or for want of memory
-module _ (run : Run) (same : run [] None) (old new : Reader) (piece before : List ℕ) (reads : TakesOn old piece [] new) where
+module _ (run : Run) (same : (fault : WireFault) → run [] None (Err (of_wire fault))) (old new : Reader) (piece before : List ℕ) (reads : TakesOn old piece [] new) where
   takes_known_fault : (fault : WireFault) → end_of new ≡ Some fault → Takes old piece new before before (Err (of_wire fault)) run
   takes_known_fault NoMemory is = record {
     requests = [];
@@ -130,7 +125,7 @@ module _ (run : Run) (same : run [] None) (old new : Reader) (piece before : Lis
     due = sym (append-nil before);
     served = served_nothing;
     taken = record { going = λ e. cc; disc = λ e. cc; fault = λ e. cc; closed = λ e. cc; device = λ e. cc; session = tt };
-    runs = same;
+    runs = same NoMemory;
   }
   takes_known_fault (Malformed fault) is = record {
     requests = [];
@@ -139,7 +134,7 @@ module _ (run : Run) (same : run [] None) (old new : Reader) (piece before : Lis
     due = sym (append-nil before);
     served = served_nothing;
     taken = record { going = λ e. cc; disc = λ e. cc; fault = λ e. (whole_nothing, faulty_end new fault is); closed = λ e. cc; device = λ e. cc; session = tt };
-    runs = same;
+    runs = same (Malformed fault);
   }
 
   pub takes_fault : (fault : WireFault) (outcome : Result Flow Refusal) → end_of new ≡ Some fault → IsErrAnd outcome (λ refusal. refusal ≡ of_wire fault) → Takes old piece new before before outcome run
@@ -232,7 +227,7 @@ module _ (all back left : List Message) (served : List Message) (turned : back �
 
 module _ (run : Run) (old new : Reader) (piece : List ℕ) (all : List Message) (exchanges : List Exchange) (reads : TakesOn old piece all new) (none : HaveNoDisc exchanges) where
   -- the last of the requests was answered
-  pub takes_all : (before after : List ℕ) → all ≡ asked exchanges ++ [] → after ≡ before ++ dialog exchanges → run exchanges None → Takes old piece new before after (Ok Flow.Open) run
+  pub takes_all : (before after : List ℕ) → all ≡ asked exchanges ++ [] → after ≡ before ++ dialog exchanges → run exchanges None (Ok tt) → Takes old piece new before after (Ok Flow.Open) run
   takes_all before after same due runs = record {
     requests = asked exchanges;
     told = all_of exchanges;
@@ -244,7 +239,7 @@ module _ (run : Run) (old new : Reader) (piece : List ℕ) (all : List Message) 
   }
 
   -- the next one is sent, and has no answer
-  module _ (before after : List ℕ) (request : Message) (more : List Message) (same : all ≡ (asked exchanges ++ request ∷ []) ++ more) (due : after ≡ before ++ dialog exchanges) (runs : run exchanges (Some request)) where
+  module _ (before after : List ℕ) (request : Message) (more : List Message) (same : all ≡ (asked exchanges ++ request ∷ []) ++ more) (due : after ≡ before ++ dialog exchanges) where
     abbrev broken_off : Conversation
     broken_off = record { exchanges = exchanges; unanswered = request ∷ more; last = Some request; text = dialog exchanges }
 
@@ -255,8 +250,8 @@ module _ (run : Run) (old new : Reader) (piece : List ℕ) (all : List Message) 
     served_left = record { all = is_left; no_disc = none; first = (more, refl); begins = ([], sym (append-nil (dialog exchanges))) }
 
     -- it is a DISC
-    pub takes_disc : request.head.kind ≡ 2 → Takes old piece new before after (Ok Flow.Ended) run
-    takes_disc disc = record {
+    pub takes_disc : run exchanges (Some request) (Ok tt) → request.head.kind ≡ 2 → Takes old piece new before after (Ok Flow.Ended) run
+    takes_disc runs disc = record {
       requests = all;
       told = broken_off;
       reads = reads;
@@ -274,8 +269,8 @@ module _ (run : Run) (old new : Reader) (piece : List ℕ) (all : List Message) 
     }
 
     -- it couldn't be served
-    pub takes_unserved : (refusal : Refusal) → IsEarly refusal → Takes old piece new before after (Err refusal) run
-    takes_unserved refusal early = record {
+    pub takes_unserved : (refusal : Refusal) → run exchanges (Some request) (Err refusal) → IsEarly refusal → Takes old piece new before after (Err refusal) run
+    takes_unserved refusal runs early = record {
       requests = all;
       told = broken_off;
       reads = reads;
@@ -287,7 +282,7 @@ module _ (run : Run) (old new : Reader) (piece : List ℕ) (all : List Message) 
 
   -- the next one was answered, and there was no memory for its reply
   pub takes_unwritten : (before after : List ℕ) (exchange : Exchange) (more : List Message) (refusal : Refusal) → all ≡ (asked exchanges ++ exchange.request ∷ []) ++ more → after ≡ before ++ dialog exchanges
-      → exchange.request.head.kind ≢ 2 → run (exchanges ++ exchange ∷ []) None → IsEarly refusal → Takes old piece new before after (Err refusal) run
+      → exchange.request.head.kind ≢ 2 → run (exchanges ++ exchange ∷ []) None (Err refusal) → IsEarly refusal → Takes old piece new before after (Err refusal) run
   takes_unwritten before after exchange more refusal same due kind runs early =
       let answered = exchanges ++ exchange ∷ [] in
       let told : Conversation = record { exchanges = answered; unanswered = more; last = None; text = dialog exchanges } in
@@ -310,9 +305,23 @@ pub as_error : {T : Type 0} (P : Result T Refusal → Type 0) (refusal : Refusal
 as_error P refusal (Err other) is holds = subst (λ (r : Refusal). P (Err r)) (sym is) holds
 as_error P refusal (Ok value) is holds = elim is [ ]
 
-pub err_no_end : (outcome : Result (Unit {0}) Refusal) (refusal : Refusal) → IsErrAnd outcome (λ r. r ≡ refusal) → IsEarly refusal → IsErrAnd outcome IsEarly
-err_no_end (Err other) refusal same no_end = subst IsEarly (sym same) no_end
-err_no_end (Ok done) refusal same no_end = elim same [ ]
+pub err_no_end : (P : Refusal → Type 0) (outcome : Result (Unit {0}) Refusal) (refusal : Refusal) → IsErrAnd outcome (λ r. r ≡ refusal) → P refusal → IsErrAnd outcome P
+err_no_end P (Err other) refusal same no_end = subst P (sym same) no_end
+err_no_end P (Ok done) refusal same no_end = elim same [ ]
+
+-- an early refusal that a run shows nothing of
+abbrev pub IsUnshown : Refusal → Type 0
+IsUnshown refusal = IsEarly refusal × IsBare refusal
+
+pub unshown_memory : IsUnshown Refusal.NoMemory
+unshown_memory = (tt, λ first last. tt)
+
+pub unshown_stream : IsUnshown Refusal.StreamFault
+unshown_stream = (tt, λ first last. tt)
+
+-- a run may have ended with a refusal that it shows nothing of
+abbrev EndsBare : Run → Type 0
+EndsBare run = (exchanges : List Exchange) (last : Option Message) (outcome : Result (Unit {0}) Refusal) (refusal : Refusal) → IsBare refusal → run exchanges last outcome → run exchanges last (Err refusal)
 
 -- ---- from the start of a session to its end
 
@@ -326,7 +335,7 @@ end_early told reader left refusal early = record {
   session = of_early refusal early;
 }
 
-pub going_first : (run : Run) (input output : Option (List ℕ)) → run [] None → IsGoing input input output output (reading (in_head [])) run
+pub going_first : (run : Run) (input output : Option (List ℕ)) → run [] None (Ok tt) → IsGoing input input output output (reading (in_head [])) run
 going_first run input output none = record {
   stream = [];
   exchanges = [];
@@ -338,9 +347,9 @@ going_first run input output none = record {
   runs = none;
 }
 
-module _ (run : Run) (input mid output made : Option (List ℕ)) (reader : Reader) (going : IsGoing input mid output made reader run) where
+module _ (run : Run) (bare : EndsBare run) (input mid output made : Option (List ℕ)) (reader : Reader) (going : IsGoing input mid output made reader run) where
   -- it ended with a refusal that says nothing of the input
-  pub stopped : (left : Option (List ℕ)) (outcome : Result (Unit {0}) Refusal) → Keeps mid left → IsErrAnd outcome IsEarly → IsPiped input left output made outcome run
+  pub stopped : (left : Option (List ℕ)) (outcome : Result (Unit {0}) Refusal) → Keeps mid left → IsErrAnd outcome IsUnshown → IsPiped input left output made outcome run
   stopped left (Ok done) none no_end = elim no_end [ ]
   stopped left (Err refusal) none no_end = record {
     stream = going.stream;
@@ -351,8 +360,8 @@ module _ (run : Run) (input mid output made : Option (List ℕ)) (reader : Reade
     handed = going.handed;
     written = going.written;
     served = served_all going.exchanges going.no_disc;
-    end = end_early (all_of going.exchanges) reader left refusal no_end;
-    runs = going.runs;
+    end = end_early (all_of going.exchanges) reader left refusal no_end.0;
+    runs = bare going.exchanges None (Ok tt) refusal no_end.1 going.runs;
   }
 
   -- the input ended
@@ -367,11 +376,12 @@ module _ (run : Run) (input mid output made : Option (List ℕ)) (reader : Reade
     written = going.written;
     served = served_all going.exchanges going.no_disc;
     end = record { disc = tt; closed = λ e. (whole_all going.exchanges, at_end, going.is_open); fault = λ e. cc; device = λ e. cc; session = tt };
-    runs = going.runs;
+    runs = bare going.exchanges None (Ok tt) PeerClosed (λ first last. tt) going.runs;
   }
 
   -- a piece was read, and what it came to was answered
-  module _ (more_run all_run : Run) (join : (first more : List Exchange) (last : Option Message) → run first None → more_run more last → all_run (first ++ more) last) where
+  module _ (more_run all_run : Run) (join : (first more : List Exchange) (last : Option Message) (outcome : Result (Unit {0}) Refusal) → run first None (Ok tt) → more_run more last outcome → all_run (first ++ more) last outcome)
+      (all_bare : EndsBare all_run) where
     module _ (left made_on : Option (List ℕ)) (piece due : List ℕ) (new : Reader) (outcome : Result Flow Refusal) (read : Consumes mid left piece) (takes : Takes reader piece new [] due outcome more_run) where
       abbrev exchanges : List Exchange
       exchanges = going.exchanges
@@ -388,11 +398,11 @@ module _ (run : Run) (input mid output made : Option (List ℕ)) (reader : Reade
       served : IsServed (asked exchanges ++ takes.requests) told
       served = served_behind exchanges takes.told takes.requests going.no_disc takes.served
 
-      ran : all_run told.exchanges told.last
-      ran = join exchanges takes.told.exchanges takes.told.last going.runs takes.runs
+      ran : all_run told.exchanges told.last (ended_by outcome)
+      ran = join exchanges takes.told.exchanges takes.told.last (ended_by outcome) going.runs takes.runs
 
       -- not all of the answers could be written
-      pub cut : (refusal : Refusal) (end : Result (Unit {0}) Refusal) → WritesPart made made_on due (Err refusal) → IsErrAnd end IsEarly → IsPiped input left output made_on end all_run
+      pub cut : (refusal : Refusal) (end : Result (Unit {0}) Refusal) → WritesPart made made_on due (Err refusal) → IsErrAnd end IsUnshown → IsPiped input left output made_on end all_run
       cut refusal (Ok done) part no_end = elim no_end [ ]
       cut refusal (Err other) (first, rest, parts, writes) no_end =
           let text = dialog exchanges ++ first in
@@ -406,13 +416,16 @@ module _ (run : Run) (input mid output made : Option (List ℕ)) (reader : Reade
             written = appends_on output made made_on (dialog exchanges) first going.written writes;
             served = served_cut (asked exchanges ++ takes.requests) told text rest
                 (ap (λ (t : List ℕ). dialog exchanges ++ t) (sym takes.due ∙ parts) ∙ sym (append_assoc (dialog exchanges) first rest)) served;
-            end = end_early (record told { text = text }) new left other no_end;
-            runs = ran;
+            end = end_early (record told { text = text }) new left other no_end.0;
+            runs = all_bare told.exchanges told.last (ended_by outcome) other no_end.1 ran;
           }
 
       module _ (writes : Appends made made_on due) where
         wrote : Appends output made_on told.text
         wrote = subst (λ (t : List ℕ). Appends output made_on (dialog exchanges ++ t)) takes.due (appends_on output made made_on (dialog exchanges) due going.written writes)
+
+        ran_as : (own is : Result Flow Refusal) → own ≡ is → all_run told.exchanges told.last (ended_by own) → all_run told.exchanges told.last (ended_by is)
+        ran_as own is same = subst (λ (o : Result Flow Refusal). all_run told.exchanges told.last (ended_by o)) same
 
         pub goes_on : outcome ≡ Ok Flow.Open → StaysOpen reader new outcome → IsGoing input left output made_on new all_run
         goes_on is stays =
@@ -425,7 +438,7 @@ module _ (run : Run) (input mid output made : Option (List ℕ)) (reader : Reade
               handed = subst (λ (r : List Message). ReadsTo (going.stream ++ piece) r new) (asked_whole (asked exchanges ++ takes.requests) told served (whole_behind exchanges takes.told whole)) handed;
               is_open = stays is going.stream (asked exchanges) going.handed;
               no_disc = served.no_disc;
-              runs = subst (all_run told.exchanges) whole.none ran;
+              runs = subst (λ (last : Option Message). all_run told.exchanges last (Ok tt)) whole.none (ran_as outcome (Ok Flow.Open) is ran);
             }
 
         pub ended : outcome ≡ Ok Flow.Ended → IsPiped input left output made_on (Ok tt) all_run
@@ -439,7 +452,7 @@ module _ (run : Run) (input mid output made : Option (List ℕ)) (reader : Reade
           written = wrote;
           served = served;
           end = record { disc = disc_behind exchanges takes.told (takes.taken.disc is); closed = λ e. cc; fault = λ e. cc; device = λ e. cc; session = tt };
-          runs = ran;
+          runs = ran_as outcome (Ok Flow.Ended) is ran;
         }
 
         pub refused : (refusal : Refusal) (end : Result (Unit {0}) Refusal) → outcome ≡ Err refusal → IsErrAnd end (λ r. r ≡ refusal) → IsPiped input left output made_on end all_run
@@ -460,13 +473,21 @@ module _ (run : Run) (input mid output made : Option (List ℕ)) (reader : Reade
             device = λ e. absurd (takes.taken.device cc);
             session = subst IsOfSession (sym is) (subst (λ (r : Result Flow Refusal). IfErr r IsOfSession) was takes.taken.session);
           };
-          runs = ran;
+          runs = subst (λ (r : Refusal). all_run told.exchanges told.last (Err r)) (sym is) (ran_as outcome (Err refusal) was ran);
         }
 
+module _ (input left output made : Option (List ℕ)) (run : Run) where
+  orderly : (end : Result (Unit {0}) Refusal) (piped : IsPiped input left output made end run) → IsOrderly end
+      → IsToDisc piped.told ⊎ (IsWhole piped.told × ((IsAtEnd left × IsOpen piped.reader) ⊎ IsFaulty piped.reader))
+  orderly (Ok done) piped is = inl piped.end.disc
+  orderly (Err refusal) piped (inl is) = let (whole, at_end, is_open) = piped.end.closed (ap Err is) in inr (whole, inl (at_end, is_open))
+  orderly (Err refusal) piped (inr fault) = let ended = piped.end.fault (ap Err fault) in inr (ended.0, inr ended.1)
+
 -- what comes after the end of the input may refuse it, and changes nothing that was written
-module _ (input left output made : Option (List ℕ)) (run later : Run) (on : (exchanges : List Exchange) (last : Option Message) → run exchanges last → later exchanges last) where
-  piped_as : (end outcome : Result (Unit {0}) Refusal) (piped : IsPiped input left output made end run) → IsEnd piped.told piped.reader left outcome → IsPiped input left output made outcome later
-  piped_as end outcome piped is = record {
+module _ (input left output made : Option (List ℕ)) (run later : Run) (end outcome : Result (Unit {0}) Refusal)
+    (on : (exchanges : List Exchange) (last : Option Message) → run exchanges last end → later exchanges last outcome) where
+  piped_as : (piped : IsPiped input left output made end run) → IsEnd piped.told piped.reader left outcome → IsPiped input left output made outcome later
+  piped_as piped is = record {
     stream = piped.stream;
     requests = piped.requests;
     reader = piped.reader;
@@ -479,22 +500,16 @@ module _ (input left output made : Option (List ℕ)) (run later : Run) (on : (e
     runs = on piped.told.exchanges piped.told.last piped.runs;
   }
 
-  orderly : (end : Result (Unit {0}) Refusal) (piped : IsPiped input left output made end run) → IsOrderly end
-      → IsToDisc piped.told ⊎ (IsWhole piped.told × ((IsAtEnd left × IsOpen piped.reader) ⊎ IsFaulty piped.reader))
-  orderly (Ok done) piped is = inl piped.end.disc
-  orderly (Err refusal) piped (inl is) = let (whole, at_end, is_open) = piped.end.closed (ap Err is) in inr (whole, inl (at_end, is_open))
-  orderly (Err refusal) piped (inr fault) = let ended = piped.end.fault (ap Err fault) in inr (ended.0, inr ended.1)
-
-  pub piped_or : (end outcome : Result (Unit {0}) Refusal) (stopped : Bool) → IsPiped input left output made end run → IsEndOr end outcome stopped → IsPiped input left output made outcome later
-  piped_or end outcome stopped piped (inl same) =
-      piped_as end outcome piped (subst (IsEnd piped.told piped.reader left) (sym same) piped.end)
-  piped_or end outcome stopped piped (inr (inl (refusal, early, is))) = piped_as end outcome piped
+  pub piped_or : (stopped : Bool) → IsPiped input left output made end run → IsEndOr end outcome stopped → IsPiped input left output made outcome later
+  piped_or stopped piped (inl same) =
+      piped_as piped (subst (IsEnd piped.told piped.reader left) (sym same) piped.end)
+  piped_or stopped piped (inr (inl (refusal, early, is))) = piped_as piped
       (subst (IsEnd piped.told piped.reader left) (sym is) (end_early piped.told piped.reader left refusal early))
-  piped_or end outcome stopped piped (inr (inr (is_orderly, is, has_stopped))) = piped_as end outcome piped
+  piped_or stopped piped (inr (inr (is_orderly, is, has_stopped))) = piped_as piped
       (subst (IsEnd piped.told piped.reader left) (sym is) (record {
         disc = tt;
         closed = λ e. cc;
         fault = λ e. cc;
-        device = λ e. orderly end piped is_orderly;
+        device = λ e. orderly input left output made run end piped is_orderly;
         session = tt;
       }))

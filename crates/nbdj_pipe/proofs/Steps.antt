@@ -1,5 +1,5 @@
 -- how steps of an export follow one another
-use Rattle.std.proofs.Common.{◌≡◌, ◌⊎◌, inl, inr, ℕ, ◌+◌, ◌*◌, ◌==◌, ◌&&◌, ◌||◌, not, bit_and, Bool, true, false, if◌then◌else◌, nat_le, nat_lt, Option, Some, None, Result, Ok, Err, IfOk, IsErrAnd, List, [], ◌∷◌, ◌++◌, append_assoc, append-nil, length, sym, ◌∙◌, ap, subst, refl}
+use Rattle.std.proofs.Common.{◌≡◌, ◌⊎◌, inl, inr, ℕ, ◌+◌, ◌*◌, ◌<◌, ◌==◌, ◌&&◌, ◌||◌, not, bit_and, Bool, true, false, if◌then◌else◌, nat_le, nat_lt, Option, Some, None, Result, Ok, Err, IfOk, IsErrAnd, List, [], ◌∷◌, ◌++◌, append_assoc, append-nil, length, sym, ◌∙◌, ap, subst, refl}
 use Rattle.device_image.specs.Keeper.{KeeperState}
 use Rattle.disk_model.specs.Disk.{State}
 use Rattle.nbd_wire.specs.Request.{Message}
@@ -9,7 +9,7 @@ use Rattle.nbd_wire.specs.declared.head.RequestHead.{RequestHead}
 use Rattle.nbd_wire.specs.declared.message.SessionFlags.{SessionFlags}
 use Rattle.image_model.specs.declared.geometry.Geometry.{Geometry}
 use Rattle.world.specs.Verdict.{allowed_flags, first_of_rules, is_known, is_unaligned, past_end}
-use Rattle.std.proofs.lemmas.Bool.{eqb-true}
+use Rattle.std.proofs.lemmas.Bool.{eqb-true, leb-false}
 use Rattle.nbd_wire.specs.declared.message.Answer.{Answer}
 use Rattle.nbd_wire.specs.declared.message.Answer.TheVariants.{Done, Refused}
 use Rattle.order_book.specs.Order.{OrderState}
@@ -26,7 +26,7 @@ use Rattle.world.specs.declared.step.Step.{Step}
 use Rattle.world.specs.declared.step.Step.TheVariants as steps
 use Rattle.world.specs.declared.step.Step.TheVariants.{Send, Serve, Seal, Append, Publish}
 use Rattle.world.specs.Log.{command_of, is_flush}
-use Rattle.world.specs.Serve.{Luck, Fine, Starved, Faulted, accepted, answer, answered, held, judged, logged, moved, ordered, passed, ready, state_after}
+use Rattle.world.specs.Serve.{Failure, Nothing, OutOfMemory, DeviceFailure, accepted, answer, answered, held, judged, logged, moved, ordered, passed, ready, state_after}
 use Rattle.world.specs.Step.{after_step, append, publish, seal, sealed_more, stored_more}
 use Rattle.world.specs.World.{World, fits, has_room, last_number, put}
 use Rattle.nbdj_pipe.specs.Export.{AwaitsAnswer, Follows, IsGiven, IsJudged, IsStoring, HasAnswer, Settles, said_of, told_by}
@@ -85,9 +85,9 @@ module _ {D : Type 0} (state : D → State) (faults : D → ℕ) (honest : D →
   }
 
 -- what holds of both sides of a choice holds of the choice
-of_either : {X : Type 0} (P : X → Type 0) (test : Bool) (x y : X) → P x → P y → P (if test then x else y)
-of_either P true x y here there = here
-of_either P false x y here there = there
+pub of_test : {X : Type 0} (P : X → Type 0) (test : Bool) (x y : X) → (test ≡ true → P x) → (test ≡ false → P y) → P (if test then x else y)
+of_test P true x y here there = here refl
+of_test P false x y here there = there refl
 
 -- a step of order and keeper leaves the connections as they are
 module _ (world : World) where
@@ -98,39 +98,39 @@ module _ (world : World) where
   still_held : IsStill (held world)
   still_held = (refl, (Held, refl, refl))
 
-  still_sealed : (luck : Luck) → IsStill (sealed_more luck world)
-  still_sealed Starved = (refl, (_, refl, refl))
-  still_sealed Fine = (refl, (Took, refl, refl))
-  still_sealed Faulted = (refl, (Took, refl, refl))
+  still_sealed : (failure : Failure) → IsStill (sealed_more failure world)
+  still_sealed OutOfMemory = (refl, (_, refl, refl))
+  still_sealed Nothing = (refl, (Took, refl, refl))
+  still_sealed DeviceFailure = (refl, (Took, refl, refl))
 
-  still_seal : (luck : Luck) → IsStill (seal luck world)
-  still_seal luck = of_either IsStill (nat_lt world.stage.sealed (length world.stage.order) && (world.stage.sealed == world.stage.durable)) _ _ (still_sealed luck) still_held
+  still_seal : (failure : Failure) → IsStill (seal failure world)
+  still_seal failure = of_test IsStill (nat_lt world.stage.sealed (length world.stage.order) && (world.stage.sealed == world.stage.durable)) _ _ (λ is. still_sealed failure) (λ is. still_held)
 
-  still_stored : (luck : Luck) → IsStill (stored_more luck world)
-  still_stored Starved = (refl, (_, refl, refl))
-  still_stored Fine = (refl, (Took, refl, refl))
-  still_stored Faulted = (refl, (_, refl, refl))
+  still_stored : (failure : Failure) → IsStill (stored_more failure world)
+  still_stored OutOfMemory = (refl, (_, refl, refl))
+  still_stored Nothing = (refl, (Took, refl, refl))
+  still_stored DeviceFailure = (refl, (_, refl, refl))
 
-  still_append : (luck : Luck) → IsStill (append luck world)
-  still_append luck = of_either IsStill (nat_lt world.stage.stored world.stage.sealed) _ _
-      (of_either IsStill world.stage.stopped _ _ (refl, (_, refl, refl))
-      (of_either IsStill (fits world) _ _ (still_stored luck) (refl, (Held, refl, refl))))
-      still_held
+  still_append : (failure : Failure) → IsStill (append failure world)
+  still_append failure = of_test IsStill (nat_lt world.stage.stored world.stage.sealed) _ _
+      (λ hand. of_test IsStill world.stage.stopped _ _ (λ stopped. (refl, (_, refl, refl)))
+      (λ works. of_test IsStill (fits world) _ _ (λ fit. still_stored failure) (λ full. (refl, (Held, refl, refl)))))
+      (λ none. still_held)
 
   still_publish : IsStill (publish world)
-  still_publish = of_either IsStill (nat_lt world.stage.durable world.stage.stored) _ _ (refl, (Took, refl, refl)) still_held
+  still_publish = of_test IsStill (nat_lt world.stage.durable world.stage.stored) _ _ (λ more. (refl, (Took, refl, refl))) (λ none. still_held)
 
-  pub still_step : (step : Step) (luck : Luck) → IsStoring step → IsStill (after_step world step luck)
-  still_step (Send c request) luck is = absurd is
-  still_step (Serve c) luck is = absurd is
-  still_step (steps.Answer c) luck is = absurd is
-  still_step Seal luck is = still_seal luck
-  still_step Append luck is = still_append luck
-  still_step Publish luck is = still_publish
+  pub still_step : (step : Step) (failure : Failure) → IsStoring step → IsStill (after_step world step failure)
+  still_step (Send c request) failure is = absurd is
+  still_step (Serve c) failure is = absurd is
+  still_step (steps.Answer c) failure is = absurd is
+  still_step Seal failure is = still_seal failure
+  still_step Append failure is = still_append failure
+  still_step Publish failure is = still_publish
 
   -- what serving a request comes to: nothing, where there is no room for its command, or what the verdict on it says
-  abbrev pub IsServedAs : Result Action Errno → World → Type 0
-  IsServedAs given next = (next ≡ held world)
+  abbrev pub IsServedAs : Message → Result Action Errno → World → Type 0
+  IsServedAs request given next = ((next ≡ held world) × (given ≡ Ok Action.Serve) × (world.stage.stopped ≡ false) × (is_flush request ≡ false) × (has_room world (command_of request) ≡ false))
       ⊎ (IsJudged given (next.connections 0) × ((event : Event) × (next.log ≡ world.log ++ event ∷ []) × (spoken (event ∷ []) ≡ []) × (event ≡ Held → ⊥)))
 
   put_here : (state : Connection) → put world.connections 0 state 0 ≡ state
@@ -142,39 +142,44 @@ module _ (world : World) where
   numbered_apart : (c number : ℕ) → Numbered c number ≡ Held → ⊥
   numbered_apart c number is = cc
 
-  served_waits : (request : Message) (waits : Bool) (number : ℕ) → IsServedAs (Ok Action.Serve) (logged (moved (ordered world 0 request) 0 (state_after waits number)) (Numbered 0 number))
+  served_waits : (request : Message) (waits : Bool) (number : ℕ) → IsServedAs request (Ok Action.Serve) (logged (moved (ordered world 0 request) 0 (state_after waits number)) (Numbered 0 number))
   served_waits request true number = inr (tt, (Numbered 0 number, refl, refl, numbered_apart 0 number))
   served_waits request false number = inr (inl refl, (Numbered 0 number, refl, refl, numbered_apart 0 number))
 
-  served_refused : (errno : Errno) → IsServedAs (Ok Action.Serve) (ready world 0 (Refused errno))
-  served_refused errno = inr (inr (errno, refl), (Took, refl, refl, took_apart))
+  served_refused : (request : Message) (errno : Errno) → IsServedAs request (Ok Action.Serve) (ready world 0 (Refused errno))
+  served_refused request errno = inr (inr (errno, refl), (Took, refl, refl, took_apart))
 
-  served_accepted : (luck : Luck) (request : Message) → IsServedAs (Ok Action.Serve) (accepted luck world 0 request)
-  served_accepted Starved request = served_refused NoMemory
-  served_accepted Fine request = served_waits request _ _
-  served_accepted Faulted request = served_waits request _ _
+  served_accepted : (failure : Failure) (request : Message) → IsServedAs request (Ok Action.Serve) (accepted failure world 0 request)
+  served_accepted OutOfMemory request = served_refused request NoMemory
+  served_accepted Nothing request = served_waits request _ _
+  served_accepted DeviceFailure request = served_waits request _ _
 
-  served_passed : (luck : Luck) (request : Message) → IsServedAs (Ok Action.Serve) (passed luck world 0 request)
-  served_passed luck request = of_either (IsServedAs (Ok Action.Serve)) world.stage.stopped _ _ (served_refused Io)
-      (of_either (IsServedAs (Ok Action.Serve)) (is_flush request) _ _ (inr (tt, (Took, refl, refl, took_apart)))
-      (of_either (IsServedAs (Ok Action.Serve)) (last_number world == 18446744073709551615) _ _ (served_refused NoSpace)
-      (of_either (IsServedAs (Ok Action.Serve)) (has_room world (command_of request)) _ _ (served_accepted luck request) (inl refl))))
+  served_passed : (failure : Failure) (request : Message) → IsServedAs request (Ok Action.Serve) (passed failure world 0 request)
+  served_passed failure request =
+      let Served : World → Type 0 = IsServedAs request (Ok Action.Serve) in
+      of_test Served world.stage.stopped _ _ (λ stopped. served_refused request Io)
+      (λ works. of_test Served (is_flush request) _ _ (λ flush. inr (tt, (Took, refl, refl, took_apart)))
+      (λ other. of_test Served (last_number world == 18446744073709551615) _ _ (λ full. served_refused request NoSpace)
+      (λ left. of_test Served (has_room world (command_of request)) _ _ (λ room. served_accepted failure request) (λ none. inl (refl, refl, works, other, none)))))
 
-  pub served_as : (luck : Luck) (request : Message) (given : Result Action Errno) → IsServedAs given (judged given luck world 0 request)
-  served_as luck request (Ok End) = inr (refl, (Took, refl, refl, took_apart))
-  served_as luck request (Ok Action.Serve) = served_passed luck request
-  served_as luck request (Err errno) = inr (refl, (Took, refl, refl, took_apart))
+  pub served_as : (failure : Failure) (request : Message) (given : Result Action Errno) → IsServedAs request given (judged given failure world 0 request)
+  served_as failure request (Ok End) = inr (refl, (Took, refl, refl, took_apart))
+  served_as failure request (Ok Action.Serve) = served_passed failure request
+  served_as failure request (Err errno) = inr (refl, (Took, refl, refl, took_apart))
 
-  -- what answering comes to: nothing, where no answer is due, or the answer that is given
+  -- what answering comes to: nothing, where the number isn't durable, or the answer that is given
   abbrev pub IsAnsweredAs : Connection → World → Type 0
-  IsAnsweredAs state next = (next ≡ held world) ⊎ ((given : Answer) × (next ≡ answered world 0 given) × IsGiven state given)
+  IsAnsweredAs state next = ((next ≡ held world) × (world.stage.stopped ≡ false) × ((number : ℕ) × (state ≡ Waiting number) × (world.stage.setting.opening + world.stage.durable < number)))
+      ⊎ ((given : Answer) × (next ≡ answered world 0 given) × IsGiven state given)
 
   pub answered_as : (state : Connection) → AwaitsAnswer state → IsAnsweredAs state (answer world 0 state)
   answered_as Idle awaits = absurd awaits
   answered_as (Requested request) awaits = absurd awaits
-  answered_as (Waiting number) awaits = of_either (IsAnsweredAs (Waiting number)) (nat_le number (world.stage.setting.opening + world.stage.durable)) _ _
-      (inr (Done, refl, inl refl))
-      (of_either (IsAnsweredAs (Waiting number)) world.stage.stopped _ _ (inr (Refused Io, refl, inr (Io, refl))) (inl refl))
+  answered_as (Waiting number) awaits =
+      let durable = world.stage.setting.opening + world.stage.durable in
+      of_test (IsAnsweredAs (Waiting number)) (nat_le number durable) _ _ (λ reached. inr (Done, refl, inl refl))
+      (λ above. of_test (IsAnsweredAs (Waiting number)) world.stage.stopped _ _ (λ stopped. inr (Refused Io, refl, inr (Io, refl)))
+      (λ works. inl (refl, works, (number, refl, leb-false number durable above))))
   answered_as (Ready given) awaits = inr (given, refl, refl)
   answered_as Closed awaits = absurd awaits
 

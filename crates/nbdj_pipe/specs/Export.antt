@@ -1,5 +1,5 @@
 -- what the calls of an export make of the world that it is of
-use Rattle.std.specs.Prelude.{ℕ, ◌≡◌, ◌≢◌, ◌⊎◌, true, List, [], ◌∷◌, ◌++◌, Option, Some, None, Result, Ok, Err}
+use Rattle.std.specs.Prelude.{ℕ, ◌≡◌, ◌≢◌, ◌<◌, ◌+◌, ◌⊎◌, true, false, List, [], ◌∷◌, ◌++◌, Option, Some, None, Result, Ok, Err}
 use Rattle.device_image.specs.Keeper.{KeeperState}
 use Rattle.disk_model.specs.Disk.{State}
 use Rattle.nbd_wire.specs.Request.{Message}
@@ -18,8 +18,12 @@ use Rattle.world.specs.declared.step.Step.{Step}
 use Rattle.world.specs.declared.step.Step.TheVariants as steps
 use Rattle.world.specs.declared.step.Step.TheVariants.{Send, Serve, Seal, Append, Publish}
 use Rattle.world.specs.World.{World}
+use Rattle.world.specs.declared.event.Event.TheVariants as Event
 use Rattle.world.specs.declared.event.Event.TheVariants.{Answered}
+use Rattle.world.specs.declared.event.StepFault.{StepFault}
+use Rattle.world.specs.declared.event.StepFault.TheVariants as StepFault
 use Rattle.nbdj_pipe.specs.declared.refusal.Refusal.{Refusal}
+use Rattle.nbdj_pipe.specs.declared.refusal.Refusal.TheVariants.{AreaFull, NoMemory}
 use Rattle.nbdj_pipe.specs.Talk.{IsAnswered, spoken}
 
 -- Steps lead from one world to another, and this was said on the way.
@@ -39,6 +43,26 @@ pub record Settles {D : Type 0} (world next : World) (order : OrderState) (keepe
 -- nothing is left to store, or nothing more can be
 abbrev pub IsSettled : OrderState → Type 0
 IsSettled order = (order.stopped ≡ true) ⊎ (order.durable ≡ order.mark)
+
+-- What became of a group, by the events of sealing it, appending it and publishing it: memory was refused, it doesn't fit
+-- the area where neither of the last two had anything to do, or it is stored or the device has failed.
+abbrev pub StoredBy : Event → Event → Event → Result (Unit {0}) Refusal → Type 0
+StoredBy sealed appended published (Ok done) =
+    ((fault : StepFault) → sealed ≢ Event.Failed fault) × (appended ≢ Event.Failed StepFault.NoMemory) × (appended ≡ Event.Held → published ≢ Event.Held)
+StoredBy sealed appended published (Err refusal) =
+    (refusal ≡ NoMemory)
+    ⊎ ((refusal ≡ AreaFull) × ((fault : StepFault) → sealed ≢ Event.Failed fault) × (appended ≡ Event.Held) × (published ≡ Event.Held))
+
+-- Storing got on: a call of the device has failed, or more is durable.
+abbrev pub GetsOn : World → World → Type 0
+GetsOn old new = (new.stage.stopped ≡ true) ⊎ (old.stage.durable < new.stage.durable)
+
+-- The connection waits for more than is durable, and the device works.
+pub record IsWaiting (world : World) : Type 0 where
+  pub works : world.stage.stopped ≡ false
+  pub number : ℕ
+  pub waits : world.connections 0 ≡ Waiting number
+  pub above : world.stage.setting.opening + world.stage.durable < number
 
 -- a step of order and keeper alone
 abbrev pub IsStoring : Step → Type 0

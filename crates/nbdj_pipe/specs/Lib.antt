@@ -1,5 +1,6 @@
 pub mod Refusals
 pub mod Talk
+pub mod Causes
 pub mod Export
 pub mod Session
 pub mod Pipe

@@ -1,5 +1,5 @@
 -- the run of a pipe, from the opening of its device to the end
-use Rattle.std.specs.Prelude.{ℕ, ◌≡◌, ◌⊎◌, Bool, true, List, length, Option, Result}
+use Rattle.std.specs.Prelude.{ℕ, ◌≡◌, ◌⊎◌, Bool, true, List, length, Option, Result, IfErr}
 use Rattle.std.specs.List.{AllByRecursion}
 use Rattle.checkpoint.specs.Opening.{StandsAs}
 use Rattle.device_image.specs.Stands.{StandsFor}
@@ -14,6 +14,7 @@ use Rattle.world.specs.Run.{IsRun}
 use Rattle.world.specs.World.{Setting, World, fresh}
 use Rattle.world.specs.declared.step.Mode.{Mode}
 use Rattle.world.specs.declared.step.Step.{Step}
+use Rattle.nbdj_pipe.specs.Causes.{HasCause}
 use Rattle.nbdj_pipe.specs.Pipe.{IsOrderly}
 use Rattle.nbdj_pipe.specs.Talk.{AreAnswered, Exchange, plain, spoken, talk_to}
 use Rattle.nbdj_pipe.specs.declared.refusal.Refusal.{Refusal}
@@ -53,6 +54,8 @@ pub record IsLife {D : Type 0} (state : D → State) (faults : D → ℕ) (frame
   -- where the input came to its end and the device didn't fail, all is durable that was ordered
   pub stored : IsOrderly outcome → next.stage.durable ≡ length next.stage.order
   pub quiet : IsOrderly outcome → faults end ≡ faults start
+  -- the run shows why the session ended before its input did
+  pub cause : IfErr outcome (λ refusal. HasCause refusal (fresh setting used) next)
   -- on an honest device
   pub found : trusted ≡ true → IsFound setting (state start) (state opened)
   pub durable : trusted ≡ true → IsDurable (fresh setting used) next (state opened) (state end)
@@ -60,6 +63,6 @@ pub record IsLife {D : Type 0} (state : D → State) (faults : D → ℕ) (frame
   pub leaves : trusted ≡ true → (content : List ℕ) → MayLeave (state end) content → StandsAfter next.stage.order setting.image setting.opening next.stage.durable content
 
 -- the run of a pipe, on any device, and with what its content keeps on an honest one
-abbrev pub IsLived : {D : Type 0} → (D → State) → (D → ℕ) → (D → Type 0) → ℕ → Mode → D → D → Result (Unit {0}) Refusal → List Exchange → Option Message → Type 0
-IsLived state faults honest frames mode start end outcome exchanges last =
+abbrev pub IsLived : {D : Type 0} → (D → State) → (D → ℕ) → (D → Type 0) → ℕ → Mode → D → D → List Exchange → Option Message → Result (Unit {0}) Refusal → Type 0
+IsLived state faults honest frames mode start end exchanges last outcome =
     (trusted : Bool) → (trusted ≡ true → honest start) → IsLife state faults frames mode start end outcome trusted exchanges last

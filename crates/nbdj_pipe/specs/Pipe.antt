@@ -82,8 +82,9 @@ pub record IsEnd (told : Conversation) (reader : Reader) (input : Option (List �
   pub session : IfErr outcome IsOfSession
 
 -- A pipe read a stream, however it was cut, and wrote the text that it owes. Input and output are the bytes of a reader
--- and a writer, where they tell them, before and after; `run` says what steps the answers come from.
-pub record IsPiped (input input_left output output_made : Option (List ℕ)) (outcome : Result (Unit {0}) Refusal) (run : List Exchange → Option Message → Type 0) : Type 0 where
+-- and a writer, where they tell them, before and after; `run` says what steps the answers come from, and what of them shows
+-- the outcome.
+pub record IsPiped (input input_left output output_made : Option (List ℕ)) (outcome : Result (Unit {0}) Refusal) (run : List Exchange → Option Message → Result (Unit {0}) Refusal → Type 0) : Type 0 where
   pub stream : List ℕ
   pub requests : List Message
   pub reader : Reader
@@ -93,7 +94,7 @@ pub record IsPiped (input input_left output output_made : Option (List ℕ)) (ou
   pub written : Appends output output_made told.text
   pub served : IsServed requests told
   pub end : IsEnd told reader input_left outcome
-  pub runs : run told.exchanges told.last
+  pub runs : run told.exchanges told.last outcome
 
 -- An opening that was refused reads nothing of the input and writes no reply. The device counts a fault where it failed.
 -- Of an honest device a content was found that a crash at the start may leave: the other refusals but want of memory say

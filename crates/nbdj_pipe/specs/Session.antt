@@ -12,6 +12,7 @@ use Rattle.request_core.specs.Life.{Trusts}
 use Rattle.request_core.specs.Parts.{IsExportOf}
 use Rattle.world.specs.World.{World}
 use Rattle.world.specs.declared.connection.Connection.TheVariants.{Idle}
+use Rattle.nbdj_pipe.specs.Causes.{HasCause}
 use Rattle.nbdj_pipe.specs.Export.{Follows}
 use Rattle.nbdj_pipe.specs.Pipe.{Conversation, IsFaulty, IsOpen, IsOrderly, IsServed, IsToDisc, IsWhole, ReadsTo}
 use Rattle.nbdj_pipe.specs.Refusals.{IsEarly, IsOfSession}
@@ -19,6 +20,10 @@ use Rattle.nbdj_pipe.specs.Talk.{AreAnswered, Exchange, plain, reply_to, talk_to
 use Rattle.nbdj_pipe.specs.declared.session.Flow.{Flow}
 use Rattle.nbdj_pipe.specs.declared.refusal.Refusal.{Refusal}
 use Rattle.nbdj_pipe.specs.declared.refusal.Refusal.TheVariants.{DeviceFault, PeerClosed, ProtocolEnd}
+
+-- A session that stored what was pending ends as its input did, or its run shows why not.
+abbrev pub IsEndShown : Result (Unit {0}) Refusal → Result (Unit {0}) Refusal → World → World → Type 0
+IsEndShown end outcome first last = (outcome ≡ end) ⊎ IfErr outcome (λ refusal. HasCause refusal first last)
 
 -- What a session answers at its end: how its input ended, or a refusal that comes before, or where the input had come to its
 -- end that the device failed, which has stopped the order.
@@ -37,22 +42,24 @@ pub record HasTalked (world next : World) (exchanges : List Exchange) (last : Op
   pub idle : last ≡ None → next.connections 0 ≡ Idle
 
 -- From any world that an export is of, with no request open, steps lead to one in which these requests were sent and
--- answered in turn, and the last one was sent. The export is given by its parts, before and after.
+-- answered in turn, and the last one was sent; they show why it ended, where that was early. The export is given by its
+-- parts, before and after.
 abbrev pub Runs : {D : Type 0} → (D → State) → (D → ℕ) → (D → Type 0) → OrderState → KeeperState D → ConnectionsState → OrderState → KeeperState D → ConnectionsState
-    → List Exchange → Option Message → Type 0
-Runs state faults honest order keeper connections order' keeper' connections' exchanges last =
+    → List Exchange → Option Message → Result (Unit {0}) Refusal → Type 0
+Runs state faults honest order keeper connections order' keeper' connections' exchanges last outcome =
     (world : World) (trusted : Bool) → IsExportOf world order keeper (faults keeper.disk) connections (Trusts trusted (honest keeper.disk)) (state keeper.disk)
     → IsAwaiting world
     → (next : World) × HasTalked world next exchanges last
     × Follows world next (talk_to exchanges last) order' keeper' (faults keeper'.disk) connections' (Trusts trusted (honest keeper'.disk)) (state keeper.disk) (state keeper'.disk)
+    × IfErr outcome (λ refusal. HasCause refusal world next)
 
 -- A request got its reply; a DISC gets none. A refusal may come before the answer or behind it, and no reply is due then.
-abbrev pub Serves : Message → List ℕ → List ℕ → Result Flow Refusal → (List Exchange → Option Message → Type 0) → Type 0
-Serves request old new (Ok Flow.Ended) run = (request.head.kind ≡ 2) × (new ≡ old) × run [] (Some request)
+abbrev pub Serves : Message → List ℕ → List ℕ → Result Flow Refusal → (List Exchange → Option Message → Result (Unit {0}) Refusal → Type 0) → Type 0
+Serves request old new (Ok Flow.Ended) run = (request.head.kind ≡ 2) × (new ≡ old) × run [] (Some request) (Ok tt)
 Serves request old new (Ok Flow.Open) run =
-    (answer : Answer) × (request.head.kind ≢ 2) × (new ≡ old ++ reply_to request.head.cookie answer) × run (record { request = request; answer = answer } ∷ []) None
+    (answer : Answer) × (request.head.kind ≢ 2) × (new ≡ old ++ reply_to request.head.cookie answer) × run (record { request = request; answer = answer } ∷ []) None (Ok tt)
 Serves request old new (Err refusal) run = IsEarly refusal × (new ≡ old)
-    × (run [] (Some request) ⊎ ((answer : Answer) × (request.head.kind ≢ 2) × run (record { request = request; answer = answer } ∷ []) None))
+    × (run [] (Some request) (Err refusal) ⊎ ((answer : Answer) × (request.head.kind ≢ 2) × run (record { request = request; answer = answer } ∷ []) None (Err refusal)))
 
 -- a piece was fed to a reader that had been handed out these requests
 abbrev pub TakesOn : Reader → List ℕ → List Message → Reader → Type 0
@@ -77,15 +84,20 @@ pub record IsTaken (told : Conversation) (reader : Reader) (outcome : Result Flo
   pub device : outcome ≢ Err DeviceFault
   pub session : IfErr outcome IsOfSession
 
+-- how a session ended, where it did early
+abbrev pub ended_by : Result Flow Refusal → Result (Unit {0}) Refusal
+ended_by (Ok flow) = Ok tt
+ended_by (Err refusal) = Err refusal
+
 -- a piece of the input was read, and its requests were answered
-pub record Takes (old : Reader) (piece : List ℕ) (new : Reader) (before after : List ℕ) (outcome : Result Flow Refusal) (run : List Exchange → Option Message → Type 0) : Type 0 where
+pub record Takes (old : Reader) (piece : List ℕ) (new : Reader) (before after : List ℕ) (outcome : Result Flow Refusal) (run : List Exchange → Option Message → Result (Unit {0}) Refusal → Type 0) : Type 0 where
   pub requests : List Message
   pub told : Conversation
   pub reads : TakesOn old piece requests new
   pub due : after ≡ before ++ told.text
   pub served : IsServed requests told
   pub taken : IsTaken told new outcome
-  pub runs : run told.exchanges told.last
+  pub runs : run told.exchanges told.last (ended_by outcome)
 
 -- bytes were written, all or after a fault the first of them
 abbrev pub WritesPart : Option (List ℕ) → Option (List ℕ) → List ℕ → Result (Unit {0}) Refusal → Type 0

@@ -1,12 +1,13 @@
-ghost use Rattle.std.specs.Prelude.{◌≡◌, ◌↔◌, ◌++◌, Bool, [], ◌∷◌, IfErr, IfOk, IfSome, IsTrue, MatchBool, MatchOption, OnOk};
+ghost use Rattle.std.specs.Prelude.{◌≡◌, ◌↔◌, ◌++◌, Bool, [], ◌∷◌, IfErr, IfOk, IfSome, IsTrue, MatchBool, MatchOption, MatchResult, OnOk};
 ghost use Rattle.nbd_wire.specs.Request.{Message};
-ghost use Rattle.nbdj_pipe.specs.Export.{AwaitsAnswer, Follows, HasAnswer, IsGiven, IsJudged, IsOfKind, IsSettled, IsStoring, Settles, said_of, told, told_by};
+ghost use Rattle.nbdj_pipe.specs.Causes.{HasCause, LacksRoom};
+ghost use Rattle.nbdj_pipe.specs.Export.{AwaitsAnswer, Follows, GetsOn, HasAnswer, IsGiven, IsJudged, IsOfKind, IsSettled, IsStoring, IsWaiting, Settles, StoredBy, said_of, told, told_by};
 ghost use Rattle.nbdj_pipe.specs.Refusals.{IsEarly};
 ghost use Rattle.nbdj_pipe.specs.Talk.{plain, spoken, verdict_on};
 ghost use Rattle.order_book.specs.Order.{IsInHand};
 ghost use Rattle.request_core.specs.Life.{Trusts};
 ghost use Rattle.request_core.specs.Parts.{IsExportOf};
-ghost use Rattle.world.specs.Serve.{Luck};
+ghost use Rattle.world.specs.Serve.{Failure};
 ghost use Rattle.world.specs.Step.{after_step};
 ghost use Rattle.world.specs.World.{World};
 ghost use Rattle.world.specs.declared.connection.Connection.TheVariants as Connection;
@@ -21,19 +22,26 @@ use request_core::{Connections, Event, Step, StepFault, leads_law, take_step};
 use std::alloc::Global;
 use world_law::schedule_law;
 
-// What became of a group, by the events of sealing and appending it. After a fault of the device nothing is refused: the
-// order is stopped, and answers tell of it.
-fn stored(sealed: &Event, appended: &Event) -> Result<(), Refusal>
-    ensures { IfErr result IsEarly }
+// What became of a group, by the events of sealing it, appending it and publishing it. After a fault of the device nothing
+// is refused: the order is stopped, and answers tell of it.
+fn stored(sealed: &Event, appended: &Event, published: &Event) -> Result<(), Refusal>
+    ensures early { IfErr result IsEarly }
+    ensures events { StoredBy sealed.now appended.now published.now result }
 {
-    if matches!(sealed, Event::Failed(_)) {
+    if let Event::Failed(_) = sealed {
         return Err(Refusal::NoMemory);
     }
     match appended {
-        Event::Took => Ok(()),
-        Event::Failed(StepFault::NoMemory) => Err(Refusal::NoMemory),
-        Event::Failed(StepFault::DeviceFault | StepFault::FailedBefore) => Ok(()),
-        _ => Err(Refusal::AreaFull),
+        Event::Failed(fault) => match fault {
+            StepFault::NoMemory => Err(Refusal::NoMemory),
+            StepFault::DeviceFault | StepFault::FailedBefore => Ok(()),
+        },
+        // Nothing was stored now, and nothing earlier that wasn't published: the group doesn't fit.
+        Event::Held => match published {
+            Event::Held => Err(Refusal::AreaFull),
+            _ => Ok(()),
+        },
+        _ => Ok(()),
     }
 }
 
@@ -54,8 +62,8 @@ impl<D: Disk> Export<D> {
         ensures extent { D.extent self.new.keeper.disk ≡ D.extent self.old.keeper.disk }
         ensures honest { D.honest self.new.keeper.disk ↔ D.honest self.old.keeper.disk }
         ensures world { (world : World) (trusted : Bool) → IsExportOf world self.old.order self.old.keeper (D.faults self.old.keeper.disk) self.old.connections (Trusts trusted (D.honest self.old.keeper.disk)) (D.state self.old.keeper.disk)
-            → (luck : Luck) × ((after_step world step luck).log ≡ world.log ++ result ∷ [])
-            × Follows world (after_step world step luck) (spoken (result ∷ [])) self.new.order self.new.keeper (D.faults self.new.keeper.disk) self.new.connections
+            → (failure : Failure) × ((after_step world step failure).log ≡ world.log ++ result ∷ [])
+            × Follows world (after_step world step failure) (spoken (result ∷ [])) self.new.order self.new.keeper (D.faults self.new.keeper.disk) self.new.connections
             (Trusts trusted (D.honest self.new.keeper.disk)) (D.state self.old.keeper.disk) (D.state self.new.keeper.disk) }
     {
         leads_law::<D>();
@@ -77,8 +85,9 @@ impl<D: Disk> Export<D> {
         ensures extent { D.extent self.new.keeper.disk ≡ D.extent self.old.keeper.disk }
         ensures honest { D.honest self.new.keeper.disk ↔ D.honest self.old.keeper.disk }
         ensures world { (world : World) (trusted : Bool) → IsExportOf world self.old.order self.old.keeper (D.faults self.old.keeper.disk) self.old.connections (Trusts trusted (D.honest self.old.keeper.disk)) (D.state self.old.keeper.disk)
-            → (next : World) × Settles world next self.new.order self.new.keeper (D.faults self.new.keeper.disk) self.new.connections
-            (Trusts trusted (D.honest self.new.keeper.disk)) (D.state self.old.keeper.disk) (D.state self.new.keeper.disk) }
+            → (failure : Failure) × Settles world (after_step world step failure) self.new.order self.new.keeper (D.faults self.new.keeper.disk) self.new.connections
+            (Trusts trusted (D.honest self.new.keeper.disk)) (D.state self.old.keeper.disk) (D.state self.new.keeper.disk)
+            × ((after_step world step failure).log ≡ world.log ++ result ∷ []) }
     {
         self.step(step)
     }
@@ -87,24 +96,27 @@ impl<D: Disk> Export<D> {
     // stopped.
     fn store_some(&mut self) -> Result<(), Refusal>
         requires group { IfSome self.old.connections.group (IsInHand self.old.order) }
+        requires pending { IsSettled self.old.order → ⊥ }
         ensures group { IfSome self.new.connections.group (IsInHand self.new.order) }
         ensures extent { D.extent self.new.keeper.disk ≡ D.extent self.old.keeper.disk }
         ensures honest { D.honest self.new.keeper.disk ↔ D.honest self.old.keeper.disk }
         ensures early { IfErr result IsEarly }
         ensures world { (world : World) (trusted : Bool) → IsExportOf world self.old.order self.old.keeper (D.faults self.old.keeper.disk) self.old.connections (Trusts trusted (D.honest self.old.keeper.disk)) (D.state self.old.keeper.disk)
             → (next : World) × Settles world next self.new.order self.new.keeper (D.faults self.new.keeper.disk) self.new.connections
-            (Trusts trusted (D.honest self.new.keeper.disk)) (D.state self.old.keeper.disk) (D.state self.new.keeper.disk) }
+            (Trusts trusted (D.honest self.new.keeper.disk)) (D.state self.old.keeper.disk) (D.state self.new.keeper.disk)
+            × MatchResult result (λ done. GetsOn world next) (λ refusal. HasCause refusal world next) }
     {
         leads_law::<D>();
+        schedule_law();
         let sealed = self.store_step(Step::Seal);
         let appended = self.store_step(Step::Append);
-        let _published = self.store_step(Step::Publish);
-        stored(&sealed, &appended)
+        let published = self.store_step(Step::Publish);
+        stored(&sealed, &appended, &published)
     }
 
     // Whether there is nothing to store, or nothing that can be.
     fn is_settled(&self) -> bool
-        ensures { IsTrue result → IsSettled self.now.order }
+        ensures { IsTrue result ↔ IsSettled self.now.order }
     {
         self.order.stopped() || self.order.durable() == self.order.mark()
     }
@@ -119,16 +131,23 @@ impl<D: Disk> Export<D> {
         ensures early { IfErr result IsEarly }
         ensures world { (world : World) (trusted : Bool) → IsExportOf world self.old.order self.old.keeper (D.faults self.old.keeper.disk) self.old.connections (Trusts trusted (D.honest self.old.keeper.disk)) (D.state self.old.keeper.disk)
             → (next : World) × Settles world next self.new.order self.new.keeper (D.faults self.new.keeper.disk) self.new.connections
-            (Trusts trusted (D.honest self.new.keeper.disk)) (D.state self.old.keeper.disk) (D.state self.new.keeper.disk) }
+            (Trusts trusted (D.honest self.new.keeper.disk)) (D.state self.old.keeper.disk) (D.state self.new.keeper.disk)
+            × IfErr result (λ refusal. HasCause refusal world next) }
     {
         leads_law::<D>();
-        for _ in 0..u64::MAX {
+        schedule_law();
+        for groups in 0..u64::MAX {
             if self.is_settled() {
                 return Ok(());
             }
             self.store_some()?;
         }
-        Err(Refusal::Failed)
+        // Each group has a command at least, so all have been stored by now.
+        if self.is_settled() {
+            Ok(())
+        } else {
+            Err(Refusal::Failed)
+        }
     }
 
     // Serves the request that was sent; not where there is no room for its command.
@@ -140,7 +159,7 @@ impl<D: Disk> Export<D> {
         ensures world { (world : World) (trusted : Bool) (request : Message) → IsExportOf world self.old.order self.old.keeper (D.faults self.old.keeper.disk) self.old.connections (Trusts trusted (D.honest self.old.keeper.disk)) (D.state self.old.keeper.disk)
             → world.connections 0 ≡ Connection.Requested request
             → (next : World) × MatchBool result (IsJudged (verdict_on request.head world.stage.setting.geometry world.stage.setting.flags) (next.connections 0))
-            (next.connections ≡ world.connections)
+            ((next.connections ≡ world.connections) × LacksRoom world request)
             × Follows world next [] self.new.order self.new.keeper (D.faults self.new.keeper.disk) self.new.connections
             (Trusts trusted (D.honest self.new.keeper.disk)) (D.state self.old.keeper.disk) (D.state self.new.keeper.disk) }
     {
@@ -161,9 +180,11 @@ impl<D: Disk> Export<D> {
             → world.connections 0 ≡ Connection.Requested request
             → (next : World) × OnOk result (IsJudged (verdict_on request.head world.stage.setting.geometry world.stage.setting.flags) (next.connections 0))
             × Follows world next [] self.new.order self.new.keeper (D.faults self.new.keeper.disk) self.new.connections
-            (Trusts trusted (D.honest self.new.keeper.disk)) (D.state self.old.keeper.disk) (D.state self.new.keeper.disk) }
+            (Trusts trusted (D.honest self.new.keeper.disk)) (D.state self.old.keeper.disk) (D.state self.new.keeper.disk)
+            × IfErr result (λ refusal. HasCause refusal world next) }
     {
         leads_law::<D>();
+        schedule_law();
         if self.try_serve() {
             return Ok(());
         }
@@ -182,7 +203,7 @@ impl<D: Disk> Export<D> {
         ensures honest { D.honest self.new.keeper.disk ↔ D.honest self.old.keeper.disk }
         ensures world { (world : World) (trusted : Bool) → IsExportOf world self.old.order self.old.keeper (D.faults self.old.keeper.disk) self.old.connections (Trusts trusted (D.honest self.old.keeper.disk)) (D.state self.old.keeper.disk)
             → AwaitsAnswer (world.connections 0)
-            → (next : World) × MatchOption result (next.connections ≡ world.connections) (λ answer. (next.connections 0 ≡ Connection.Idle) × IsGiven (world.connections 0) answer)
+            → (next : World) × MatchOption result ((next.connections ≡ world.connections) × IsWaiting world) (λ answer. (next.connections 0 ≡ Connection.Idle) × IsGiven (world.connections 0) answer)
             × Follows world next (told result) self.new.order self.new.keeper (D.faults self.new.keeper.disk) self.new.connections
             (Trusts trusted (D.honest self.new.keeper.disk)) (D.state self.old.keeper.disk) (D.state self.new.keeper.disk) }
     {
@@ -203,9 +224,11 @@ impl<D: Disk> Export<D> {
             → AwaitsAnswer (world.connections 0)
             → (next : World) × IfOk result (λ answer. (next.connections 0 ≡ Connection.Idle) × IsGiven (world.connections 0) answer)
             × Follows world next (told_by result) self.new.order self.new.keeper (D.faults self.new.keeper.disk) self.new.connections
-            (Trusts trusted (D.honest self.new.keeper.disk)) (D.state self.old.keeper.disk) (D.state self.new.keeper.disk) }
+            (Trusts trusted (D.honest self.new.keeper.disk)) (D.state self.old.keeper.disk) (D.state self.new.keeper.disk)
+            × IfErr result (λ refusal. HasCause refusal world next) }
     {
         leads_law::<D>();
+        schedule_law();
         if let Some(answer) = self.try_answer() {
             return Ok(answer);
         }
@@ -228,7 +251,8 @@ impl<D: Disk> Export<D> {
             → world.connections 0 ≡ Connection.Idle → world.stage.setting.flags ≡ plain
             → (next : World) × IfOk result (HasAnswer world next request)
             × Follows world next (Event.Sent 0 request ∷ said_of result) self.new.order self.new.keeper (D.faults self.new.keeper.disk) self.new.connections
-            (Trusts trusted (D.honest self.new.keeper.disk)) (D.state self.old.keeper.disk) (D.state self.new.keeper.disk) }
+            (Trusts trusted (D.honest self.new.keeper.disk)) (D.state self.old.keeper.disk) (D.state self.new.keeper.disk)
+            × IfErr result (λ refusal. HasCause refusal world next) }
     {
         leads_law::<D>();
         let disconnects = request.head().kind == DISCONNECT;

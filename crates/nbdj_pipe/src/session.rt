@@ -1,10 +1,10 @@
-ghost use Rattle.std.specs.Prelude.{◌≡◌, ◌↔◌, ◌⊎◌, ◌<◌, [], Bool, false, vec_len, IfErr, IfOk, IfSome, IsErrOf, Ok, OnErr};
+ghost use Rattle.std.specs.Prelude.{◌≡◌, ◌↔◌, ◌⊎◌, ◌<◌, [], Bool, false, vec_len, IfErr, IfOk, IfSome, IsErrOf, Ok, Err, OnErr};
 ghost use Rattle.disk_model.specs.Faults.{HasRisen};
 ghost use Rattle.nbdj_pipe.specs.Export.{Settles};
 ghost use Rattle.nbdj_pipe.specs.Life.{IsLived};
 ghost use Rattle.nbdj_pipe.specs.Pipe.{IsOrderly, IsPiped, IsUnopened};
 ghost use Rattle.nbdj_pipe.specs.Refusals.{IsEarly};
-ghost use Rattle.nbdj_pipe.specs.Session.{IsEndOr, IsFed, Runs, Serves, StaysOpen, Takes, WritesPart};
+ghost use Rattle.nbdj_pipe.specs.Session.{IsEndOr, IsEndShown, IsFed, Runs, Serves, StaysOpen, Takes, WritesPart};
 ghost use Rattle.nbdj_pipe.specs.Talk.{error_of, reply_to};
 ghost use Rattle.nbdj_pipe.specs.declared.refusal.Refusal.TheVariants as Refusal;
 ghost use Rattle.order_book.specs.Order.{IsInHand};
@@ -53,7 +53,7 @@ pub fn pipe<D: Disk, R: Read, W: Write>(
     // The answers are those of a run of the world, in which these requests were sent.
     ensures dialog { IsUnopened D.state D.faults D.honest disk result.1 (R.remaining input.old) (R.remaining input.new) (W.contents output.old) (W.contents output.new) result.0
         ⊎ IsPiped (R.remaining input.old) (R.remaining input.new) (W.contents output.old) (W.contents output.new) result.0
-        (IsLived D.state D.faults D.honest options.frames options.mode disk result.1 result.0) }
+        (IsLived D.state D.faults D.honest options.frames options.mode disk result.1) }
     ensures device { IsErrOf result.0 Refusal.DeviceFault → HasRisen (D.faults disk) (D.faults result.1) }
 {
     leads_law::<D>();
@@ -226,7 +226,8 @@ impl<D: Disk> Session<D> {
         ensures world { (world : World) (trusted : Bool) → IsExportOf world self.old.export.order self.old.export.keeper (D.faults self.old.export.keeper.disk) self.old.export.connections
             (Trusts trusted (D.honest self.old.export.keeper.disk)) (D.state self.old.export.keeper.disk)
             → (next : World) × Settles world next self.new.export.order self.new.export.keeper (D.faults self.new.export.keeper.disk) self.new.export.connections
-            (Trusts trusted (D.honest self.new.export.keeper.disk)) (D.state self.old.export.keeper.disk) (D.state self.new.export.keeper.disk) }
+            (Trusts trusted (D.honest self.new.export.keeper.disk)) (D.state self.old.export.keeper.disk) (D.state self.new.export.keeper.disk)
+            × IsEndShown end result world next }
     {
         let stored = self.export.store_all();
         outcome(end, stored, self.export.order.stopped())
@@ -242,6 +243,7 @@ fn outcome(
     requires { IfErr stored IsEarly }
     ensures end { IsEndOr end result stopped }
     ensures stored { IsOrderly result → (stopped ≡ false) × (stored ≡ Ok tt) }
+    ensures told { (result ≡ end) ⊎ (result ≡ stored) ⊎ (result ≡ Err Refusal.DeviceFault) }
 {
     match end {
         Ok(()) | Err(Refusal::PeerClosed | Refusal::ProtocolEnd) => {

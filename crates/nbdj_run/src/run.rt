@@ -35,7 +35,7 @@ pub fn perform<D: Disk + Drop, R: Read, W: Write, E: Write>(
     ensures piped { IfPipe plan.now (λ options. (outcome : Result (Unit {0}) Refusal) × (result.0 ≡ status_of outcome)
         × (IsUnopened D.state D.faults D.honest disk result.1 (R.remaining input.old) (R.remaining input.new) (W.contents output.old) (W.contents output.new) outcome
         ⊎ IsPiped (R.remaining input.old) (R.remaining input.new) (W.contents output.old) (W.contents output.new) outcome
-        (IsLived D.state D.faults D.honest options.frames options.mode disk result.1 outcome))
+        (IsLived D.state D.faults D.honest options.frames options.mode disk result.1))
         × (IsErrOf outcome DeviceFault → HasRisen (D.faults disk) (D.faults result.1))) }
     // A check only reads.
     ensures checked { IfCheck plan.now (D.honest disk → IsOnlyRead (D.state disk) (D.state result.1)) }

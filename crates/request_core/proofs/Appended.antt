@@ -18,12 +18,12 @@ use Rattle.request_core.specs.Steps.{IsAppended}
 use Rattle.request_core.specs.Parts.{IsDiskOf, IsKeeperOf, IsOrderOf, StandsAfter, image_after}
 use Rattle.request_core.specs.Storing.{IsKept, event_of, hand_after, order_after}
 use Rattle.request_core.proofs.Lives.{either_stands, group_takes, image_grows, number_grows}
-use Rattle.request_core.proofs.Stored.{goes_failed, goes_full, goes_none, goes_on_to, kept_back, kept_faulted, kept_held, kept_starved, kept_stored, not_true_is}
+use Rattle.request_core.proofs.Stored.{goes_failed, goes_full, goes_none, goes_on_to, kept_back, kept_faulted, kept_held, kept_out_of_memory, kept_stored, not_true_is}
 use Rattle.world.specs.declared.event.Event.{Event}
 use Rattle.world.specs.declared.event.Event.TheVariants.{Took, Held, Failed}
 use Rattle.world.specs.declared.event.StepFault.TheVariants.{NoMemory, DeviceFault, FailedBefore}
-use Rattle.world.specs.Serve.{Luck, Fine, Starved, Faulted, held, logged}
-use Rattle.world.specs.Step.{append, faulted, put_back, starved, stored_more}
+use Rattle.world.specs.Serve.{Failure, Nothing, OutOfMemory, DeviceFailure, held, logged}
+use Rattle.world.specs.Step.{append, faulted, put_back, out_of_memory, stored_more}
 use Rattle.world.specs.World.{World}
 use Rattle.world_law.specs.Law.{IsWithin}
 
@@ -38,7 +38,7 @@ module _ {D : Type 0} (state : D → State) (faults extent : D → ℕ) (honest 
       (record { kept = kept; disk = λ is_honest disk. (here disk, begins (sound old.disk is_honest) disk.leaves) })
 
   pub appended_none : (world : World) (order : OrderState) (old : KeeperState D) → IsOrderOf world.stage order None → IsKeeperOf world.stage old (faults old.disk)
-      → IsAppended world (append Fine world) Held order None old old (faults old.disk) (honest old.disk) (state old.disk) (state old.disk)
+      → IsAppended world (append Nothing world) Held order None old old (faults old.disk) (honest old.disk) (state old.disk) (state old.disk)
   appended_none world order old of kept =
       goes_none world old (faults old.disk) kept order (λ next. IsAppended world next Held order None old old (faults old.disk) (honest old.disk) (state old.disk) (state old.disk)) of
       (same_disk world (held world) Held order None old old refl (λ disk. disk) (kept_held world old (faults old.disk) kept order None of))
@@ -49,7 +49,7 @@ module _ {D : Type 0} (state : D → State) (faults extent : D → ℕ) (honest 
     put_back_here event disk = record { keeps = disk.keeps; leaves = disk.leaves }
 
     pub appended_failed : (new : KeeperState D) → old.failed ≡ true → new ≡ old
-        → IsAppended world (append Fine world) (Failed FailedBefore) (with_group order group) None old new (faults new.disk) (honest old.disk) (state old.disk) (state new.disk)
+        → IsAppended world (append Nothing world) (Failed FailedBefore) (with_group order group) None old new (faults new.disk) (honest old.disk) (state old.disk) (state new.disk)
     appended_failed new failed same =
         goes_failed world old (faults old.disk) kept order group of
         (λ next. IsAppended world next (Failed FailedBefore) (with_group order group) None old new (faults new.disk) (honest old.disk) (state old.disk) (state new.disk)) failed
@@ -57,20 +57,20 @@ module _ {D : Type 0} (state : D → State) (faults extent : D → ℕ) (honest 
         (kept_back world old (faults old.disk) kept order group of (Failed FailedBefore)))
 
     pub appended_full : (new : KeeperState D) → old.failed ≡ false → old.geometry.area < end_after old group → new ≡ old
-        → IsAppended world (append Fine world) Held (with_group order group) None old new (faults new.disk) (honest old.disk) (state old.disk) (state new.disk)
+        → IsAppended world (append Nothing world) Held (with_group order group) None old new (faults new.disk) (honest old.disk) (state old.disk) (state new.disk)
     appended_full new failed full same =
         goes_full world old (faults old.disk) kept order group of
         (λ next. IsAppended world next Held (with_group order group) None old new (faults new.disk) (honest old.disk) (state old.disk) (state new.disk)) failed full
         (same_disk world (held (put_back world)) Held (with_group order group) None old new same (put_back_here Held)
         (kept_back world old (faults old.disk) kept order group of Held))
 
-    pub appended_starved : (new : KeeperState D) → old.failed ≡ false → end_after old group ≤ old.geometry.area → new ≡ old
-        → IsAppended world (append Starved world) (Failed NoMemory) order (Some group) old new (faults new.disk) (honest old.disk) (state old.disk) (state new.disk)
-    appended_starved new failed fit same =
-        goes_on_to world old (faults old.disk) kept order group of Starved
+    pub appended_out_of_memory : (new : KeeperState D) → old.failed ≡ false → end_after old group ≤ old.geometry.area → new ≡ old
+        → IsAppended world (append OutOfMemory world) (Failed NoMemory) order (Some group) old new (faults new.disk) (honest old.disk) (state old.disk) (state new.disk)
+    appended_out_of_memory new failed fit same =
+        goes_on_to world old (faults old.disk) kept order group of OutOfMemory
         (λ next. IsAppended world next (Failed NoMemory) order (Some group) old new (faults new.disk) (honest old.disk) (state old.disk) (state new.disk)) failed fit
-        (same_disk world (starved world) (Failed NoMemory) order (Some group) old new same (λ disk. disk)
-        (kept_starved world old (faults old.disk) kept order (Some group) of))
+        (same_disk world (out_of_memory world) (Failed NoMemory) order (Some group) old new same (λ disk. disk)
+        (kept_out_of_memory world old (faults old.disk) kept order (Some group) of))
 
     -- every crash while the group was stored leaves what reaches all that was stored before
     chain : (new : KeeperState D) → IsOrderOf world.stage order (Some group)
@@ -88,9 +88,9 @@ module _ {D : Type 0} (state : D → State) (faults extent : D → ℕ) (honest 
         → (honest old.disk → (image : Image) (number : ℕ) → Keeps old (state old.disk) image number → AreChanges old.geometry.blocks (map change_of group.commands)
         → LeavesOnly (state old.disk) (state new.disk) (λ content. StandsFor content image number
         ⊎ StandsFor content (apply_all (map change_of group.commands) image) (number + length group.commands)))
-        → IsAppended world (append Faulted world) (Failed DeviceFault) (record (with_group order group) { stopped = true }) None old new (faults new.disk) (honest old.disk) (state old.disk) (state new.disk)
+        → IsAppended world (append DeviceFailure world) (Failed DeviceFault) (record (with_group order group) { stopped = true }) None old new (faults new.disk) (honest old.disk) (state old.disk) (state new.disk)
     appended_faulted new failed fit same level stays_honest any =
-        goes_on_to world old (faults old.disk) kept order group of Faulted
+        goes_on_to world old (faults old.disk) kept order group of DeviceFailure
         (λ next. IsAppended world next (Failed DeviceFault) (record (with_group order group) { stopped = true }) None old new (faults new.disk) (honest old.disk) (state old.disk) (state new.disk)) failed fit
         (record {
           kept = subst (λ (k : KeeperState D). IsKept world (logged (faulted world) (Failed DeviceFault)) (Failed DeviceFault) (record (with_group order group) { stopped = true }) None k (faults new.disk)) (sym same)
@@ -113,13 +113,13 @@ module _ {D : Type 0} (state : D → State) (faults extent : D → ℕ) (honest 
         → (honest old.disk → (image : Image) (number : ℕ) → Keeps old (state old.disk) image number → AreChanges old.geometry.blocks (map change_of group.commands)
         → LeavesOnly (state old.disk) (state new.disk) (λ content. StandsFor content image number
         ⊎ StandsFor content (apply_all (map change_of group.commands) image) (number + length group.commands)))
-        → IsAppended world (append Fine world) Took order None old new (faults new.disk) (honest old.disk) (state old.disk) (state new.disk)
+        → IsAppended world (append Nothing world) Took order None old new (faults new.disk) (honest old.disk) (state old.disk) (state new.disk)
     appended new crash failed fit same level stays_honest stored any =
-        goes_on_to world old (faults old.disk) kept order group of Fine
+        goes_on_to world old (faults old.disk) kept order group of Nothing
         (λ next. IsAppended world next Took order None old new (faults new.disk) (honest old.disk) (state old.disk) (state new.disk)) failed fit
         (record {
-          kept = subst (λ (k : KeeperState D). IsKept world (stored_more Fine world) Took order None k (faults new.disk)) (sym same)
-              (subst (λ (n : ℕ). IsKept world (stored_more Fine world) Took order None (grown_by old group new.disk new.memory) n) (sym level)
+          kept = subst (λ (k : KeeperState D). IsKept world (stored_more Nothing world) Took order None k (faults new.disk)) (sym same)
+              (subst (λ (n : ℕ). IsKept world (stored_more Nothing world) Took order None (grown_by old group new.disk new.memory) n) (sym level)
               (kept_stored world old (faults old.disk) kept order group of new.disk new.memory));
           disk = λ is_honest disk.
               let works = disk.keeps (sym kept.failed ∙ failed) in
@@ -149,10 +149,10 @@ module _ {D : Type 0} (state : D → State) (faults extent : D → ℕ) (honest 
         → (honest old.disk → (image : Image) (number : ℕ) → Keeps old (state old.disk) image number → AreChanges old.geometry.blocks (map change_of group.commands)
         → LeavesOnly (state old.disk) (state new.disk) (λ content. StandsFor content image number
         ⊎ StandsFor content (apply_all (map change_of group.commands) image) (number + length group.commands)))
-        → (luck : Luck) × IsAppended world (append luck world) (event_of refusal) (order_after refusal order group) (hand_after refusal group) old new (faults new.disk) (honest old.disk) (state old.disk) (state new.disk)
+        → (failure : Failure) × IsAppended world (append failure world) (event_of refusal) (order_after refusal order group) (hand_after refusal group) old new (faults new.disk) (honest old.disk) (state old.disk) (state new.disk)
     appended_refused fault.NoMemory new only failed full out_of_order same level stays_honest any =
         let works = not_true_is old.failed (λ is. memory_unlike_failed (failed.1 is)) in
-        (Starved, appended_starved new works (fit (cases_lt old.geometry.area (end_after old group)) works) same)
+        (OutOfMemory, appended_out_of_memory new works (fit (cases_lt old.geometry.area (end_after old group)) works) same)
       where
         memory_unlike_failed : fault.NoMemory ≡ fault.Failed → ⊥
         memory_unlike_failed is = cc
@@ -165,7 +165,7 @@ module _ {D : Type 0} (state : D → State) (faults extent : D → ℕ) (honest 
         fit (inr within_area) works = within_area
     appended_refused fault.DeviceFault new only failed full out_of_order same level stays_honest any =
         let works = not_true_is old.failed (λ is. device_unlike_failed (failed.1 is)) in
-        (Faulted, appended_faulted new works (fit (cases_lt old.geometry.area (end_after old group)) works) same level stays_honest any)
+        (DeviceFailure, appended_faulted new works (fit (cases_lt old.geometry.area (end_after old group)) works) same level stays_honest any)
       where
         device_unlike_failed : fault.DeviceFault ≡ fault.Failed → ⊥
         device_unlike_failed is = cc
@@ -181,7 +181,7 @@ module _ {D : Type 0} (state : D → State) (faults extent : D → ℕ) (honest 
     appended_refused fault.BadHeader new only failed full out_of_order same level stays_honest any = absurd only
     appended_refused fault.NumbersFull new only failed full out_of_order same level stays_honest any = absurd only
     appended_refused fault.AreaFull new only failed full out_of_order same level stays_honest any =
-        let is = full.0 refl in (Fine, appended_full new is.0 is.1 same)
+        let is = full.0 refl in (Nothing, appended_full new is.0 is.1 same)
     appended_refused fault.OutOfOrder new only failed full out_of_order same level stays_honest any =
         let is = out_of_order.0 refl in
         let first = of.first in
@@ -190,4 +190,4 @@ module _ {D : Type 0} (state : D → State) (faults extent : D → ℕ) (honest 
     appended_refused fault.DamagedGroup new only failed full out_of_order same level stays_honest any = absurd only
     appended_refused fault.NotNow new only failed full out_of_order same level stays_honest any = absurd only
     appended_refused fault.Failed new only failed full out_of_order same level stays_honest any =
-        (Fine, appended_failed new (failed.0 refl) same)
+        (Nothing, appended_failed new (failed.0 refl) same)

@@ -16,7 +16,7 @@ use Rattle.request_core.specs.declared.serving.Served.{Served}
 use Rattle.request_core.specs.declared.serving.Served.TheVariants as served
 use Rattle.request_core.proofs.Serves.{if_false, if_true, served_accepted, served_held, served_moved, served_numbered, served_quiet, write_accepted, write_full, write_held}
 use Rattle.world.specs.Log.{command_of, is_flush, waits_for_store}
-use Rattle.world.specs.Serve.{Luck, Fine, Starved, accepted, held, judged, logged, moved, passed, ready, state_after, write_served}
+use Rattle.world.specs.Serve.{Failure, Nothing, OutOfMemory, accepted, held, judged, logged, moved, passed, ready, state_after, write_served}
 use Rattle.world.specs.World.{World, last_number}
 use Rattle.world.specs.declared.action.Action.{Action}
 use Rattle.world.specs.declared.action.Action.TheVariants as Action
@@ -60,38 +60,38 @@ module _ (world : World) (c : ℕ) (request : Message) (old : OrderState) (group
       (served_moved world c request old group of (Waiting old.mark) Took))
 
   command_served : (command : Command) → change_of command ≡ command_of request → IsChange world.stage.setting.geometry.blocks (command_of request) → old.mark < 18446744073709551615
-      → IsCommandServed request world.stage.setting.mode command old new result → (luck : Luck) × Comes (write_served luck world c request)
+      → IsCommandServed request world.stage.setting.mode command old new result → (failure : Failure) × Comes (write_served failure world c request)
   command_served command own change left (inl (none, same, is)) = (
-    Fine,
-    write_held world c request old group of Fine Comes command left own none
+    Nothing,
+    write_held world c request old group of Nothing Comes command left own none
         (served_quiet world c request old group of (held world) result (served.NoRoom request) new same is (served_held world c request old group of here)),
   )
   command_served command own change left (inr (inl (room, same, is))) = (
-    Starved,
-    write_accepted world c request old group of Starved Comes command left own room (refused_so errno.NoMemory same is),
+    OutOfMemory,
+    write_accepted world c request old group of OutOfMemory Comes command left own room (refused_so errno.NoMemory same is),
   )
   command_served command own change left (inr (inr (room, same, is))) = (
-    Fine,
-    write_accepted world c request old group of Fine Comes command left own room
-        (served_numbered world c request old group of (accepted Fine world c request) result (waits_for_store world.stage.setting.mode request) request.head.cookie (old.mark + 1) command new same refl is
+    Nothing,
+    write_accepted world c request old group of Nothing Comes command left own room
+        (served_numbered world c request old group of (accepted Nothing world c request) result (waits_for_store world.stage.setting.mode request) request.head.cookie (old.mark + 1) command new same refl is
         (served_accepted world c request old group of command (old.mark + 1) within left own change refl)),
   )
 
-  written : IsWriteServed request world.stage.setting.geometry world.stage.setting.mode old new result → (luck : Luck) × Comes (write_served luck world c request)
-  written (inl (full, same, is)) = (Fine, write_full world c request old group of Fine Comes full (refused_so errno.NoSpace same is))
+  written : IsWriteServed request world.stage.setting.geometry world.stage.setting.mode old new result → (failure : Failure) × Comes (write_served failure world c request)
+  written (inl (full, same, is)) = (Nothing, write_full world c request old group of Nothing Comes full (refused_so errno.NoSpace same is))
   written (inr (command, own, change, left, by)) = command_served command own change left by
 
-  passes : IsPassed request world.stage.setting.geometry world.stage.setting.mode old new result → (luck : Luck) × Comes (passed luck world c request)
-  passes (inl (stopped, same, is)) = (Fine, if_true Comes world.stage.stopped _ _ (sym of.stopped ∙ stopped) (refused_so Io same is))
+  passes : IsPassed request world.stage.setting.geometry world.stage.setting.mode old new result → (failure : Failure) × Comes (passed failure world c request)
+  passes (inl (stopped, same, is)) = (Nothing, if_true Comes world.stage.stopped _ _ (sym of.stopped ∙ stopped) (refused_so Io same is))
   passes (inr (inl (works, flush, same, is))) = (
-    Fine,
+    Nothing,
     if_false Comes world.stage.stopped _ _ (sym of.stopped ∙ works) (if_true Comes (is_flush request) _ _ flush (flush_waits same is)),
   )
   passes (inr (inr (works, other, by))) =
       let wrote = written by in
       (wrote.0, if_false Comes world.stage.stopped _ _ (sym of.stopped ∙ works) (if_false Comes (is_flush request) _ _ other wrote.1))
 
-  pub lifted : (given : Result Action Errno) → IsServedBy given request world.stage.setting.geometry world.stage.setting.mode old new result → (luck : Luck) × Comes (judged given luck world c request)
+  pub lifted : (given : Result Action Errno) → IsServedBy given request world.stage.setting.geometry world.stage.setting.mode old new result → (failure : Failure) × Comes (judged given failure world c request)
   lifted (Ok Action.End) by = absurd by
   lifted (Ok Action.Serve) by = passes by
-  lifted (Err errno) by = (Fine, refused_so errno by.0 by.1)
+  lifted (Err errno) by = (Nothing, refused_so errno by.0 by.1)

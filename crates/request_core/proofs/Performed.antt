@@ -13,7 +13,7 @@ use Rattle.request_core.specs.Storing.{IsKept}
 use Rattle.request_core.proofs.Lives.{all_both, disk_grows}
 use Rattle.world.specs.declared.connection.Connection.{Connection}
 use Rattle.world.specs.declared.event.Event.{Event}
-use Rattle.world.specs.Serve.{Luck, Fine, Starved, Faulted}
+use Rattle.world.specs.Serve.{Failure, Nothing, OutOfMemory, DeviceFailure}
 use Rattle.world.specs.Step.{after_step, publish, seal, sealed_more}
 use Rattle.world.specs.declared.step.Step.{Step}
 use Rattle.world.specs.World.{World, Stage}
@@ -73,13 +73,13 @@ module _ {D : Type 0} (extent : ℕ) (honest : Type 0) (state : State) (sound : 
       → IsDiskOf (record world.stage { sealed = sealed; durable = durable }) keeper state
   numbers_here sealed durable disk = record { keeps = disk.keeps; leaves = disk.leaves }
 
-  pub disk_seals : (luck : Luck) → IsDiskOf world.stage keeper state → IsDiskOf (seal luck world).stage keeper state
-  disk_seals luck disk = of_either (λ (next : World). IsDiskOf next.stage keeper state) (nat_lt world.stage.sealed (length world.stage.order) && (world.stage.sealed == world.stage.durable)) _ _ (by_luck luck) disk
+  pub disk_seals : (failure : Failure) → IsDiskOf world.stage keeper state → IsDiskOf (seal failure world).stage keeper state
+  disk_seals failure disk = of_either (λ (next : World). IsDiskOf next.stage keeper state) (nat_lt world.stage.sealed (length world.stage.order) && (world.stage.sealed == world.stage.durable)) _ _ (by_luck failure) disk
     where
-      by_luck : (luck : Luck) → IsDiskOf (sealed_more luck world).stage keeper state
-      by_luck Starved = disk
-      by_luck Fine = numbers_here _ _ disk
-      by_luck Faulted = numbers_here _ _ disk
+      by_luck : (failure : Failure) → IsDiskOf (sealed_more failure world).stage keeper state
+      by_luck OutOfMemory = disk
+      by_luck Nothing = numbers_here _ _ disk
+      by_luck DeviceFailure = numbers_here _ _ disk
 
   pub disk_publishes : IsDiskOf world.stage keeper state → IsDiskOf (publish world).stage keeper state
   disk_publishes disk = of_either (λ (next : World). IsDiskOf next.stage keeper state) (nat_lt world.stage.durable world.stage.stored) _ _ (numbers_here _ _ disk) disk
@@ -98,7 +98,7 @@ performed_appended honest before after world next event order connections old ne
 
 -- the same of a step that is this one
 pub of_step : {D : Type 0} {world : World} {event : Event} {order : OrderState} {connections : ConnectionsState} {old new : KeeperState D} {failures : ℕ} {honest : Type 0} {before after : State}
-    (luck : Luck) (step this : Step) → step ≡ this → IsPerformed world (after_step world this luck) event order connections old new failures honest before after
-    → IsPerformed world (after_step world step luck) event order connections old new failures honest before after
-of_step {world = world} {event = event} {order = order} {connections = connections} {old = old} {new = new} {failures = failures} {honest = honest} {before = before} {after = after} luck step this is performed =
-    subst (λ (s : Step). IsPerformed world (after_step world s luck) event order connections old new failures honest before after) (sym is) performed
+    (failure : Failure) (step this : Step) → step ≡ this → IsPerformed world (after_step world this failure) event order connections old new failures honest before after
+    → IsPerformed world (after_step world step failure) event order connections old new failures honest before after
+of_step {world = world} {event = event} {order = order} {connections = connections} {old = old} {new = new} {failures = failures} {honest = honest} {before = before} {after = after} failure step this is performed =
+    subst (λ (s : Step). IsPerformed world (after_step world s failure) event order connections old new failures honest before after) (sym is) performed

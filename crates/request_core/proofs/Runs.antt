@@ -21,7 +21,7 @@ use Rattle.world.specs.declared.step.Step.TheVariants.{Send}
 use Rattle.world.specs.Covered.{Covers}
 use Rattle.world.specs.Log.{IsLegal}
 use Rattle.world.specs.Run.{IsReached, IsRun, After}
-use Rattle.world.specs.Serve.{Luck, Fine}
+use Rattle.world.specs.Serve.{Failure, Nothing}
 use Rattle.world.specs.Step.{after_step, send, sent}
 use Rattle.world.specs.World.{World, Setting}
 use Rattle.world_law.specs.Law.{Grows, IsWithin}
@@ -36,20 +36,20 @@ trusts_as true this other so is = so is
 trusts_as false this other so is = is
 
 -- a step that was performed
-pub stepped : {D : Type 0} (world : World) (step : Step) (luck : Luck) (event : Event) (order order' : OrderState) (connections connections' : ConnectionsState) (old new : KeeperState D)
+pub stepped : {D : Type 0} (world : World) (step : Step) (failure : Failure) (event : Event) (order order' : OrderState) (connections connections' : ConnectionsState) (old new : KeeperState D)
     (before_failures failures : ℕ) (old_honest trusting honest : Type 0) (before after : State) → (honest → trusting) → (trusting → old_honest)
     → IsExportOf world order old before_failures connections trusting before
-    → IsPerformed world (after_step world step luck) event order' connections' old new failures old_honest before after → Grows world (after_step world step luck)
+    → IsPerformed world (after_step world step failure) event order' connections' old new failures old_honest before after → Grows world (after_step world step failure)
     → connections'.flags ≡ connections.flags → connections'.mode ≡ connections.mode
-    → IsStepped world (after_step world step luck) event order' new failures connections' honest before after
-stepped world step luck event order order' connections connections' old new before_failures failures old_honest trusting honest before after was trusts of performed grows flags mode = record {
+    → IsStepped world (after_step world step failure) event order' new failures connections' honest before after
+stepped world step failure event order order' connections connections' old new before_failures failures old_honest trusting honest before after was trusts of performed grows flags mode = record {
   of_export = record {
     of_order = performed.of_order;
     of_keeper = performed.of_keeper;
     of_states = performed.of_states;
     flags = flags ∙ (of.flags ∙ ap (λ (s : Setting). s.flags) (sym grows.setting));
     mode = mode ∙ (of.mode ∙ ap (λ (s : Setting). s.mode) (sym grows.setting));
-    reached = After step luck of.reached;
+    reached = After step failure of.reached;
     disk = λ is_honest. (performed.disk (trusts (was is_honest)) (of.disk (was is_honest))).0;
   };
   log = performed.log;
@@ -74,38 +74,38 @@ leads_none world order keeper failures connections extent honest state sound wit
 }
 
 -- one step
-pub leads_step : {D : Type 0} (world : World) (step : Step) (luck : Luck) (event : Event) (order : OrderState) (keeper : KeeperState D) (failures : ℕ) (connections : ConnectionsState) (honest : Type 0) (before after : State)
-    → IsStepped world (after_step world step luck) event order keeper failures connections honest before after → Grows world (after_step world step luck) → IsWithin world
-    → Leads world (after_step world step luck) (step ∷ []) order keeper failures connections honest before after
-leads_step world step luck event order keeper failures connections honest before after is grows within = record {
-  run = (luck, refl);
+pub leads_step : {D : Type 0} (world : World) (step : Step) (failure : Failure) (event : Event) (order : OrderState) (keeper : KeeperState D) (failures : ℕ) (connections : ConnectionsState) (honest : Type 0) (before after : State)
+    → IsStepped world (after_step world step failure) event order keeper failures connections honest before after → Grows world (after_step world step failure) → IsWithin world
+    → Leads world (after_step world step failure) (step ∷ []) order keeper failures connections honest before after
+leads_step world step failure event order keeper failures connections honest before after is grows within = record {
+  run = (failure, refl);
   of_export = is.of_export;
   crash = λ is_honest. weakens (is.crash is_honest) (λ content stands.
-      grown world (after_step world step luck) world.stage.setting.image world.stage.setting.opening world.stage.durable content grows
+      grown world (after_step world step failure) world.stage.setting.image world.stage.setting.opening world.stage.durable content grows
       (stands_less world.stage.order world.stage.setting.image world.stage.setting.opening world.stage.stored world.stage.durable content within.durable stands));
 }
 
 -- a connection that had no request open has sent one
 pub leads_sent : {D : Type 0} (world : World) (c : ℕ) (request : Message) (order : OrderState) (keeper : KeeperState D) (failures : ℕ) (connections : ConnectionsState) (extent : ℕ) (honest : Type 0) (state : State)
     → (honest → IsSound extent state) → IsWithin world → world.connections c ≡ Idle → IsExportOf world order keeper failures connections honest state
-    → Leads world (sent Fine world c request) (Send c request ∷ []) order keeper failures (record connections { states = sent_state connections.states c request }) honest state state
+    → Leads world (sent Nothing world c request) (Send c request ∷ []) order keeper failures (record connections { states = sent_state connections.states c request }) honest state state
 leads_sent world c request order keeper failures connections extent honest state sound within idle of = record {
-  run = (Fine, run_is);
+  run = (Nothing, run_is);
   of_export = record {
     of_order = of.of_order;
     of_keeper = of.of_keeper;
     of_states = sent_states world connections.states c request idle of.of_states;
     flags = of.flags;
     mode = of.mode;
-    reached = subst IsReached (sym run_is) (After (Send c request) Fine of.reached);
+    reached = subst IsReached (sym run_is) (After (Send c request) Nothing of.reached);
     disk = λ is_honest. let disk = of.disk is_honest in record { keeps = disk.keeps; leaves = disk.leaves };
   };
   crash = λ is_honest. let disk = of.disk is_honest in
       begins (sound is_honest) (λ content left. stands_less world.stage.order world.stage.setting.image world.stage.setting.opening world.stage.stored world.stage.durable content within.durable (disk.leaves content left));
 }
   where
-    run_is : sent Fine world c request ≡ after_step world (Send c request) Fine
-    run_is = ap (send Fine world c request) (sym idle)
+    run_is : sent Nothing world c request ≡ after_step world (Send c request) Nothing
+    run_is = ap (send Nothing world c request) (sym idle)
 
 -- a run goes on by another
 pub run_on : (world mid next : World) (first more : List Step) → IsRun world first mid → IsRun mid more next → IsRun world (first ++ more) next

@@ -23,7 +23,7 @@ use Rattle.world.specs.declared.event.Event.{Event}
 use Rattle.world.specs.declared.event.Event.TheVariants.{Numbered as numbered, Held}
 use Rattle.nbd_wire.specs.declared.message.Answer.TheVariants.{Refused}
 use Rattle.world.specs.Log.{command_of, waits_for_store}
-use Rattle.world.specs.Serve.{Luck, Fine, logged, held, moved, ready, accepted, write_served, state_after}
+use Rattle.world.specs.Serve.{Failure, Nothing, logged, held, moved, ready, accepted, write_served, state_after}
 use Rattle.world.specs.World.{World, put, last_number, has_room, Stage}
 use Rattle.world_law.specs.Law.{IsWithin}
 
@@ -55,9 +55,9 @@ module _ (world : World) (c : ℕ) (request : Message) (order : OrderState) (gro
   -- a command that got its number
   pub served_accepted : (command : Command) (number : ℕ) → IsWithin world → order.mark < 18446744073709551615 → change_of command ≡ command_of request
       → IsChange world.stage.setting.geometry.blocks (command_of request) → number ≡ order.mark + 1
-      → IsServed world (accepted Fine world c request) c (state_after (waits_for_store world.stage.setting.mode request) number) (numbered c number) (with_command order command) group
+      → IsServed world (accepted Nothing world c request) c (state_after (waits_for_store world.stage.setting.mode request) number) (numbered c number) (with_command order command) group
   served_accepted command number within left own change is = subst
-      (λ (n : ℕ). IsServed world (accepted Fine world c request) c (state_after (waits_for_store world.stage.setting.mode request) n) (numbered c n) (with_command order command) group)
+      (λ (n : ℕ). IsServed world (accepted Nothing world c request) c (state_after (waits_for_store world.stage.setting.mode request) n) (numbered c n) (with_command order command) group)
       (sym (is ∙ ap (λ (n : ℕ). n + 1) of.mark))
       (record {
         connections = λ d. refl;
@@ -102,19 +102,19 @@ module _ (world : World) (c : ℕ) (request : Message) (order : OrderState) (gro
   room_same command own = ap (has_room world) (sym own) ∙ sym (room_of world.stage order group of command)
 
   -- which way a write command goes
-  pub write_full : (luck : Luck) (P : World → Type 0) → order.mark ≡ 18446744073709551615 → P (ready world c (Refused NoSpace)) → P (write_served luck world c request)
-  write_full luck P full here = let mark = of.mark in
+  pub write_full : (failure : Failure) (P : World → Type 0) → order.mark ≡ 18446744073709551615 → P (ready world c (Refused NoSpace)) → P (write_served failure world c request)
+  write_full failure P full here = let mark = of.mark in
       if_true P (last_number world == 18446744073709551615) _ _ (eq-eqb (last_number world) 18446744073709551615 (omega (arith, mark, full))) here
 
-  pub write_held : (luck : Luck) (P : World → Type 0) (command : Command) → order.mark < 18446744073709551615 → change_of command ≡ command_of request
-      → book.has_room order command ≡ false → P (held world) → P (write_served luck world c request)
-  write_held luck P command left own none here = let mark = of.mark in
+  pub write_held : (failure : Failure) (P : World → Type 0) (command : Command) → order.mark < 18446744073709551615 → change_of command ≡ command_of request
+      → book.has_room order command ≡ false → P (held world) → P (write_served failure world c request)
+  write_held failure P command left own none here = let mark = of.mark in
       if_false P (last_number world == 18446744073709551615) _ _ (ne_eqb (last_number world) 18446744073709551615 (λ full. omega (arith, mark, full, left)))
       (if_false P (has_room world (command_of request)) _ _ (room_same command own ∙ none) here)
 
-  pub write_accepted : (luck : Luck) (P : World → Type 0) (command : Command) → order.mark < 18446744073709551615 → change_of command ≡ command_of request
-      → book.has_room order command ≡ true → P (accepted luck world c request) → P (write_served luck world c request)
-  write_accepted luck P command left own room here = let mark = of.mark in
+  pub write_accepted : (failure : Failure) (P : World → Type 0) (command : Command) → order.mark < 18446744073709551615 → change_of command ≡ command_of request
+      → book.has_room order command ≡ true → P (accepted failure world c request) → P (write_served failure world c request)
+  write_accepted failure P command left own room here = let mark = of.mark in
       if_false P (last_number world == 18446744073709551615) _ _ (ne_eqb (last_number world) 18446744073709551615 (λ full. omega (arith, mark, full, left)))
       (if_true P (has_room world (command_of request)) _ _ (room_same command own ∙ room) here)
 

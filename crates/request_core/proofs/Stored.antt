@@ -18,8 +18,8 @@ use Rattle.world.specs.declared.event.Event.{Event}
 use Rattle.world.specs.declared.event.Event.TheVariants.{Took, Held, Failed}
 use Rattle.world.specs.declared.event.StepFault.TheVariants.{NoMemory, DeviceFault, FailedBefore}
 use Rattle.image_model.specs.Bodies.{bodies_bytes}
-use Rattle.world.specs.Serve.{Luck, Fine, Starved, held, logged}
-use Rattle.world.specs.Step.{append, faulted, publish, put_back, seal, starved, stored_more}
+use Rattle.world.specs.Serve.{Failure, Nothing, OutOfMemory, held, logged}
+use Rattle.world.specs.Step.{append, faulted, publish, put_back, seal, out_of_memory, stored_more}
 use Rattle.world.specs.World.{World, fits, in_hand, Stage}
 use Rattle.world_law.specs.Law.{IsWithin}
 
@@ -56,11 +56,11 @@ module _ {D : Type 0} (world : World) (keeper : KeeperState D) (failures : ℕ) 
   pub kept_held : (order : OrderState) (group : Option Numbered) → IsOrderOf world.stage order group → IsKept world (held world) Held order group keeper failures
   kept_held order group of = record { connections = refl; log = refl; of_order = of; of_keeper = of_keeper }
 
-  pub kept_starved : (order : OrderState) (group : Option Numbered) → IsOrderOf world.stage order group → IsKept world (starved world) (Failed NoMemory) order group keeper failures
-  kept_starved order group of = record { connections = refl; log = refl; of_order = of; of_keeper = of_keeper }
+  pub kept_out_of_memory : (order : OrderState) (group : Option Numbered) → IsOrderOf world.stage order group → IsKept world (out_of_memory world) (Failed NoMemory) order group keeper failures
+  kept_out_of_memory order group of = record { connections = refl; log = refl; of_order = of; of_keeper = of_keeper }
 
   -- sealing with a group in hand
-  pub kept_seal_in_hand : (order : OrderState) (group : Numbered) → IsWithin world → IsOrderOf world.stage order (Some group) → IsKept world (seal Fine world) Held order (Some group) keeper failures
+  pub kept_seal_in_hand : (order : OrderState) (group : Numbered) → IsWithin world → IsOrderOf world.stage order (Some group) → IsKept world (seal Nothing world) Held order (Some group) keeper failures
   kept_seal_in_hand order group within of =
       let hand = of.hand in let some = of.some in let durable = within.durable in
       if_false (λ next. IsKept world next Held order (Some group) keeper failures) (nat_lt world.stage.sealed (length world.stage.order) && (world.stage.sealed == world.stage.durable)) _ _
@@ -72,7 +72,7 @@ module _ {D : Type 0} (world : World) (keeper : KeeperState D) (failures : ℕ) 
     left_length = sym (length-drop world.stage.stored world.stage.order) ∙ (ap length of.behind ∙ length-map order.pending change_of)
 
     -- sealing where nothing is pending, or what was sealed isn't durable
-    pub kept_seal_none : (order.pending ≡ []) ⊎ (order.durable < order.sealed) → IsKept world (seal Fine world) Held order None keeper failures
+    pub kept_seal_none : (order.pending ≡ []) ⊎ (order.durable < order.sealed) → IsKept world (seal Nothing world) Held order None keeper failures
     kept_seal_none why = if_false (λ next. IsKept world next Held order None keeper failures) (nat_lt world.stage.sealed (length world.stage.order) && (world.stage.sealed == world.stage.durable)) _ _ (test why) (kept_held order None of)
       where
         test : (order.pending ≡ []) ⊎ (order.durable < order.sealed) → (nat_lt world.stage.sealed (length world.stage.order) && (world.stage.sealed == world.stage.durable)) ≡ false
@@ -98,12 +98,12 @@ module _ {D : Type 0} (world : World) (keeper : KeeperState D) (failures : ℕ) 
         same (inr above) = let durable = of.durable in let sealed = of.sealed in let first = within.durable in let second = within.stored in
             omega (arith, above, durable, sealed, first, second)
 
-    pub kept_seal_starved : (order.pending ≡ [] → ⊥) → (order.durable < order.sealed → ⊥) → IsKept world (seal Starved world) (Failed NoMemory) order None keeper failures
-    kept_seal_starved pending level =
-        if_true (λ next. IsKept world next (Failed NoMemory) order None keeper failures) (nat_lt world.stage.sealed (length world.stage.order) && (world.stage.sealed == world.stage.durable)) _ _ (seals_test pending level) (kept_starved order None of)
+    pub kept_seal_out_of_memory : (order.pending ≡ [] → ⊥) → (order.durable < order.sealed → ⊥) → IsKept world (seal OutOfMemory world) (Failed NoMemory) order None keeper failures
+    kept_seal_out_of_memory pending level =
+        if_true (λ next. IsKept world next (Failed NoMemory) order None keeper failures) (nat_lt world.stage.sealed (length world.stage.order) && (world.stage.sealed == world.stage.durable)) _ _ (seals_test pending level) (kept_out_of_memory order None of)
 
     pub kept_seal : (new : OrderState) (group : Numbered) → (order.pending ≡ [] → ⊥) → (order.durable < order.sealed → ⊥) → Seals order new group
-        → IsKept world (seal Fine world) Took new (Some group) keeper failures
+        → IsKept world (seal Nothing world) Took new (Some group) keeper failures
     kept_seal new group pending level seals =
         let stored = within.stored in let sealed = within.sealed in
         if_true (λ next. IsKept world next Took new (Some group) keeper failures) (nat_lt world.stage.sealed (length world.stage.order) && (world.stage.sealed == world.stage.durable)) _ _ (seals_test pending level)
@@ -136,7 +136,7 @@ module _ {D : Type 0} (world : World) (keeper : KeeperState D) (failures : ℕ) 
       (le-ltb world.stage.durable world.stage.stored (omega (arith, durable, count, level))) (kept_held order group of)
 
   -- storing with no group in hand
-  pub goes_none : (order : OrderState) (P : World → Type 0) → IsOrderOf world.stage order None → P (held world) → P (append Fine world)
+  pub goes_none : (order : OrderState) (P : World → Type 0) → IsOrderOf world.stage order None → P (held world) → P (append Nothing world)
   goes_none order P of here =
       let hand = of.hand in
       if_false P (nat_lt world.stage.stored world.stage.sealed) _ _ (le-ltb world.stage.stored world.stage.sealed (omega (arith, hand))) here
@@ -160,14 +160,14 @@ module _ {D : Type 0} (world : World) (keeper : KeeperState D) (failures : ℕ) 
         lt-leb (world.stage.at + 17 + bodies_bytes (in_hand world) + 1) world.stage.setting.geometry.area (omega (arith, full, used, area, hand_bodies))
 
     -- where storing the group in hand leads: the device failed before, the group doesn't fit, or it is tried
-    pub goes_failed : (P : World → Type 0) → keeper.failed ≡ true → P (logged (put_back world) (Failed FailedBefore)) → P (append Fine world)
+    pub goes_failed : (P : World → Type 0) → keeper.failed ≡ true → P (logged (put_back world) (Failed FailedBefore)) → P (append Nothing world)
     goes_failed P failed here = if_true P (nat_lt world.stage.stored world.stage.sealed) _ _ has_hand (if_true P world.stage.stopped _ _ (sym of_keeper.failed ∙ failed) here)
 
-    pub goes_full : (P : World → Type 0) → keeper.failed ≡ false → keeper.geometry.area < end_after keeper group → P (held (put_back world)) → P (append Fine world)
+    pub goes_full : (P : World → Type 0) → keeper.failed ≡ false → keeper.geometry.area < end_after keeper group → P (held (put_back world)) → P (append Nothing world)
     goes_full P failed full here = if_true P (nat_lt world.stage.stored world.stage.sealed) _ _ has_hand (if_false P world.stage.stopped _ _ (works failed) (if_false P (fits world) _ _ (full_is full) here))
 
-    pub goes_on_to : (luck : Luck) (P : World → Type 0) → keeper.failed ≡ false → end_after keeper group ≤ keeper.geometry.area → P (stored_more luck world) → P (append luck world)
-    goes_on_to luck P failed fit here = if_true P (nat_lt world.stage.stored world.stage.sealed) _ _ has_hand (if_false P world.stage.stopped _ _ (works failed) (if_true P (fits world) _ _ (fits_is fit) here))
+    pub goes_on_to : (failure : Failure) (P : World → Type 0) → keeper.failed ≡ false → end_after keeper group ≤ keeper.geometry.area → P (stored_more failure world) → P (append failure world)
+    goes_on_to failure P failed fit here = if_true P (nat_lt world.stage.stored world.stage.sealed) _ _ has_hand (if_false P world.stage.stopped _ _ (works failed) (if_true P (fits world) _ _ (fits_is fit) here))
 
     -- the group is pending again
     pub kept_back : (event : Event) → IsKept world (logged (put_back world) event) event (with_group order group) None keeper failures
@@ -197,7 +197,7 @@ module _ {D : Type 0} (world : World) (keeper : KeeperState D) (failures : ℕ) 
     }
 
     -- the group is stored
-    pub kept_stored : (disk : D) (memory : Memory) → IsKept world (stored_more Fine world) Took order None (grown_by keeper group disk memory) failures
+    pub kept_stored : (disk : D) (memory : Memory) → IsKept world (stored_more Nothing world) Took order None (grown_by keeper group disk memory) failures
     kept_stored disk memory = record {
       connections = refl;
       log = refl;
@@ -216,25 +216,25 @@ module _ {D : Type 0} (world : World) (keeper : KeeperState D) (failures : ℕ) 
 -- what an order did when it was asked to seal is a step of the world
 pub kept_seal_by : {D : Type 0} (world : World) (keeper : KeeperState D) (failures : ℕ) (old new : OrderState) (before after : Option Numbered) (event : Event)
     → IsKeeperOf world.stage keeper failures → IsWithin world → IsOrderOf world.stage old before → SealsBy before old new after event
-    → (luck : Luck) × IsKept world (seal luck world) event new after keeper failures
+    → (failure : Failure) × IsKept world (seal failure world) event new after keeper failures
 kept_seal_by world keeper failures old new (Some group) after event of_keeper within of seals = (
-  Fine,
-  kept_as world (seal Fine world) keeper failures old new (Some group) after Held event (sym seals.0) (sym seals.1) (sym seals.2)
+  Nothing,
+  kept_as world (seal Nothing world) keeper failures old new (Some group) after Held event (sym seals.0) (sym seals.1) (sym seals.2)
       (kept_seal_in_hand world keeper failures of_keeper old group within of),
 )
 kept_seal_by world keeper failures old new None after event of_keeper within of (inl none) = (
-  Fine,
-  kept_as world (seal Fine world) keeper failures old new None after Held event (sym none.1) (sym none.2) (sym none.3)
+  Nothing,
+  kept_as world (seal Nothing world) keeper failures old new None after Held event (sym none.1) (sym none.2) (sym none.3)
       (kept_seal_none world keeper failures of_keeper old within of none.0),
 )
-kept_seal_by world keeper failures old new None after event of_keeper within of (inr (inl starves)) = (
-  Starved,
-  kept_as world (seal Starved world) keeper failures old new None after (Failed NoMemory) event (sym starves.1) (sym starves.2) (sym starves.3)
-      (kept_seal_starved world keeper failures of_keeper old within of starves.0.0 starves.0.1),
+kept_seal_by world keeper failures old new None after event of_keeper within of (inr (inl refused)) = (
+  OutOfMemory,
+  kept_as world (seal OutOfMemory world) keeper failures old new None after (Failed NoMemory) event (sym refused.1) (sym refused.2) (sym refused.3)
+      (kept_seal_out_of_memory world keeper failures of_keeper old within of refused.0.0 refused.0.1),
 )
 kept_seal_by world keeper failures old new None after event of_keeper within of (inr (inr seals)) = (
-  Fine,
-  kept_as world (seal Fine world) keeper failures new new (Some seals.0) after Took event refl (sym seals.3) (sym seals.4)
+  Nothing,
+  kept_as world (seal Nothing world) keeper failures new new (Some seals.0) after Took event refl (sym seals.3) (sym seals.4)
       (kept_seal world keeper failures of_keeper old within of new seals.0 seals.1.0 seals.1.1 seals.2),
 )
 

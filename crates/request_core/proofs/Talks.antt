@@ -18,7 +18,7 @@ use Rattle.world.specs.declared.event.Event.TheVariants.{Sent, Answered, Held, F
 use Rattle.world.specs.declared.event.StepFault.TheVariants.{NoMemory}
 use Rattle.nbd_wire.specs.declared.message.Answer.{Answer}
 use Rattle.nbd_wire.specs.declared.message.Answer.TheVariants.{Done, Refused}
-use Rattle.world.specs.Serve.{Luck, Fine, Starved, answer, answered, held, serve}
+use Rattle.world.specs.Serve.{Failure, Nothing, OutOfMemory, answer, answered, held, serve}
 use Rattle.world.specs.Step.{send}
 use Rattle.world.specs.World.{World, put}
 
@@ -50,12 +50,12 @@ within_list items c open_there = by_case (cases_lt c (length items))
     by_case (inr past) = absurd (open_there (get_or-eq_default items Closed past))
 
 -- a connection that is served
-pub talked_served : (world : World) (luck : Luck) (items : List Connection) (c : ℕ) (request : Message) (state idle : Connection) (event : Event) (order : OrderState) (group : Option Numbered)
+pub talked_served : (world : World) (failure : Failure) (items : List Connection) (c : ℕ) (request : Message) (state idle : Connection) (event : Event) (order : OrderState) (group : Option Numbered)
     → AreConnectionsOf world items → c < length items → world.connections c ≡ Requested request
-    → IsServed world (serve luck world c (Requested request)) c state event order group
-    → IsTalked world (serve luck world c (world.connections c)) (set (set items c idle) c state) event order group
-talked_served world luck items c request state idle event order group same below here served =
-    subst (λ (s : Connection). IsTalked world (serve luck world c s) (set (set items c idle) c state) event order group) (sym here) (record {
+    → IsServed world (serve failure world c (Requested request)) c state event order group
+    → IsTalked world (serve failure world c (world.connections c)) (set (set items c idle) c state) event order group
+talked_served world failure items c request state idle event order group same below here served =
+    subst (λ (s : Connection). IsTalked world (serve failure world c s) (set (set items c idle) c state) event order group) (sym here) (record {
       of_connections = λ d. ap (λ (l : List Connection). get_or l d Closed) (set-set items c idle state) ∙ (set_put items world.connections c state below same d ∙ served.connections d);
       log = served.log;
       grown = served.grown;
@@ -120,7 +120,7 @@ module _ (world : World) (items new : List Connection) (c : ℕ) (event : Event)
 
   -- a connection that sends, or may not send
   pub talked_send : (request : Message) → IsSentBy items c request new event
-      → (luck : Luck) × IsTalked world (send luck world c request (world.connections c)) new event order group
+      → (failure : Failure) × IsTalked world (send failure world c request (world.connections c)) new event order group
   talked_send request is = by_kind (world.connections c) (same c)
       (subst (λ (state : Connection). MatchBool (is_idle state)
       (((new ≡ set items c (Requested request)) × (event ≡ Sent c request)) ⊎ ((new ≡ items) × (event ≡ Failed NoMemory)))
@@ -128,9 +128,9 @@ module _ (world : World) (items new : List Connection) (c : ℕ) (event : Event)
     where
       at_idle : get_or items c Closed ≡ Idle
           → ((new ≡ set items c (Requested request)) × (event ≡ Sent c request)) ⊎ ((new ≡ items) × (event ≡ Failed NoMemory))
-          → (luck : Luck) × IsTalked world (send luck world c request Idle) new event order group
+          → (failure : Failure) × IsTalked world (send failure world c request Idle) new event order group
       at_idle at (inl sends) = (
-        Fine,
+        Nothing,
         record {
           of_connections = λ d. ap (λ (l : List Connection). get_or l d Closed) sends.0
               ∙ set_put items world.connections c (Requested request) (within_list items c (λ closed. idle_unlike (sym at ∙ closed))) same d;
@@ -140,7 +140,7 @@ module _ (world : World) (items new : List Connection) (c : ℕ) (event : Event)
         },
       )
       at_idle at (inr fails) = (
-        Starved,
+        OutOfMemory,
         record {
           of_connections = λ d. ap (λ (l : List Connection). get_or l d Closed) fails.0 ∙ same d;
           log = ap (λ (e : Event). world.log ++ e ∷ []) (sym fails.1);
@@ -153,12 +153,12 @@ module _ (world : World) (items new : List Connection) (c : ℕ) (event : Event)
           → MatchBool (is_idle state)
           (((new ≡ set items c (Requested request)) × (event ≡ Sent c request)) ⊎ ((new ≡ items) × (event ≡ Failed NoMemory)))
           ((new ≡ items) × (event ≡ Held))
-          → (luck : Luck) × IsTalked world (send luck world c request state) new event order group
+          → (failure : Failure) × IsTalked world (send failure world c request state) new event order group
       by_kind Idle at sends = at_idle at sends
-      by_kind (Requested other) at is = (Fine, talked_held is.0 is.1)
-      by_kind (Waiting number) at is = (Fine, talked_held is.0 is.1)
-      by_kind (Ready outcome) at is = (Fine, talked_held is.0 is.1)
-      by_kind Closed at is = (Fine, talked_held is.0 is.1)
+      by_kind (Requested other) at is = (Nothing, talked_held is.0 is.1)
+      by_kind (Waiting number) at is = (Nothing, talked_held is.0 is.1)
+      by_kind (Ready outcome) at is = (Nothing, talked_held is.0 is.1)
+      by_kind Closed at is = (Nothing, talked_held is.0 is.1)
 
 -- the connections of a world in which one that had no request open has sent one
 pub sent_states : (world : World) (items : List Connection) (c : ℕ) (request : Message) → world.connections c ≡ Idle → AreConnectionsOf world items

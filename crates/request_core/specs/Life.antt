@@ -20,7 +20,7 @@ use Rattle.world.specs.declared.step.Step.TheVariants.{Send}
 use Rattle.world.specs.Covered.{Covers}
 use Rattle.world.specs.Log.{IsLegal}
 use Rattle.world.specs.Run.{IsReached, IsRun}
-use Rattle.world.specs.Serve.{Luck, Fine}
+use Rattle.world.specs.Serve.{Failure, Nothing}
 use Rattle.world.specs.Step.{after_step, sent}
 use Rattle.world.specs.World.{World, fresh}
 
@@ -100,14 +100,14 @@ pub record LeadsLaw {D : Type 0} (state : D → State) (faults : D → ℕ) (hon
       → IsExportOf world order keeper (faults keeper.disk) connections (Trusts trusted (honest keeper.disk)) (state keeper.disk)
       → Leads world world [] order keeper (faults keeper.disk) connections (Trusts trusted (honest keeper.disk)) (state keeper.disk) (state keeper.disk)
   -- one step leads as it does
-  pub one : (world : World) (trusted : Bool) (step : Step) (luck : Luck) (event : Event) (order : OrderState) (keeper : KeeperState D) (connections : ConnectionsState) (start : D) → IsReached world
-      → IsStepped world (after_step world step luck) event order keeper (faults keeper.disk) connections (Trusts trusted (honest keeper.disk)) (state start) (state keeper.disk)
-      → Leads world (after_step world step luck) (step ∷ []) order keeper (faults keeper.disk) connections (Trusts trusted (honest keeper.disk)) (state start) (state keeper.disk)
+  pub one : (world : World) (trusted : Bool) (step : Step) (failure : Failure) (event : Event) (order : OrderState) (keeper : KeeperState D) (connections : ConnectionsState) (start : D) → IsReached world
+      → IsStepped world (after_step world step failure) event order keeper (faults keeper.disk) connections (Trusts trusted (honest keeper.disk)) (state start) (state keeper.disk)
+      → Leads world (after_step world step failure) (step ∷ []) order keeper (faults keeper.disk) connections (Trusts trusted (honest keeper.disk)) (state start) (state keeper.disk)
   -- a request that is sent leads too
   pub sends : (world : World) (trusted : Bool) (connection : ℕ) (request : Message) (order : OrderState) (keeper : KeeperState D) (connections : ConnectionsState)
       → world.connections connection ≡ Idle
       → IsExportOf world order keeper (faults keeper.disk) connections (Trusts trusted (honest keeper.disk)) (state keeper.disk)
-      → Leads world (sent Fine world connection request) (Send connection request ∷ []) order keeper (faults keeper.disk)
+      → Leads world (sent Nothing world connection request) (Send connection request ∷ []) order keeper (faults keeper.disk)
       (record connections { states = sent_state connections.states connection request }) (Trusts trusted (honest keeper.disk)) (state keeper.disk) (state keeper.disk)
   -- where one run leads to a world from which another leads on, both together lead
   pub on : (world mid next : World) (trusted : Bool) (first more : List Step) (order order' : OrderState) (keeper keeper' : KeeperState D) (connections connections' : ConnectionsState) (start : D)

@@ -4,7 +4,7 @@ ghost use Rattle.request_core.specs.Life.{IsStepped, Trusts};
 ghost use Rattle.request_core.specs.Parts.{AreConnectionsOf, IsExportOf, IsKeeperOf, IsOrderOf};
 ghost use Rattle.request_core.specs.Serving.{is_idle, sent_state};
 ghost use Rattle.request_core.specs.Steps.{IsPerformed};
-ghost use Rattle.world.specs.Serve.{Luck};
+ghost use Rattle.world.specs.Serve.{Failure};
 ghost use Rattle.world.specs.Step.{after_step};
 ghost use Rattle.world.specs.World.{World};
 ghost use Rattle.world.specs.declared.connection.Connection.TheVariants as Connection;
@@ -46,9 +46,9 @@ pub fn take_step<D: Disk>(
     ensures extent { D.extent keeper.new.disk ≡ D.extent keeper.old.disk }
     ensures honest { D.honest keeper.new.disk ↔ D.honest keeper.old.disk }
 
-    // In each world that the parts are of the step leads to a next world, of which they then are; only its luck is free.
+    // In each world that the parts are of the step leads to a next world, of which they then are; only what fails in it is free.
     ensures world { (world : World) (trusted : Bool) → IsExportOf world order.old keeper.old (D.faults keeper.old.disk) connections.old (Trusts trusted (D.honest keeper.old.disk)) (D.state keeper.old.disk)
-        → (luck : Luck) × IsStepped world (after_step world step.now luck) result order.new keeper.new (D.faults keeper.new.disk) connections.new
+        → (failure : Failure) × IsStepped world (after_step world step.now failure) result order.new keeper.new (D.faults keeper.new.disk) connections.new
         (Trusts trusted (D.honest keeper.new.disk)) (D.state keeper.old.disk) (D.state keeper.new.disk) }
 {
     schedule_law();
@@ -71,7 +71,7 @@ fn perform<D: Disk>(
     ensures world { (world : World) → IsWithin world → IsOrderOf world.stage order.old connections.old.group
         → IsKeeperOf world.stage keeper.old (D.faults keeper.old.disk) → AreConnectionsOf world connections.old.states
         → connections.old.flags ≡ world.stage.setting.flags → connections.old.mode ≡ world.stage.setting.mode
-        → (luck : Luck) × IsPerformed world (after_step world step.now luck) result order.new connections.new keeper.old keeper.new (D.faults keeper.new.disk)
+        → (failure : Failure) × IsPerformed world (after_step world step.now failure) result order.new connections.new keeper.old keeper.new (D.faults keeper.new.disk)
         (D.honest keeper.old.disk) (D.state keeper.old.disk) (D.state keeper.new.disk) }
 {
     let terms = Terms {

@@ -2,7 +2,7 @@ ghost use Rattle.std.specs.Prelude.{◌≡◌, ◌≤◌, ◌↔◌, ℕ, Bool, 
 ghost use Rattle.order_book.specs.Order.{IsInHand};
 ghost use Rattle.request_core.specs.Life.{IsRehearsed, IsStepped, Trusts};
 ghost use Rattle.request_core.specs.Parts.{IsWorldOf};
-ghost use Rattle.world.specs.Serve.{Luck};
+ghost use Rattle.world.specs.Serve.{Failure};
 ghost use Rattle.world.specs.Step.{after_step};
 ghost use Rattle.world.specs.World.{World};
 ghost use Rattle.world.specs.declared.event.Event.{Event};
@@ -60,8 +60,8 @@ fn carry_out<D: Disk>(
     ensures extent { D.extent keeper.new.disk ≡ D.extent keeper.old.disk }
     ensures honest { D.honest keeper.new.disk ↔ D.honest keeper.old.disk }
     ensures world { (world : World) (trusted : Bool) → IsWorldOf world order.old keeper.old (D.faults keeper.old.disk) bench.old (Trusts trusted (D.honest keeper.old.disk)) (D.state keeper.old.disk)
-        → OnOk result ((luck : Luck) × (event : Event) × (bench.new.log ≡ (after_step world step.now luck).log)
-        × IsStepped world (after_step world step.now luck) event order.new keeper.new (D.faults keeper.new.disk) bench.new.connections
+        → OnOk result ((failure : Failure) × (event : Event) × (bench.new.log ≡ (after_step world step.now failure).log)
+        × IsStepped world (after_step world step.now failure) event order.new keeper.new (D.faults keeper.new.disk) bench.new.connections
         (Trusts trusted (D.honest keeper.new.disk)) (D.state keeper.old.disk) (D.state keeper.new.disk)) }
 {
     let place = bench.log.len();

@@ -5,7 +5,7 @@ ghost use Rattle.nbd_wire.specs.declared.error.Errno.{Errno};
 ghost use Rattle.request_core.specs.Parts.{AreConnectionsOf, IsOrderOf};
 ghost use Rattle.request_core.specs.Serving.{AreTermsOf, IsAnsweredBy, IsHandedBack, IsSameHand, IsSentBy, IsServed, IsServedBy, IsTalked, IsWriteServed, answer_due, event_for, is_idle, ready_for, request_again, request_in, sent_state, served_after, state_of};
 ghost use Rattle.world.specs.Log.{waits_for_store};
-ghost use Rattle.world.specs.Serve.{Luck, answer as answer_of, serve as serve_of};
+ghost use Rattle.world.specs.Serve.{Failure, answer as answer_of, serve as serve_of};
 ghost use Rattle.world.specs.Step.{send as send_of};
 ghost use Rattle.world.specs.Verdict.{IsServedWrite, verdict};
 ghost use Rattle.world.specs.declared.action.Action.{Action};
@@ -100,7 +100,7 @@ pub(crate) fn serve(
     ensures hand { IsSameHand order.old order.new }
     ensures world { (world : World) (group : Option Numbered) → IsWithin world → IsOrderOf world.stage order.old group
         → AreTermsOf world terms.geometry terms.flags terms.mode → AreConnectionsOf world states.old.items
-        → (luck : Luck) × IsTalked world (serve_of luck world connection (world.connections connection)) states.new.items result order.new group }
+        → (failure : Failure) × IsTalked world (serve_of failure world connection (world.connections connection)) states.new.items result order.new group }
 {
     let Some(request) = take_request(states, connection) else {
         return Event::Held;
@@ -139,7 +139,7 @@ fn serve_request(
     ensures hand { IsSameHand order.old order.new }
     ensures world { (world : World) (group : Option Numbered) → IsWithin world → IsOrderOf world.stage order.old group
         → AreTermsOf world terms.geometry terms.flags terms.mode → world.connections connection ≡ Connection.Requested request
-        → (luck : Luck) × IsServed world (serve_of luck world connection (Connection.Requested request)) connection result.0 result.1 order.new group }
+        → (failure : Failure) × IsServed world (serve_of failure world connection (Connection.Requested request)) connection result.0 result.1 order.new group }
 {
     if request.head().kind == DISCONNECT {
         return (Connection::Closed, Event::Took);

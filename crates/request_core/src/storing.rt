@@ -2,7 +2,7 @@ ghost use Rattle.std.specs.Prelude.{◌≡◌, ◌↔◌, None, Some, IfSome};
 ghost use Rattle.request_core.specs.Steps.{IsAppended};
 ghost use Rattle.request_core.specs.Parts.{IsKeeperOf, IsOrderOf};
 ghost use Rattle.request_core.specs.Storing.{PublishesBy, SealsBy, event_of, hand_after, order_after};
-ghost use Rattle.world.specs.Serve.{Luck};
+ghost use Rattle.world.specs.Serve.{Failure};
 ghost use Rattle.world.specs.Step.{append as append_of};
 ghost use Rattle.world.specs.World.{World};
 ghost use Rattle.world_law.specs.Law.{IsWithin};
@@ -58,7 +58,7 @@ pub(crate) fn append<D: Disk>(
     ensures honest { D.honest keeper.new.disk ↔ D.honest keeper.old.disk }
     ensures world { (world : World) → IsWithin world → IsOrderOf world.stage order.old hand.old
         → IsKeeperOf world.stage keeper.old (D.faults keeper.old.disk)
-        → (luck : Luck) × IsAppended world (append_of luck world) result order.new hand.new keeper.old keeper.new (D.faults keeper.new.disk)
+        → (failure : Failure) × IsAppended world (append_of failure world) result order.new hand.new keeper.old keeper.new (D.faults keeper.new.disk)
         (D.honest keeper.old.disk) (D.state keeper.old.disk) (D.state keeper.new.disk) }
 {
     keeper_laws::<D>();

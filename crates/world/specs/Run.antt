@@ -1,16 +1,16 @@
 -- runs of the world
 use Rattle.std.specs.Prelude.{ℕ, ◌≡◌, List, [], ◌∷◌}
 use Rattle.world.specs.declared.step.Step.{Step}
-use Rattle.world.specs.Serve.{Luck}
+use Rattle.world.specs.Serve.{Failure}
 use Rattle.world.specs.Step.{after_step}
 use Rattle.world.specs.World.{World, Setting, fresh}
 
 -- the worlds that schedules lead to: fresh ones, and those that a step leaves of another
 pub data IsReached : World → Type 0 where
   Fresh : (setting : Setting) (end : ℕ) → IsReached (fresh setting end)
-  After : {world : World} (step : Step) (luck : Luck) → IsReached world → IsReached (after_step world step luck)
+  After : {world : World} (step : Step) (failure : Failure) → IsReached world → IsReached (after_step world step failure)
 
--- the steps, each with some luck, lead from one world to another
+-- the steps, each with what fails in it, lead from one world to another
 abbrev pub IsRun : World → List Step → World → Type 0
 IsRun world [] last = last ≡ world
-IsRun world (step ∷ steps) last = (luck : Luck) × IsRun (after_step world step luck) steps last
+IsRun world (step ∷ steps) last = (failure : Failure) × IsRun (after_step world step failure) steps last

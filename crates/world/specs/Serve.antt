@@ -15,12 +15,12 @@ use Rattle.world.specs.Log.{command_of, is_flush, waits_for_store}
 use Rattle.world.specs.Verdict.{verdict}
 use Rattle.world.specs.World.{World, put, last_number, has_room}
 
--- What a step may meet: nothing, a growth of memory that is refused, or a call of the device that fails. Nothing else
--- in a step is free.
-pub data Luck : Type 0 where
-  Fine : Luck
-  Starved : Luck
-  Faulted : Luck
+-- What fails in a step: nothing, a growth of memory, which is refused, or a call of the device. Nothing else in a step
+-- is free.
+pub data Failure : Type 0 where
+  Nothing : Failure
+  OutOfMemory : Failure
+  DeviceFailure : Failure
 
 abbrev pub logged : World → Event → World
 logged world event = record world { log = world.log ++ event ∷ [] }
@@ -48,40 +48,40 @@ state_after true number = Waiting number
 state_after false number = Ready Done
 
 -- a write command that nothing holds or refuses
-abbrev pub accepted : Luck → World → ℕ → Message → World
-accepted Starved world connection request = ready world connection (Refused NoMemory)
+abbrev pub accepted : Failure → World → ℕ → Message → World
+accepted OutOfMemory world connection request = ready world connection (Refused NoMemory)
 accepted _ world connection request =
     let number = last_number world + 1 in
     logged (moved (ordered world connection request) connection (state_after (waits_for_store world.stage.setting.mode request) number))
     (Numbered connection number)
 
 -- a write command: refused where no number is left, held where there is no room
-abbrev pub write_served : Luck → World → ℕ → Message → World
-write_served luck world connection request =
+abbrev pub write_served : Failure → World → ℕ → Message → World
+write_served failure world connection request =
     if last_number world == 18446744073709551615 then ready world connection (Refused NoSpace)
-    else (if has_room world (command_of request) then accepted luck world connection request else held world)
+    else (if has_room world (command_of request) then accepted failure world connection request else held world)
 
 -- a request that passes judgement: EIO after a device fault, a FLUSH waits for the last number
-abbrev pub passed : Luck → World → ℕ → Message → World
-passed luck world connection request =
+abbrev pub passed : Failure → World → ℕ → Message → World
+passed failure world connection request =
     if world.stage.stopped then ready world connection (Refused Io)
     else (if is_flush request then logged (moved world connection (Waiting (last_number world))) Took
-    else write_served luck world connection request)
+    else write_served failure world connection request)
 
 -- a request that is judged: DISC closes the connection
-abbrev pub judged : Result Action Errno → Luck → World → ℕ → Message → World
-judged (Ok End) luck world connection request = logged (moved world connection Closed) Took
-judged (Ok Serve) luck world connection request = passed luck world connection request
-judged (Err errno) luck world connection request = ready world connection (Refused errno)
+abbrev pub judged : Result Action Errno → Failure → World → ℕ → Message → World
+judged (Ok End) failure world connection request = logged (moved world connection Closed) Took
+judged (Ok Serve) failure world connection request = passed failure world connection request
+judged (Err errno) failure world connection request = ready world connection (Refused errno)
 
 -- serving a connection in this state
-abbrev pub serve : Luck → World → ℕ → Connection → World
-serve luck world connection (Requested request) =
-    judged (verdict request.head world.stage.setting.geometry world.stage.setting.flags) luck world connection request
-serve luck world connection Idle = held world
-serve luck world connection (Waiting number) = held world
-serve luck world connection (Ready outcome) = held world
-serve luck world connection Closed = held world
+abbrev pub serve : Failure → World → ℕ → Connection → World
+serve failure world connection (Requested request) =
+    judged (verdict request.head world.stage.setting.geometry world.stage.setting.flags) failure world connection request
+serve failure world connection Idle = held world
+serve failure world connection (Waiting number) = held world
+serve failure world connection (Ready outcome) = held world
+serve failure world connection Closed = held world
 
 abbrev pub answered : World → ℕ → Answer → World
 answered world connection outcome = logged (moved world connection Idle) (Answered connection outcome)

@@ -6,3 +6,4 @@ pub mod Sound
 pub mod Steps
 pub mod Talk
 pub mod Truthful
+pub mod Waiting

@@ -17,7 +17,7 @@ use Rattle.world.specs.declared.step.Step.TheVariants as steps
 use Rattle.world.specs.Covered.{Covers, IsCovered}
 use Rattle.world.specs.Log.{command_of, is_flush}
 use Rattle.world.specs.Run.{IsReached, IsRun, Fresh, After}
-use Rattle.world.specs.Serve.{Luck, Fine, Starved, Faulted, logged, held, moved, ordered, accepted, passed, judged, serve, answer}
+use Rattle.world.specs.Serve.{Failure, Nothing, OutOfMemory, DeviceFailure, logged, held, moved, ordered, accepted, passed, judged, serve, answer}
 use Rattle.world.specs.Step.{staged, sent, send, sealed_more, put_back, stored_more, append, publish, after_step}
 use Rattle.world.specs.Verdict.{verdict}
 use Rattle.world.specs.World.{World, last_number, has_room, fits}
@@ -29,7 +29,7 @@ use Rattle.world_law.proofs.Steps.{of_either, sound_fresh, sound_step}
 -- what schedules lead to is sound
 pub sound_reached : (world : World) → IsReached world → IsSound world
 sound_reached world (Fresh setting end) = sound_fresh setting end
-sound_reached world (After {world = before} step luck reached) = sound_step before (sound_reached before reached) step luck
+sound_reached world (After {world = before} step failure reached) = sound_step before (sound_reached before reached) step failure
 
 pub covers_durable : (world : World) → IsSound world → Covers world world.stage.durable
 covers_durable world sound place (inl flushed) =
@@ -65,17 +65,17 @@ module _ (world : World) where
     grows_moved : (state : Connection) (event : Event) → Grows world (logged (moved world c state) event)
     grows_moved state event = grows_plain world (logged (moved world c state) event) event refl refl refl refl (omega arith) (omega arith) (λ is. is)
 
-    grows_sent : (luck : Luck) (request : Message) → Grows world (sent luck world c request)
-    grows_sent Starved request = grows_plain world (sent Starved world c request) _ refl refl refl refl (omega arith) (omega arith) (λ is. is)
-    grows_sent Fine request = grows_plain world (sent Fine world c request) _ refl refl refl refl (omega arith) (omega arith) (λ is. is)
-    grows_sent Faulted request = grows_plain world (sent Faulted world c request) _ refl refl refl refl (omega arith) (omega arith) (λ is. is)
+    grows_sent : (failure : Failure) (request : Message) → Grows world (sent failure world c request)
+    grows_sent OutOfMemory request = grows_plain world (sent OutOfMemory world c request) _ refl refl refl refl (omega arith) (omega arith) (λ is. is)
+    grows_sent Nothing request = grows_plain world (sent Nothing world c request) _ refl refl refl refl (omega arith) (omega arith) (λ is. is)
+    grows_sent DeviceFailure request = grows_plain world (sent DeviceFailure world c request) _ refl refl refl refl (omega arith) (omega arith) (λ is. is)
 
-    grows_send : (luck : Luck) (request : Message) (state : Connection) → Grows world (send luck world c request state)
-    grows_send luck request Idle = grows_sent luck request
-    grows_send luck request (Requested other) = grows_held
-    grows_send luck request (Waiting number) = grows_held
-    grows_send luck request (Ready outcome) = grows_held
-    grows_send luck request Closed = grows_held
+    grows_send : (failure : Failure) (request : Message) (state : Connection) → Grows world (send failure world c request state)
+    grows_send failure request Idle = grows_sent failure request
+    grows_send failure request (Requested other) = grows_held
+    grows_send failure request (Waiting number) = grows_held
+    grows_send failure request (Ready outcome) = grows_held
+    grows_send failure request Closed = grows_held
 
     grows_numbered : (request : Message) (state : Connection) (event : Event) → Grows world (logged (moved (ordered world c request) c state) event)
     grows_numbered request state event = record {
@@ -88,28 +88,28 @@ module _ (world : World) where
       stopped = λ is. is;
     }
 
-    grows_accepted : (luck : Luck) (request : Message) → Grows world (accepted luck world c request)
-    grows_accepted Starved request = grows_moved (Ready (Refused NoMemory)) Took
-    grows_accepted Fine request = grows_numbered request _ _
-    grows_accepted Faulted request = grows_numbered request _ _
+    grows_accepted : (failure : Failure) (request : Message) → Grows world (accepted failure world c request)
+    grows_accepted OutOfMemory request = grows_moved (Ready (Refused NoMemory)) Took
+    grows_accepted Nothing request = grows_numbered request _ _
+    grows_accepted DeviceFailure request = grows_numbered request _ _
 
-    grows_passed : (luck : Luck) (request : Message) → Grows world (passed luck world c request)
-    grows_passed luck request = of_either (Grows world) world.stage.stopped _ _ (λ stopped. grows_moved (Ready (Refused Io)) Took)
+    grows_passed : (failure : Failure) (request : Message) → Grows world (passed failure world c request)
+    grows_passed failure request = of_either (Grows world) world.stage.stopped _ _ (λ stopped. grows_moved (Ready (Refused Io)) Took)
         (λ works. of_either (Grows world) (is_flush request) _ _ (λ flush. grows_moved (Waiting (last_number world)) Took)
         (λ other. of_either (Grows world) (last_number world == 18446744073709551615) _ _ (λ full. grows_moved (Ready (Refused NoSpace)) Took)
-        (λ left. of_either (Grows world) (has_room world (command_of request)) _ _ (λ room. grows_accepted luck request) (λ none. grows_held))))
+        (λ left. of_either (Grows world) (has_room world (command_of request)) _ _ (λ room. grows_accepted failure request) (λ none. grows_held))))
 
-    grows_judged : (result : Result Action Errno) (luck : Luck) (request : Message) → Grows world (judged result luck world c request)
-    grows_judged (Ok End) luck request = grows_moved Closed Took
-    grows_judged (Ok Serve) luck request = grows_passed luck request
-    grows_judged (Err errno) luck request = grows_moved (Ready (Refused errno)) Took
+    grows_judged : (result : Result Action Errno) (failure : Failure) (request : Message) → Grows world (judged result failure world c request)
+    grows_judged (Ok End) failure request = grows_moved Closed Took
+    grows_judged (Ok Serve) failure request = grows_passed failure request
+    grows_judged (Err errno) failure request = grows_moved (Ready (Refused errno)) Took
 
-    grows_serve : (luck : Luck) (state : Connection) → Grows world (serve luck world c state)
-    grows_serve luck (Requested request) = grows_judged (verdict request.head world.stage.setting.geometry world.stage.setting.flags) luck request
-    grows_serve luck Idle = grows_held
-    grows_serve luck (Waiting number) = grows_held
-    grows_serve luck (Ready outcome) = grows_held
-    grows_serve luck Closed = grows_held
+    grows_serve : (failure : Failure) (state : Connection) → Grows world (serve failure world c state)
+    grows_serve failure (Requested request) = grows_judged (verdict request.head world.stage.setting.geometry world.stage.setting.flags) failure request
+    grows_serve failure Idle = grows_held
+    grows_serve failure (Waiting number) = grows_held
+    grows_serve failure (Ready outcome) = grows_held
+    grows_serve failure Closed = grows_held
 
     grows_answer : (state : Connection) → Grows world (answer world c state)
     grows_answer (Ready outcome) = grows_moved Idle (Answered c outcome)
@@ -119,23 +119,23 @@ module _ (world : World) where
     grows_answer (Requested request) = grows_held
     grows_answer Closed = grows_held
 
-  grows_sealed : (luck : Luck) → Grows world (sealed_more luck world)
-  grows_sealed Starved = grows_plain world (sealed_more Starved world) _ refl refl refl refl (omega arith) (omega arith) (λ is. is)
-  grows_sealed Fine = grows_plain world (sealed_more Fine world) Took refl refl refl refl (omega arith) (omega arith) (λ is. is)
-  grows_sealed Faulted = grows_plain world (sealed_more Faulted world) Took refl refl refl refl (omega arith) (omega arith) (λ is. is)
+  grows_sealed : (failure : Failure) → Grows world (sealed_more failure world)
+  grows_sealed OutOfMemory = grows_plain world (sealed_more OutOfMemory world) _ refl refl refl refl (omega arith) (omega arith) (λ is. is)
+  grows_sealed Nothing = grows_plain world (sealed_more Nothing world) Took refl refl refl refl (omega arith) (omega arith) (λ is. is)
+  grows_sealed DeviceFailure = grows_plain world (sealed_more DeviceFailure world) Took refl refl refl refl (omega arith) (omega arith) (λ is. is)
 
-  grows_stored : (luck : Luck) → world.stage.stored < world.stage.sealed → Grows world (stored_more luck world)
-  grows_stored Starved hand = grows_plain world (stored_more Starved world) _ refl refl refl refl (omega arith) (omega arith) (λ is. is)
-  grows_stored Fine hand = grows_plain world (stored_more Fine world) Took refl refl refl refl (omega (arith, hand)) (omega arith) (λ is. is)
-  grows_stored Faulted hand = grows_plain world (stored_more Faulted world) _ refl refl refl refl (omega arith) (omega arith) (λ is. refl)
+  grows_stored : (failure : Failure) → world.stage.stored < world.stage.sealed → Grows world (stored_more failure world)
+  grows_stored OutOfMemory hand = grows_plain world (stored_more OutOfMemory world) _ refl refl refl refl (omega arith) (omega arith) (λ is. is)
+  grows_stored Nothing hand = grows_plain world (stored_more Nothing world) Took refl refl refl refl (omega (arith, hand)) (omega arith) (λ is. is)
+  grows_stored DeviceFailure hand = grows_plain world (stored_more DeviceFailure world) _ refl refl refl refl (omega arith) (omega arith) (λ is. refl)
 
   grows_back : (event : Event) → Grows world (logged (put_back world) event)
   grows_back event = grows_plain world (logged (put_back world) event) event refl refl refl refl (omega arith) (omega arith) (λ is. is)
 
-  grows_append : (luck : Luck) → Grows world (append luck world)
-  grows_append luck = of_either (Grows world) (nat_lt world.stage.stored world.stage.sealed) _ _
+  grows_append : (failure : Failure) → Grows world (append failure world)
+  grows_append failure = of_either (Grows world) (nat_lt world.stage.stored world.stage.sealed) _ _
       (λ hand. of_either (Grows world) world.stage.stopped _ _ (λ stopped. grows_back _)
-      (λ works. of_either (Grows world) (fits world) _ _ (λ fit. grows_stored luck (ltb-true world.stage.stored world.stage.sealed hand)) (λ full. grows_back Held)))
+      (λ works. of_either (Grows world) (fits world) _ _ (λ fit. grows_stored failure (ltb-true world.stage.stored world.stage.sealed hand)) (λ full. grows_back Held)))
       (λ none. grows_held)
 
   grows_publish : Grows world (publish world)
@@ -144,14 +144,14 @@ module _ (world : World) where
       grows_plain world (logged (staged world (record world.stage { durable = world.stage.stored })) Took) Took refl refl refl refl (omega arith) (omega (arith, above)) (λ is. is))
       (λ none. grows_held)
 
-  pub grows_step : (step : Step) (luck : Luck) → Grows world (after_step world step luck)
-  grows_step (steps.Send c request) luck = grows_send c luck request (world.connections c)
-  grows_step (steps.Serve c) luck = grows_serve c luck (world.connections c)
-  grows_step (steps.Answer c) luck = grows_answer c (world.connections c)
-  grows_step steps.Seal luck = of_either (Grows world) (nat_lt world.stage.sealed (length world.stage.order) && (world.stage.sealed == world.stage.durable)) _ _
-      (λ pending. grows_sealed luck) (λ none. grows_held)
-  grows_step steps.Append luck = grows_append luck
-  grows_step steps.Publish luck = grows_publish
+  pub grows_step : (step : Step) (failure : Failure) → Grows world (after_step world step failure)
+  grows_step (steps.Send c request) failure = grows_send c failure request (world.connections c)
+  grows_step (steps.Serve c) failure = grows_serve c failure (world.connections c)
+  grows_step (steps.Answer c) failure = grows_answer c (world.connections c)
+  grows_step steps.Seal failure = of_either (Grows world) (nat_lt world.stage.sealed (length world.stage.order) && (world.stage.sealed == world.stage.durable)) _ _
+      (λ pending. grows_sealed failure) (λ none. grows_held)
+  grows_step steps.Append failure = grows_append failure
+  grows_step steps.Publish failure = grows_publish
 
 grows_same : (world last : World) → last ≡ world → Grows world last
 grows_same world last is = subst (Grows world) (sym is) (record {

@@ -23,7 +23,7 @@ use Rattle.world.specs.declared.step.Step.TheVariants as steps
 use Rattle.disk_model.specs.Faults.{counted}
 use Rattle.image_model.specs.Bodies.{bodies_bytes, body_bytes, body_limit, longest}
 use Rattle.world.specs.Log.{command_of, is_write, is_flush, waits_for_store, IsAnswered}
-use Rattle.world.specs.Serve.{Luck, Fine, Starved, Faulted, logged, held, moved, ready, ordered, state_after, accepted, write_served, passed, judged, serve, answer}
+use Rattle.world.specs.Serve.{Failure, Nothing, OutOfMemory, DeviceFailure, logged, held, moved, ready, ordered, state_after, accepted, write_served, passed, judged, serve, answer}
 use Rattle.world.specs.Step.{staged, send, sealed_more, seal, put_back, stored_more, append, publish, after_step}
 use Rattle.world.specs.Verdict.{verdict, first_of_rules, is_known, allowed_flags, is_unaligned, past_end}
 use Rattle.world.specs.World.{World, Setting, fresh, last_number, has_room, fits, in_hand}
@@ -119,15 +119,15 @@ module _ (world : World) (c : ℕ) (sound : IsSound world) where
         (sound_ordered world c request sound right.0 right.1 write (state_after (waits_for_store world.stage.setting.mode request) (last_number world + 1))
         (right_after (waits_for_store world.stage.setting.mode request) refl write))
 
-    sound_accepted : (luck : Luck) → is_write request ≡ true → IsSound (accepted luck world c request)
-    sound_accepted Starved write = sound_ready NoMemory
-    sound_accepted Fine write = sound_numbered write
-    sound_accepted Faulted write = sound_numbered write
+    sound_accepted : (failure : Failure) → is_write request ≡ true → IsSound (accepted failure world c request)
+    sound_accepted OutOfMemory write = sound_ready NoMemory
+    sound_accepted Nothing write = sound_numbered write
+    sound_accepted DeviceFailure write = sound_numbered write
 
-    sound_write : (luck : Luck) → is_write request ≡ true → IsSound (write_served luck world c request)
-    sound_write luck write = of_either IsSound (last_number world == 18446744073709551615) _ _
+    sound_write : (failure : Failure) → is_write request ≡ true → IsSound (write_served failure world c request)
+    sound_write failure write = of_either IsSound (last_number world == 18446744073709551615) _ _
         (λ full. sound_ready NoSpace)
-        (λ left. of_either IsSound (has_room world (command_of request)) _ _ (λ room. sound_accepted luck write) (λ none. sound_held world sound))
+        (λ left. of_either IsSound (has_room world (command_of request)) _ _ (λ room. sound_accepted failure write) (λ none. sound_held world sound))
 
     others_before : is_flush request ≡ true → AwaitsOthers (facts_of world) (world.places c) (last_number world) request
     others_before flush = record {
@@ -139,26 +139,26 @@ module _ (world : World) (c : ℕ) (sound : IsSound world) where
         no_write (inl write) = absurd (flush_no_write request flush write)
         no_write (inr is) = is
 
-    sound_passed : (luck : Luck) → (is_flush request ≡ false → is_write request ≡ true) → IsSound (passed luck world c request)
-    sound_passed luck writes = of_either IsSound world.stage.stopped _ _
+    sound_passed : (failure : Failure) → (is_flush request ≡ false → is_write request ≡ true) → IsSound (passed failure world c request)
+    sound_passed failure writes = of_either IsSound world.stage.stopped _ _
         (λ stopped. sound_ready Io)
         (λ works. of_either IsSound (is_flush request) _ _
         (λ flush. sound_quiet (moved world c (Waiting (last_number world))) Took quiet_took
         (sound_moved world c (Waiting (last_number world)) sound (request, right.0, inr (others_before flush))))
-        (λ other. sound_write luck (writes other)))
+        (λ other. sound_write failure (writes other)))
 
-    sound_judged : (result : Result Action Errno) → (result ≡ Ok Serve → is_flush request ≡ false → is_write request ≡ true) → (luck : Luck) → IsSound (judged result luck world c request)
-    sound_judged (Ok End) writes luck = sound_quiet (moved world c Closed) Took quiet_took (sound_moved world c Closed sound tt)
-    sound_judged (Ok Serve) writes luck = sound_passed luck (writes refl)
-    sound_judged (Err errno) writes luck = sound_ready errno
+    sound_judged : (result : Result Action Errno) → (result ≡ Ok Serve → is_flush request ≡ false → is_write request ≡ true) → (failure : Failure) → IsSound (judged result failure world c request)
+    sound_judged (Ok End) writes failure = sound_quiet (moved world c Closed) Took quiet_took (sound_moved world c Closed sound tt)
+    sound_judged (Ok Serve) writes failure = sound_passed failure (writes refl)
+    sound_judged (Err errno) writes failure = sound_ready errno
 
-  sound_serve : (luck : Luck) (state : Connection) → IsRight (facts_of world) c (world.places c) state → IsSound (serve luck world c state)
-  sound_serve luck (Requested request) right =
-      sound_judged request right (verdict request.head world.stage.setting.geometry world.stage.setting.flags) (passes_write request.head world.stage.setting.geometry world.stage.setting.flags) luck
-  sound_serve luck Idle right = sound_held world sound
-  sound_serve luck (Waiting number) right = sound_held world sound
-  sound_serve luck (Ready outcome) right = sound_held world sound
-  sound_serve luck Closed right = sound_held world sound
+  sound_serve : (failure : Failure) (state : Connection) → IsRight (facts_of world) c (world.places c) state → IsSound (serve failure world c state)
+  sound_serve failure (Requested request) right =
+      sound_judged request right (verdict request.head world.stage.setting.geometry world.stage.setting.flags) (passes_write request.head world.stage.setting.geometry world.stage.setting.flags) failure
+  sound_serve failure Idle right = sound_held world sound
+  sound_serve failure (Waiting number) right = sound_held world sound
+  sound_serve failure (Ready outcome) right = sound_held world sound
+  sound_serve failure Closed right = sound_held world sound
 
   sound_answer : (state : Connection) → IsRight (facts_of world) c (world.places c) state → IsSound (answer world c state)
   sound_answer (Ready Done) right = sound_answered world c right.0 Done sound right.1 (allowed_ready_done world c right)
@@ -175,14 +175,14 @@ module _ (world : World) (c : ℕ) (sound : IsSound world) where
   sound_answer (Requested request) right = sound_held world sound
   sound_answer Closed right = sound_held world sound
 
-  sound_send : (luck : Luck) (request : Message) (state : Connection) → IsRight (facts_of world) c (world.places c) state → IsSound (send luck world c request state)
-  sound_send Starved request Idle right = sound_quiet world (Failed fault.NoMemory) (quiet_failed fault.NoMemory) sound
-  sound_send Fine request Idle right = sound_sent world c request sound right
-  sound_send Faulted request Idle right = sound_sent world c request sound right
-  sound_send luck request (Requested other) right = sound_held world sound
-  sound_send luck request (Waiting number) right = sound_held world sound
-  sound_send luck request (Ready outcome) right = sound_held world sound
-  sound_send luck request Closed right = sound_held world sound
+  sound_send : (failure : Failure) (request : Message) (state : Connection) → IsRight (facts_of world) c (world.places c) state → IsSound (send failure world c request state)
+  sound_send OutOfMemory request Idle right = sound_quiet world (Failed fault.NoMemory) (quiet_failed fault.NoMemory) sound
+  sound_send Nothing request Idle right = sound_sent world c request sound right
+  sound_send DeviceFailure request Idle right = sound_sent world c request sound right
+  sound_send failure request (Requested other) right = sound_held world sound
+  sound_send failure request (Waiting number) right = sound_held world sound
+  sound_send failure request (Ready outcome) right = sound_held world sound
+  sound_send failure request Closed right = sound_held world sound
 
 -- the numbers come to others that are in order, and no fewer commands are durable
 sound_counts : (world : World) (sealed stored durable at faults : ℕ) (stopped : Bool) → IsSound world → world.stage.durable ≤ durable → durable ≤ stored → stored ≤ sealed
@@ -209,7 +209,7 @@ module _ (world : World) (sound : IsSound world) where
       sound_quiet (staged world (record world.stage { sealed = sealed; stored = stored; durable = durable; at = at; faults = faults; stopped = stopped })) event quiet
       (sound_counts world sealed stored durable at faults stopped sound more first second third)
 
-  sound_grouped : IsSound (sealed_more Fine world)
+  sound_grouped : IsSound (sealed_more Nothing world)
   sound_grouped =
       let count = longest (body_limit world.stage.setting.geometry.area) (drop world.stage.sealed world.stage.order) in
       let most = longest-le (body_limit world.stage.setting.geometry.area) (drop world.stage.sealed world.stage.order) in
@@ -218,36 +218,36 @@ module _ (world : World) (sound : IsSound world) where
       sound_took (world.stage.sealed + count) world.stage.stored world.stage.durable world.stage.at world.stage.faults world.stage.stopped Took quiet_took
       (omega arith) durable (omega (arith, stored)) (omega (arith, most, rest, sealed))
 
-  sound_sealed_more : (luck : Luck) → IsSound (sealed_more luck world)
-  sound_sealed_more Starved = sound_quiet world (Failed fault.NoMemory) (quiet_failed fault.NoMemory) sound
-  sound_sealed_more Fine = sound_grouped
-  sound_sealed_more Faulted = sound_grouped
+  sound_sealed_more : (failure : Failure) → IsSound (sealed_more failure world)
+  sound_sealed_more OutOfMemory = sound_quiet world (Failed fault.NoMemory) (quiet_failed fault.NoMemory) sound
+  sound_sealed_more Nothing = sound_grouped
+  sound_sealed_more DeviceFailure = sound_grouped
 
-  sound_seal : (luck : Luck) → IsSound (seal luck world)
-  sound_seal luck = of_either IsSound (nat_lt world.stage.sealed (length world.stage.order) && (world.stage.sealed == world.stage.durable)) _ _
-      (λ pending. sound_sealed_more luck) (λ none. sound_held world sound)
+  sound_seal : (failure : Failure) → IsSound (seal failure world)
+  sound_seal failure = of_either IsSound (nat_lt world.stage.sealed (length world.stage.order) && (world.stage.sealed == world.stage.durable)) _ _
+      (λ pending. sound_sealed_more failure) (λ none. sound_held world sound)
 
   sound_put_back : (event : Event) → IsQuiet event → IsSound (logged (put_back world) event)
   sound_put_back event quiet =
       let durable = sound.within.durable in let stored = sound.within.stored in let sealed = sound.within.sealed in
       sound_took world.stage.stored world.stage.stored world.stage.durable world.stage.at world.stage.faults world.stage.stopped event quiet (omega arith) durable (omega arith) (omega (arith, stored, sealed))
 
-  sound_stored_more : (luck : Luck) → IsSound (stored_more luck world)
-  sound_stored_more Fine =
+  sound_stored_more : (failure : Failure) → IsSound (stored_more failure world)
+  sound_stored_more Nothing =
       let durable = sound.within.durable in let stored = sound.within.stored in let sealed = sound.within.sealed in
       sound_took world.stage.sealed world.stage.sealed world.stage.durable (world.stage.at + 17 + bodies_bytes (in_hand world)) world.stage.faults world.stage.stopped Took quiet_took
       (omega arith) (omega (arith, durable, stored)) (omega arith) sealed
-  sound_stored_more Starved = sound_quiet world (Failed fault.NoMemory) (quiet_failed fault.NoMemory) sound
-  sound_stored_more Faulted =
+  sound_stored_more OutOfMemory = sound_quiet world (Failed fault.NoMemory) (quiet_failed fault.NoMemory) sound
+  sound_stored_more DeviceFailure =
       let durable = sound.within.durable in let stored = sound.within.stored in let sealed = sound.within.sealed in
       sound_took world.stage.stored world.stage.stored world.stage.durable world.stage.at (counted world.stage.faults) true (Failed fault.DeviceFault) (quiet_failed fault.DeviceFault)
       (omega arith) durable (omega arith) (omega (arith, stored, sealed))
 
-  sound_append : (luck : Luck) → IsSound (append luck world)
-  sound_append luck = of_either IsSound (nat_lt world.stage.stored world.stage.sealed) _ _
+  sound_append : (failure : Failure) → IsSound (append failure world)
+  sound_append failure = of_either IsSound (nat_lt world.stage.stored world.stage.sealed) _ _
       (λ hand. of_either IsSound world.stage.stopped _ _
       (λ stopped. sound_put_back (Failed fault.FailedBefore) (quiet_failed fault.FailedBefore))
-      (λ works. of_either IsSound (fits world) _ _ (λ fit. sound_stored_more luck) (λ full. sound_put_back Held quiet_held)))
+      (λ works. of_either IsSound (fits world) _ _ (λ fit. sound_stored_more failure) (λ full. sound_put_back Held quiet_held)))
       (λ none. sound_held world sound)
 
   sound_publish : IsSound (publish world)
@@ -258,13 +258,13 @@ module _ (world : World) (sound : IsSound world) where
       (λ none. sound_held world sound)
 
   -- each step leaves the world sound
-  pub sound_step : (step : Step) (luck : Luck) → IsSound (after_step world step luck)
-  sound_step (steps.Send c request) luck = sound_send world c sound luck request (world.connections c) (sound.right c)
-  sound_step (steps.Serve c) luck = sound_serve world c sound luck (world.connections c) (sound.right c)
-  sound_step (steps.Answer c) luck = sound_answer world c sound (world.connections c) (sound.right c)
-  sound_step steps.Seal luck = sound_seal luck
-  sound_step steps.Append luck = sound_append luck
-  sound_step steps.Publish luck = sound_publish
+  pub sound_step : (step : Step) (failure : Failure) → IsSound (after_step world step failure)
+  sound_step (steps.Send c request) failure = sound_send world c sound failure request (world.connections c) (sound.right c)
+  sound_step (steps.Serve c) failure = sound_serve world c sound failure (world.connections c) (sound.right c)
+  sound_step (steps.Answer c) failure = sound_answer world c sound (world.connections c) (sound.right c)
+  sound_step steps.Seal failure = sound_seal failure
+  sound_step steps.Append failure = sound_append failure
+  sound_step steps.Publish failure = sound_publish
 
 -- a fresh world is sound
 pub sound_fresh : (setting : Setting) (end : ℕ) → IsSound (fresh setting end)

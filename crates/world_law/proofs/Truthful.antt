@@ -20,7 +20,7 @@ use Rattle.world.specs.declared.step.Step.{Step}
 use Rattle.world.specs.declared.step.Step.TheVariants as steps
 use Rattle.world.specs.Log.{StandsAt, command_of, is_flush}
 use Rattle.world.specs.Run.{IsReached, Fresh, After}
-use Rattle.world.specs.Serve.{Luck, Fine, Starved, Faulted, logged, held, moved, ready, ordered, state_after, accepted, passed, judged, serve, answered, answer}
+use Rattle.world.specs.Serve.{Failure, Nothing, OutOfMemory, DeviceFailure, logged, held, moved, ready, ordered, state_after, accepted, passed, judged, serve, answered, answer}
 use Rattle.world.specs.Step.{staged, send, sent, sealed_more, faulted, stored_more, append, publish, after_step}
 use Rattle.world.specs.Verdict.{verdict, first_of_rules, is_known, allowed_flags, is_unaligned, past_end}
 use Rattle.world.specs.World.{World, Setting, fresh, put, last_number, has_room, fits}
@@ -136,17 +136,17 @@ module _ (world : World) (true_so_far : IsTruthful world) where
     calm_ready : (errno : Errno) → (errno ≡ Io → world.stage.stopped ≡ true) → IsTruthful (ready world c (Refused errno))
     calm_ready errno here = calm_moved (Ready (Refused errno)) Took (λ tells. absurd tells) (λ is. here (refused_inside errno is))
 
-    calm_sent : (luck : Luck) (request : Message) → IsTruthful (sent luck world c request)
-    calm_sent Starved request = calm_failed
-    calm_sent Fine request = calm (sent Fine world c request) (Sent c request) refl refl refl refl (λ tells. absurd tells) (due_put c (Requested request) (λ is. cc))
-    calm_sent Faulted request = calm (sent Faulted world c request) (Sent c request) refl refl refl refl (λ tells. absurd tells) (due_put c (Requested request) (λ is. cc))
+    calm_sent : (failure : Failure) (request : Message) → IsTruthful (sent failure world c request)
+    calm_sent OutOfMemory request = calm_failed
+    calm_sent Nothing request = calm (sent Nothing world c request) (Sent c request) refl refl refl refl (λ tells. absurd tells) (due_put c (Requested request) (λ is. cc))
+    calm_sent DeviceFailure request = calm (sent DeviceFailure world c request) (Sent c request) refl refl refl refl (λ tells. absurd tells) (due_put c (Requested request) (λ is. cc))
 
-    calm_send : (luck : Luck) (request : Message) (state : Connection) → IsTruthful (send luck world c request state)
-    calm_send luck request Idle = calm_sent luck request
-    calm_send luck request (Requested other) = calm_held
-    calm_send luck request (Waiting number) = calm_held
-    calm_send luck request (Ready outcome) = calm_held
-    calm_send luck request Closed = calm_held
+    calm_send : (failure : Failure) (request : Message) (state : Connection) → IsTruthful (send failure world c request state)
+    calm_send failure request Idle = calm_sent failure request
+    calm_send failure request (Requested other) = calm_held
+    calm_send failure request (Waiting number) = calm_held
+    calm_send failure request (Ready outcome) = calm_held
+    calm_send failure request Closed = calm_held
 
     after_unlike : (waits : Bool) (number : ℕ) → state_after waits number ≡ Ready (Refused Io) → ⊥
     after_unlike true number is = cc
@@ -162,29 +162,29 @@ module _ (world : World) (true_so_far : IsTruthful world) where
     space_unlike : NoSpace ≡ Io → ⊥
     space_unlike is = cc
 
-    calm_accepted : (luck : Luck) (request : Message) → IsTruthful (accepted luck world c request)
-    calm_accepted Starved request = calm_ready NoMemory (λ is. absurd (memory_unlike is))
-    calm_accepted Fine request = calm_numbered request _ _
-    calm_accepted Faulted request = calm_numbered request _ _
+    calm_accepted : (failure : Failure) (request : Message) → IsTruthful (accepted failure world c request)
+    calm_accepted OutOfMemory request = calm_ready NoMemory (λ is. absurd (memory_unlike is))
+    calm_accepted Nothing request = calm_numbered request _ _
+    calm_accepted DeviceFailure request = calm_numbered request _ _
 
-    calm_passed : (luck : Luck) (request : Message) → IsTruthful (passed luck world c request)
-    calm_passed luck request = of_either IsTruthful world.stage.stopped _ _ (λ stopped. calm_ready Io (λ is. stopped))
+    calm_passed : (failure : Failure) (request : Message) → IsTruthful (passed failure world c request)
+    calm_passed failure request = of_either IsTruthful world.stage.stopped _ _ (λ stopped. calm_ready Io (λ is. stopped))
         (λ works. of_either IsTruthful (is_flush request) _ _ (λ flush. calm_moved (Waiting (last_number world)) Took (λ tells. absurd tells) (λ is. cc))
         (λ other. of_either IsTruthful (last_number world == 18446744073709551615) _ _ (λ full. calm_ready NoSpace (λ is. absurd (space_unlike is)))
-        (λ left. of_either IsTruthful (has_room world (command_of request)) _ _ (λ room. calm_accepted luck request) (λ none. calm_held))))
+        (λ left. of_either IsTruthful (has_room world (command_of request)) _ _ (λ room. calm_accepted failure request) (λ none. calm_held))))
 
-    calm_judged : (result : Result Action Errno) → (result ≡ Err Io → ⊥) → (luck : Luck) (request : Message) → IsTruthful (judged result luck world c request)
-    calm_judged (Ok End) unlike luck request = calm_moved Closed Took (λ tells. absurd tells) (λ is. cc)
-    calm_judged (Ok Serve) unlike luck request = calm_passed luck request
-    calm_judged (Err errno) unlike luck request = calm_ready errno (λ is. absurd (unlike (ap (λ (e : Errno). let result : Result Action Errno = Err e in result) is)))
+    calm_judged : (result : Result Action Errno) → (result ≡ Err Io → ⊥) → (failure : Failure) (request : Message) → IsTruthful (judged result failure world c request)
+    calm_judged (Ok End) unlike failure request = calm_moved Closed Took (λ tells. absurd tells) (λ is. cc)
+    calm_judged (Ok Serve) unlike failure request = calm_passed failure request
+    calm_judged (Err errno) unlike failure request = calm_ready errno (λ is. absurd (unlike (ap (λ (e : Errno). let result : Result Action Errno = Err e in result) is)))
 
-    calm_serve : (luck : Luck) (state : Connection) → IsTruthful (serve luck world c state)
-    calm_serve luck (Requested request) = calm_judged (verdict request.head world.stage.setting.geometry world.stage.setting.flags)
-        (verdict_unlike request.head world.stage.setting.geometry world.stage.setting.flags) luck request
-    calm_serve luck Idle = calm_held
-    calm_serve luck (Waiting number) = calm_held
-    calm_serve luck (Ready outcome) = calm_held
-    calm_serve luck Closed = calm_held
+    calm_serve : (failure : Failure) (state : Connection) → IsTruthful (serve failure world c state)
+    calm_serve failure (Requested request) = calm_judged (verdict request.head world.stage.setting.geometry world.stage.setting.flags)
+        (verdict_unlike request.head world.stage.setting.geometry world.stage.setting.flags) failure request
+    calm_serve failure Idle = calm_held
+    calm_serve failure (Waiting number) = calm_held
+    calm_serve failure (Ready outcome) = calm_held
+    calm_serve failure Closed = calm_held
 
     calm_answered : (outcome : Answer) → (outcome ≡ Refused Io → world.stage.stopped ≡ true) → IsTruthful (answered world c outcome)
     calm_answered outcome tells = calm_moved Idle (Answered c outcome) tells (λ is. cc)
@@ -206,10 +206,10 @@ module _ (world : World) (true_so_far : IsTruthful world) where
   calm_staged sealed stored durable at event tells =
       calm (logged (staged world (record world.stage { sealed = sealed; stored = stored; durable = durable; at = at })) event) event refl refl refl refl tells true_so_far.due
 
-  calm_sealed : (luck : Luck) → IsTruthful (sealed_more luck world)
-  calm_sealed Starved = calm_failed
-  calm_sealed Fine = calm_staged _ _ _ _ Took (λ tells. absurd tells)
-  calm_sealed Faulted = calm_staged _ _ _ _ Took (λ tells. absurd tells)
+  calm_sealed : (failure : Failure) → IsTruthful (sealed_more failure world)
+  calm_sealed OutOfMemory = calm_failed
+  calm_sealed Nothing = calm_staged _ _ _ _ Took (λ tells. absurd tells)
+  calm_sealed DeviceFailure = calm_staged _ _ _ _ Took (λ tells. absurd tells)
 
   -- a fault more is counted, if the count isn't at its end
   rises : (world.stage.setting.failures ≤ world.stage.faults) ⊎ (18446744073709551615 ≤ world.stage.faults)
@@ -226,10 +226,10 @@ module _ (world : World) (true_so_far : IsTruthful world) where
   risen_since (inl more) = inl (omega (arith, more))
   risen_since (inr most) = inr most
 
-  calm_stored : (luck : Luck) → IsTruthful (stored_more luck world)
-  calm_stored Starved = calm_failed
-  calm_stored Fine = calm_staged _ _ _ _ Took (λ tells. absurd tells)
-  calm_stored Faulted = record {
+  calm_stored : (failure : Failure) → IsTruthful (stored_more failure world)
+  calm_stored OutOfMemory = calm_failed
+  calm_stored Nothing = calm_staged _ _ _ _ Took (λ tells. absurd tells)
+  calm_stored DeviceFailure = record {
     told = λ place other at tells. refl;
     due = λ connection is. refl;
     failed = λ is. rises true_so_far.since;
@@ -237,23 +237,23 @@ module _ (world : World) (true_so_far : IsTruthful world) where
     quiet = λ works. cc;
   }
 
-  calm_append : (luck : Luck) → IsTruthful (append luck world)
-  calm_append luck = of_either IsTruthful (nat_lt world.stage.stored world.stage.sealed) _ _
+  calm_append : (failure : Failure) → IsTruthful (append failure world)
+  calm_append failure = of_either IsTruthful (nat_lt world.stage.stored world.stage.sealed) _ _
       (λ hand. of_either IsTruthful world.stage.stopped _ _ (λ stopped. calm_staged _ _ _ _ (Failed fault.FailedBefore) (λ tells. stopped))
-      (λ works. of_either IsTruthful (fits world) _ _ (λ fit. calm_stored luck) (λ full. calm_staged _ _ _ _ Held (λ tells. absurd tells))))
+      (λ works. of_either IsTruthful (fits world) _ _ (λ fit. calm_stored failure) (λ full. calm_staged _ _ _ _ Held (λ tells. absurd tells))))
       (λ none. calm_held)
 
   calm_publish : IsTruthful (publish world)
   calm_publish = of_either IsTruthful (nat_lt world.stage.durable world.stage.stored) _ _ (λ more. calm_staged _ _ _ _ Took (λ tells. absurd tells)) (λ none. calm_held)
 
-  true_step : (step : Step) (luck : Luck) → IsTruthful (after_step world step luck)
-  true_step (steps.Send c request) luck = calm_send c luck request (world.connections c)
-  true_step (steps.Serve c) luck = calm_serve c luck (world.connections c)
-  true_step (steps.Answer c) luck = calm_answer c (world.connections c) refl
-  true_step steps.Seal luck = of_either IsTruthful (nat_lt world.stage.sealed (length world.stage.order) && (world.stage.sealed == world.stage.durable)) _ _
-      (λ pending. calm_sealed luck) (λ none. calm_held)
-  true_step steps.Append luck = calm_append luck
-  true_step steps.Publish luck = calm_publish
+  true_step : (step : Step) (failure : Failure) → IsTruthful (after_step world step failure)
+  true_step (steps.Send c request) failure = calm_send c failure request (world.connections c)
+  true_step (steps.Serve c) failure = calm_serve c failure (world.connections c)
+  true_step (steps.Answer c) failure = calm_answer c (world.connections c) refl
+  true_step steps.Seal failure = of_either IsTruthful (nat_lt world.stage.sealed (length world.stage.order) && (world.stage.sealed == world.stage.durable)) _ _
+      (λ pending. calm_sealed failure) (λ none. calm_held)
+  true_step steps.Append failure = calm_append failure
+  true_step steps.Publish failure = calm_publish
 
 true_fresh : (setting : Setting) (end : ℕ) → IsTruthful (fresh setting end)
 true_fresh setting end = record {
@@ -266,7 +266,7 @@ true_fresh setting end = record {
 
 true_reached : (world : World) → IsReached world → IsTruthful world
 true_reached world (Fresh setting end) = true_fresh setting end
-true_reached world (After {world = before} step luck reached) = true_step before (true_reached before reached) step luck
+true_reached world (After {world = before} step failure reached) = true_step before (true_reached before reached) step failure
 
 -- what schedules lead to tells the truth
 pub truth_reached : (world : World) → IsReached world → TellsTruth world

@@ -1,17 +1,18 @@
 //! What holds of the world of an export under every schedule.
 #![tactic(auto)]
 
-ghost use Rattle.std.specs.Prelude.{List};
+ghost use Rattle.std.specs.Prelude.{◌≡◌, ◌≤◌, ℕ, List};
 ghost use Rattle.world.specs.Covered.{Covers};
 ghost use Rattle.world.specs.Log.{IsLegal};
 ghost use Rattle.world.specs.Run.{IsReached, IsRun};
-ghost use Rattle.world.specs.World.{World};
+ghost use Rattle.world.specs.World.{World, last_number};
+ghost use Rattle.world.specs.declared.connection.Connection.TheVariants as Connection;
 ghost use Rattle.world.specs.declared.step.Step.{Step};
 ghost use Rattle.world_law.specs.Law.{Grows, IsWithin, TellsTruth};
 
 /// Whatever the schedule, and whatever its steps meet: the log is legal, all that it covers is durable, what is durable is
-/// stored and what is stored is ordered; the log, the order and the numbers only grow; and a fault of the device is told
-/// only where the device has counted one.
+/// stored and what is stored is ordered; the log, the order and the numbers only grow; a fault of the device is told only
+/// where the device has counted one; and a connection waits only for a number of the order.
 pub fn schedule_law()
     ensures legal { (world : World) → IsReached world → IsLegal world.log world.stage.order world.paired }
     ensures covered { (world : World) → IsReached world → Covers world world.stage.durable }
@@ -19,4 +20,5 @@ pub fn schedule_law()
     ensures truth { (world : World) → IsReached world → TellsTruth world }
     ensures grows { (world last : World) (steps : List Step) → IsRun world steps last → Grows world last }
     ensures reached { (world last : World) (steps : List Step) → IsRun world steps last → IsReached world → IsReached last }
+    ensures waiting { (world : World) → IsReached world → (connection number : ℕ) → world.connections connection ≡ Connection.Waiting number → number ≤ last_number world }
 {}

@@ -1,5 +1,6 @@
 use Rattle.world_law.proofs.Reached.{sound_reached, covers_durable, grows_run, reached_run}
 use Rattle.world_law.proofs.Truthful.{truth_reached}
+use Rattle.world_law.proofs.Waiting.{waiting_reached}
 use Rattle.world_law.proofs.schedule_law.Goals as goal
 
 pub returns : goal.returns
@@ -10,4 +11,5 @@ returns c = record {
   truth = truth_reached;
   grows = grows_run;
   reached = reached_run;
+  waiting = waiting_reached;
 }

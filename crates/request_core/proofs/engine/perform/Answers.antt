@@ -6,7 +6,7 @@ use Rattle.request_core.specs.Serving.{AreTermsOf}
 use Rattle.request_core.proofs.Talks.{talked_answer, talked_send}
 use Rattle.request_core.proofs.Performed.{disk_publishes, disk_seals, of_step, performed_appended, performed_kept, performed_talked}
 use Rattle.request_core.proofs.Stored.{kept_publish_by, kept_seal_by}
-use Rattle.world.specs.Serve.{Fine, answer, serve}
+use Rattle.world.specs.Serve.{Nothing, answer, serve}
 use Rattle.world.specs.Step.{append, publish, seal, send}
 use Rattle.world.specs.declared.step.Step.TheVariants as steps
 use Rattle.request_core.proofs.engine.perform.Goals as goal
@@ -64,8 +64,8 @@ returns-in-Answer-clause-world g c = λ world within of kept are flags mode.
     let hand = subst (λ (group : Option Numbered). IsOrderOf world.stage order group) (sym (ap (λ (b : ConnectionsState). b.group) view)) of in
     let bench : ConnectionsState = record { flags = inside.flags; mode = inside.mode; states = c.answer.new.states.items; group = c.connections.inside.group } in
     let talked = talked_answer world items c.answer.new.states.items c.in-Answer.connection c.answer.result order inside.group hand here c.answer.ensures in (
-      Fine,
-      of_step Fine c.args.step.now (steps.Answer c.in-Answer.connection) c.in-Answer.is
+      Nothing,
+      of_step Nothing c.args.step.now (steps.Answer c.in-Answer.connection) c.in-Answer.is
           (performed_talked (g.D.Disk.extent keeper.disk) (g.D.Disk.honest keeper.disk) (g.D.Disk.state keeper.disk) (g.met.D.Disk.sound keeper.disk) world keeper faults within
           (answer world c.in-Answer.connection (world.connections c.in-Answer.connection)) c.answer.result order bench kept talked),
     )
@@ -114,8 +114,8 @@ returns-in-Publish-clause-world g c = λ world within of kept are flags mode.
     let faults = g.D.Disk.faults keeper.disk in
     let bench = c.args.connections.now in
     let published = kept_publish_by world keeper faults order c.publish.new.order bench.group c.publish.result kept within of c.publish.ensures.publishes in (
-      Fine,
-      of_step Fine c.args.step.now steps.Publish c.in-Publish.is
+      Nothing,
+      of_step Nothing c.args.step.now steps.Publish c.in-Publish.is
           (performed_kept (g.D.Disk.extent keeper.disk) (g.D.Disk.honest keeper.disk) (g.D.Disk.state keeper.disk) (g.met.D.Disk.sound keeper.disk) world keeper faults within
           (publish world) c.publish.result c.publish.new.order bench are
           (disk_publishes (g.D.Disk.extent keeper.disk) (g.D.Disk.honest keeper.disk) (g.D.Disk.state keeper.disk) (g.met.D.Disk.sound keeper.disk) world keeper faults within) published),

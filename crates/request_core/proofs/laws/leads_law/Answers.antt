@@ -12,9 +12,9 @@ returns g c =
       none = λ world trusted order keeper connections of.
           leads_none world order keeper (disk.faults keeper.disk) connections (disk.extent keeper.disk) (Trusts trusted (disk.honest keeper.disk)) (disk.state keeper.disk)
           (λ trusts. g.met.D.Disk.sound keeper.disk (trusted_honest trusted (disk.honest keeper.disk) trusts)) (law.within world of.reached) of;
-      one = λ world trusted step luck event order keeper connections start reached is.
-          leads_step world step luck event order keeper (disk.faults keeper.disk) connections (Trusts trusted (disk.honest keeper.disk)) (disk.state start) (disk.state keeper.disk)
-          is (law.grows world (after_step world step luck) (step ∷ []) (luck, refl)) (law.within world reached);
+      one = λ world trusted step failure event order keeper connections start reached is.
+          leads_step world step failure event order keeper (disk.faults keeper.disk) connections (Trusts trusted (disk.honest keeper.disk)) (disk.state start) (disk.state keeper.disk)
+          is (law.grows world (after_step world step failure) (step ∷ []) (failure, refl)) (law.within world reached);
       sends = λ world trusted connection request order keeper connections idle of.
           leads_sent world connection request order keeper (disk.faults keeper.disk) connections (disk.extent keeper.disk) (Trusts trusted (disk.honest keeper.disk)) (disk.state keeper.disk)
           (λ trusts. g.met.D.Disk.sound keeper.disk (trusted_honest trusted (disk.honest keeper.disk) trusts)) (law.within world of.reached) idle of;

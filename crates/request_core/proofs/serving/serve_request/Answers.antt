@@ -5,7 +5,7 @@ use Rattle.nbd_wire.specs.declared.message.SessionFlags.{SessionFlags}
 use Rattle.request_core.specs.Serving.{IsServed, IsServedBy, event_for, state_of}
 use Rattle.request_core.proofs.Lifted.{lifted}
 use Rattle.request_core.proofs.serving.serve_request.Goals as goal
-use Rattle.world.specs.Serve.{Luck, judged}
+use Rattle.world.specs.Serve.{Failure, judged}
 use Rattle.world.specs.Verdict.{verdict}
 use Rattle.world.specs.declared.action.Action.{Action}
 use Rattle.world.specs.declared.connection.Connection.{Connection}
@@ -28,6 +28,6 @@ returns-clause-world c = λ world group within of terms here.
     ∙ ap (λ (flags : SessionFlags). verdict request.head setting.geometry flags) terms.flags_is in
     let event_is : c.event_of-event.result ≡ event_for place old.mark new.mark result =
     c.event_of-event.ensures ∙ ap (λ (n : ℕ). event_for place n c.mark.result result) c.mark-before.ensures.mark ∙ ap (λ (n : ℕ). event_for place old.mark n result) c.mark.ensures.mark in
-    subst (λ (judgement : Result Action Errno). (luck : Luck) × IsServed world (judged judgement luck world place request) place c.state_of.result c.event_of-event.result new group) verdict_is
-    (subst (λ (state : Connection). (luck : Luck) × IsServed world (judged given luck world place request) place state c.event_of-event.result new group) (sym c.state_of.ensures)
-    (subst (λ (event : Event). (luck : Luck) × IsServed world (judged given luck world place request) place (state_of result) event new group) (sym event_is) served))
+    subst (λ (judgement : Result Action Errno). (failure : Failure) × IsServed world (judged judgement failure world place request) place c.state_of.result c.event_of-event.result new group) verdict_is
+    (subst (λ (state : Connection). (failure : Failure) × IsServed world (judged given failure world place request) place state c.event_of-event.result new group) (sym c.state_of.ensures)
+    (subst (λ (event : Event). (failure : Failure) × IsServed world (judged given failure world place request) place (state_of result) event new group) (sym event_is) served))

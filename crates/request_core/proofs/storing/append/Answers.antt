@@ -8,7 +8,7 @@ use Rattle.request_core.specs.Parts.{IsOrderOf}
 use Rattle.request_core.specs.Storing.{event_of, hand_after, order_after}
 use Rattle.request_core.proofs.Appended.{appended, appended_none, appended_refused}
 use Rattle.request_core.proofs.Stored.{not_true_is}
-use Rattle.world.specs.Serve.{Fine}
+use Rattle.world.specs.Serve.{Nothing}
 use Rattle.world.specs.Step.{append}
 use Rattle.world.specs.declared.event.Event.{Event}
 use Rattle.world.specs.declared.event.Event.TheVariants.{Took, Held}
@@ -23,8 +23,8 @@ returns-in_default-clause-world g c = λ world within of kept.
     let order = c.args.order.now in
     let old = c.args.keeper.now in
     let empty : c.args.hand.now ≡ None = none_is c.args.hand.now (λ group is. c.in_default.not-Some group (c.take.ensures.value ∙ is)) in (
-      Fine,
-      subst (λ (hand : Option Numbered). IsAppended world (append Fine world) Held order hand old old (g.D.Disk.faults old.disk) (g.D.Disk.honest old.disk) (g.D.Disk.state old.disk) (g.D.Disk.state old.disk))
+      Nothing,
+      subst (λ (hand : Option Numbered). IsAppended world (append Nothing world) Held order hand old old (g.D.Disk.faults old.disk) (g.D.Disk.honest old.disk) (g.D.Disk.state old.disk) (g.D.Disk.state old.disk))
           (sym c.take.ensures.after)
           (appended_none g.D.Disk.state g.D.Disk.faults g.D.Disk.extent g.D.Disk.honest g.met.D.Disk.sound world order old
           (subst (λ (hand : Option Numbered). IsOrderOf world.stage order hand) empty of) kept),
@@ -47,8 +47,8 @@ returns-in-Ok-clause-world g c = λ world within of kept.
     let has : c.args.hand.now ≡ Some group = sym c.take.ensures.value ∙ c.in-Some.is in
     let works = not_true_is old.failed (λ is. c.in-Ok.ensures.failed.1 is) in
     let fit = fits old.geometry.area (end_after old group) (λ over. c.in-Ok.ensures.full.1 (works, over)) in (
-      Fine,
-      subst (λ (hand : Option Numbered). IsAppended world (append Fine world) Took order hand old new (g.D.Disk.faults new.disk) (g.D.Disk.honest old.disk) (g.D.Disk.state old.disk) (g.D.Disk.state new.disk))
+      Nothing,
+      subst (λ (hand : Option Numbered). IsAppended world (append Nothing world) Took order hand old new (g.D.Disk.faults new.disk) (g.D.Disk.honest old.disk) (g.D.Disk.state old.disk) (g.D.Disk.state new.disk))
           (sym c.take.ensures.after)
           (appended g.D.Disk.state g.D.Disk.faults g.D.Disk.extent g.D.Disk.honest g.met.D.Disk.sound world order group old within
           (subst (λ (hand : Option Numbered). IsOrderOf world.stage order hand) has of) kept new c.keeper_laws.ensures.left works fit c.in-Ok.ensures.ok c.in-Ok.ensures.faults_ok c.append.ensures.honest.1

@@ -5,10 +5,12 @@ use Rattle.request_core.specs.Life.{Leads, Trusts}
 use Rattle.world.specs.declared.event.Event.{Event}
 use Rattle.world.specs.declared.event.Event.TheVariants.{Sent, Answered}
 use Rattle.world.specs.declared.step.Step.TheVariants.{Send}
-use Rattle.world.specs.Serve.{Fine}
+use Rattle.world.specs.Serve.{Nothing}
 use Rattle.world.specs.Step.{sent}
+use Rattle.nbdj_pipe.specs.Causes.{HasCause}
 use Rattle.nbdj_pipe.specs.Export.{Follows, HasAnswer}
 use Rattle.nbdj_pipe.specs.Talk.{verdict_on}
+use Rattle.nbdj_pipe.proofs.Causes.{cause_behind, if_error}
 use Rattle.nbdj_pipe.proofs.Steps.{end_kind, follows_on, has_answer, judged_awaits, no_ok, said_err, spoken_on}
 use Rattle.nbdj_pipe.proofs.export.Export.serve.Goals as goal
 
@@ -19,19 +21,21 @@ returns-in_err-serve_sent-clause-world g c = λ world trusted of idle plain_flag
     let request = c.args.request in
     let one = c.serve_sent.new.self in
     let asked = c.send-sent.new.self in
-    let sent_world = sent Fine world 0 request in
+    let sent_world = sent Nothing world 0 request in
     let sends = c.leads_law.ensures.sends world trusted 0 request old.order old.keeper old.connections idle of in
     let sending = subst (λ (connections : ConnectionsState). Leads world sent_world (Send 0 request ∷ []) old.order old.keeper (disk.faults old.keeper.disk) connections
     (Trusts trusted (disk.honest old.keeper.disk)) (disk.state old.keeper.disk) (disk.state old.keeper.disk)) (sym c.send-sent.ensures.connections) sends in
     let first : Follows world sent_world (Sent 0 request ∷ []) old.order old.keeper (disk.faults old.keeper.disk) asked (Trusts trusted (disk.honest old.keeper.disk)) (disk.state old.keeper.disk) (disk.state old.keeper.disk) =
     record { steps = Send 0 request ∷ []; leads = sending; said_is = spoken_on world.log (Sent 0 request ∷ []); setting = refl } in
-    let second = c.serve_sent.ensures.world sent_world trusted request sending.of_export refl in
+    let second = c.in_err-serve_sent.ensures.world sent_world trusted request sending.of_export refl in
     let so_far = follows_on disk.state disk.faults disk.honest c.leads_law.ensures world sent_world second.0 trusted (Sent 0 request ∷ []) [] old.order one.order old.keeper one.keeper asked one.connections old.keeper.disk
     c.serve_sent.ensures.honest.0 first second.2 in (
       second.0,
       no_ok _ (HasAnswer world second.0 request) c.from_residual.result c.from_residual.ensures.1,
       subst (λ (said : List Event). Follows world second.0 (Sent 0 request ∷ said) one.order one.keeper (disk.faults one.keeper.disk) one.connections (Trusts trusted (disk.honest one.keeper.disk))
           (disk.state old.keeper.disk) (disk.state one.keeper.disk)) (sym (said_err _ c.from_residual.result c.from_residual.ensures.1)) so_far,
+      if_error (λ refusal. HasCause refusal world second.0) c.in_err-serve_sent.field-0.0 c.from_residual.result c.from_residual.ensures.1
+          (cause_behind c.in_err-serve_sent.field-0.0 world sent_world second.0 first.steps first.leads.run second.3),
     )
 
 pub returns-then-disconnects-clause-world : goal.returns-then-disconnects-clause-world
@@ -41,7 +45,7 @@ returns-then-disconnects-clause-world g c = λ world trusted of idle plain_flags
     let request = c.args.request in
     let one = c.serve_sent.new.self in
     let asked = c.send-sent.new.self in
-    let sent_world = sent Fine world 0 request in
+    let sent_world = sent Nothing world 0 request in
     let sends = c.leads_law.ensures.sends world trusted 0 request old.order old.keeper old.connections idle of in
     let sending = subst (λ (connections : ConnectionsState). Leads world sent_world (Send 0 request ∷ []) old.order old.keeper (disk.faults old.keeper.disk) connections
     (Trusts trusted (disk.honest old.keeper.disk)) (disk.state old.keeper.disk) (disk.state old.keeper.disk)) (sym c.send-sent.ensures.connections) sends in
@@ -50,7 +54,7 @@ returns-then-disconnects-clause-world g c = λ world trusted of idle plain_flags
     let second = c.serve_sent.ensures.world sent_world trusted request sending.of_export refl in
     let so_far = follows_on disk.state disk.faults disk.honest c.leads_law.ensures world sent_world second.0 trusted (Sent 0 request ∷ []) [] old.order one.order old.keeper one.keeper asked one.connections old.keeper.disk
     c.serve_sent.ensures.honest.0 first second.2 in
-    (second.0, sym (ap (λ (h : RequestHead). h.kind) c.head.ensures) ∙ c.if-disconnects.true, so_far)
+    (second.0, sym (ap (λ (h : RequestHead). h.kind) c.head.ensures) ∙ c.if-disconnects.true, so_far, tt)
 
 pub returns-in_err-answer-clause-world : goal.returns-in_err-answer-clause-world
 returns-in_err-answer-clause-world g c = λ world trusted of idle plain_flags.
@@ -59,7 +63,7 @@ returns-in_err-answer-clause-world g c = λ world trusted of idle plain_flags.
     let request = c.args.request in
     let one = c.serve_sent.new.self in
     let asked = c.send-sent.new.self in
-    let sent_world = sent Fine world 0 request in
+    let sent_world = sent Nothing world 0 request in
     let sends = c.leads_law.ensures.sends world trusted 0 request old.order old.keeper old.connections idle of in
     let sending = subst (λ (connections : ConnectionsState). Leads world sent_world (Send 0 request ∷ []) old.order old.keeper (disk.faults old.keeper.disk) connections
     (Trusts trusted (disk.honest old.keeper.disk)) (disk.state old.keeper.disk) (disk.state old.keeper.disk)) (sym c.send-sent.ensures.connections) sends in
@@ -79,6 +83,8 @@ returns-in_err-answer-clause-world g c = λ world trusted of idle plain_flags.
           (disk.state old.keeper.disk) (disk.state two.keeper.disk)) (sym (said_err _ c.from_residual-in_err-answer.result c.from_residual-in_err-answer.ensures.1))
           (follows_on disk.state disk.faults disk.honest c.leads_law.ensures world second.0 third.0 trusted (Sent 0 request ∷ []) [] one.order two.order one.keeper two.keeper one.connections two.connections old.keeper.disk
           c.answer.ensures.honest.0 so_far third.2),
+      if_error (λ refusal. HasCause refusal world third.0) c.in_err-answer.field-0.0 c.from_residual-in_err-answer.result c.from_residual-in_err-answer.ensures.1
+          (cause_behind c.in_err-answer.field-0.0 world second.0 third.0 so_far.steps so_far.leads.run third.3),
     )
 
 pub returns-clause-world : goal.returns-clause-world
@@ -88,7 +94,7 @@ returns-clause-world g c = λ world trusted of idle plain_flags.
     let request = c.args.request in
     let one = c.serve_sent.new.self in
     let asked = c.send-sent.new.self in
-    let sent_world = sent Fine world 0 request in
+    let sent_world = sent Nothing world 0 request in
     let sends = c.leads_law.ensures.sends world trusted 0 request old.order old.keeper old.connections idle of in
     let sending = subst (λ (connections : ConnectionsState). Leads world sent_world (Send 0 request ∷ []) old.order old.keeper (disk.faults old.keeper.disk) connections
     (Trusts trusted (disk.honest old.keeper.disk)) (disk.state old.keeper.disk) (disk.state old.keeper.disk)) (sym c.send-sent.ensures.connections) sends in
@@ -107,4 +113,5 @@ returns-clause-world g c = λ world trusted of idle plain_flags.
       has_answer world third.0 request answer (second.0.connections 0) kind plain_flags second.1 awaits third.1.1 third.1.0,
       follows_on disk.state disk.faults disk.honest c.leads_law.ensures world second.0 third.0 trusted (Sent 0 request ∷ []) (Answered 0 answer ∷ []) one.order two.order one.keeper two.keeper one.connections two.connections old.keeper.disk
           c.answer.ensures.honest.0 so_far third.2,
+      tt,
     )

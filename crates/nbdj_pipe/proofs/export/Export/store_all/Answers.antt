@@ -1,20 +1,27 @@
-use Rattle.std.proofs.Common.{refl, ◌∙◌}
+use Rattle.std.proofs.Common.{inr, refl, ◌∙◌, arith}
+use Rattle.std.proofs.lemmas.Bool.{both_ways}
+use Rattle.nbdj_pipe.specs.Causes.{HasCause}
+use Rattle.nbdj_pipe.proofs.Causes.{cause_behind, if_error, settled_at_last, stored_more_often}
 use Rattle.nbdj_pipe.proofs.Steps.{settles_none, settles_on}
 use Rattle.nbdj_pipe.proofs.export.Export.store_all.Goals as goal
 
-pub loop-init : goal.loop-init
-loop-init g c = record {
+pub loop-groups-init : goal.loop-groups-init
+loop-groups-init g c = record {
   group = c.requires.group;
   extent = refl;
   honest = (λ is. is, λ is. is);
-  world = λ world trusted of. (world, settles_none g.D.Disk.state g.D.Disk.faults g.D.Disk.honest c.leads_law.ensures world trusted c.args.self.now.order c.args.self.now.keeper c.args.self.now.connections of);
+  world = λ world trusted of. (
+    world,
+    settles_none g.D.Disk.state g.D.Disk.faults g.D.Disk.honest c.leads_law.ensures world trusted c.args.self.now.order c.args.self.now.keeper c.args.self.now.connections of,
+    inr (omega arith),
+  );
 }
 
-pub loop-preserved : goal.loop-preserved
-loop-preserved g c =
+pub loop-groups-preserved : goal.loop-groups-preserved
+loop-groups-preserved g c =
     let disk = g.D.Disk in
-    let i = c.loop.invariant in
-    let mid = c.loop.self in
+    let i = c.loop-groups.invariant in
+    let mid = c.loop-groups.self in
     let new = c.store_some.new.self in
     record {
       group = c.store_some.ensures.group;
@@ -22,22 +29,39 @@ loop-preserved g c =
       honest = (λ is. i.honest.0 (c.store_some.ensures.honest.0 is), λ is. c.store_some.ensures.honest.1 (i.honest.1 is));
       world = λ world trusted of.
           let here = i.world world trusted of in
-          let on = c.store_some.ensures.world here.0 trusted here.1.follows.leads.of_export in (
+          let on = c.in_ok-store_some.ensures.world here.0 trusted here.1.follows.leads.of_export in (
             on.0,
             settles_on disk.state disk.faults disk.honest c.leads_law.ensures world here.0 on.0 trusted mid.order new.order mid.keeper new.keeper mid.connections new.connections c.args.self.now.keeper.disk
                 c.store_some.ensures.honest.0 here.1 on.1,
+            stored_more_often world here.0 on.0 c.loop-groups.groups (c.schedule_law.ensures.grows here.0 on.0 on.1.follows.steps on.1.follows.leads.run).stopped here.2 on.2,
           );
     }
 
 pub returns-in_err-store_some-clause-world : goal.returns-in_err-store_some-clause-world
 returns-in_err-store_some-clause-world g c = λ world trusted of.
     let disk = g.D.Disk in
-    let i = c.loop.invariant in
-    let mid = c.loop.self in
+    let i = c.loop-groups.invariant in
+    let mid = c.loop-groups.self in
     let new = c.store_some.new.self in
     let here = i.world world trusted of in
-    let on = c.store_some.ensures.world here.0 trusted here.1.follows.leads.of_export in (
+    let on = c.in_err-store_some.ensures.world here.0 trusted here.1.follows.leads.of_export in (
       on.0,
       settles_on disk.state disk.faults disk.honest c.leads_law.ensures world here.0 on.0 trusted mid.order new.order mid.keeper new.keeper mid.connections new.connections c.args.self.now.keeper.disk
           c.store_some.ensures.honest.0 here.1 on.1,
+      if_error (λ refusal. HasCause refusal world on.0) c.in_err-store_some.field-0.0 c.from_residual.result c.from_residual.ensures.1
+          (cause_behind c.in_err-store_some.field-0.0 world here.0 on.0 here.1.follows.steps here.1.follows.leads.run on.2),
     )
+
+pub returns-then-is_settled-clause-world : goal.returns-then-is_settled-clause-world
+returns-then-is_settled-clause-world g c = λ world trusted of. let here = c.loop-groups.invariant.world world trusted of in (here.0, here.1, tt)
+
+pub returns-then-is_settled-2-clause-world : goal.returns-then-is_settled-2-clause-world
+returns-then-is_settled-2-clause-world g c = λ world trusted of. let here = c.loop-groups.invariant.world world trusted of in (here.0, here.1, tt)
+
+pub returns-else-is_settled-2-clause-world : goal.returns-else-is_settled-2-clause-world
+returns-else-is_settled-2-clause-world g c = λ world trusted of.
+    let here = c.loop-groups.invariant.world world trusted of in
+    let of_next = here.1.follows.leads.of_export in
+    let settled = settled_at_last world here.0 c.loop-groups.self.order c.loop-groups.self.connections c.loop-groups.groups (c.schedule_law.ensures.within here.0 of_next.reached) of_next.of_order
+    c.loop-groups-test.false here.2 in
+    (here.0, here.1, both_ways c.is_settled-2.result c.if-is_settled-2.false (c.is_settled-2.ensures.1 settled))

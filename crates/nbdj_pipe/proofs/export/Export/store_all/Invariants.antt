@@ -4,11 +4,12 @@ use Rattle.request_core.specs.Life.{Trusts}
 use Rattle.request_core.specs.Parts.{IsExportOf}
 use Rattle.world.specs.World.{World}
 use Rattle.nbdj_pipe.specs.Export.{Settles}
+use Rattle.nbdj_pipe.proofs.Causes.{HasStored}
 use Rattle.nbdj_pipe.proofs.export.Export.store_all.Given as goal
 
--- some groups were stored
-abbrev pub invariant-loop : goal.invariant-loop
-invariant-loop g l =
+-- so many groups were stored
+abbrev pub invariant-loop-groups : goal.invariant-loop-groups
+invariant-loop-groups g l =
     let disk = g.D.Disk in
     let old = l.fn.self in
     let new = l.self in
@@ -18,5 +19,6 @@ invariant-loop g l =
       honest : disk.honest new.keeper.disk ↔ disk.honest old.keeper.disk;
       world : (world : World) (trusted : Bool) → IsExportOf world old.order old.keeper (disk.faults old.keeper.disk) old.connections (Trusts trusted (disk.honest old.keeper.disk)) (disk.state old.keeper.disk)
           → (next : World) × Settles world next new.order new.keeper (disk.faults new.keeper.disk) new.connections
-          (Trusts trusted (disk.honest new.keeper.disk)) (disk.state old.keeper.disk) (disk.state new.keeper.disk);
+          (Trusts trusted (disk.honest new.keeper.disk)) (disk.state old.keeper.disk) (disk.state new.keeper.disk)
+          × HasStored world next l.groups;
     }

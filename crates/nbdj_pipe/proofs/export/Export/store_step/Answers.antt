@@ -16,10 +16,11 @@ returns-clause-world g c = λ world trusted of.
     let still = still_step world c.args.step done.0 c.requires.storing in
     let same = last_same world.log c.step.result still.1.0 (sym done.1 ∙ still.1.1) in
     let quiet = ap (λ (e : Event). spoken (e ∷ [])) same ∙ still.1.2 in (
-      next,
+      done.0,
       record {
         follows = subst (λ (said : List Event). Follows world next said c.step.new.self.order new (g.D.Disk.faults new.disk) c.step.new.self.connections
             (Trusts trusted (g.D.Disk.honest new.disk)) (g.D.Disk.state old.disk) (g.D.Disk.state new.disk)) quiet done.2;
         connections_are = still.0;
       },
+      done.1,
     )

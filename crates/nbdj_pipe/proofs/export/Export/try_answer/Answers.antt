@@ -7,7 +7,7 @@ use Rattle.world.specs.declared.event.Event.TheVariants.{Answered, Held}
 use Rattle.world.specs.declared.step.Step.TheVariants as steps
 use Rattle.world.specs.Step.{after_step}
 use Rattle.world.specs.World.{World}
-use Rattle.nbdj_pipe.specs.Export.{Follows, IsGiven}
+use Rattle.nbdj_pipe.specs.Export.{Follows, IsGiven, IsWaiting}
 use Rattle.nbdj_pipe.specs.Talk.{spoken}
 use Rattle.nbdj_pipe.proofs.Steps.{IsAnsweredAs, answered_as, last_same}
 use Rattle.nbdj_pipe.proofs.export.Export.try_answer.Goals as goal
@@ -16,7 +16,7 @@ use Rattle.nbdj_pipe.proofs.export.Export.try_answer.Goals as goal
 gave : (world next : World) (event : Event) (answer : Answer) (c : ℕ) → IsAnsweredAs world (world.connections 0) next → next.log ≡ world.log ++ event ∷ [] → event ≡ Answered c answer
     → (next.connections 0 ≡ Idle) × IsGiven (world.connections 0) answer × (event ≡ Answered 0 answer)
 gave world next event answer c (inl held) log is =
-    let same = last_same world.log event Held (sym log ∙ ap (λ (w : World). w.log) held) in absurd (apart (sym is ∙ same))
+    let same = last_same world.log event Held (sym log ∙ ap (λ (w : World). w.log) held.0) in absurd (apart (sym is ∙ same))
   where
     apart : Answered c answer ≡ Held → ⊥
     apart is = cc
@@ -33,10 +33,10 @@ gave world next event answer c (inr (given, answered, fits)) log is =
 
 -- nothing was answered, by the event
 gave_none : (world next : World) (event : Event) → IsAnsweredAs world (world.connections 0) next → next.log ≡ world.log ++ event ∷ [] → ((c : ℕ) (answer : Answer) → event ≡ Answered c answer → ⊥)
-    → (next.connections ≡ world.connections) × (spoken (event ∷ []) ≡ [])
-gave_none world next event (inl held) log other =
+    → (next.connections ≡ world.connections) × IsWaiting world × (spoken (event ∷ []) ≡ [])
+gave_none world next event (inl (held, works, (number, waits, above))) log other =
     let same = last_same world.log event Held (sym log ∙ ap (λ (w : World). w.log) held) in
-    (ap (λ (w : World). w.connections) held, ap (λ (e : Event). spoken (e ∷ [])) same)
+    (ap (λ (w : World). w.connections) held, record { works = works; number = number; waits = waits; above = above }, ap (λ (e : Event). spoken (e ∷ [])) same)
 gave_none world next event (inr (given, answered, fits)) log other =
     absurd (other 0 given (last_same world.log event (Answered 0 given) (sym log ∙ ap (λ (w : World). w.log) answered)))
 
@@ -61,7 +61,7 @@ returns-clause-world g c = λ world trusted of awaits.
     let next = after_step world (steps.Answer 0) done.0 in
     let none = gave_none world next c.step.result (answered_as world (world.connections 0) awaits) done.1 (λ k answer is. c.in_default.not-Answered k answer is) in (
       next,
-      none.0,
+      (none.0, none.1),
       subst (λ (said : List Event). Follows world next said c.step.new.self.order new (g.D.Disk.faults new.disk) c.step.new.self.connections
-          (Trusts trusted (g.D.Disk.honest new.disk)) (g.D.Disk.state old.disk) (g.D.Disk.state new.disk)) none.1 done.2,
+          (Trusts trusted (g.D.Disk.honest new.disk)) (g.D.Disk.state old.disk) (g.D.Disk.state new.disk)) none.2 done.2,
     )

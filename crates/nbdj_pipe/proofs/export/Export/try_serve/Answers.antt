@@ -8,30 +8,32 @@ use Rattle.world.specs.declared.connection.Connection.TheVariants.{Requested}
 use Rattle.world.specs.declared.event.Event.{Event}
 use Rattle.world.specs.declared.event.Event.TheVariants.{Held}
 use Rattle.world.specs.declared.step.Step.TheVariants as steps
-use Rattle.world.specs.Serve.{Luck, serve}
+use Rattle.world.specs.Serve.{Failure, serve}
 use Rattle.world.specs.Step.{after_step}
 use Rattle.world.specs.World.{World}
+use Rattle.nbdj_pipe.specs.Causes.{LacksRoom}
 use Rattle.nbdj_pipe.specs.Export.{Follows, IsJudged}
 use Rattle.nbdj_pipe.specs.Talk.{spoken, verdict_on}
 use Rattle.nbdj_pipe.proofs.Steps.{IsServedAs, last_same, served_as}
 use Rattle.nbdj_pipe.proofs.export.Export.try_serve.Goals as goal
 
 -- a request was served, or there is no room for its command
-as_served : (world : World) (luck : Luck) (request : Message) → world.connections 0 ≡ Requested request
-    → IsServedAs world (verdict_on request.head world.stage.setting.geometry world.stage.setting.flags) (after_step world (steps.Serve 0) luck)
+as_served : (world : World) (failure : Failure) (request : Message) → world.connections 0 ≡ Requested request
+    → IsServedAs world request (verdict_on request.head world.stage.setting.geometry world.stage.setting.flags) (after_step world (steps.Serve 0) failure)
 unfolding verdict_on
-as_served world luck request is = subst (λ (s : Connection). IsServedAs world (verdict_on request.head world.stage.setting.geometry world.stage.setting.flags) (serve luck world 0 s)) (sym is)
-    (served_as world luck request (verdict_on request.head world.stage.setting.geometry world.stage.setting.flags))
+as_served world failure request is = subst (λ (s : Connection). IsServedAs world request (verdict_on request.head world.stage.setting.geometry world.stage.setting.flags) (serve failure world 0 s)) (sym is)
+    (served_as world failure request (verdict_on request.head world.stage.setting.geometry world.stage.setting.flags))
 
-no_room : (world next : World) (given : Result Action Errno) (event : Event) → IsServedAs world given next → next.log ≡ world.log ++ event ∷ [] → event ≡ Held
-    → (next.connections ≡ world.connections) × (spoken (event ∷ []) ≡ [])
-no_room world next given event (inl held) log is = (ap (λ (w : World). w.connections) held, ap (λ (e : Event). spoken (e ∷ [])) is)
-no_room world next given event (inr (judged, (own, logged, quiet, other))) log is = absurd (other (sym (last_same world.log event own (sym log ∙ logged)) ∙ is))
+no_room : (world next : World) (request : Message) (event : Event) → IsServedAs world request (verdict_on request.head world.stage.setting.geometry world.stage.setting.flags) next
+    → next.log ≡ world.log ++ event ∷ [] → event ≡ Held → (next.connections ≡ world.connections) × LacksRoom world request × (spoken (event ∷ []) ≡ [])
+no_room world next request event (inl (held, judged, works, other, full)) log is =
+    (ap (λ (w : World). w.connections) held, record { works = works; judged = judged; other = other; full = full }, ap (λ (e : Event). spoken (e ∷ [])) is)
+no_room world next request event (inr (judged, (own, logged, quiet, other))) log is = absurd (other (sym (last_same world.log event own (sym log ∙ logged)) ∙ is))
 
-is_judged : (world next : World) (given : Result Action Errno) (event : Event) → IsServedAs world given next → next.log ≡ world.log ++ event ∷ [] → (event ≡ Held → ⊥)
+is_judged : (world next : World) (request : Message) (given : Result Action Errno) (event : Event) → IsServedAs world request given next → next.log ≡ world.log ++ event ∷ [] → (event ≡ Held → ⊥)
     → IsJudged given (next.connections 0) × (spoken (event ∷ []) ≡ [])
-is_judged world next given event (inl held) log other = absurd (other (last_same world.log event Held (sym log ∙ ap (λ (w : World). w.log) held)))
-is_judged world next given event (inr (judged, (own, logged, quiet, unlike))) log other =
+is_judged world next request given event (inl held) log other = absurd (other (last_same world.log event Held (sym log ∙ ap (λ (w : World). w.log) held.0)))
+is_judged world next request given event (inr (judged, (own, logged, quiet, unlike))) log other =
     (judged, ap (λ (e : Event). spoken (e ∷ [])) (last_same world.log event own (sym log ∙ logged)) ∙ quiet)
 
 pub returns-clause-world : goal.returns-clause-world
@@ -40,7 +42,7 @@ returns-clause-world g c = λ world trusted request of sent.
     let new = c.step.new.self.keeper in
     let done = c.step.ensures.world world trusted of in
     let next = after_step world (steps.Serve 0) done.0 in
-    let is = is_judged world next (verdict_on request.head world.stage.setting.geometry world.stage.setting.flags) c.step.result (as_served world done.0 request sent) done.1 (λ held. c.in_default.not-Held held) in (
+    let is = is_judged world next request (verdict_on request.head world.stage.setting.geometry world.stage.setting.flags) c.step.result (as_served world done.0 request sent) done.1 (λ held. c.in_default.not-Held held) in (
       next,
       is.0,
       subst (λ (said : List Event). Follows world next said c.step.new.self.order new (g.D.Disk.faults new.disk) c.step.new.self.connections
@@ -53,9 +55,9 @@ returns-in-Held-clause-world g c = λ world trusted request of sent.
     let new = c.step.new.self.keeper in
     let done = c.step.ensures.world world trusted of in
     let next = after_step world (steps.Serve 0) done.0 in
-    let is = no_room world next (verdict_on request.head world.stage.setting.geometry world.stage.setting.flags) c.step.result (as_served world done.0 request sent) done.1 c.in-Held.is in (
+    let is = no_room world next request c.step.result (as_served world done.0 request sent) done.1 c.in-Held.is in (
       next,
-      is.0,
+      (is.0, is.1),
       subst (λ (said : List Event). Follows world next said c.step.new.self.order new (g.D.Disk.faults new.disk) c.step.new.self.connections
-          (Trusts trusted (g.D.Disk.honest new.disk)) (g.D.Disk.state old.disk) (g.D.Disk.state new.disk)) is.1 done.2,
+          (Trusts trusted (g.D.Disk.honest new.disk)) (g.D.Disk.state old.disk) (g.D.Disk.state new.disk)) is.2 done.2,
     )

@@ -10,8 +10,8 @@ use Rattle.nbdj_pipe.specs.declared.refusal.Refusal.{Refusal}
 use Rattle.nbdj_pipe.specs.declared.refusal.Refusal.TheVariants.{DeviceFault, NoMemory, StreamFault}
 use Rattle.nbdj_pipe.specs.declared.session.Flow.{Flow}
 use Rattle.nbdj_pipe.proofs.Bytes.{keeps_same}
-use Rattle.nbdj_pipe.proofs.Runs.{runs_none, runs_on}
-use Rattle.nbdj_pipe.proofs.Sessions.{IsGoing, going_first, goes_on, stopped, closed, cut, ended, refused, err_no_end, no_memory, not_device, stream_fault}
+use Rattle.nbdj_pipe.proofs.Runs.{runs_bare, runs_none, runs_on}
+use Rattle.nbdj_pipe.proofs.Sessions.{IsGoing, going_first, goes_on, stopped, closed, cut, ended, refused, err_no_end, not_device, IsUnshown, unshown_memory, unshown_stream}
 use Rattle.nbdj_pipe.proofs.session.Session.run.Goals as goal
 
 -- an early refusal isn't a device fault
@@ -35,12 +35,12 @@ returns-in_err-piece-clause-dialog g c =
     let a = c.args.self.now.export in
     let input = g.R.Read.remaining c.args.input.now in
     let output = g.W.Write.contents c.args.output.now in
-    stopped (Runs disk.state disk.faults disk.honest a.order a.keeper a.connections a.order a.keeper a.connections) input input output output _ (going_first (Runs disk.state disk.faults disk.honest a.order a.keeper a.connections a.order a.keeper a.connections) input output (runs_none disk.state disk.faults disk.honest c.leads_law.ensures a.order a.keeper a.connections)) input c.from_residual.result (keeps_same input)
-    (err_no_end c.from_residual.result NoMemory c.from_residual.ensures.1 no_memory)
+    stopped (Runs disk.state disk.faults disk.honest a.order a.keeper a.connections a.order a.keeper a.connections) (runs_bare disk.state disk.faults disk.honest a.order a.order a.keeper a.keeper a.connections a.connections) input input output output _ (going_first (Runs disk.state disk.faults disk.honest a.order a.keeper a.connections a.order a.keeper a.connections) input output (runs_none disk.state disk.faults disk.honest c.leads_law.ensures a.order a.keeper a.connections)) input c.from_residual.result (keeps_same input)
+    (err_no_end IsUnshown c.from_residual.result NoMemory c.from_residual.ensures.1 unshown_memory)
 
 pub returns-in_err-piece-clause-early : goal.returns-in_err-piece-clause-early
 returns-in_err-piece-clause-early g c =
-    no_fault c.from_residual.result (err_no_end c.from_residual.result NoMemory c.from_residual.ensures.1 no_memory)
+    no_fault c.from_residual.result (err_no_end IsEarly c.from_residual.result NoMemory c.from_residual.ensures.1 unshown_memory.0)
 
 pub returns-in_err-count-clause-dialog : goal.returns-in_err-count-clause-dialog
 returns-in_err-count-clause-dialog g c =
@@ -49,12 +49,12 @@ returns-in_err-count-clause-dialog g c =
     let input = g.R.Read.remaining c.args.input.now in
     let output = g.W.Write.contents c.args.output.now in
     let b = c.loop.self.export in
-    stopped (Runs disk.state disk.faults disk.honest a.order a.keeper a.connections b.order b.keeper b.connections) input (g.R.Read.remaining c.loop.input) output (g.W.Write.contents c.loop.output) c.loop.reader c.loop.invariant.going (g.R.Read.remaining c.read_some.new.input) c.from_residual-in_err-count.result
-    c.in_err-count.ensures.bytes (err_no_end c.from_residual-in_err-count.result c.in_err-count.field-0.0 c.from_residual-in_err-count.ensures.1 (subst IsEarly (sym c.in_err-count.ensures.refusal) stream_fault))
+    stopped (Runs disk.state disk.faults disk.honest a.order a.keeper a.connections b.order b.keeper b.connections) (runs_bare disk.state disk.faults disk.honest a.order b.order a.keeper b.keeper a.connections b.connections) input (g.R.Read.remaining c.loop.input) output (g.W.Write.contents c.loop.output) c.loop.reader c.loop.invariant.going (g.R.Read.remaining c.read_some.new.input) c.from_residual-in_err-count.result
+    c.in_err-count.ensures.bytes (err_no_end IsUnshown c.from_residual-in_err-count.result c.in_err-count.field-0.0 c.from_residual-in_err-count.ensures.1 (subst IsUnshown (sym c.in_err-count.ensures.refusal) unshown_stream))
 
 pub returns-in_err-count-clause-early : goal.returns-in_err-count-clause-early
 returns-in_err-count-clause-early g c =
-    no_fault c.from_residual-in_err-count.result (err_no_end c.from_residual-in_err-count.result c.in_err-count.field-0.0 c.from_residual-in_err-count.ensures.1 (subst IsEarly (sym c.in_err-count.ensures.refusal) stream_fault))
+    no_fault c.from_residual-in_err-count.result (err_no_end IsEarly c.from_residual-in_err-count.result c.in_err-count.field-0.0 c.from_residual-in_err-count.ensures.1 (subst IsEarly (sym c.in_err-count.ensures.refusal) unshown_stream.0))
 
 pub returns-then-count-eq0-clause-dialog : goal.returns-then-count-eq0-clause-dialog
 returns-then-count-eq0-clause-dialog g c =
@@ -66,7 +66,7 @@ returns-then-count-eq0-clause-dialog g c =
     let mid = g.R.Read.remaining c.loop.input in
     let left = g.R.Read.remaining c.read_some.new.input in
     let bytes = c.in_ok-count.ensures.bytes in
-    closed (Runs disk.state disk.faults disk.honest a.order a.keeper a.connections b.order b.keeper b.connections) input mid output (g.W.Write.contents c.loop.output) c.loop.reader c.loop.invariant.going left
+    closed (Runs disk.state disk.faults disk.honest a.order a.keeper a.connections b.order b.keeper b.connections) (runs_bare disk.state disk.faults disk.honest a.order b.order a.keeper b.keeper a.connections b.connections) input mid output (g.W.Write.contents c.loop.output) c.loop.reader c.loop.invariant.going left
     (subst (λ (n : ℕ). Consumes mid left (take n c.read_some.new.piece.items)) c.if-count-eq0.true bytes.0)
     (bytes.1 c.if-count-eq0.true (omega (arith, c.in_ok-count.ensures.same, c.loop.invariant.some)))
 
@@ -85,17 +85,18 @@ returns-in_err-write_replies-clause-dialog g c =
     let begun = subst (λ (before : List ℕ). Takes c.loop.reader piece c.take-flow.new.reader before due c.take-flow.result (Runs disk.state disk.faults disk.honest b.order b.keeper b.connections t.order t.keeper t.connections))
     c.loop.invariant.none_due c.take-flow.ensures.takes in
     subst (λ x. IsPiped input (g.R.Read.remaining c.read_some.new.input) output (g.W.Write.contents c.write_replies.new.output) c.from_residual-in_err-write_replies.result (Runs disk.state disk.faults disk.honest a.order a.keeper a.connections x.order x.keeper x.connections)) (sym c.write_replies.ensures.same)
-    (cut (Runs disk.state disk.faults disk.honest a.order a.keeper a.connections b.order b.keeper b.connections) input (g.R.Read.remaining c.loop.input) output (g.W.Write.contents c.loop.output) c.loop.reader c.loop.invariant.going
+    (cut (Runs disk.state disk.faults disk.honest a.order a.keeper a.connections b.order b.keeper b.connections) (runs_bare disk.state disk.faults disk.honest a.order b.order a.keeper b.keeper a.connections b.connections) input (g.R.Read.remaining c.loop.input) output (g.W.Write.contents c.loop.output) c.loop.reader c.loop.invariant.going
     (Runs disk.state disk.faults disk.honest b.order b.keeper b.connections t.order t.keeper t.connections) (Runs disk.state disk.faults disk.honest a.order a.keeper a.connections t.order t.keeper t.connections)
     (runs_on disk.state disk.faults disk.honest c.leads_law.ensures a.order b.order t.order a.keeper b.keeper t.keeper a.connections b.connections t.connections c.take-flow.ensures.honest.0)
+    (runs_bare disk.state disk.faults disk.honest a.order t.order a.keeper t.keeper a.connections t.connections)
     (g.R.Read.remaining c.read_some.new.input) (g.W.Write.contents c.write_replies.new.output) piece due c.take-flow.new.reader c.take-flow.result read begun
     c.in_err-write_replies.field-0.0 c.from_residual-in_err-write_replies.result c.in_err-write_replies.ensures.written
-    (err_no_end c.from_residual-in_err-write_replies.result c.in_err-write_replies.field-0.0 c.from_residual-in_err-write_replies.ensures.1 (subst IsEarly (sym c.in_err-write_replies.ensures.refusal) stream_fault)))
+    (err_no_end IsUnshown c.from_residual-in_err-write_replies.result c.in_err-write_replies.field-0.0 c.from_residual-in_err-write_replies.ensures.1 (subst IsUnshown (sym c.in_err-write_replies.ensures.refusal) unshown_stream)))
 
 pub returns-in_err-write_replies-clause-early : goal.returns-in_err-write_replies-clause-early
 returns-in_err-write_replies-clause-early g c =
     no_fault c.from_residual-in_err-write_replies.result
-    (err_no_end c.from_residual-in_err-write_replies.result c.in_err-write_replies.field-0.0 c.from_residual-in_err-write_replies.ensures.1 (subst IsEarly (sym c.in_err-write_replies.ensures.refusal) stream_fault))
+    (err_no_end IsEarly c.from_residual-in_err-write_replies.result c.in_err-write_replies.field-0.0 c.from_residual-in_err-write_replies.ensures.1 (subst IsEarly (sym c.in_err-write_replies.ensures.refusal) unshown_stream.0))
 
 pub returns-in_err-flow-clause-dialog : goal.returns-in_err-flow-clause-dialog
 returns-in_err-flow-clause-dialog g c =
@@ -112,9 +113,10 @@ returns-in_err-flow-clause-dialog g c =
     let begun = subst (λ (before : List ℕ). Takes c.loop.reader piece c.take-flow.new.reader before due c.take-flow.result (Runs disk.state disk.faults disk.honest b.order b.keeper b.connections t.order t.keeper t.connections))
     c.loop.invariant.none_due c.take-flow.ensures.takes in
     subst (λ x. IsPiped input (g.R.Read.remaining c.read_some.new.input) output (g.W.Write.contents c.write_replies.new.output) c.from_residual-in_err-flow.result (Runs disk.state disk.faults disk.honest a.order a.keeper a.connections x.order x.keeper x.connections)) (sym c.write_replies.ensures.same)
-    (refused (Runs disk.state disk.faults disk.honest a.order a.keeper a.connections b.order b.keeper b.connections) input (g.R.Read.remaining c.loop.input) output (g.W.Write.contents c.loop.output) c.loop.reader c.loop.invariant.going
+    (refused (Runs disk.state disk.faults disk.honest a.order a.keeper a.connections b.order b.keeper b.connections) (runs_bare disk.state disk.faults disk.honest a.order b.order a.keeper b.keeper a.connections b.connections) input (g.R.Read.remaining c.loop.input) output (g.W.Write.contents c.loop.output) c.loop.reader c.loop.invariant.going
     (Runs disk.state disk.faults disk.honest b.order b.keeper b.connections t.order t.keeper t.connections) (Runs disk.state disk.faults disk.honest a.order a.keeper a.connections t.order t.keeper t.connections)
     (runs_on disk.state disk.faults disk.honest c.leads_law.ensures a.order b.order t.order a.keeper b.keeper t.keeper a.connections b.connections t.connections c.take-flow.ensures.honest.0)
+    (runs_bare disk.state disk.faults disk.honest a.order t.order a.keeper t.keeper a.connections t.connections)
     (g.R.Read.remaining c.read_some.new.input) (g.W.Write.contents c.write_replies.new.output) piece due c.take-flow.new.reader c.take-flow.result read begun
     c.in_ok-write_replies.ensures.written c.in_err-flow.field-0.0 c.from_residual-in_err-flow.result c.in_err-flow.was c.from_residual-in_err-flow.ensures.1)
 
@@ -137,9 +139,10 @@ returns-in-Ended-clause-dialog g c =
     let begun = subst (λ (before : List ℕ). Takes c.loop.reader piece c.take-flow.new.reader before due c.take-flow.result (Runs disk.state disk.faults disk.honest b.order b.keeper b.connections t.order t.keeper t.connections))
     c.loop.invariant.none_due c.take-flow.ensures.takes in
     subst (λ x. IsPiped input (g.R.Read.remaining c.read_some.new.input) output (g.W.Write.contents c.write_replies.new.output) (Ok tt) (Runs disk.state disk.faults disk.honest a.order a.keeper a.connections x.order x.keeper x.connections)) (sym c.write_replies.ensures.same)
-    (ended (Runs disk.state disk.faults disk.honest a.order a.keeper a.connections b.order b.keeper b.connections) input (g.R.Read.remaining c.loop.input) output (g.W.Write.contents c.loop.output) c.loop.reader c.loop.invariant.going
+    (ended (Runs disk.state disk.faults disk.honest a.order a.keeper a.connections b.order b.keeper b.connections) (runs_bare disk.state disk.faults disk.honest a.order b.order a.keeper b.keeper a.connections b.connections) input (g.R.Read.remaining c.loop.input) output (g.W.Write.contents c.loop.output) c.loop.reader c.loop.invariant.going
     (Runs disk.state disk.faults disk.honest b.order b.keeper b.connections t.order t.keeper t.connections) (Runs disk.state disk.faults disk.honest a.order a.keeper a.connections t.order t.keeper t.connections)
     (runs_on disk.state disk.faults disk.honest c.leads_law.ensures a.order b.order t.order a.keeper b.keeper t.keeper a.connections b.connections t.connections c.take-flow.ensures.honest.0)
+    (runs_bare disk.state disk.faults disk.honest a.order t.order a.keeper t.keeper a.connections t.connections)
     (g.R.Read.remaining c.read_some.new.input) (g.W.Write.contents c.write_replies.new.output) piece due c.take-flow.new.reader c.take-flow.result read begun
     c.in_ok-write_replies.ensures.written (c.in_ok-flow.was ∙ ap Ok c.in-Ended.is))
 
@@ -159,9 +162,10 @@ loop-preserved g c =
     c.loop.invariant.none_due c.take-flow.ensures.takes in
     let same = c.write_replies.ensures.same in
     let going = subst (λ x. IsGoing input (g.R.Read.remaining c.read_some.new.input) output (g.W.Write.contents c.write_replies.new.output) c.take-flow.new.reader (Runs disk.state disk.faults disk.honest a.order a.keeper a.connections x.order x.keeper x.connections)) (sym same)
-    (goes_on (Runs disk.state disk.faults disk.honest a.order a.keeper a.connections b.order b.keeper b.connections) input (g.R.Read.remaining c.loop.input) output (g.W.Write.contents c.loop.output) c.loop.reader c.loop.invariant.going
+    (goes_on (Runs disk.state disk.faults disk.honest a.order a.keeper a.connections b.order b.keeper b.connections) (runs_bare disk.state disk.faults disk.honest a.order b.order a.keeper b.keeper a.connections b.connections) input (g.R.Read.remaining c.loop.input) output (g.W.Write.contents c.loop.output) c.loop.reader c.loop.invariant.going
     (Runs disk.state disk.faults disk.honest b.order b.keeper b.connections t.order t.keeper t.connections) (Runs disk.state disk.faults disk.honest a.order a.keeper a.connections t.order t.keeper t.connections)
     (runs_on disk.state disk.faults disk.honest c.leads_law.ensures a.order b.order t.order a.keeper b.keeper t.keeper a.connections b.connections t.connections c.take-flow.ensures.honest.0)
+    (runs_bare disk.state disk.faults disk.honest a.order t.order a.keeper t.keeper a.connections t.connections)
     (g.R.Read.remaining c.read_some.new.input) (g.W.Write.contents c.write_replies.new.output) piece due c.take-flow.new.reader c.take-flow.result read begun
     c.in_ok-write_replies.ensures.written (c.in_ok-flow.was ∙ ap Ok c.in-Open.is) c.take-flow.ensures.is_open) in
     record {
@@ -182,7 +186,7 @@ returns-clause-dialog g c =
     let output = g.W.Write.contents c.args.output.now in
     let b = c.loop.self.export in
     let left = g.R.Read.remaining c.loop.input in
-    stopped (Runs disk.state disk.faults disk.honest a.order a.keeper a.connections b.order b.keeper b.connections) input left output (g.W.Write.contents c.loop.output) c.loop.reader c.loop.invariant.going left (Err StreamFault) (keeps_same left) stream_fault
+    stopped (Runs disk.state disk.faults disk.honest a.order a.keeper a.connections b.order b.keeper b.connections) (runs_bare disk.state disk.faults disk.honest a.order b.order a.keeper b.keeper a.connections b.connections) input left output (g.W.Write.contents c.loop.output) c.loop.reader c.loop.invariant.going left (Err StreamFault) (keeps_same left) unshown_stream
 
 pub loop-init : goal.loop-init
 loop-init g c =

@@ -1,4 +1,4 @@
-use Rattle.std.proofs.Common.{inl, inr, ℕ, List, ◌++◌, Option, Result, Ok, IfOk, ap, subst, ◌∙◌, refl}
+use Rattle.std.proofs.Common.{inl, inr, ℕ, List, [], ◌∷◌, ◌++◌, Option, None, Result, Ok, IfOk, ap, subst, ◌∙◌, refl}
 use Rattle.nbd_wire.specs.declared.message.Answer.{Answer}
 use Rattle.nbd_wire.specs.declared.head.RequestHead.{RequestHead}
 use Rattle.nbdj_pipe.specs.Export.{IsOfKind}
@@ -7,8 +7,8 @@ use Rattle.nbdj_pipe.specs.Talk.{reply_to}
 use Rattle.nbdj_pipe.specs.declared.refusal.Refusal.{Refusal}
 use Rattle.nbdj_pipe.specs.declared.refusal.Refusal.TheVariants.{NoMemory}
 use Rattle.nbdj_pipe.specs.declared.session.Flow.{Flow}
-use Rattle.nbdj_pipe.proofs.Runs.{answered_run, disc_run, failed_run}
-use Rattle.nbdj_pipe.proofs.Sessions.{as_error, no_memory}
+use Rattle.nbdj_pipe.proofs.Runs.{answered_run, disc_run, failed_run, runs_bare}
+use Rattle.nbdj_pipe.proofs.Sessions.{as_error}
 use Rattle.nbdj_pipe.proofs.session.Session.serve.Goals as goal
 
 pub returns-in_err-serve-clause-serves : goal.returns-in_err-serve-clause-serves
@@ -33,12 +33,13 @@ returns-in_err-extend_from_slice-in-Some-clause-serves g c =
     let is = c.in_ok-serve.was ∙ ap Ok c.in-Some.is in
     as_error (λ (r : Result Flow Refusal). Serves request before after r (Runs disk.state disk.faults disk.honest a.order a.keeper a.connections e.order e.keeper e.connections))
     NoMemory c.from_residual-in_err-extend_from_slice-in-Some.result c.from_residual-in_err-extend_from_slice-in-Some.ensures.1 (
-      no_memory,
+      tt,
       c.in_err-extend_from_slice-in-Some.ensures.items,
       inr (
         c.in-Some.answer,
         subst (λ (r : Result (Option Answer) Refusal). IfOk r (IsOfKind request)) is c.serve.ensures.kind,
-        answered_run disk.state disk.faults disk.honest a.order e.order a.keeper e.keeper a.connections e.connections request c.in-Some.answer c.serve.result is c.serve.ensures.world,
+        runs_bare disk.state disk.faults disk.honest a.order e.order a.keeper e.keeper a.connections e.connections (record { request = request; answer = c.in-Some.answer } ∷ []) None (Ok tt) NoMemory (λ first last. tt)
+            (answered_run disk.state disk.faults disk.honest a.order e.order a.keeper e.keeper a.connections e.connections request c.in-Some.answer c.serve.result is c.serve.ensures.world),
       ),
     )
 

@@ -4,32 +4,34 @@ use Rattle.nbd_wire.specs.Request.{Message}
 use Rattle.nbd_wire.specs.Stream.{Reader}
 use Rattle.nbdj_pipe.specs.Session.{Runs, Serves, Takes, TakesOn}
 use Rattle.nbdj_pipe.specs.Talk.{Exchange, asked, dialog, reply_to}
+use Rattle.nbdj_pipe.specs.Refusals.{of_wire}
 use Rattle.nbdj_pipe.specs.declared.refusal.Refusal.{Refusal}
 use Rattle.nbdj_pipe.specs.declared.session.Flow.{Flow}
 use Rattle.nbdj_pipe.proofs.Dialogs.{HaveNoDisc, asked-append, dialog-append, each_append}
-use Rattle.nbdj_pipe.proofs.Runs.{runs_none, runs_on}
+use Rattle.nbdj_pipe.proofs.Runs.{bare_wire, runs_bare, runs_none, runs_on}
 use Rattle.nbdj_pipe.proofs.Sessions.{as_error, fed, feeds_on, messages_done, messages_next, messages_served, takes_all, takes_disc, takes_fault, takes_unserved, takes_unwritten}
 use Rattle.nbdj_pipe.proofs.session.Session.take_whole.Goals as goal
 
 -- the next request wasn't served, or its reply has no memory
-unserved : (run served_run : List Exchange → Option Message → Type 0) (exchanges : List Exchange)
-    → ((more : List Exchange) (last : Option Message) → served_run more last → run (exchanges ++ more) last)
+unserved : (run served_run : List Exchange → Option Message → Result (Unit {0}) Refusal → Type 0) (exchanges : List Exchange)
+    → ((more : List Exchange) (last : Option Message) (outcome : Result (Unit {0}) Refusal) → served_run more last outcome → run (exchanges ++ more) last outcome)
     → (old new : Reader) (piece : List ℕ) (all : List Message) → TakesOn old piece all new → HaveNoDisc exchanges
     → (before mid after : List ℕ) (request : Message) (more : List Message) (refusal : Refusal) → all ≡ (asked exchanges ++ request ∷ []) ++ more → mid ≡ before ++ dialog exchanges
     → Serves request mid after (Err refusal) served_run → Takes old piece new before after (Err refusal) run
 unserved run served_run exchanges join old new piece all reads none before mid after request more refusal same due (early, is, inl ran) =
-    takes_unserved run old new piece all exchanges reads none before after request more same (is ∙ due)
-    (subst (λ (e : List Exchange). run e (Some request)) (append-nil exchanges) (join [] (Some request) ran)) refusal early
+    takes_unserved run old new piece all exchanges reads none before after request more same (is ∙ due) refusal
+    (subst (λ (e : List Exchange). run e (Some request) (Err refusal)) (append-nil exchanges) (join [] (Some request) (Err refusal) ran)) early
 unserved run served_run exchanges join old new piece all reads none before mid after request more refusal same due (early, is, inr (answer, kind, ran)) =
     takes_unwritten run old new piece all exchanges reads none before after (record { request = request; answer = answer }) more refusal same (is ∙ due) kind
-    (join (record { request = request; answer = answer } ∷ []) None ran) early
+    (join (record { request = request; answer = answer } ∷ []) None (Err refusal) ran) early
 
 pub returns-in_err-requests-clause-takes : goal.returns-in_err-requests-clause-takes
 returns-in_err-requests-clause-takes g c =
     let disk = g.D.Disk in
     let a = c.args.self.now.export in
     takes_fault (Runs disk.state disk.faults disk.honest a.order a.keeper a.connections a.order a.keeper a.connections)
-    (runs_none disk.state disk.faults disk.honest c.leads_law.ensures a.order a.keeper a.connections)
+    (λ fault. runs_bare disk.state disk.faults disk.honest a.order a.order a.keeper a.keeper a.connections a.connections [] None (Ok tt) (of_wire fault) (bare_wire fault)
+    (runs_none disk.state disk.faults disk.honest c.leads_law.ensures a.order a.keeper a.connections))
     c.args.reader.now c.feed.new.self c.args.piece.now c.args.self.now.replies.items
     (feeds_on c.args.reader.now c.args.piece.now [] c.feed.new.self c.in_err-requests.ensures.stream) c.in_err-requests.field-0.0 c.from_residual.result c.in_err-requests.ensures.fault c.from_residual.ensures.1
 
@@ -51,7 +53,7 @@ returns-in_err-serve-clause-takes g c =
     c.in_err-serve.field-0.0 c.from_residual-in_err-serve.result c.from_residual-in_err-serve.ensures.1
     (unserved (Runs disk.state disk.faults disk.honest a.order a.keeper a.connections e.order e.keeper e.connections)
     (Runs disk.state disk.faults disk.honest b.order b.keeper b.connections e.order e.keeper e.connections) i.exchanges
-    (λ more last ran. runs_on disk.state disk.faults disk.honest c.leads_law.ensures a.order b.order e.order a.keeper b.keeper e.keeper a.connections b.connections e.connections c.serve.ensures.honest.0 i.exchanges more last i.runs ran)
+    (λ more last outcome ran. runs_on disk.state disk.faults disk.honest c.leads_law.ensures a.order b.order e.order a.keeper b.keeper e.keeper a.connections b.connections e.connections c.serve.ensures.honest.0 i.exchanges more last outcome i.runs ran)
     c.args.reader.now c.feed.new.self c.args.piece.now all (feeds_on c.args.reader.now c.args.piece.now all c.feed.new.self c.in_ok-requests.ensures.stream) i.no_disc
     before c.loop-request.self.replies.items after request (reverse c.pop.new.self.items) c.in_err-serve.field-0.0 next i.due serves)
 
@@ -72,8 +74,8 @@ returns-in-Ended-clause-takes g c =
     takes_disc (Runs disk.state disk.faults disk.honest a.order a.keeper a.connections e.order e.keeper e.connections)
     c.args.reader.now c.feed.new.self c.args.piece.now all i.exchanges (feeds_on c.args.reader.now c.args.piece.now all c.feed.new.self c.in_ok-requests.ensures.stream) i.no_disc
     before after request (reverse c.pop.new.self.items) next (ended.1 ∙ i.due)
-    (subst (λ (l : List Exchange). Runs disk.state disk.faults disk.honest a.order a.keeper a.connections e.order e.keeper e.connections l (Some request)) (append-nil i.exchanges)
-    (runs_on disk.state disk.faults disk.honest c.leads_law.ensures a.order b.order e.order a.keeper b.keeper e.keeper a.connections b.connections e.connections c.serve.ensures.honest.0 i.exchanges [] (Some request) i.runs ended.2))
+    (subst (λ (l : List Exchange). Runs disk.state disk.faults disk.honest a.order a.keeper a.connections e.order e.keeper e.connections l (Some request) (Ok tt)) (append-nil i.exchanges)
+    (runs_on disk.state disk.faults disk.honest c.leads_law.ensures a.order b.order e.order a.keeper b.keeper e.keeper a.connections b.connections e.connections c.serve.ensures.honest.0 i.exchanges [] (Some request) (Ok tt) i.runs ended.2))
     ended.0
 
 pub loop-request-preserved : goal.loop-request-preserved
@@ -100,7 +102,7 @@ loop-request-preserved g c =
       due = going.2 ∙ ap (λ (t : List ℕ). t ++ reply) i.due ∙ append_assoc before (dialog i.exchanges) reply
           ∙ ap (λ (t : List ℕ). before ++ t) (ap (λ (t : List ℕ). dialog i.exchanges ++ t) (sym (append-nil reply)) ∙ sym (dialog-append i.exchanges (exchange ∷ [])));
       no_disc = each_append (λ (x : Exchange). x.request.head.kind ≢ 2) i.exchanges (exchange ∷ []) i.no_disc (going.1, tt);
-      runs = runs_on disk.state disk.faults disk.honest c.leads_law.ensures a.order b.order e.order a.keeper b.keeper e.keeper a.connections b.connections e.connections c.serve.ensures.honest.0 i.exchanges (exchange ∷ []) None i.runs going.3;
+      runs = runs_on disk.state disk.faults disk.honest c.leads_law.ensures a.order b.order e.order a.keeper b.keeper e.keeper a.connections b.connections e.connections c.serve.ensures.honest.0 i.exchanges (exchange ∷ []) None (Ok tt) i.runs going.3;
     }
 
 pub returns-clause-takes : goal.returns-clause-takes

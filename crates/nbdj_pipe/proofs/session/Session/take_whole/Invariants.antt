@@ -1,4 +1,4 @@
-use Rattle.std.proofs.Common.{◌≡◌, ◌++◌, List, length, None}
+use Rattle.std.proofs.Common.{◌≡◌, ◌++◌, List, length, None, Ok}
 use Rattle.std.specs.Prelude.{IfSome, ◌↔◌, reverse}
 use Rattle.order_book.specs.Order.{IsInHand}
 use Rattle.nbdj_pipe.specs.Session.{Runs}
@@ -17,7 +17,7 @@ invariant-loop-request g l = record {
   due : l.self.replies.items ≡ l.initial.self.replies.items ++ dialog exchanges;
   no_disc : HaveNoDisc exchanges;
   runs : Runs g.D.Disk.state g.D.Disk.faults g.D.Disk.honest l.fn.self.export.order l.fn.self.export.keeper l.fn.self.export.connections
-      l.self.export.order l.self.export.keeper l.self.export.connections exchanges None;
+      l.self.export.order l.self.export.keeper l.self.export.connections exchanges None (Ok tt);
 }
 
 abbrev pub decreases-loop-request : goal.decreases-loop-request

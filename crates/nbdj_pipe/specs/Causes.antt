@@ -1,0 +1,60 @@
+-- Why a session ends before its input does, by a world that its run passes (docs/FORMATS.md, "Refusals").
+use Rattle.std.specs.Prelude.{◌≡◌, ◌<◌, false, List, length, Ok}
+use Rattle.nbd_wire.specs.Request.{Message}
+use Rattle.world.specs.declared.action.Action.TheVariants.{Serve}
+use Rattle.world.specs.declared.connection.Connection.TheVariants.{Requested}
+use Rattle.world.specs.declared.step.Step.{Step}
+use Rattle.world.specs.Log.{command_of, is_flush}
+use Rattle.world.specs.Run.{IsRun}
+use Rattle.world.specs.World.{World, fits, has_room}
+use Rattle.nbdj_pipe.specs.Talk.{verdict_on}
+use Rattle.nbdj_pipe.specs.declared.refusal.Refusal.{Refusal}
+use Rattle.nbdj_pipe.specs.declared.refusal.Refusal.TheVariants.{NoMemory, DeviceFault, BadMap, NoHeader, BadHeader, NumbersFull, AreaFull, OutOfOrder, DamagedGroup, NotNow, Failed, NoRoom, PeerClosed, ProtocolEnd, StreamFault}
+
+-- a run from one world to another passes one of which this holds
+pub record Passes (P : World → Type 0) (first last : World) : Type 0 where
+  pub passed : World
+  pub before : List Step
+  pub behind : List Step
+  pub to : IsRun first before passed
+  pub on : IsRun passed behind last
+  pub holds : P passed
+
+-- The device works, and the group in hand, with the gate behind it, doesn't fit the rest of the area.
+pub record HasFullArea (world : World) : Type 0 where
+  pub works : world.stage.stopped ≡ false
+  pub hand : world.stage.stored < world.stage.sealed
+  pub full : fits world ≡ false
+
+-- The device works, and there is no room for the command of this request, which passes judgement and isn't a FLUSH.
+pub record LacksRoom (world : World) (request : Message) : Type 0 where
+  pub works : world.stage.stopped ≡ false
+  pub judged : verdict_on request.head world.stage.setting.geometry world.stage.setting.flags ≡ Ok Serve
+  pub other : is_flush request ≡ false
+  pub full : has_room world (command_of request) ≡ false
+
+-- There is no room for the command of the request that was sent, though all that is ordered is durable.
+pub record HasNoRoom (world : World) : Type 0 where
+  pub request : Message
+  pub sent : world.connections 0 ≡ Requested request
+  pub lacks : LacksRoom world request
+  pub stored : world.stage.durable ≡ length world.stage.order
+
+-- What a run says of a refusal that ends its session: an area that is full, a command for which there is no room, and that
+-- storing never fails to come to an end. Of the others it says nothing.
+abbrev pub HasCause : Refusal → World → World → Type 0
+HasCause NoMemory first last = Unit {0}
+HasCause DeviceFault first last = Unit {0}
+HasCause BadMap first last = Unit {0}
+HasCause NoHeader first last = Unit {0}
+HasCause BadHeader first last = Unit {0}
+HasCause NumbersFull first last = Unit {0}
+HasCause AreaFull first last = Passes HasFullArea first last
+HasCause OutOfOrder first last = Unit {0}
+HasCause DamagedGroup first last = Unit {0}
+HasCause NotNow first last = Unit {0}
+HasCause Failed first last = ⊥
+HasCause NoRoom first last = Passes HasNoRoom first last
+HasCause PeerClosed first last = Unit {0}
+HasCause ProtocolEnd first last = Unit {0}
+HasCause StreamFault first last = Unit {0}

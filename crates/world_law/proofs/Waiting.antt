@@ -1,0 +1,136 @@
+-- a connection waits for a number of the order
+use Rattle.std.proofs.Common.{◌≡◌, ℕ, ◌+◌, ◌≤◌, ◌==◌, ◌&&◌, Bool, true, false, nat_le, nat_lt, Result, Ok, Err, [], ◌∷◌, ◌++◌, length, length-append, subst, arith}
+use Rattle.nbd_wire.specs.Request.{Message}
+use Rattle.nbd_wire.specs.declared.error.Errno.{Errno}
+use Rattle.nbd_wire.specs.declared.error.Errno.TheVariants.{Io, NoMemory, NoSpace}
+use Rattle.nbd_wire.specs.declared.message.Answer.TheVariants.{Refused}
+use Rattle.world.specs.declared.action.Action.{Action}
+use Rattle.world.specs.declared.action.Action.TheVariants.{End, Serve}
+use Rattle.world.specs.declared.connection.Connection.{Connection}
+use Rattle.world.specs.declared.connection.Connection.TheVariants.{Idle, Requested, Waiting, Ready, Closed}
+use Rattle.world.specs.declared.step.Step.{Step}
+use Rattle.world.specs.declared.step.Step.TheVariants as steps
+use Rattle.world.specs.Log.{command_of, is_flush, waits_for_store}
+use Rattle.world.specs.Run.{IsReached, Fresh, After}
+use Rattle.world.specs.Serve.{Failure, Nothing, OutOfMemory, DeviceFailure, accepted, answer, judged, passed, serve, state_after}
+use Rattle.world.specs.Step.{after_step, append, sealed_more, send, sent, stored_more}
+use Rattle.world.specs.Verdict.{verdict}
+use Rattle.world.specs.World.{World, Setting, fits, fresh, has_room, last_number, put}
+use Rattle.world_law.proofs.Steps.{of_either}
+
+-- where a connection in this state waits for a number, it is no greater than the last one
+abbrev WaitsWithin : ℕ → Connection → Type 0
+WaitsWithin last Idle = Unit {0}
+WaitsWithin last (Requested request) = Unit {0}
+WaitsWithin last (Waiting number) = number ≤ last
+WaitsWithin last (Ready outcome) = Unit {0}
+WaitsWithin last Closed = Unit {0}
+
+abbrev AllWait : World → Type 0
+AllWait world = (connection : ℕ) → WaitsWithin (last_number world) (world.connections connection)
+
+waits_more : (last more : ℕ) (state : Connection) → last ≤ more → WaitsWithin last state → WaitsWithin more state
+waits_more last more Idle le is = tt
+waits_more last more (Requested request) le is = tt
+waits_more last more (Waiting number) le is = omega (arith, le, is)
+waits_more last more (Ready outcome) le is = tt
+waits_more last more Closed le is = tt
+
+module _ (world : World) (all : AllWait world) where
+  -- a connection comes to another state
+  wait_put : (c last : ℕ) (state : Connection) → last_number world ≤ last → WaitsWithin last state → (d : ℕ) → WaitsWithin last (put world.connections c state d)
+  wait_put c last state le is d = of_either (WaitsWithin last) (d == c) state (world.connections d) (λ here. is) (λ other. waits_more (last_number world) last (world.connections d) le (all d))
+
+  wait_moved : (c : ℕ) (state : Connection) → WaitsWithin (last_number world) state → (d : ℕ) → WaitsWithin (last_number world) (put world.connections c state d)
+  wait_moved c state is = wait_put c (last_number world) state (omega arith) is
+
+  wait_sent : (failure : Failure) (c : ℕ) (request : Message) → AllWait (sent failure world c request)
+  wait_sent OutOfMemory c request = all
+  wait_sent Nothing c request = wait_moved c (Requested request) tt
+  wait_sent DeviceFailure c request = wait_moved c (Requested request) tt
+
+  wait_send : (failure : Failure) (c : ℕ) (request : Message) (state : Connection) → AllWait (send failure world c request state)
+  wait_send failure c request Idle = wait_sent failure c request
+  wait_send failure c request (Requested other) = all
+  wait_send failure c request (Waiting number) = all
+  wait_send failure c request (Ready outcome) = all
+  wait_send failure c request Closed = all
+
+  state_within : (waits : Bool) (last number : ℕ) → number ≤ last → WaitsWithin last (state_after waits number)
+  state_within true last number le = le
+  state_within false last number le = tt
+
+  -- a command gets the next number
+  wait_ordered : (c : ℕ) (request : Message) (d : ℕ)
+      → WaitsWithin (world.stage.setting.opening + length (world.stage.order ++ command_of request ∷ []))
+      (put world.connections c (state_after (waits_for_store world.stage.setting.mode request) (last_number world + 1)) d)
+  wait_ordered c request =
+      let more = length-append world.stage.order (command_of request ∷ []) in
+      wait_put c (world.stage.setting.opening + length (world.stage.order ++ command_of request ∷ [])) (state_after (waits_for_store world.stage.setting.mode request) (last_number world + 1)) (omega (arith, more))
+      (state_within (waits_for_store world.stage.setting.mode request) _ (last_number world + 1) (omega (arith, more)))
+
+  wait_accepted : (failure : Failure) (c : ℕ) (request : Message) → AllWait (accepted failure world c request)
+  wait_accepted OutOfMemory c request = wait_moved c (Ready (Refused NoMemory)) tt
+  wait_accepted Nothing c request = wait_ordered c request
+  wait_accepted DeviceFailure c request = wait_ordered c request
+
+  wait_passed : (failure : Failure) (c : ℕ) (request : Message) → AllWait (passed failure world c request)
+  wait_passed failure c request = of_either AllWait world.stage.stopped _ _ (λ stopped. wait_moved c (Ready (Refused Io)) tt)
+      (λ works. of_either AllWait (is_flush request) _ _ (λ flush. wait_moved c (Waiting (last_number world)) (omega arith))
+      (λ other. of_either AllWait (last_number world == 18446744073709551615) _ _ (λ full. wait_moved c (Ready (Refused NoSpace)) tt)
+      (λ left. of_either AllWait (has_room world (command_of request)) _ _ (λ room. wait_accepted failure c request) (λ none. all))))
+
+  wait_judged : (given : Result Action Errno) (failure : Failure) (c : ℕ) (request : Message) → AllWait (judged given failure world c request)
+  wait_judged (Ok End) failure c request = wait_moved c Closed tt
+  wait_judged (Ok Serve) failure c request = wait_passed failure c request
+  wait_judged (Err errno) failure c request = wait_moved c (Ready (Refused errno)) tt
+
+  wait_serve : (failure : Failure) (c : ℕ) (state : Connection) → AllWait (serve failure world c state)
+  wait_serve failure c (Requested request) = wait_judged (verdict request.head world.stage.setting.geometry world.stage.setting.flags) failure c request
+  wait_serve failure c Idle = all
+  wait_serve failure c (Waiting number) = all
+  wait_serve failure c (Ready outcome) = all
+  wait_serve failure c Closed = all
+
+  wait_answer : (c : ℕ) (state : Connection) → AllWait (answer world c state)
+  wait_answer c (Ready outcome) = wait_moved c Idle tt
+  wait_answer c (Waiting number) = of_either AllWait (nat_le number (world.stage.setting.opening + world.stage.durable)) _ _ (λ reached. wait_moved c Idle tt)
+      (λ above. of_either AllWait world.stage.stopped _ _ (λ stopped. wait_moved c Idle tt) (λ works. all))
+  wait_answer c Idle = all
+  wait_answer c (Requested request) = all
+  wait_answer c Closed = all
+
+  wait_sealed : (failure : Failure) → AllWait (sealed_more failure world)
+  wait_sealed OutOfMemory = all
+  wait_sealed Nothing = all
+  wait_sealed DeviceFailure = all
+
+  wait_stored : (failure : Failure) → AllWait (stored_more failure world)
+  wait_stored OutOfMemory = all
+  wait_stored Nothing = all
+  wait_stored DeviceFailure = all
+
+  wait_append : (failure : Failure) → AllWait (append failure world)
+  wait_append failure = of_either AllWait (nat_lt world.stage.stored world.stage.sealed) _ _
+      (λ hand. of_either AllWait world.stage.stopped _ _ (λ stopped. all)
+      (λ works. of_either AllWait (fits world) _ _ (λ fit. wait_stored failure) (λ full. all))) (λ none. all)
+
+  wait_step : (step : Step) (failure : Failure) → AllWait (after_step world step failure)
+  wait_step (steps.Send c request) failure = wait_send failure c request (world.connections c)
+  wait_step (steps.Serve c) failure = wait_serve failure c (world.connections c)
+  wait_step (steps.Answer c) failure = wait_answer c (world.connections c)
+  wait_step steps.Seal failure = of_either AllWait (nat_lt world.stage.sealed (length world.stage.order) && (world.stage.sealed == world.stage.durable)) _ _
+      (λ pending. wait_sealed failure) (λ none. all)
+  wait_step steps.Append failure = wait_append failure
+  wait_step steps.Publish failure = of_either AllWait (nat_lt world.stage.durable world.stage.stored) _ _ (λ more. all) (λ none. all)
+
+wait_fresh : (setting : Setting) (end : ℕ) → AllWait (fresh setting end)
+wait_fresh setting end c = of_either (WaitsWithin (last_number (fresh setting end))) (nat_lt c setting.connections) Idle Closed (λ inside. tt) (λ outside. tt)
+
+all_wait : (world : World) → IsReached world → AllWait world
+all_wait world (Fresh setting end) = wait_fresh setting end
+all_wait world (After {world = before} step failure reached) = wait_step before (all_wait before reached) step failure
+
+-- who waits in a world that schedules lead to waits for a number of its order
+pub waiting_reached : (world : World) → IsReached world → (connection number : ℕ) → world.connections connection ≡ Waiting number → number ≤ last_number world
+waiting_reached world reached connection number is = subst (WaitsWithin (last_number world)) is (all_wait world reached connection)
