@@ -1,20 +1,17 @@
 -- The keeper after its next blocks were copied.
-use Rattle.std.proofs.Common.{◌≡◌, ℕ, ◌+◌, ◌-◌, ◌*◌, ◌≤◌, ◌<◌, Option, Some, None, List, [], ◌∷◌, length, refl, sym, ◌∙◌, ap, subst, arith, false}
-use Rattle.disk_model.specs.Disk.{State, InRange, MayLeave, MayLeaveTorn}
+use Rattle.std.proofs.Common.{◌≡◌, ℕ, ◌+◌, ◌-◌, ◌*◌, ◌≤◌, ◌<◌, Option, Some, None, List, [], ◌∷◌, sym, ◌∙◌, ap, subst, arith, false}
+use Rattle.disk_model.specs.Disk.{State, MayLeaveTorn}
 use Rattle.header_slots.specs.Header.{mode_of}
 use Rattle.header_slots.specs.declared.header.Areas.{Areas}
 use Rattle.header_slots.specs.declared.header.Header.{Header}
 use Rattle.image_model.specs.Image.{Image}
-use Rattle.image_model.specs.declared.command.Kind.{Kind}
-use Rattle.image_model.specs.declared.geometry.Geometry.{Geometry}
-use Rattle.image_model.specs.declared.side.Side.{Side}
 use Rattle.journal.specs.Area.{AreaState}
 use Rattle.journal.specs.Spelling.{StoredGroup}
 use Rattle.journal.specs.Touches.{last_touch, touched_by_groups}
 use Rattle.journal.specs.declared.touch.Touch.TheVariants.{Put}
 use Rattle.journal.specs.declared.touch.TouchedRange.{TouchedRange}
 use Rattle.last_touches.specs.declared.range.PutRange.{PutRange}
-use Rattle.regions.specs.Layout.{area_at, block_at, ring}
+use Rattle.regions.specs.Layout.{block_at, ring}
 use Rattle.device_image.specs.Copied.{IsCopiedOver}
 use Rattle.device_image.specs.Free.{to_be_copied}
 use Rattle.device_image.specs.Keeper.{KeeperState, PlanState, count_puts, earlier_of, is_put, phase_of}

@@ -1,6 +1,6 @@
 -- A map slot after it was written and the device was synced.
-use Rattle.std.proofs.Common.{◌≡◌, ℕ, ◌+◌, ◌<◌, List, length, slice_index, sym, ◌∙◌, ap, subst, arith}
-use Rattle.disk_model.specs.Disk.{State, InRange, IsSound, IsSteady, IsSynced}
+use Rattle.std.proofs.Common.{◌≡◌, ℕ, List, sym, ◌∙◌}
+use Rattle.disk_model.specs.Disk.{State, IsSound, IsSteady, IsSynced}
 use Rattle.image_model.specs.Geometry.{map_bytes_of}
 use Rattle.image_model.specs.declared.command.Kind.{Kind}
 use Rattle.image_model.specs.declared.geometry.Geometry.{Geometry}

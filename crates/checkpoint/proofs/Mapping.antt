@@ -1,12 +1,12 @@
 -- The keeper after the map was written.
-use Rattle.std.proofs.Common.{◌≡◌, ℕ, ◌+◌, ◌*◌, ◌≤◌, ◌<◌, Option, Some, List, [], ◌∷◌, length, slice_index, refl, sym, ◌∙◌, ap, subst, arith}
-use Rattle.disk_model.specs.Disk.{State, InRange, IsSound, MayLeaveTorn}
+use Rattle.std.proofs.Common.{◌≡◌, ℕ, ◌+◌, Some, List, sym, ◌∙◌, ap, subst, arith}
+use Rattle.disk_model.specs.Disk.{State, IsSound, MayLeaveTorn}
 use Rattle.image_model.specs.Geometry.{map_bytes_of}
 use Rattle.image_model.specs.Image.{Image}
 use Rattle.image_model.specs.Side.{other_of}
 use Rattle.image_model.specs.declared.command.Kind.{Kind}
 use Rattle.journal.specs.declared.touch.TouchedRange.{TouchedRange}
-use Rattle.regions.specs.Layout.{area_at, block_at, map_at}
+use Rattle.regions.specs.Layout.{block_at, map_at}
 use Rattle.device_image.specs.Copied.{IsMapStored}
 use Rattle.device_image.specs.Free.{in_spare_map}
 use Rattle.device_image.specs.Keeper.{AreStatesAfter, KeeperState, PlanState, earlier_of, phase_of}

@@ -12,7 +12,7 @@ use Rattle.image_model.specs.declared.side.Side.{Side}
 use Rattle.image_model.specs.Image.{Image, apply_all}
 use Rattle.image_model.specs.declared.command.Kind.{Kind}
 use Rattle.journal.specs.Area.{AreaState}
-use Rattle.journal.specs.GroupList.{IsHeld, Stand, next_behind, number_behind, size_of, changes_of}
+use Rattle.journal.specs.GroupList.{IsHeld, next_behind, changes_of}
 use Rattle.journal.specs.Spelling.{StoredGroup}
 use Rattle.journal.specs.Touches.{touched_by_groups}
 use Rattle.regions.specs.Layout.{area_at, behind, ring}
@@ -25,7 +25,7 @@ use Rattle.checkpoint.specs.declared.fault.KeeperFault.{KeeperFault}
 use Rattle.checkpoint.specs.declared.fault.KeeperFault.TheVariants.{NoMemory, DeviceFault, BadMap, NoHeader, BadHeader, NumbersFull, AreaFull, OutOfOrder, DamagedGroup, NotNow, Failed}
 use Rattle.device_image.proofs.Frame.{all_changes-append, held_lists, moved_list, ring-last, with_last}
 use Rattle.device_image.proofs.Sole.{one_image, one_number}
-use Rattle.device_image.proofs.Turned.{Follows, follows}
+use Rattle.device_image.proofs.Turned.{follows}
 use Rattle.device_image.proofs.Puts.{count_zero}
 use Rattle.checkpoint.proofs.Refused.{never_refused}
 

@@ -1,7 +1,7 @@
 -- What an opening finds, and what it leaves.
-use Rattle.std.proofs.Common.{◌≡◌, ◌≢◌, ◌⊎◌, inl, inr, ℕ, ◌+◌, ◌<◌, ◌^◌, Option, Some, None, List, [], ◌∷◌, ◌++◌, length, Result, Ok, Err, IfErr, refl, sym, ◌∙◌, ap, subst, arith}
+use Rattle.std.proofs.Common.{◌≡◌, ◌⊎◌, inl, inr, ℕ, ◌<◌, ◌^◌, Option, Some, None, List, [], ◌∷◌, ◌++◌, length, refl, sym, ◌∙◌, ap, subst, arith}
 use Rattle.std.proofs.lemmas.List.Sums.{sum_by-cons}
-use Rattle.disk_model.specs.Disk.{State, IsAllSynced, IsSound, LeavesOnly, MayLeave}
+use Rattle.disk_model.specs.Disk.{State, IsAllSynced, LeavesOnly, MayLeave}
 use Rattle.disk_model.proofs.Contents.{leaves_seen}
 use Rattle.disk_model.proofs.Moments.{goes_on, weakens}
 use Rattle.header_slots.specs.Header.{mode_of}
@@ -12,14 +12,13 @@ use Rattle.image_model.specs.declared.command.Kind.{Kind}
 use Rattle.image_model.specs.declared.geometry.Geometry.{Geometry}
 use Rattle.image_model.specs.declared.side.Side.{Side}
 use Rattle.journal.specs.Area.{AreaState}
-use Rattle.journal.specs.GroupList.{IsList, Stand, size_of, sizes_of}
+use Rattle.journal.specs.GroupList.{Stand, size_of, sizes_of}
 use Rattle.journal.specs.Spelling.{StoredGroup}
 use Rattle.journal.proofs.OneList.{one_list}
 use Rattle.regions.specs.Layout.{area_at, behind, ring}
-use Rattle.device_image.specs.Keeper.{KeeperState, Phase, One, PlanState, earlier_of, phase_in, phase_of}
-use Rattle.device_image.specs.Keeps.{AreHeld, HoldsAreas, IsInPhase, Keeps, behind_lists}
+use Rattle.device_image.specs.Keeper.{KeeperState, One, PlanState, earlier_of, phase_in, phase_of}
+use Rattle.device_image.specs.Keeps.{AreHeld, IsInPhase, Keeps, behind_lists}
 use Rattle.device_image.specs.Stands.{StandsFor, all_changes, next_number}
-use Rattle.device_image.proofs.Kept.{kept_content}
 use Rattle.device_image.proofs.Sole.{same_header}
 use Rattle.checkpoint.specs.Opening.{HasLastGeneration, IsAtRest, IsOpeningRefused, IsRefused, StandsAs}
 use Rattle.checkpoint.specs.Recovery.{IsRecoveryFault}

@@ -1,5 +1,5 @@
 -- The report of a device, by what was read of it.
-use Rattle.std.proofs.Common.{◌≡◌, ℕ, ◌+◌, ◌<◌, ◌%◌, Bool, cond, count_by, Option, Some, None, List, [], ◌∷◌, ◌++◌, length, map, refl, sym, ◌∙◌, ap, subst, arith}
+use Rattle.std.proofs.Common.{◌≡◌, ℕ, ◌+◌, ◌<◌, ◌%◌, Bool, cond, count_by, Option, Some, None, List, [], ◌∷◌, ◌++◌, length, map, refl, sym, ◌∙◌, ap, arith}
 use Rattle.std.specs.List.{range_with_len}
 use Rattle.std.proofs.lemmas.List.{append-nil}
 use Rattle.std.proofs.lemmas.List.FromFn.{fill_by_all}
@@ -15,12 +15,11 @@ use Rattle.image_model.specs.declared.command.Kind.TheVariants.{Data, Zero, Hole
 use Rattle.image_model.specs.declared.side.Side.{Side}
 use Rattle.journal.specs.Area.{AreaState}
 use Rattle.journal.specs.GroupList.{changes_of}
-use Rattle.journal.specs.Spelling.{StoredGroup}
 use Rattle.journal.specs.Touches.{kind_after, last_touch}
 use Rattle.journal.specs.declared.touch.TouchedRange.{TouchedRange}
 use Rattle.journal.proofs.LastTouches.{groups_kind}
 use Rattle.regions.specs.Layout.{ring}
-use Rattle.device_image.specs.Keeper.{AreStatesAfter, PlanState, earlier_of}
+use Rattle.device_image.specs.Keeper.{PlanState, earlier_of}
 use Rattle.device_image.specs.Keeps.{AreHeld}
 use Rattle.device_image.specs.Stands.{all_changes, next_number, stored_image}
 use Rattle.device_image.proofs.Frame.{all_changes-append, apply_all-append, blocks-apply_all}

@@ -1,5 +1,5 @@
 -- A keeper while the header changes, in what it remembers.
-use Rattle.std.proofs.Common.{◌≡◌, ℕ, ◌+◌, ◌%◌, ◌≤◌, ◌<◌, Bool, Option, Some, None, List, [], length, false, true, is_some, refl, sym, ◌∙◌, ap, subst, arith}
+use Rattle.std.proofs.Common.{◌≡◌, ℕ, ◌+◌, ◌%◌, ◌≤◌, ◌<◌, Option, Some, None, List, [], length, false, is_some, refl, sym, ◌∙◌, ap, subst, arith}
 use Rattle.disk_model.specs.Disk.{State, IsAllSynced, IsSound, IsSyncedIn}
 use Rattle.header_slots.specs.Change.{ComesNext, IsInPlace, LeavesEither}
 use Rattle.header_slots.specs.Slots.{HoldsHeader}
@@ -20,7 +20,7 @@ use Rattle.device_image.specs.Keeps.{IsInPhase, Keeps}
 use Rattle.device_image.specs.Stands.{StandsFor}
 use Rattle.device_image.specs.Turn.{begun, ended}
 use Rattle.device_image.proofs.Frame.{area_low}
-use Rattle.device_image.proofs.Turning.{all_synced, base_is, begin_left, end_left, keeps_begun, keeps_ended, two, written}
+use Rattle.device_image.proofs.Turning.{all_synced, base_is, begin_left, end_left, keeps_begun, keeps_ended, two}
 use Rattle.device_image.proofs.Puts.{count_zero}
 
 pub none_of : {X : Type 0} (option : Option X) → is_some option ≡ false → option ≡ None

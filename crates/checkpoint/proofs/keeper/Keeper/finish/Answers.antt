@@ -1,18 +1,13 @@
-use Rattle.std.proofs.Common.{◌≡◌, ℕ, ◌+◌, ◌*◌, ◌%◌, ◌<◌, Option, Some, None, List, length, false, refl, sym, ◌∙◌, ap, subst, arith, rules}
+use Rattle.std.proofs.Common.{◌≡◌, ℕ, ◌<◌, sym, ◌∙◌, ap, subst, arith}
 use Rattle.disk_model.specs.Disk.{IsSound, LeavesOnly}
 use Rattle.disk_model.proofs.Moments.{begins, weakens}
-use Rattle.image_model.specs.Side.{other_of}
-use Rattle.image_model.specs.declared.geometry.Geometry.{Geometry}
-use Rattle.image_model.specs.declared.side.Side.{Side}
-use Rattle.header_slots.specs.declared.header.Header.{Header}
-use Rattle.device_image.specs.Keeper.{KeeperState, PlanState}
+use Rattle.device_image.specs.Keeper.{KeeperState}
 use Rattle.device_image.specs.Keeps.{Keeps}
 use Rattle.device_image.specs.Stands.{StandsFor}
 use Rattle.device_image.proofs.Kept.{kept_content}
-use Rattle.device_image.specs.Keeper.{turned_of}
 use Rattle.device_image.specs.Turn.{ended, with_second}
-use Rattle.header_slots.specs.Change.{IsInPlace, LeavesEither, renewed}
-use Rattle.checkpoint.specs.Steps.{IsFinishTime, map_after}
+use Rattle.header_slots.specs.Change.{renewed}
+use Rattle.checkpoint.specs.Steps.{IsFinishTime}
 use Rattle.checkpoint.proofs.Rotating.{current_held, ending, in_map, finish_kept, finish_left, finish_next, slots_synced}
 use Rattle.checkpoint.proofs.keeper.Keeper.finish.Goals as goal
 

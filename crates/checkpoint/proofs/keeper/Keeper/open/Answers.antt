@@ -5,7 +5,6 @@ use Rattle.disk_model.proofs.Moments.{goes_on, weakens}
 use Rattle.device_image.specs.Keeper.{KeeperState}
 use Rattle.device_image.specs.Keeps.{Keeps}
 use Rattle.device_image.proofs.Kept.{kept_content}
-use Rattle.image_model.specs.Image.{Image}
 use Rattle.device_image.specs.Stands.{StandsFor}
 use Rattle.checkpoint.specs.Opening.{IsAtRest, IsOpeningRefused, StandsAs}
 use Rattle.checkpoint.specs.declared.fault.KeeperFault.TheVariants.{DeviceFault, NumbersFull}

@@ -1,17 +1,13 @@
-use Rattle.std.proofs.Common.{◌≡◌, ℕ, ◌+◌, ◌*◌, ◌%◌, ◌<◌, Option, Some, None, List, [], length, false, refl, sym, ◌∙◌, ap, subst, arith, rules}
+use Rattle.std.proofs.Common.{◌≡◌, ℕ, None, [], refl, sym, ◌∙◌, ap, subst}
 use Rattle.disk_model.specs.Disk.{IsSound, LeavesOnly}
 use Rattle.disk_model.proofs.Moments.{begins, weakens}
 use Rattle.image_model.specs.Side.{other_of}
-use Rattle.image_model.specs.declared.geometry.Geometry.{Geometry}
-use Rattle.image_model.specs.declared.side.Side.{Side}
-use Rattle.header_slots.specs.declared.header.Header.{Header}
 use Rattle.device_image.specs.Keeper.{KeeperState, PlanState, count_puts}
 use Rattle.device_image.specs.Keeps.{Keeps}
 use Rattle.device_image.specs.Stands.{StandsFor}
 use Rattle.device_image.proofs.Kept.{kept_content}
 use Rattle.regions.specs.Layout.{area_at}
 use Rattle.journal.specs.Area.{AreaState}
-use Rattle.device_image.specs.Copied.{IsTurnBegun, LeavesTurn}
 use Rattle.device_image.specs.Turn.{begun, with_both}
 use Rattle.header_slots.specs.Change.{renewed}
 use Rattle.checkpoint.proofs.Rotating.{comes_next, current_held, from_above, none_of, rotate_kept, rotate_left, synced_before}

@@ -1,11 +1,11 @@
-use Rattle.std.proofs.Common.{◌≡◌, ℕ, ◌+◌, ◌*◌, ◌%◌, ◌<◌, Option, Some, None, List, length, false, refl, sym, ◌∙◌, ap, subst, arith, rules}
-use Rattle.disk_model.specs.Disk.{IsSound, LeavesOnly}
+use Rattle.std.proofs.Common.{◌≡◌, refl, sym, ◌∙◌, ap, subst, arith}
+use Rattle.disk_model.specs.Disk.{LeavesOnly}
 use Rattle.disk_model.proofs.Moments.{begins, weakens}
 use Rattle.image_model.specs.Side.{other_of}
 use Rattle.image_model.specs.declared.geometry.Geometry.{Geometry}
 use Rattle.image_model.specs.declared.side.Side.{Side}
 use Rattle.header_slots.specs.declared.header.Header.{Header}
-use Rattle.device_image.specs.Keeper.{KeeperState, PlanState}
+use Rattle.device_image.specs.Keeper.{KeeperState}
 use Rattle.device_image.specs.Keeps.{Keeps}
 use Rattle.device_image.specs.Stands.{StandsFor}
 use Rattle.device_image.proofs.Kept.{kept_content}
