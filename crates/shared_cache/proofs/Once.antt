@@ -3,7 +3,7 @@ use Rattle.std.proofs.Common.{◌≡◌, ◌≢◌, ◌≤◌, ◌+◌, ◌==◌
 use Rattle.std.specs.List.{list_any}
 use Rattle.std.proofs.lemmas.Bool.{cases_Bool, cases_lt, ne_eqb, eq-eqb}
 use Rattle.std.proofs.lemmas.Bool.Decides.{eqb_tells}
-use Rattle.std.proofs.Math.Dec.{eqb, leb, ltb}
+use Rattle.std.proofs.Math.Dec.{eqb}
 use Rattle.frame_pool.specs.Lists.{times}
 use Rattle.frame_pool.specs.Pool.{DirtyFrame, PoolState, frames_of}
 use Rattle.frame_pool.proofs.Times.{times_head}

@@ -1,9 +1,9 @@
 -- what calls leave of each block
-use Rattle.std.proofs.Common.{◌≡◌, ◌≢◌, ◌<◌, ◌≤◌, ◌+◌, ◌-◌, ◌==◌, ◌&&◌, ◌||◌, ◌⊎◌, inl, inr, ℕ, zero, suc, Bool, true, false, if◌then◌else◌, List, [], ◌∷◌, ◌++◌, append_assoc, length, map, drop, filter, get_or, replicate, Option, None, Some, refl, ap, ◌∙◌, sym, subst, arith}
+use Rattle.std.proofs.Common.{◌≡◌, ◌≢◌, ◌<◌, ◌≤◌, ◌+◌, ◌-◌, ◌==◌, ◌&&◌, ◌⊎◌, inl, inr, ℕ, zero, suc, Bool, true, false, if◌then◌else◌, List, [], ◌∷◌, ◌++◌, append_assoc, length, map, drop, filter, get_or, replicate, Option, None, Some, refl, ap, ◌∙◌, sym, subst, arith}
 use Rattle.std.specs.List.{list_any}
-use Rattle.std.proofs.lemmas.Bool.{cases_Bool, cases_lt, ne_eqb, eq-eqb, le-leb, le-ltb, lt-leb, lt-ltb, leb-false, leb-true}
+use Rattle.std.proofs.lemmas.Bool.{cases_Bool, cases_lt, ne_eqb, eq-eqb, le-leb, le-ltb, lt-leb, lt-ltb}
 use Rattle.std.proofs.lemmas.Bool.Decides.{eqb_tells}
-use Rattle.std.proofs.lemmas.List.{length-replicate, map-append}
+use Rattle.std.proofs.lemmas.List.{map-append}
 use Rattle.std.proofs.Math.Dec.{eqb, leb, ltb}
 use Rattle.alloc_map.specs.Codes.{state_at}
 use Rattle.image_model.specs.declared.command.Kind.{Kind}
@@ -11,12 +11,12 @@ use Rattle.image_model.specs.declared.command.Kind.TheVariants.{Data, Zero, Hole
 use Rattle.image_model.specs.Image.{covers}
 use Rattle.image_model.specs.Patched.{patched}
 use Rattle.image_model.proofs.Positions.{filled_at}
-use Rattle.shared_cache.specs.Blocks.{BlocksState, CleanBlock, DirtyBlock, bytes_of, clean_bytes, clean_outside, cleaned, dirty_outside, is_dirty, is_held, option_or, taken, with_fill, with_put, with_puts, without}
+use Rattle.shared_cache.specs.Blocks.{BlocksState, CleanBlock, DirtyBlock, bytes_of, clean_bytes, cleaned, dirty_outside, is_dirty, is_held, option_or, with_fill, with_put, with_puts, without}
 use Rattle.shared_cache.specs.Cache.{CacheState, bytes_for, bytes_seen}
 use Rattle.shared_cache.specs.Held.{HeldState, IsHeld, blocks_of}
 use Rattle.shared_cache.specs.View.{KeepsBytes, ShowsPut, ShowsClear, ShowsFill, ShowsClean}
 use Rattle.shared_cache.proofs.Ranges.{any-outside, covers_true, dirty_other}
-use Rattle.shared_cache.proofs.Once.{IsOnce, absent_all, all_held, all_held-without, as_clean, bytes_of-all, clean_bytes-append, dirty_none, dropped, held_once, none_in, not_held, out_bytes, out_none, out_times, outside-as_clean, times_in, times_in-append}
+use Rattle.shared_cache.proofs.Once.{IsOnce, absent_all, all_held, all_held-without, as_clean, bytes_of-all, clean_bytes-append, dirty_none, dropped, held_once, none_in, not_held, out_bytes, out_none, out_times, times_in, times_in-append}
 
 -- a block keeps its bytes, or its frame was clean and was taken
 abbrev pub Keeps : ℕ → BlocksState → BlocksState → ℕ → Type 0
