@@ -152,6 +152,15 @@ out_bytes inside block (held ∷ list) beyond =
       | inr e ↦ rw e (ap (λ (rest : Option (List ℕ)). if held.block == block then Some held.bytes else rest) (out_bytes inside block list beyond))
     ]
 
+pub out_dirty : (inside : ℕ → Bool) (block : ℕ) (dirty : List DirtyBlock) → inside block ≡ false
+    → list_any (λ (h : DirtyBlock). h.block == block) (dirty_outside inside dirty) ≡ list_any (λ (h : DirtyBlock). h.block == block) dirty
+out_dirty inside block [] beyond = refl
+out_dirty inside block (held ∷ dirty) beyond =
+    elim (cases_Bool (inside held.block)) [
+      | inl e ↦ rw (e, apart_from inside block held.block false beyond e) (out_dirty inside block dirty beyond)
+      | inr e ↦ rw e (ap (λ (t : Bool). eqb held.block block || t) (out_dirty inside block dirty beyond))
+    ]
+
 -- the clean front taken or not: a block keeps its bytes, or was that front, and then no frame holds it
 pub dropped : (block k : ℕ) (clean rest : List CleanBlock) → k ≤ 1 → times_in block (clean ++ rest) ≤ 1
     → (times_in block (drop k clean ++ rest) ≤ times_in block (clean ++ rest))

@@ -1,5 +1,5 @@
 -- what calls leave of each block
-use Rattle.std.proofs.Common.{◌≡◌, ◌≢◌, ◌<◌, ◌≤◌, ◌+◌, ◌-◌, ◌==◌, ◌&&◌, ◌⊎◌, inl, inr, ℕ, zero, suc, Bool, true, false, if◌then◌else◌, List, [], ◌∷◌, ◌++◌, append_assoc, length, map, drop, filter, get_or, replicate, Option, None, Some, refl, ap, ◌∙◌, sym, subst, arith}
+use Rattle.std.proofs.Common.{◌≡◌, ◌≢◌, ◌<◌, ◌≤◌, ◌+◌, ◌-◌, ◌==◌, ◌&&◌, ◌⊎◌, ◌||◌, inl, inr, ℕ, zero, suc, Bool, true, false, if◌then◌else◌, List, [], ◌∷◌, ◌++◌, append_assoc, length, map, drop, filter, get_or, replicate, Option, None, Some, refl, ap, ◌∙◌, sym, subst, arith}
 use Rattle.std.specs.List.{list_any}
 use Rattle.std.proofs.lemmas.Bool.{cases_Bool, cases_lt, ne_eqb, eq-eqb, le-leb, le-ltb, lt-leb, lt-ltb}
 use Rattle.std.proofs.lemmas.Bool.Decides.{eqb_tells}
@@ -16,7 +16,7 @@ use Rattle.shared_cache.specs.Cache.{CacheState, bytes_for, bytes_seen}
 use Rattle.shared_cache.specs.Held.{HeldState, IsHeld, blocks_of}
 use Rattle.shared_cache.specs.View.{KeepsBytes, ShowsPut, ShowsClear, ShowsFill, ShowsClean}
 use Rattle.shared_cache.proofs.Ranges.{any-outside, covers_true, dirty_other}
-use Rattle.shared_cache.proofs.Once.{IsOnce, absent_all, all_held, all_held-without, as_clean, bytes_of-all, clean_bytes-append, dirty_none, dropped, held_once, none_in, not_held, out_bytes, out_none, out_times, times_in, times_in-append}
+use Rattle.shared_cache.proofs.Once.{IsOnce, absent_all, all_held, all_held-without, as_clean, bytes_of-all, clean_bytes-append, dirty_none, dropped, held_once, none_in, not_held, out_bytes, out_dirty, out_none, out_times, times_in, times_in-append}
 
 -- a block keeps its bytes, or its frame was clean and was taken
 abbrev pub Keeps : ℕ → BlocksState → BlocksState → ℕ → Type 0
@@ -194,6 +194,43 @@ puts_own number first (bytes ∷ blocks) s is (suc k) d below =
     ap (λ (b : ℕ). bytes_of b (with_puts number (first + 1) blocks mid)) further
     ∙ puts_own number (first + 1) blocks mid (put_once number first bytes s is) k d (omega (arith, below))
 
+-- which blocks are dirty behind puts
+puts_dirty : (number first : ℕ) (blocks : List (List ℕ)) (s : BlocksState) (other : ℕ)
+    → is_dirty other (with_puts number first blocks s) ≡ (covers first (length blocks) other || is_dirty other s)
+puts_dirty number first [] s other = rw (covers_none first other) refl
+  where
+    covers_none : (first other : ℕ) → covers first 0 other ≡ false
+    covers_none first other =
+        elim (cases_lt other first) [
+          | inl below ↦ rw (lt-leb first other below) refl
+          | inr above ↦ rw (le-leb first other above, le-ltb other (first + 0) (omega arith)) refl
+        ]
+puts_dirty number first (bytes ∷ blocks) s other =
+    let mid = with_put number first bytes s in
+    puts_dirty number (first + 1) blocks mid other
+    ∙ elim (eqb_tells other first) [
+      | inl p ↦
+          let here : covers first (suc (length blocks)) other ≡ true = covers_true first (suc (length blocks)) other (omega (arith, p.1)) (omega (arith, p.1)) in
+          let dirty : is_dirty other mid ≡ true = ap (λ (b : ℕ). is_dirty b mid) p.1 ∙ put_dirty number first bytes s in
+          ap (λ (t : Bool). covers (first + 1) (length blocks) other || t) dirty ∙ or_true (covers (first + 1) (length blocks) other)
+          ∙ sym (ap (λ (t : Bool). t || is_dirty other s) here)
+      | inr p ↦
+          ap (λ (t : Bool). covers (first + 1) (length blocks) other || t) (dirty_other number first other bytes s p.1)
+          ∙ ap (λ (t : Bool). t || is_dirty other s) (covers_step first (length blocks) other p.1)
+    ]
+  where
+    or_true : (t : Bool) → (t || true) ≡ true
+    or_true true = refl
+    or_true false = refl
+
+    covers_step : (first count other : ℕ) → other ≢ first → covers (first + 1) count other ≡ covers first (suc count) other
+    covers_step first count other ne =
+        let last : first + 1 + count ≡ first + suc count = omega arith in
+        elim (cases_lt other first) [
+          | inl below ↦ rw (lt-leb (first + 1) other (omega arith), lt-leb first other below) refl
+          | inr above ↦ rw (le-leb (first + 1) other (omega arith), le-leb first other above) (ap (ltb other) last)
+        ]
+
 -- a block that was read
 fill_held : (block : ℕ) (bytes : List ℕ) (s : BlocksState) → is_held block s ≡ false
     → all_held (with_fill block bytes s) ≡ drop (1 - s.free) s.clean ++ (record { block = block; bytes = bytes } ∷ map as_clean s.dirty)
@@ -351,6 +388,7 @@ shows_put number first blocks old new once inside is =
       others = λ block beyond.
           let P : BlocksState → Type 0 = λ s. Keeps (length blocks) old.blocks s block in
           keeps_seen (length blocks) old new block (set block ∙ rw beyond refl) (subst P (sym held) (puts_others number first blocks old.blocks once block beyond));
+      dirty = λ block. ap (is_dirty block) held ∙ puts_dirty number first blocks old.blocks block;
     }
 
 pub shows_clear : (first count : ℕ) (kind : Kind) (old new : CacheState) → kind ≢ Data → first + count ≤ length old.states
@@ -369,6 +407,7 @@ shows_clear first count kind old new other inside is =
       others = λ block beyond.
           ap (λ (state : Kind). bytes_for state (bytes_of block new.blocks)) (set block ∙ rw beyond refl)
           ∙ ap (bytes_for (state_at old.states block)) (ap (bytes_of block) held ∙ without_bytes (covers first count) block old.blocks beyond);
+      dirty = λ block beyond. ap (is_dirty block) held ∙ out_dirty (covers first count) block old.blocks.dirty beyond;
     }
 
 pub shows_fill : (block : ℕ) (bytes : List ℕ) (old new : CacheState) → IsOnce old.blocks → state_at old.states block ≡ Data
@@ -380,6 +419,7 @@ shows_fill block bytes old new once state is =
         states = refl;
         filled = rw held refl;
         others = λ other ne. inl refl;
+        dirty = λ other. refl;
       }
       | inr missing ↦
           let states : new.states ≡ old.states = ap (λ (cache : CacheState). cache.states) is in
@@ -392,6 +432,7 @@ shows_fill block bytes old new once state is =
             others = λ other ne.
                 let P : BlocksState → Type 0 = λ s. Keeps 1 old.blocks s other in
                 keeps_seen 1 old new other (ap (λ (kinds : List Kind). state_at kinds other) states) (subst P (sym held) (fill_other block bytes old.blocks once missing other ne));
+            dirty = λ other. ap (is_dirty other) held ∙ rw missing refl;
           }
     ]
   where
