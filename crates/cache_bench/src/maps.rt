@@ -72,6 +72,26 @@ fn measure_count(rt: &(impl Clock + Print), what: &str, map: &AllocMap) -> Resul
     print_cost(rt, what, found / TIMES, start.elapsed(rt)?)
 }
 
+// A map that is read from the bytes of a slot, which are copied first.
+fn measure_from_bytes(
+    rt: &(impl Clock + Print + AllocGlobal),
+    what: &str,
+    map: &AllocMap,
+) -> Result<()>
+    requires { length map.now ≡ 16777216 }
+{
+    let mut found = 0u64;
+    let start = Instant::now(rt)?;
+    for _ in 0..TIMES {
+        let bytes = map.to_bytes(rt.alloc())?;
+        if let Ok(read) = AllocMap::from_bytes(BLOCKS, bytes) {
+            found = found.wrapping_add(1);
+            black_box(read.state(BLOCKS / 2));
+        }
+    }
+    print_cost(rt, what, found, start.elapsed(rt)?)
+}
+
 // A map that is given one state, but for its first and last block.
 fn measure_set(rt: &(impl Clock + Print), what: &str, mut map: AllocMap) -> Result<()>
     requires { length map ≡ 16777216 }
@@ -101,6 +121,7 @@ pub fn measure(rt: &(impl Clock + Print + AllocGlobal)) -> Result<()> {
         measure_runs(rt, "runs", &map)?;
         measure_count(rt, "data", &map)?;
     }
+    measure_from_bytes(rt, "a map read", &whole)?;
     measure_set(rt, "a range set", whole)
 }
 
