@@ -44,11 +44,15 @@ pub fn has_good_codes(blocks: u64, bytes: &[u8]) -> bool
     requires size { length bytes.now ≡ map_bytes_of blocks }
     ensures { MatchBool result (IsMap blocks bytes.now) (IsBadMap blocks bytes.now) }
 {
-    for block in 0..4 * bytes.len() as u64 {
+    let all = 4 * bytes.len() as u64;
+    let mut block = 0;
+    while block < all {
         let code = code_in(bytes, block);
         if code == 3 || (block >= blocks && code > 0) {
             return false;
         }
+        let end = if block < blocks { blocks } else { all };
+        block += same_ahead(bytes, block, end, code);
     }
     true
 }

@@ -54,7 +54,8 @@ impl AllocMap {
         })
     }
 
-    /// The map of an image of so many blocks that the bytes of a map slot are; it keeps these very bytes.
+    /// The map of an image of so many blocks that the bytes of a map slot are; it keeps these very bytes. It looks at
+    /// them by the steps of `runs`.
     pub fn from_bytes(blocks: u64, bytes: Vec<u8>) -> Result<AllocMap, BadMap>
         requires few { blocks ≤ 16777216 }
         requires size { length bytes.items ≡ map_bytes_of blocks }
