@@ -18,7 +18,7 @@ use Rattle.alloc_map.specs.declared.run.Run.{Run}
 use Rattle.alloc_map.proofs.Spelling.{kind_of-code_of, code_of-below}
 use Rattle.alloc_map.proofs.States.{code_of-kind_of, length-states_of, state_at-states_of}
 
-length-patched : {X : Type 0} (list : List X) (at : ℕ) (items : List X) → at + length items ≤ length list → length (patched list at items) ≡ length list
+pub length-patched : {X : Type 0} (list : List X) (at : ℕ) (items : List X) → at + length items ≤ length list → length (patched list at items) ≡ length list
 length-patched list at items fits = search (rules, places)
 
 -- the codes of a byte that was changed at one place
@@ -139,12 +139,12 @@ module _ (bytes : List ℕ) (from to code : ℕ) (order : from ≤ to) (inside :
           ∙ same_codes code small (q % 4) (omega arith)
           ∙ sym (ap (λ (test : Bool). if test then code else code_at bytes q) here)
 
--- a word whose bytes are all one code
-pub code_in_word : (bytes : List ℕ) (block code : ℕ) → code < 3 → block % 32 ≡ 0 → ((i : ℕ) → i < 8 → slice_index bytes (block / 4 + i) ≡ 85 * code)
-    → (k : ℕ) → block ≤ k → k < block + 32 → code_at bytes k ≡ code
-code_in_word bytes block code small aligned word k above below =
+-- bytes that are all one code
+pub code_in_bytes : (bytes : List ℕ) (block count code : ℕ) → code < 3 → block % 4 ≡ 0 → ((i : ℕ) → i < count → slice_index bytes (block / 4 + i) ≡ 85 * code)
+    → (k : ℕ) → block ≤ k → k < block + 4 * count → code_at bytes k ≡ code
+code_in_bytes bytes block count code small aligned alike k above below =
     let at : block / 4 + (k / 4 - block / 4) ≡ k / 4 = omega arith in
-    ap (λ (byte : ℕ). byte / 2 ^ (2 * (k % 4)) % 4) (ap (slice_index bytes) (sym at) ∙ word (k / 4 - block / 4) (omega arith))
+    ap (λ (byte : ℕ). byte / 2 ^ (2 * (k % 4)) % 4) (ap (slice_index bytes) (sym at) ∙ alike (k / 4 - block / 4) (omega arith))
     ∙ same_codes code small (k % 4) (omega arith)
 
 past_range : (first count blocks block : ℕ) → first + count ≤ blocks → blocks ≤ block → covers first count block ≡ false

@@ -8,7 +8,9 @@ ghost use Rattle.image_model.specs.Patched.{patched};
 use byteorder::{ByteOrder, LittleEndian};
 use image_model::Kind;
 
-// The blocks of a 64-bit word.
+// The blocks of a byte, and of a 64-bit word.
+const BYTE_BLOCKS: u64 = 4;
+
 const WORD_BLOCKS: u64 = 32;
 
 // A byte, and a word, whose blocks all have code 1.
@@ -42,11 +44,15 @@ pub fn has_good_codes(blocks: u64, bytes: &[u8]) -> bool
     requires size { length bytes.now ≡ map_bytes_of blocks }
     ensures { MatchBool result (IsMap blocks bytes.now) (IsBadMap blocks bytes.now) }
 {
-    for block in 0..4 * bytes.len() as u64 {
+    let all = 4 * bytes.len() as u64;
+    let mut block = 0;
+    while block < all {
         let code = code_in(bytes, block);
         if code == 3 || (block >= blocks && code > 0) {
             return false;
         }
+        let end = if block < blocks { blocks } else { all };
+        block += same_ahead(bytes, block, end, code);
     }
     true
 }
@@ -125,24 +131,27 @@ fn is_word_of(bytes: &[u8], at: usize, code: u8) -> bool
     LittleEndian::read_u64(&bytes[at..]) == ONES_WORD * code as u64
 }
 
-// How many blocks from this one on are known to have its code: those of a word, or it alone.
+// How many blocks from this one on are seen at once to have this code: those of a word, those of a byte, or it alone,
+// and none where it has another.
 fn same_ahead(bytes: &[u8], block: u64, to: u64, code: u8) -> u64
     requires inside { to ≤ 4 * length bytes.now }
-    requires before { block < to }
-    requires here { code_at bytes.now block ≡ code }
+    requires before { block ≤ to }
     requires code { code < 3 }
-    ensures some { 1 ≤ result }
     ensures within { block + result ≤ to }
     ensures same { (k : ℕ) → block ≤ k → k < block + result → code_at bytes.now k ≡ code }
+    ensures none { result ≡ 0 → block < to → code_at bytes.now block ≢ code }
 {
-    if block % WORD_BLOCKS == 0
-        && to - block >= WORD_BLOCKS
-        && is_word_of(bytes, (block / 4) as usize, code)
-    {
-        WORD_BLOCKS
-    } else {
-        1
+    let at = (block / BYTE_BLOCKS) as usize;
+    if block % WORD_BLOCKS == 0 && to - block >= WORD_BLOCKS && is_word_of(bytes, at, code) {
+        return WORD_BLOCKS;
     }
+    if block % BYTE_BLOCKS == 0 && to - block >= BYTE_BLOCKS && bytes[at] == ONES_BYTE * code {
+        return BYTE_BLOCKS;
+    }
+    if block < to && code_in(bytes, block) == code {
+        return 1;
+    }
+    0
 }
 
 // Where the longest run ends that begins with this block, before `to`.
@@ -156,9 +165,11 @@ pub fn run_end(bytes: &[u8], block: u64, to: u64) -> u64
     ensures longest { result < to → code_at bytes.now result ≢ code_at bytes.now block }
 {
     let code = code_in(bytes, block);
-    let mut end = block + 1;
-    while end < to && code_in(bytes, end) == code {
-        end += same_ahead(bytes, end, to, code);
+    let mut end = block;
+    let mut ahead = 1;
+    while ahead > 0 {
+        end += ahead;
+        ahead = same_ahead(bytes, end, to, code);
     }
     end
 }

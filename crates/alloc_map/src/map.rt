@@ -54,7 +54,8 @@ impl AllocMap {
         })
     }
 
-    /// The map of an image of so many blocks that the bytes of a map slot are; it keeps these very bytes.
+    /// The map of an image of so many blocks that the bytes of a map slot are; it keeps these very bytes. It looks at
+    /// them by the steps of `runs`.
     pub fn from_bytes(blocks: u64, bytes: Vec<u8>) -> Result<AllocMap, BadMap>
         requires few { blocks ≤ 16777216 }
         requires size { length bytes.items ≡ map_bytes_of blocks }
@@ -105,7 +106,8 @@ impl AllocMap {
         }
     }
 
-    /// Gives so many blocks from the first one on this state. It takes a step for four blocks, but at the edges.
+    /// Gives so many blocks from the first one on this state: whole bytes of the map at once, and the blocks at the edges
+    /// one by one.
     pub fn set_range(&mut self, first: u64, blocks: u64, kind: Kind)
         requires { first + blocks ≤ length self.old }
         ensures { self.new ≡ patched self.old first (replicate blocks kind) }
@@ -114,7 +116,7 @@ impl AllocMap {
     }
 
     /// The longest runs of equal states from one block on up to another, the first `limit` of them. It takes a step
-    /// for 32 blocks where they are of one state, else for each.
+    /// for the 32 blocks of a word, else for the 4 of a byte, where they are of one state, else for each block.
     pub fn runs(
         &self,
         alloc: Global,
@@ -136,7 +138,7 @@ impl AllocMap {
         Ok(runs)
     }
 
-    /// How many blocks have this state. It takes a step for 32 blocks where they are of one state, else for each.
+    /// How many blocks have this state. It takes as many steps as `runs` of all blocks.
     pub fn count(&self, kind: Kind) -> u64
         ensures { result ≡ count_by (is_state kind) self.now }
     {

@@ -75,7 +75,7 @@ length-others frame dirty =
     omega (arith, e, whole, length-map dirty (λ (h : DirtyFrame). h.frame))
 
 -- A frame stands in one list, once.
-stands_once : (frame : ℕ) (pool : PoolState) → IsPool pool → 1 ≤ times frame pool.free + held_times frame pool → times frame pool.free + held_times frame pool ≡ 1
+pub stands_once : (frame : ℕ) (pool : PoolState) → IsPool pool → 1 ≤ times frame pool.free + held_times frame pool → times frame pool.free + held_times frame pool ≡ 1
 stands_once frame pool is some =
     elim (cases_lt frame (total (lists_in pool))) [
       | inl below ↦ let once = rw (lt-ltb frame (total (lists_in pool)) below) at (is.each frame) in omega (arith, once)

@@ -40,7 +40,7 @@ any-append : (test : DirtyBlock → Bool) (xs ys : List DirtyBlock) → list_any
 any-append test [] ys = refl
 any-append test (x ∷ xs) ys = elim (cases_Bool (test x)) [ inl e ↦ rw e refl | inr e ↦ rw e (any-append test xs ys) ]
 
-any-outside : (block other : ℕ) (dirty : List DirtyBlock) → other ≢ block
+pub any-outside : (block other : ℕ) (dirty : List DirtyBlock) → other ≢ block
     → list_any (λ (h : DirtyBlock). h.block == other) (dirty_outside (λ b. b == block) dirty) ≡ list_any (λ (h : DirtyBlock). h.block == other) dirty
 any-outside block other [] ne = refl
 any-outside block other (h ∷ dirty) ne =
@@ -51,7 +51,7 @@ any-outside block other (h ∷ dirty) ne =
       | inr p ↦ rw p.0 (ap (λ (t : Bool). eqb h.block other || t) (any-outside block other dirty ne))
     ]
 
-dirty_other : (number block other : ℕ) (bytes : List ℕ) (s : BlocksState) → other ≢ block → is_dirty other (with_put number block bytes s) ≡ is_dirty other s
+pub dirty_other : (number block other : ℕ) (bytes : List ℕ) (s : BlocksState) → other ≢ block → is_dirty other (with_put number block bytes s) ≡ is_dirty other s
 dirty_other number block other bytes s ne =
     any-append (λ (h : DirtyBlock). h.block == other) (dirty_outside (λ b. b == block) s.dirty) (record { block = block; number = number; bytes = bytes } ∷ [])
     ∙ rw (ne_eqb block other (λ e. ne (sym e))) (or_false _)

@@ -1,9 +1,9 @@
 -- what a cache knows of an image
-use Rattle.std.specs.Prelude.{ℕ, ◌≡◌, ◌+◌, ◌<◌, ◌≤◌, List, length, replicate, Option, Some, None}
+use Rattle.std.specs.Prelude.{ℕ, ◌≡◌, ◌+◌, ◌<◌, ◌≤◌, List, length, replicate, Option, Some, false}
 use Rattle.alloc_map.specs.Codes.{state_at}
 use Rattle.image_model.specs.declared.command.Kind.{Kind}
 use Rattle.image_model.specs.declared.command.Kind.TheVariants.{Data, Zero, Hole}
-use Rattle.shared_cache.specs.Blocks.{BlocksState, bytes_of}
+use Rattle.shared_cache.specs.Blocks.{BlocksState, bytes_of, is_held}
 use Rattle.shared_cache.specs.Held.{HeldState, IsHeld}
 
 -- the current state of each block, and the blocks that are held
@@ -25,6 +25,7 @@ bytes_for Hole held = Some (replicate 4096 0)
 abbrev pub bytes_seen : CacheState → ℕ → Option (List ℕ)
 bytes_seen cache block = bytes_for (state_at cache.states block) (bytes_of block cache.blocks)
 
--- One of so many blocks from the first one on is data and has no frame.
+-- One of so many blocks from the first one on is data, and no frame holds it.
 abbrev pub LacksBytes : CacheState → ℕ → ℕ → Type 0
-LacksBytes cache first count = (k : ℕ) × (k < count) × (bytes_seen cache (first + k) ≡ None)
+LacksBytes cache first count =
+    (k : ℕ) × (k < count) × (state_at cache.states (first + k) ≡ Data) × (is_held (first + k) cache.blocks ≡ false)

@@ -1,3 +1,4 @@
 pub mod Blocks
 pub mod Cache
 pub mod Held
+pub mod View

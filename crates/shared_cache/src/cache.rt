@@ -1,17 +1,17 @@
-ghost use Rattle.std.specs.Prelude.{◌≡◌, ◌≢◌, ◌+◌, ◌<◌, ◌≤◌, ◌^◌, ◌↔◌, [], ℕ, All, length, replicate, List, Some, IfOk, IsErr, OnOk, OnErr, slice_index_or};
+ghost use Rattle.std.specs.Prelude.{◌≡◌, ◌≢◌, ◌+◌, ◌<◌, ◌≤◌, ◌^◌, ◌↔◌, true, [], ℕ, All, length, replicate, List, Some, IfOk, IsErr, OnOk, OnErr, slice_index_or};
 ghost use Rattle.std.specs.Option.{option_copied};
 ghost use Rattle.alloc_map.specs.Codes.{state_at};
 ghost use Rattle.image_model.specs.Image.{covers};
 ghost use Rattle.image_model.specs.Patched.{patched};
 ghost use Rattle.image_model.specs.declared.command.Kind.TheVariants as Kind;
-ghost use Rattle.shared_cache.specs.Blocks.{DirtyBlock, HasNoFrame, at_hand, cleaned, count_missing, with_fill, with_puts, without};
+ghost use Rattle.shared_cache.specs.Blocks.{DirtyBlock, HasNoFrame, at_hand, cleaned, count_missing, is_held, with_fill, with_puts, without};
 ghost use Rattle.shared_cache.specs.Cache.{LacksBytes, bytes_seen};
+ghost use Rattle.shared_cache.specs.View.{ShowsClean, ShowsClear, ShowsFill, ShowsPut};
 ghost use Rattle.shared_cache.specs.declared.fault.KeepFault.TheVariants as KeepFault;
 
 use crate::fault::{KeepFault, Missing};
 use crate::held::Held;
 use alloc_map::AllocMap;
-use frame_pool::NoFrame;
 use image_model::Kind;
 use std::alloc::{AllocError, Global};
 use std::marker::Model;
@@ -68,6 +68,7 @@ impl Cache {
           states = patched self.old.states first (replicate (length blocks.now) Kind.Data);
           blocks = with_puts number first blocks.now self.old.blocks;
         }) }
+        ensures view { OnOk result (ShowsPut first blocks.now self.old self.new) }
         ensures no_frame { (result ≡ Err KeepFault.NoFrame) ↔ (at_hand self.old.blocks < count_missing first (length blocks.now) self.old.blocks) }
         ensures err { OnErr result (self.new ≡ self.old) }
     {
@@ -86,10 +87,11 @@ impl Cache {
     pub fn clear(&mut self, first: u64, count: u64, kind: Kind)
         requires range { first + count ≤ length self.old.states }
         requires kind { kind ≢ Kind.Data }
-        ensures { self.new ≡ record {
+        ensures new { self.new ≡ record {
           states = patched self.old.states first (replicate count kind);
           blocks = without (covers first count) self.old.blocks;
         } }
+        ensures view { ShowsClear first count kind self.old self.new }
     {
         if count <= u64::from(self.held.frames()) {
             self.held.release_range(first, count);
@@ -106,6 +108,8 @@ impl Cache {
         requires range { block < length self.old.states }
         requires data { state_at self.old.states block ≡ Kind.Data }
         ensures ok { OnOk result (self.new ≡ record { states = self.old.states; blocks = with_fill block bytes.now self.old.blocks }) }
+        ensures view { OnOk result (ShowsFill block bytes.now self.old self.new) }
+        ensures hit { is_held block self.old.blocks ≡ true → self.new ≡ self.old }
         ensures no_frame { (result ≡ Err KeepFault.NoFrame) ↔ HasNoFrame block self.old.blocks }
         ensures err { OnErr result (self.new ≡ self.old) }
     {
@@ -113,15 +117,16 @@ impl Cache {
             return Err(KeepFault::NoFrame);
         }
         self.held.reserve(1)?;
-        match self.held.fill(block, bytes) {
-            Ok(()) => Ok(()),
-            Err(NoFrame) => Err(KeepFault::NoFrame),
-        }
+        let Ok(()) = self.held.fill(block, bytes) else {
+            return Err(KeepFault::NoFrame);
+        };
+        Ok(())
     }
 
     /// Makes the dirty blocks up to this number clean, in their order.
     pub fn clean_through(&mut self, number: u64)
-        ensures { self.new ≡ record { states = self.old.states; blocks = cleaned number self.old.blocks } }
+        ensures new { self.new ≡ record { states = self.old.states; blocks = cleaned number self.old.blocks } }
+        ensures view { ShowsClean number self.old self.new }
     {
         self.held.clean_through(number);
     }
