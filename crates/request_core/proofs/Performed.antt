@@ -74,12 +74,12 @@ module _ {D : Type 0} (extent : ℕ) (honest : Type 0) (state : State) (sound : 
   numbers_here sealed durable disk = record { keeps = disk.keeps; leaves = disk.leaves }
 
   pub disk_seals : (failure : Failure) → IsDiskOf world.stage keeper state → IsDiskOf (seal failure world).stage keeper state
-  disk_seals failure disk = of_either (λ (next : World). IsDiskOf next.stage keeper state) (nat_lt world.stage.sealed (length world.stage.order) && (world.stage.sealed == world.stage.durable)) _ _ (by_luck failure) disk
+  disk_seals failure disk = of_either (λ (next : World). IsDiskOf next.stage keeper state) (nat_lt world.stage.sealed (length world.stage.order) && (world.stage.sealed == world.stage.durable)) _ _ (by_failure failure) disk
     where
-      by_luck : (failure : Failure) → IsDiskOf (sealed_more failure world).stage keeper state
-      by_luck OutOfMemory = disk
-      by_luck Nothing = numbers_here _ _ disk
-      by_luck DeviceFailure = numbers_here _ _ disk
+      by_failure : (failure : Failure) → IsDiskOf (sealed_more failure world).stage keeper state
+      by_failure OutOfMemory = disk
+      by_failure Nothing = numbers_here _ _ disk
+      by_failure DeviceFailure = numbers_here _ _ disk
 
   pub disk_publishes : IsDiskOf world.stage keeper state → IsDiskOf (publish world).stage keeper state
   disk_publishes disk = of_either (λ (next : World). IsDiskOf next.stage keeper state) (nat_lt world.stage.durable world.stage.stored) _ _ (numbers_here _ _ disk) disk
