@@ -20,7 +20,7 @@ use Rattle.negotiation.specs.declared.stage.Stage.{Stage}
 use Rattle.negotiation.specs.declared.stage.Stage.TheVariants as stages
 use Rattle.negotiation.specs.Dialog.{IsNoOption, IsTooLong, Leaves, Standing, Turn, broken, ended, exhausted, in_discard, in_flags, in_head, in_option, in_requests, kept_limit, most_bytes, read_limit, replies_text, silent}
 use Rattle.negotiation.specs.Ends.{end_for}
-use Rattle.negotiation.specs.Session.{Advances, Feeds, Greets, Hands, HearsOn, IsData, IsGreeted, IsLongPart, IsSaid, Runs, SessionState, Settles, Step, end_of, greeting_due, handed, held_by, standing_of, state_of, wanted_of}
+use Rattle.negotiation.specs.Session.{Advances, Feeds, Greets, Hands, HearsOn, IsBehind, IsData, IsGreeted, IsLongPart, IsSaid, Runs, SessionState, Settles, Step, end_of, greeting_due, handed, held_by, standing_of, state_of, wanted_of}
 use Rattle.negotiation.specs.declared.stage.Talk.{Talk}
 use Rattle.negotiation.proofs.Dialogs.{hears_none, hears_on, hears_then, session_at}
 
@@ -91,6 +91,7 @@ hands_broken piece = record {
   between = broken;
   parts = sym (append-nil piece);
   said = tt;
+  behind = λ b. tt;
   hears = λ size flags. hears_on size piece [] [] flags flags broken broken
       (record { leaves = λ text p. (refl, refl, broken_stays text piece p); asks = λ text asked p. absurd p; ends = λ e. cc; breaks = λ e. (refl, (refl, refl, refl)) })
       (λ text p e. inl (record {
@@ -109,6 +110,7 @@ hands_ended piece = record {
   between = ended;
   parts = sym (append-nil piece);
   said = tt;
+  behind = λ b. tt;
   hears = λ size flags. hears_on size piece [] [] flags flags ended ended
       (record {
         leaves = λ text p. absurd p;
@@ -137,6 +139,7 @@ hands_nothing standing piece said none = record {
   between = standing;
   parts = none;
   said = said;
+  behind = λ b. b;
   hears = λ size flags. hears_none (session_at size flags standing);
   whole = inr (refl, refl);
 }
@@ -148,6 +151,7 @@ hands_exhausted piece = record {
   between = exhausted;
   parts = refl;
   said = tt;
+  behind = λ b. tt;
   hears = λ size flags. hears_none (session_at size flags exhausted);
   whole = inl refl;
 }
@@ -301,11 +305,12 @@ not_greeted session new piece before after is same end = record {
   parts = refl;
   hears = hears_none session;
   written = same ∙ sym (append-nil before) ∙ ap (λ (s : Standing). before ++ (greeting_due s s ++ [])) (sym is);
+  behind = λ b. absurd (subst IsBehind is b);
   whole = inl end;
 }
 
 module _ (size : ℕ) (flags : SessionFlags) (old greeting : Standing) (before middle after piece behind : List ℕ) (between : Talk) (greets : Greets old greeting before middle) (sound : IsGreeted between.stage)
-    (runs : Runs (session_at size flags greeting) piece behind middle after (state_of size between)) where
+    (runs : Runs (session_at size flags greeting) piece behind middle after (state_of size between)) (not : IsBehind old → ⊥) where
   hears_to : HearsOn (session_at size flags old) runs.taken runs.turns [] (state_of size between)
   hears_to = hears_then (session_at size flags old) (session_at size flags greeting) (state_of size between) [] runs.taken [] runs.turns [] [] refl (greets_hears size flags old greeting before middle greets) runs.hears
 
@@ -323,6 +328,7 @@ module _ (size : ℕ) (flags : SessionFlags) (old greeting : Standing) (before m
     parts = runs.parts;
     hears = hears_to;
     written = written_to (standing_of between.stage) (said_behind between.stage sound);
+    behind = λ b. absurd (not b);
     whole = inl end;
   }
 
@@ -336,8 +342,69 @@ module _ (size : ℕ) (flags : SessionFlags) (old greeting : Standing) (before m
     hears = subst (λ (turns : List Turn). HearsOn (session_at size flags old) (runs.taken ++ hands.first) turns requests (session_at size between.flags hands.between)) (append-nil runs.turns)
         (hears_then (session_at size flags old) (state_of size between) (session_at size between.flags hands.between) runs.taken hands.first runs.turns [] [] requests refl hears_to (hands.hears size between.flags));
     written = written_to hands.between hands.said;
+    behind = λ b. absurd (not b);
     whole = elim hands.whole [ inl end ↦ inl end | inr both ↦ inr (both.0, ap (session_at size between.flags) both.1) ];
   }
+
+-- ---- behind the handshake
+
+pub behind_or : (standing : Standing) → IsBehind standing ⊎ (IsBehind standing → ⊥)
+behind_or silent = inr (λ b. b)
+behind_or (in_flags bytes) = inr (λ b. b)
+behind_or (in_head bytes) = inr (λ b. b)
+behind_or (in_option code size bytes) = inr (λ b. b)
+behind_or (in_discard code missing) = inr (λ b. b)
+behind_or (in_requests reader) = inl tt
+behind_or ended = inl tt
+behind_or broken = inl tt
+behind_or exhausted = inl tt
+
+pub behind_idle : (stage : Stage) → IsBehind (standing_of stage) → wanted_of stage ≡ 0
+behind_idle stages.Silent b = absurd b
+behind_idle (stages.Flags bytes) b = absurd b
+behind_idle (stages.Head bytes) b = absurd b
+behind_idle (stages.Data head bytes) b = absurd b
+behind_idle (stages.Discard option missing) b = absurd b
+behind_idle (stages.Requests reader) b = refl
+behind_idle stages.Ended b = refl
+behind_idle stages.Broken b = refl
+behind_idle stages.Exhausted b = refl
+
+pub greets_behind : (old new : Standing) (before after : List ℕ) → Greets old new before after → IsBehind old → (new ≡ old) × (after ≡ before)
+greets_behind silent new before after greets b = absurd b
+greets_behind (in_flags bytes) new before after greets b = absurd b
+greets_behind (in_head bytes) new before after greets b = absurd b
+greets_behind (in_option code size bytes) new before after greets b = absurd b
+greets_behind (in_discard code missing) new before after greets b = absurd b
+greets_behind (in_requests reader) new before after greets b = greets
+greets_behind ended new before after greets b = greets
+greets_behind broken new before after greets b = greets
+greets_behind exhausted new before after greets b = greets
+
+no_greeting : (old new : Standing) → IsBehind old → greeting_due old new ≡ []
+no_greeting silent new b = absurd b
+no_greeting (in_flags bytes) new b = refl
+no_greeting (in_head bytes) new b = refl
+no_greeting (in_option code size bytes) new b = refl
+no_greeting (in_discard code missing) new b = refl
+no_greeting (in_requests reader) new b = refl
+no_greeting ended new b = refl
+no_greeting broken new b = refl
+no_greeting exhausted new b = refl
+
+pub fed_behind : (size : ℕ) (flags : SessionFlags) (old new : Standing) (before after piece : List ℕ) (requests : List Message) → IsBehind old → after ≡ before → Hands old piece requests new
+    → Feeds (session_at size flags old) piece before after requests (session_at size flags new)
+fed_behind size flags old new before after piece requests b same hands = record {
+  turns = [];
+  first = hands.first;
+  rest = hands.rest;
+  between = session_at size flags hands.between;
+  parts = hands.parts;
+  hears = hands.hears size flags;
+  written = same ∙ sym (append-nil before) ∙ ap (λ (t : List ℕ). before ++ (t ++ [])) (sym (no_greeting old hands.between b));
+  behind = λ was. (refl, refl, hands.behind was);
+  whole = elim hands.whole [ inl end ↦ inl end | inr both ↦ inr (both.0, ap (session_at size flags) both.1) ];
+}
 
 pub handed_error : (result : Result (Vec Message) End) → IsErr result → handed result ≡ []
 handed_error (Ok requests) is = cc

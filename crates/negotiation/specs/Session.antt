@@ -142,8 +142,20 @@ end_of ended = None
 end_of broken = Some ProtocolEnd
 end_of exhausted = Some NoMemory
 
+-- the handshake is over
+abbrev pub IsBehind : Standing → Type 0
+IsBehind silent = ⊥
+IsBehind (in_flags bytes) = ⊥
+IsBehind (in_head bytes) = ⊥
+IsBehind (in_option code size bytes) = ⊥
+IsBehind (in_discard code missing) = ⊥
+IsBehind (in_requests reader) = Unit {0}
+IsBehind ended = Unit {0}
+IsBehind broken = Unit {0}
+IsBehind exhausted = Unit {0}
+
 -- A piece was read, to its end but where memory ran out, and this was written for it: the greeting, where it is due, and the
--- replies to the options that it ends.
+-- replies to the options that it ends; none of it behind the handshake.
 pub record Feeds (old : SessionState) (piece before after : List ℕ) (requests : List Message) (new : SessionState) : Type 0 where
   pub turns : List Turn
   pub first : List ℕ
@@ -152,6 +164,7 @@ pub record Feeds (old : SessionState) (piece before after : List ℕ) (requests 
   pub parts : piece ≡ first ++ rest
   pub hears : HearsOn old first turns requests between
   pub written : after ≡ before ++ (greeting_due old.standing between.standing ++ replies_text turns)
+  pub behind : IsBehind old.standing → (turns ≡ []) × (between.flags ≡ old.flags) × IsBehind between.standing
   pub whole : (end_of new.standing ≡ Some NoMemory) ⊎ ((rest ≡ []) × (new ≡ between))
 
 -- something was said
@@ -177,6 +190,7 @@ pub record Hands (old : Standing) (piece : List ℕ) (requests : List Message) (
   pub between : Standing
   pub parts : piece ≡ first ++ rest
   pub said : IsSaid between
+  pub behind : IsBehind old → IsBehind between
   pub hears : (size : ℕ) (flags : SessionFlags) → HearsOn (record { size = size; flags = flags; standing = old }) first [] requests
       (record { size = size; flags = flags; standing = between })
   pub whole : (end_of new ≡ Some NoMemory) ⊎ ((rest ≡ []) × (new ≡ between))

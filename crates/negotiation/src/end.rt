@@ -12,9 +12,15 @@ pub enum End {
     /// Refusal 0: memory ran out.
     #[error("no memory")]
     NoMemory,
+    /// Refusal 19: the input ended, and nobody had ended the session.
+    #[error("peer closed")]
+    PeerClosed,
     /// Refusal 20: what the client sent ends the session.
     #[error("protocol end")]
     ProtocolEnd,
+    /// Refusal 21: a read or a write failed.
+    #[error("stream fault")]
+    IoFault,
 }
 
 impl From<AllocError> for End {

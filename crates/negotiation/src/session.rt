@@ -1,7 +1,7 @@
 ghost use Rattle.std.specs.Prelude.{◌≡◌, ◌⊎◌, ◌↔◌, ℕ, ◌*◌, ◌+◌, ◌≤◌, ◌<◌, List, [], Some, IsTrue, length, vec_len, IfOk, IfErr, IsOkAnd, OnErr, Err, position};
 ghost use Rattle.negotiation.specs.declared.stage.Talk.{Talk};
 ghost use Rattle.negotiation.specs.Dialog.{ended, in_requests, is_disc, plain, silent};
-ghost use Rattle.negotiation.specs.Session.{Advances, Feeds, Greets, Hands, IsGreeted, IsStage, Runs, end_of, handed, held_by, standing_of, state_of, wanted_of};
+ghost use Rattle.negotiation.specs.Session.{Advances, Feeds, Greets, Hands, IsBehind, IsGreeted, IsStage, Runs, end_of, handed, held_by, standing_of, state_of, wanted_of};
 
 use crate::end::End;
 use crate::stage::{Stage, Talk, discard, take_data, take_flags, take_head, wanted};
@@ -63,6 +63,7 @@ impl Session {
         ensures fault { IfErr result (λ end. end_of self.new.standing ≡ Some end) }
         ensures again { (end : End) → end_of self.old.standing ≡ Some end → result ≡ Err end }
         ensures first { (end : End) → end_of self.new.standing ≡ Some end → IfOk result (λ requests. 0 < vec_len requests) }
+        ensures asks { IfOk result (λ requests. 0 < vec_len requests → IsBehind self.new.standing) }
 
         // Whatever is announced, no more than this is held.
         ensures held { held_by self.new.standing < 28 + 1048576 }
@@ -85,6 +86,16 @@ impl Session {
         ensures { result ≡ self.now.flags }
     {
         self.flags
+    }
+
+    /// Whether the handshake is over.
+    pub fn is_behind(&self) -> bool
+        ensures { IsTrue result → IsBehind self.now.standing }
+    {
+        match self.stage {
+            Stage::Requests(_) | Stage::Ended | Stage::Broken | Stage::Exhausted => true,
+            _ => false,
+        }
     }
 
     /// Whether the client has ended the session, by an ABORT or a DISC.
@@ -125,7 +136,7 @@ fn negotiate<'a>(
     ensures sound { IfOk result (λ read. IsGreeted read.0.stage) }
     ensures runs { IfOk result (λ read. Runs (state_of size talk) piece.now read.1.now out.old.items out.new.items (state_of size read.0)) }
     ensures all { IfOk result (λ read. (read.1.now ≡ []) ⊎ (wanted_of read.0.stage ≡ 0)) }
-    ensures still { wanted_of talk.stage ≡ 0 → IsOkAnd result (λ read. (read.0 ≡ talk) × (read.1.now ≡ piece.now)) }
+    ensures still { wanted_of talk.stage ≡ 0 → IsOkAnd result (λ read. (read.0 ≡ talk) × (read.1.now ≡ piece.now)) × (out.new.items ≡ out.old.items) }
     ensures err { OnErr result ((behind : List ℕ) × (between : Talk) × IsGreeted between.stage
         × Runs (state_of size talk) piece.now behind out.old.items out.new.items (state_of size between)) }
 {
@@ -179,6 +190,7 @@ fn hand_out(alloc: Global, stage: Stage, rest: &[u8]) -> (Stage, Result<Vec<Requ
     ensures fault { IfErr result.1 (λ end. end_of (standing_of result.0) ≡ Some end) }
     ensures again { (end : End) → end_of (standing_of stage) ≡ Some end → result.1 ≡ Err end }
     ensures first { (end : End) → end_of (standing_of result.0) ≡ Some end → IfOk result.1 (λ requests. 0 < vec_len requests) }
+    ensures asks { IfOk result.1 (λ requests. 0 < vec_len requests → IsBehind (standing_of result.0)) }
     ensures held { held_by (standing_of result.0) < 28 + 1048576 }
 {
     match stage {
@@ -196,6 +208,7 @@ fn ask(reader: StreamReader, piece: &[u8]) -> (Stage, Result<Vec<Request>, End>)
     ensures fault { IfErr result.1 (λ end. end_of (standing_of result.0) ≡ Some end) }
     ensures again { (end : End) → end_of (in_requests reader) ≡ Some end → result.1 ≡ Err end }
     ensures first { (end : End) → end_of (standing_of result.0) ≡ Some end → IfOk result.1 (λ requests. 0 < vec_len requests) }
+    ensures asks { IfOk result.1 (λ requests. 0 < vec_len requests → IsBehind (standing_of result.0)) }
     ensures held { held_by (standing_of result.0) < 28 + 1048576 }
 {
     let mut reader = reader;

@@ -1,4 +1,4 @@
-use Rattle.std.proofs.Common.{List, [], sym, subst, ap}
+use Rattle.std.proofs.Common.{List, [], sym, subst, ap, arith}
 use Rattle.nbd_wire.specs.Request.{Message}
 use Rattle.negotiation.specs.Dialog.{Standing, broken, exhausted}
 use Rattle.negotiation.specs.Session.{Hands, standing_of}
@@ -21,5 +21,6 @@ returns-in_default c = record {
   fault = tt;
   again = λ end is. absurd (goes_on_still c.args.stage end c.in_default.not-Requests c.in_default.not-Broken c.in_default.not-Exhausted is);
   first = λ end is. absurd (goes_on_still c.args.stage end c.in_default.not-Requests c.in_default.not-Broken c.in_default.not-Exhausted is);
+  asks = λ some. absurd (omega (arith, some, c.new.ensures.len));
   held = held_still c.args.stage c.requires.sound c.in_default.not-Requests;
 }

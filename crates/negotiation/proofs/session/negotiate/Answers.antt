@@ -8,7 +8,7 @@ pub loop-alloc-init : goal.loop-alloc-init
 loop-alloc-init c = record {
   sound = c.requires;
   runs = Runs-start (state_of c.args.size c.args.talk) c.args.piece.now c.args.out.now.items;
-  still = λ none. (refl, refl);
+  still = λ none. (refl, refl, refl);
 }
 
 pub loop-alloc-preserved : goal.loop-alloc-preserved
