@@ -9,3 +9,5 @@ mod option_tests;
 mod reply_tests;
 #[cfg(test)]
 mod row;
+#[cfg(test)]
+mod session_tests;

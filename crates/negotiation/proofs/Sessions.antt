@@ -284,7 +284,7 @@ ended_idle stages.Exhausted end is = refl
 
 -- ---- a whole feed
 
-said_behind : (stage : Stage) → IsGreeted stage → IsSaid (standing_of stage)
+pub said_behind : (stage : Stage) → IsGreeted stage → IsSaid (standing_of stage)
 said_behind stages.Silent sound = sound
 said_behind (stages.Flags bytes) sound = tt
 said_behind (stages.Head bytes) sound = tt
@@ -305,6 +305,7 @@ not_greeted session new piece before after is same end = record {
   parts = refl;
   hears = hears_none session;
   written = same ∙ sym (append-nil before) ∙ ap (λ (s : Standing). before ++ (greeting_due s s ++ [])) (sym is);
+  said = λ b. absurd (subst IsSaid is b);
   behind = λ b. absurd (subst IsBehind is b);
   whole = inl end;
 }
@@ -328,6 +329,7 @@ module _ (size : ℕ) (flags : SessionFlags) (old greeting : Standing) (before m
     parts = runs.parts;
     hears = hears_to;
     written = written_to (standing_of between.stage) (said_behind between.stage sound);
+    said = λ b. said_behind between.stage sound;
     behind = λ b. absurd (not b);
     whole = inl end;
   }
@@ -342,6 +344,7 @@ module _ (size : ℕ) (flags : SessionFlags) (old greeting : Standing) (before m
     hears = subst (λ (turns : List Turn). HearsOn (session_at size flags old) (runs.taken ++ hands.first) turns requests (session_at size between.flags hands.between)) (append-nil runs.turns)
         (hears_then (session_at size flags old) (state_of size between) (session_at size between.flags hands.between) runs.taken hands.first runs.turns [] [] requests refl hears_to (hands.hears size between.flags));
     written = written_to hands.between hands.said;
+    said = λ b. hands.said;
     behind = λ b. absurd (not b);
     whole = elim hands.whole [ inl end ↦ inl end | inr both ↦ inr (both.0, ap (session_at size between.flags) both.1) ];
   }
@@ -402,6 +405,7 @@ fed_behind size flags old new before after piece requests b same hands = record 
   parts = hands.parts;
   hears = hands.hears size flags;
   written = same ∙ sym (append-nil before) ∙ ap (λ (t : List ℕ). before ++ (t ++ [])) (sym (no_greeting old hands.between b));
+  said = λ was. hands.said;
   behind = λ was. (refl, refl, hands.behind was);
   whole = elim hands.whole [ inl end ↦ inl end | inr both ↦ inr (both.0, ap (session_at size flags) both.1) ];
 }

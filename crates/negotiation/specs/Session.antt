@@ -142,6 +142,11 @@ end_of ended = None
 end_of broken = Some ProtocolEnd
 end_of exhausted = Some NoMemory
 
+-- something was said
+abbrev pub IsSaid : Standing → Type 0
+IsSaid silent = ⊥
+IsSaid standing = Unit {0}
+
 -- the handshake is over
 abbrev pub IsBehind : Standing → Type 0
 IsBehind silent = ⊥
@@ -164,13 +169,9 @@ pub record Feeds (old : SessionState) (piece before after : List ℕ) (requests 
   pub parts : piece ≡ first ++ rest
   pub hears : HearsOn old first turns requests between
   pub written : after ≡ before ++ (greeting_due old.standing between.standing ++ replies_text turns)
+  pub said : IsSaid old.standing → IsSaid between.standing
   pub behind : IsBehind old.standing → (turns ≡ []) × (between.flags ≡ old.flags) × IsBehind between.standing
   pub whole : (end_of new.standing ≡ Some NoMemory) ⊎ ((rest ≡ []) × (new ≡ between))
-
--- something was said
-abbrev pub IsSaid : Standing → Type 0
-IsSaid silent = ⊥
-IsSaid standing = Unit {0}
 
 -- the greeting is written where nothing was said yet, and else nothing
 abbrev pub Greets : Standing → Standing → List ℕ → List ℕ → Type 0

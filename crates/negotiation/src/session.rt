@@ -1,7 +1,7 @@
 ghost use Rattle.std.specs.Prelude.{◌≡◌, ◌⊎◌, ◌↔◌, ℕ, ◌*◌, ◌+◌, ◌≤◌, ◌<◌, List, [], Some, IsTrue, length, vec_len, IfOk, IfErr, IsOkAnd, OnErr, Err, position};
 ghost use Rattle.negotiation.specs.declared.stage.Talk.{Talk};
 ghost use Rattle.negotiation.specs.Dialog.{ended, in_requests, is_disc, plain, silent};
-ghost use Rattle.negotiation.specs.Session.{Advances, Feeds, Greets, Hands, IsBehind, IsGreeted, IsStage, Runs, end_of, handed, held_by, standing_of, state_of, wanted_of};
+ghost use Rattle.negotiation.specs.Session.{Advances, Feeds, Greets, Hands, IsBehind, IsGreeted, IsSaid, IsStage, Runs, end_of, handed, held_by, standing_of, state_of, wanted_of};
 
 use crate::end::End;
 use crate::stage::{Stage, Talk, discard, take_data, take_flags, take_head, wanted};
@@ -63,6 +63,7 @@ impl Session {
         ensures fault { IfErr result (λ end. end_of self.new.standing ≡ Some end) }
         ensures again { (end : End) → end_of self.old.standing ≡ Some end → result ≡ Err end }
         ensures first { (end : End) → end_of self.new.standing ≡ Some end → IfOk result (λ requests. 0 < vec_len requests) }
+        ensures said { IsSaid self.new.standing }
         ensures asks { IfOk result (λ requests. 0 < vec_len requests → IsBehind self.new.standing) }
 
         // Whatever is announced, no more than this is held.

@@ -7,7 +7,7 @@ use Rattle.negotiation.specs.declared.end.End.TheVariants.{NoMemory}
 use Rattle.negotiation.specs.declared.stage.Stage.{Stage}
 use Rattle.negotiation.specs.declared.stage.Talk.{Talk}
 use Rattle.negotiation.proofs.Dialogs.{session_at}
-use Rattle.negotiation.proofs.Sessions.{behind_idle, behind_or, cut_short, ended_idle, fed, fed_behind, greets_behind, greets_ended, handed_error, not_greeted}
+use Rattle.negotiation.proofs.Sessions.{behind_idle, behind_or, cut_short, ended_idle, fed, fed_behind, greets_behind, greets_ended, handed_error, not_greeted, said_behind}
 use Rattle.negotiation.proofs.session.Session.feed.Goals as goal
 
 pub returns-in_err-stage-clause-session : goal.returns-in_err-stage-clause-session
@@ -81,3 +81,6 @@ returns-clause-again c = λ end is.
     let still : end_of (standing_of c.in_ok-stage.stage) ≡ Some end = ap end_of kept ∙ was in
     let idle = c.in_ok-talk.ensures.still (ended_idle c.in_ok-stage.stage end still) in
     c.hand_out-stage.ensures.again end (ap (λ (talk : Talk). end_of (standing_of talk.stage)) idle.0.0 ∙ still)
+
+pub returns-clause-said : goal.returns-clause-said
+returns-clause-said c = said_behind c.hand_out-stage.result.0 c.hand_out-stage.ensures.sound
