@@ -83,7 +83,7 @@ hands_none (reading old) starved piece requests feeds none = record {
   hears = λ size flags. hears_on size feeds.0 [] requests flags flags (in_requests (reading old)) (in_requests (reading feeds.2))
       (record { leaves = λ text p. absurd p; asks = λ text asked p. (refl, refl, (feeds.4 text asked p.0, any_behind asked requests false p.1 none)); ends = λ e. cc; breaks = λ e. cc })
       (λ text p e. absurd p);
-  whole = inl refl;
+  whole = inl (refl, inr tt);
 }
 hands_none starved new piece requests feeds none = record {
   first = piece;

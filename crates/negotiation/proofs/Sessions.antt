@@ -153,7 +153,7 @@ hands_exhausted piece = record {
   said = tt;
   behind = λ b. tt;
   hears = λ size flags. hears_none (session_at size flags exhausted);
-  whole = inl refl;
+  whole = inl (refl, inl refl);
 }
 
 -- a piece is left only behind a handshake
@@ -307,7 +307,7 @@ not_greeted session new piece before after is same end = record {
   written = same ∙ sym (append-nil before) ∙ ap (λ (s : Standing). before ++ (greeting_due s s ++ [])) (sym is);
   said = λ b. absurd (subst IsSaid is b);
   behind = λ b. absurd (subst IsBehind is b);
-  whole = inl end;
+  whole = inl (end, inl refl);
 }
 
 module _ (size : ℕ) (flags : SessionFlags) (old greeting : Standing) (before middle after piece behind : List ℕ) (between : Talk) (greets : Greets old greeting before middle) (sound : IsGreeted between.stage)
@@ -331,7 +331,7 @@ module _ (size : ℕ) (flags : SessionFlags) (old greeting : Standing) (before m
     written = written_to (standing_of between.stage) (said_behind between.stage sound);
     said = λ b. said_behind between.stage sound;
     behind = λ b. absurd (not b);
-    whole = inl end;
+    whole = inl (end, inl refl);
   }
 
   pub fed : (new : Standing) (requests : List Message) → Hands (standing_of between.stage) behind requests new → Feeds (session_at size flags old) piece before after requests (session_at size between.flags new)
@@ -346,7 +346,7 @@ module _ (size : ℕ) (flags : SessionFlags) (old greeting : Standing) (before m
     written = written_to hands.between hands.said;
     said = λ b. hands.said;
     behind = λ b. absurd (not b);
-    whole = elim hands.whole [ inl end ↦ inl end | inr both ↦ inr (both.0, ap (session_at size between.flags) both.1) ];
+    whole = elim hands.whole [ inl end ↦ inl (end.0, elim end.1 [ inl none ↦ inl none | inr b ↦ inr (refl, b) ]) | inr both ↦ inr (both.0, ap (session_at size between.flags) both.1) ];
   }
 
 -- ---- behind the handshake
@@ -407,7 +407,7 @@ fed_behind size flags old new before after piece requests b same hands = record 
   written = same ∙ sym (append-nil before) ∙ ap (λ (t : List ℕ). before ++ (t ++ [])) (sym (no_greeting old hands.between b));
   said = λ was. hands.said;
   behind = λ was. (refl, refl, hands.behind was);
-  whole = elim hands.whole [ inl end ↦ inl end | inr both ↦ inr (both.0, ap (session_at size flags) both.1) ];
+  whole = elim hands.whole [ inl end ↦ inl (end.0, elim end.1 [ inl none ↦ inl none | inr b ↦ inr (refl, b) ]) | inr both ↦ inr (both.0, ap (session_at size flags) both.1) ];
 }
 
 pub handed_error : (result : Result (Vec Message) End) → IsErr result → handed result ≡ []

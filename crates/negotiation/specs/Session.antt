@@ -171,7 +171,7 @@ pub record Feeds (old : SessionState) (piece before after : List ℕ) (requests 
   pub written : after ≡ before ++ (greeting_due old.standing between.standing ++ replies_text turns)
   pub said : IsSaid old.standing → IsSaid between.standing
   pub behind : IsBehind old.standing → (turns ≡ []) × (between.flags ≡ old.flags) × IsBehind between.standing
-  pub whole : (end_of new.standing ≡ Some NoMemory) ⊎ ((rest ≡ []) × (new ≡ between))
+  pub whole : ((end_of new.standing ≡ Some NoMemory) × ((requests ≡ []) ⊎ ((new.flags ≡ between.flags) × IsBehind between.standing))) ⊎ ((rest ≡ []) × (new ≡ between))
 
 -- the greeting is written where nothing was said yet, and else nothing
 abbrev pub Greets : Standing → Standing → List ℕ → List ℕ → Type 0
@@ -194,7 +194,7 @@ pub record Hands (old : Standing) (piece : List ℕ) (requests : List Message) (
   pub behind : IsBehind old → IsBehind between
   pub hears : (size : ℕ) (flags : SessionFlags) → HearsOn (record { size = size; flags = flags; standing = old }) first [] requests
       (record { size = size; flags = flags; standing = between })
-  pub whole : (end_of new ≡ Some NoMemory) ⊎ ((rest ≡ []) × (new ≡ between))
+  pub whole : ((end_of new ≡ Some NoMemory) × ((requests ≡ []) ⊎ IsBehind between)) ⊎ ((rest ≡ []) × (new ≡ between))
 
 -- some first part of the piece was read, and the replies to the options in it were written
 pub record Runs (old : SessionState) (piece behind before after : List ℕ) (new : SessionState) : Type 0 where

@@ -26,7 +26,7 @@ err_not_ok (Err end) is ok = cc
 
 -- ---- exchanges
 
-asked-append : (first more : List Exchange) → asked (first ++ more) ≡ asked first ++ asked more
+pub asked-append : (first more : List Exchange) → asked (first ++ more) ≡ asked first ++ asked more
 asked-append [] more = refl
 asked-append (exchange ∷ first) more = ap (λ (r : List Message). exchange.request ∷ r) (asked-append first more)
 

@@ -28,7 +28,7 @@ no_greeting ended new said = refl
 no_greeting broken new said = refl
 no_greeting exhausted new said = refl
 
-due_said : (standing : Standing) → IsSaid standing → greeting_due silent standing ≡ greeting_bytes
+pub due_said : (standing : Standing) → IsSaid standing → greeting_due silent standing ≡ greeting_bytes
 due_said silent said = absurd said
 due_said (in_flags bytes) said = refl
 due_said (in_head bytes) said = refl
@@ -71,14 +71,26 @@ other_end : (o : Option End) → o ≡ Some NoMemory → o ≡ Some ProtocolEnd 
 other_end None is other = cc
 other_end (Some end) is other = cc
 
-tells : (old new between : SessionState) (requests : List Message) (unsent unheard : List ℕ) (fed : Result (Vec Message) End) → requests ≡ handed fed → unsent ≡ [] → (end_of new.standing ≡ Some NoMemory) ⊎ ((unheard ≡ []) × (new ≡ between))
+some_items : (given : Vec Message) → given.items ≡ [] → 0 < vec_len given → ⊥
+some_items given none some = omega (arith, given.ok.0, ap length none, some)
+
+tells : (old new between : SessionState) (requests : List Message) (unsent unheard : List ℕ) (fed : Result (Vec Message) End) → requests ≡ handed fed → unsent ≡ [] → ((end_of new.standing ≡ Some NoMemory) × ((requests ≡ []) ⊎ ((new.flags ≡ between.flags) × IsBehind between.standing))) ⊎ ((unheard ≡ []) × (new ≡ between))
     → IfErr fed (λ end. end_of new.standing ≡ Some end) → ((end : End) → end_of new.standing ≡ Some end → IfOk fed (λ r. 0 < vec_len r)) → Tells requests unsent unheard between new fed
-tells old new between requests unsent unheard (Ok given) same sent whole fault first =
-    (same, sent, elim whole [ inl end ↦ inr (end, first NoMemory end) | inr all ↦ inl all ])
+tells old new between requests unsent unheard (Ok given) same sent whole fault first = (
+  same,
+  sent,
+  elim whole [
+    | inl end ↦
+        let still : (new.flags ≡ between.flags) × IsBehind between.standing =
+        elim end.1 [ inl none ↦ absurd (some_items given (sym same ∙ none) (first NoMemory end.0)) | inr behind ↦ behind ] in
+        inr (end.0, first NoMemory end.0, still.0, still.1)
+    | inr all ↦ inl all
+  ],
+)
 tells old new between requests unsent unheard (Err NoMemory) same sent whole fault first = tt
 tells old new between requests unsent unheard (Err PeerClosed) same sent whole fault first = absurd (never_closed new.standing fault)
 tells old new between requests unsent unheard (Err ProtocolEnd) same sent whole fault first =
-    elim whole [ inl end ↦ absurd (other_end (end_of new.standing) end fault) | inr all ↦ (same, sent, all.0, all.1, fault) ]
+    elim whole [ inl end ↦ absurd (other_end (end_of new.standing) end.0 fault) | inr all ↦ (same, sent, all.0, all.1, fault) ]
 tells old new between requests unsent unheard (Err IoFault) same sent whole fault first = tt
 
 module _ (old new : SessionState) (piece due left : List ℕ) (fed : Result (Vec Message) End) (output made : Option (List ℕ)) (size : new.size ≡ old.size) (feeds : Feeds old piece [] due (handed fed) new) where

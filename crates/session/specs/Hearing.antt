@@ -12,7 +12,7 @@ use Rattle.negotiation.specs.declared.end.End.TheVariants.{IoFault, NoMemory, Pe
 -- that are handed out. Where memory ran out, or a stream failed, it says nothing more.
 abbrev pub Tells : List Message → List ℕ → List ℕ → SessionState → SessionState → Result (Vec Message) End → Type 0
 Tells requests unsent unheard between new (Ok handed) =
-    (requests ≡ handed.items) × (unsent ≡ []) × (((unheard ≡ []) × (new ≡ between)) ⊎ ((end_of new.standing ≡ Some NoMemory) × (0 < vec_len handed)))
+    (requests ≡ handed.items) × (unsent ≡ []) × (((unheard ≡ []) × (new ≡ between)) ⊎ ((end_of new.standing ≡ Some NoMemory) × (0 < vec_len handed) × (new.flags ≡ between.flags) × IsBehind between.standing))
 Tells requests unsent unheard between new (Err NoMemory) = Unit {0}
 Tells requests unsent unheard between new (Err PeerClosed) =
     (requests ≡ []) × (unsent ≡ []) × (unheard ≡ []) × (new ≡ between) × (end_of new.standing ≡ None)

@@ -3,7 +3,9 @@
 
 mod hear;
 mod serve;
+mod session;
 mod streams;
 
 pub use hear::negotiate;
 pub use serve::{Serve, answer_all};
+pub use session::{serve_session, transmit};
