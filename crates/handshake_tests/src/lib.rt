@@ -11,3 +11,5 @@ mod reply_tests;
 mod row;
 #[cfg(test)]
 mod session_tests;
+#[cfg(test)]
+mod stream_tests;
