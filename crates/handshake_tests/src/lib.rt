@@ -9,3 +9,7 @@ mod option_tests;
 mod reply_tests;
 #[cfg(test)]
 mod row;
+#[cfg(test)]
+mod session_tests;
+#[cfg(test)]
+mod stream_tests;

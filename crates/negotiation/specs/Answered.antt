@@ -1,9 +1,10 @@
 -- What an option is answered, by what the session has agreed on (docs/FORMATS.md, "Answers to options").
-use Rattle.std.specs.Prelude.{ℕ, ◌<◌, ◌^◌, Bool, true, false, ◌==◌, ◌||◌, if◌then◌else◌, List, [], ◌∷◌, length, codes}
+use Rattle.std.specs.Prelude.{◌≡◌, ◌⊎◌, ℕ, ◌<◌, ◌^◌, Bool, true, false, ◌==◌, ◌||◌, if◌then◌else◌, List, [], ◌∷◌, length, codes}
 use Rattle.std.specs.List.{AllByRecursion, flat_map, list_any}
 use Rattle.std.specs.Str.{bytes_eq}
 use Rattle.nbd_wire.specs.declared.message.SessionFlags.{SessionFlags}
 use Rattle.option_wire.specs.Field.{ContextAsked, InfoAsked}
+use Rattle.option_wire.specs.Options.{IsOption}
 use Rattle.option_wire.specs.declared.option.ClientOption.{ClientOption}
 use Rattle.option_wire.specs.declared.option.ClientOption.TheVariants as options
 use Rattle.option_wire.specs.declared.reply.Information.TheVariants as informations
@@ -104,6 +105,12 @@ answer_of flags size (options.Unknown code) = refused errors.Unsupported flags
 -- an option whose data aren't read; a selection that is refused leaves none
 abbrev pub refusal_of : SessionFlags → ℕ → OptionError → Answered
 refusal_of flags code error = refused error (if code == 10 then with_context false flags else flags)
+
+-- The answer to an option of this number with these data: malformed data are refused as invalid.
+abbrev pub IsAnswered : SessionFlags → ℕ → ℕ → List ℕ → Answered → Type 0
+IsAnswered flags size code content answer =
+    ((option : ClientOption) × IsOption code content option × (answer ≡ answer_of flags size option))
+    ⊎ (((option : ClientOption) → IsOption code content option → ⊥) × (answer ≡ refusal_of flags code errors.Invalid))
 
 -- replies whose data have room for their length
 abbrev pub AreShort : List OptionReply → Type 0

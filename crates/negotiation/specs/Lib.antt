@@ -1,1 +1,4 @@
 pub mod Answered
+pub mod Dialog
+pub mod Ends
+pub mod Session

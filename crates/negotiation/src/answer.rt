@@ -1,4 +1,4 @@
-ghost use Rattle.std.specs.Prelude.{◌≡◌, ℕ, ◌≤◌, [], ◌∷◌, ◌++◌, IfOk, OnOk, OnErr, length, take};
+ghost use Rattle.std.specs.Prelude.{◌≡◌, [], ◌∷◌, ◌++◌, List, ℕ, IfOk, OnOk, OnErr};
 ghost use Rattle.negotiation.specs.Answered.{AreShort, replies_bytes};
 ghost use Rattle.option_wire.specs.declared.reply.OptionReply.{OptionReply};
 
@@ -55,13 +55,25 @@ impl OptionAnswer {
         &self.replies
     }
 
-    /// Appends the replies, to the option of this number. Refusal 0 (no memory): then only the first of them are
-    /// there.
+    /// Appends the replies, to the option of this number. Refusal 0 (no memory): then none of them is there.
     pub fn encode(&self, option: u32, out: &mut Vec<u8>) -> Result<(), AllocError>
         requires { AreShort self.now.replies }
         ensures ok { OnOk result (out.new.items ≡ out.old.items ++ replies_bytes option self.now.replies) }
-        ensures err { OnErr result ((count : ℕ) × (count ≤ length self.now.replies)
-            × (out.new.items ≡ out.old.items ++ replies_bytes option (take count self.now.replies))) }
+        ensures err { OnErr result (out.new.items ≡ out.old.items) }
+    {
+        let len = out.len();
+        let encoded = self.encode_each(option, out);
+        if encoded.is_err() {
+            out.truncate(len);
+        }
+        encoded
+    }
+
+    // Appends the replies, one after another. Where memory runs out only the first of them are there.
+    fn encode_each(&self, option: u32, out: &mut Vec<u8>) -> Result<(), AllocError>
+        requires { AreShort self.now.replies }
+        ensures ok { OnOk result (out.new.items ≡ out.old.items ++ replies_bytes option self.now.replies) }
+        ensures err { OnErr result ((some : List ℕ) × (out.new.items ≡ out.old.items ++ some)) }
     {
         for reply in &self.replies {
             encode_option_reply(option, reply, out)?;

@@ -1,8 +1,14 @@
-//! What the handshake of an NBD session comes to: the answers to options.
+//! The handshake of an NBD session: the answers to options, and what a session reads and owes from its first byte on.
 #![tactic(auto)]
 
 mod answer;
+mod end;
 mod option;
+mod session;
+mod stage;
 
 pub use answer::{Next, OptionAnswer};
+pub use end::End;
 pub use option::{answer_data, answer_option, refuse_option};
+pub use session::Session;
+pub use stage::{MAX_OPTION_DATA, MAX_OPTION_THROWN_AWAY};

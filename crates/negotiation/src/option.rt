@@ -1,7 +1,5 @@
 ghost use Rattle.std.specs.Prelude.{◌≡◌, IfOk, [], ◌∷◌};
-ghost use Rattle.option_wire.specs.declared.option.ClientOption.{ClientOption};
-ghost use Rattle.option_wire.specs.Options.{IsOption};
-ghost use Rattle.negotiation.specs.Answered.{AreShort, answer_of, asks_for, context_reply, export_reply, goes_on, informed, listed, refusal_of, selected, size_reply};
+ghost use Rattle.negotiation.specs.Answered.{AreShort, IsAnswered, answer_of, asks_for, context_reply, export_reply, goes_on, informed, listed, refusal_of, selected, size_reply};
 
 use crate::answer::{Next, OptionAnswer, one, two};
 use nbd_wire::{SessionFlags, transmission_flags};
@@ -36,13 +34,7 @@ pub fn answer_data(
     flags: SessionFlags,
     size: u64,
 ) -> Result<OptionAnswer, AllocError>
-    // The option that they are is answered.
-    ensures read { IfOk result (λ answer. (option : ClientOption) → IsOption code bytes.now option
-        → answer ≡ answer_of flags size option) }
-
-    // They are no option.
-    ensures malformed { IfOk result (λ answer. ((option : ClientOption) → IsOption code bytes.now option → ⊥)
-        → answer ≡ refusal_of flags code OptionError.Invalid) }
+    ensures answered { IfOk result (IsAnswered flags size code bytes.now) }
     ensures short { IfOk result (λ answer. AreShort answer.replies) }
 {
     match decode_option(alloc, code, bytes) {

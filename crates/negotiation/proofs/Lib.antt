@@ -1,0 +1,3 @@
+pub mod Dialogs
+pub mod Requests
+pub mod Sessions

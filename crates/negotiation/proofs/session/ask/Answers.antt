@@ -1,0 +1,35 @@
+use Rattle.std.proofs.Common.{◌≡◌, List, [], Some, None, sym, subst, ap, ◌∙◌, refl}
+use Rattle.std.specs.List.{position}
+use Rattle.nbd_wire.specs.Request.{Message}
+use Rattle.negotiation.specs.Dialog.{ended, in_requests, is_disc}
+use Rattle.negotiation.specs.Session.{Hands}
+use Rattle.negotiation.proofs.Requests.{found_place, hands_disc, hands_none, no_place}
+use Rattle.negotiation.proofs.Sessions.{end_from}
+use Rattle.negotiation.proofs.session.ask.Goals as goal
+
+pub returns-in-Err-clause-hands : goal.returns-in-Err-clause-hands
+returns-in-Err-clause-hands c = hands_none c.args.reader c.feed.new.self c.args.piece.now [] c.in-Err.ensures.stream refl
+
+pub returns-in-Some-clause-hands : goal.returns-in-Some-clause-hands
+returns-in-Some-clause-hands c =
+    let place : position is_disc c.in-Ok.requests.items ≡ Some c.in-Some.place = ap (position is_disc) (sym c.deref.ensures.value) ∙ sym c.disc_place.ensures ∙ c.in-Some.is in
+    let found = found_place is_disc c.in-Ok.requests.items c.in-Some.place place in
+    subst (λ (r : List Message). Hands (in_requests c.args.reader) c.args.piece.now r ended) (sym found.1 ∙ sym c.truncate.ensures.items)
+    (hands_disc c.args.reader c.feed.new.self c.args.piece.now c.in-Ok.requests.items c.in-Ok.ensures.stream found.0)
+
+pub returns-in-Some-clause-again : goal.returns-in-Some-clause-again
+returns-in-Some-clause-again c = λ end is.
+    let found = end_from c.args.reader end is in cc (c.in-Ok.ensures.again found.0 found.1)
+
+pub returns-in-None-clause-hands : goal.returns-in-None-clause-hands
+returns-in-None-clause-hands c =
+    let place : position is_disc c.in-Ok.requests.items ≡ None = ap (position is_disc) (sym c.deref.ensures.value) ∙ sym c.disc_place.ensures ∙ c.in-None.is in
+    hands_none c.args.reader c.feed.new.self c.args.piece.now c.in-Ok.requests.items c.in-Ok.ensures.stream (no_place is_disc c.in-Ok.requests.items place)
+
+pub returns-in-None-clause-again : goal.returns-in-None-clause-again
+returns-in-None-clause-again c = λ end is.
+    let found = end_from c.args.reader end is in cc (c.in-Ok.ensures.again found.0 found.1)
+
+pub returns-in-None-clause-first : goal.returns-in-None-clause-first
+returns-in-None-clause-first c = λ end is.
+    let found = end_from c.feed.new.self end is in c.in-Ok.ensures.first found.0 found.1

@@ -1,0 +1,222 @@
+-- What a session holds, and what a piece of its input comes to.
+use Rattle.std.specs.Prelude.{◌≡◌, ◌⊎◌, ℕ, ◌+◌, ◌-◌, ◌<◌, ◌≤◌, ◌^◌, Option, Some, None, List, [], ◌∷◌, ◌++◌, length, Result, Ok, Err}
+use Rattle.std.specs.Global.{Vec}
+use Rattle.std.specs.Option.{option_map}
+use Rattle.nbd_wire.specs.Request.{Message}
+use Rattle.nbd_wire.specs.Stream.{Reader, fresh, held, end_of as end_of_requests}
+use Rattle.nbd_wire.specs.declared.message.SessionFlags.{SessionFlags}
+use Rattle.option_wire.specs.Handshake.{client_flags_bytes, greeting_bytes}
+use Rattle.option_wire.specs.Head.{option_head}
+use Rattle.option_wire.specs.declared.handshake.ClientFlags.{ClientFlags}
+use Rattle.negotiation.specs.Answered.{Answered, replies_bytes}
+use Rattle.negotiation.specs.declared.answer.Next.{Next}
+use Rattle.negotiation.specs.declared.answer.Next.TheVariants as behind
+use Rattle.negotiation.specs.declared.end.End.{End}
+use Rattle.negotiation.specs.declared.end.End.TheVariants.{NoMemory, ProtocolEnd}
+use Rattle.negotiation.specs.declared.stage.Stage.{Stage}
+use Rattle.negotiation.specs.declared.stage.Talk.{Talk}
+use Rattle.negotiation.specs.declared.stage.Stage.TheVariants as stages
+use Rattle.negotiation.specs.Ends.{end_for}
+use Rattle.negotiation.specs.Dialog.{Hears, IsAccepted, IsTurn, Leaves, LeavesFlags, Outcome, Standing, Turn, broken, ended, exhausted, in_discard, in_flags, in_head, in_option, in_requests, kept_limit, most_bytes, replies_text, silent}
+
+-- the size of the export, what is agreed on, and what was read last
+pub record SessionState : Type 0 where
+  pub size : ℕ
+  pub flags : SessionFlags
+  pub standing : Standing
+
+-- what came of the stream, with the requests that were handed out
+abbrev pub outcome_of : List Message → SessionState → Outcome
+outcome_of requests session = record { requests = requests; flags = session.flags; standing = session.standing }
+
+-- what a stage of a session is
+abbrev pub standing_of : Stage → Standing
+standing_of stages.Silent = silent
+standing_of (stages.Flags bytes) = in_flags bytes.items
+standing_of (stages.Head bytes) = in_head bytes.items
+standing_of (stages.Data head bytes) = in_option head.option head.length bytes.items
+standing_of (stages.Discard option missing) = in_discard option missing
+standing_of (stages.Requests reader) = in_requests reader
+standing_of stages.Ended = ended
+standing_of stages.Broken = broken
+standing_of stages.Exhausted = exhausted
+
+-- Behind the greeting: something is always missing.
+abbrev pub IsGreeted : Stage → Type 0
+IsGreeted stages.Silent = ⊥
+IsGreeted (stages.Flags bytes) = length bytes.items < 4
+IsGreeted (stages.Head bytes) = length bytes.items < 16
+IsGreeted (stages.Data head bytes) = (length bytes.items < head.length) × (head.length ≤ kept_limit)
+IsGreeted (stages.Discard option missing) = 0 < missing
+IsGreeted (stages.Requests reader) = Unit {0}
+IsGreeted stages.Ended = Unit {0}
+IsGreeted stages.Broken = Unit {0}
+IsGreeted stages.Exhausted = Unit {0}
+
+abbrev pub IsStage : Stage → Type 0
+IsStage stages.Silent = Unit {0}
+IsStage stage = IsGreeted stage
+
+-- how many bytes end what is read of a handshake, none where it isn't one
+abbrev pub wanted_of : Stage → ℕ
+wanted_of stages.Silent = 0
+wanted_of (stages.Flags bytes) = 4 - length bytes.items
+wanted_of (stages.Head bytes) = 16 - length bytes.items
+wanted_of (stages.Data head bytes) = head.length - length bytes.items
+wanted_of (stages.Discard option missing) = missing
+wanted_of (stages.Requests reader) = 0
+wanted_of stages.Ended = 0
+wanted_of stages.Broken = 0
+wanted_of stages.Exhausted = 0
+
+-- what is read behind an option
+abbrev pub standing_behind : Next → Standing
+standing_behind behind.Option = in_head []
+standing_behind behind.Transmission = in_requests fresh
+standing_behind behind.End = ended
+standing_behind behind.Fault = broken
+
+-- a session over an export of so many bytes
+abbrev pub state_of : ℕ → Talk → SessionState
+state_of size talk = record { size = size; flags = talk.flags; standing = standing_of talk.stage }
+
+-- What a text that begins with an option comes to: it is whole, and answered, or this is left of it.
+abbrev pub Takes : SessionFlags → ℕ → List ℕ → List Turn → SessionFlags → Standing → Type 0
+Takes agreed size text [] flags standing = (flags ≡ agreed) × Leaves standing text
+Takes agreed size text (turn ∷ []) flags standing =
+    IsTurn agreed size text turn × (flags ≡ turn.answer.flags) × (standing ≡ standing_behind turn.answer.next)
+Takes agreed size text (turn ∷ other ∷ turns) flags standing = ⊥
+
+-- any text of this kind was read, and the reply to the option, if it is whole, was written
+pub record Step (agreed : SessionFlags) (size : ℕ) (IsText : List ℕ → Type 0) (before after : List ℕ) (talk : Talk) : Type 0 where
+  pub turns : List Turn
+  pub takes : (text : List ℕ) → IsText text → Takes agreed size text turns talk.flags (standing_of talk.stage)
+  pub written : after ≡ before ++ replies_text turns
+
+-- an option was answered
+pub record Settles (code : ℕ) (answer : Answered) (before after : List ℕ) (talk : Talk) : Type 0 where
+  pub flags : talk.flags ≡ answer.flags
+  pub standing : standing_of talk.stage ≡ standing_behind answer.next
+  pub written : after ≡ before ++ replies_bytes code answer.replies
+
+-- the text of an option with these data
+abbrev pub IsData : ℕ → List ℕ → List ℕ → Type 0
+IsData code content text = text ≡ option_head code (length content) ++ content
+
+-- the first bytes of an option whose data come next
+abbrev pub IsPart : ℕ → ℕ → List ℕ → List ℕ → Type 0
+IsPart code size bytes text = text ≡ option_head code size ++ bytes
+
+-- the same where the data are thrown away, up to the last `missing` ones
+abbrev pub IsLongPart : ℕ → ℕ → List ℕ → Type 0
+IsLongPart code missing text =
+    (sent : List ℕ) × (kept_limit < length sent + missing) × (length sent + missing ≤ most_bytes code)
+    × (text ≡ option_head code (length sent + missing) ++ sent)
+
+-- what comes of the client's flags
+abbrev pub TakesFlags : List ℕ → Standing → Type 0
+TakesFlags text standing =
+    LeavesFlags standing text ⊎ ((client : ClientFlags) × IsAccepted client × (text ≡ client_flags_bytes client) × (standing ≡ in_head []))
+
+-- A session that had read any stream up to here has read the stream and the piece, with these further options and requests.
+abbrev pub HearsOn : SessionState → List ℕ → List Turn → List Message → SessionState → Type 0
+HearsOn old piece turns requests new =
+    (stream : List ℕ) (before : List Turn) (asked : List Message) → Hears old.size stream before (outcome_of asked old)
+    → Hears old.size (stream ++ piece) (before ++ turns) (outcome_of (asked ++ requests) new)
+
+-- the greeting is due once anything is said
+abbrev pub greeting_due : Standing → Standing → List ℕ
+greeting_due silent silent = []
+greeting_due silent new = greeting_bytes
+greeting_due old new = []
+
+-- why a session hands out nothing more
+abbrev pub end_of : Standing → Option End
+end_of silent = None
+end_of (in_flags bytes) = None
+end_of (in_head bytes) = None
+end_of (in_option code size bytes) = None
+end_of (in_discard code missing) = None
+end_of (in_requests reader) = option_map end_for (end_of_requests reader)
+end_of ended = None
+end_of broken = Some ProtocolEnd
+end_of exhausted = Some NoMemory
+
+-- something was said
+abbrev pub IsSaid : Standing → Type 0
+IsSaid silent = ⊥
+IsSaid standing = Unit {0}
+
+-- the handshake is over
+abbrev pub IsBehind : Standing → Type 0
+IsBehind silent = ⊥
+IsBehind (in_flags bytes) = ⊥
+IsBehind (in_head bytes) = ⊥
+IsBehind (in_option code size bytes) = ⊥
+IsBehind (in_discard code missing) = ⊥
+IsBehind (in_requests reader) = Unit {0}
+IsBehind ended = Unit {0}
+IsBehind broken = Unit {0}
+IsBehind exhausted = Unit {0}
+
+-- A piece was read, to its end but where memory ran out, and this was written for it: the greeting, where it is due, and the
+-- replies to the options that it ends; none of it behind the handshake.
+pub record Feeds (old : SessionState) (piece before after : List ℕ) (requests : List Message) (new : SessionState) : Type 0 where
+  pub turns : List Turn
+  pub first : List ℕ
+  pub rest : List ℕ
+  pub between : SessionState
+  pub parts : piece ≡ first ++ rest
+  pub hears : HearsOn old first turns requests between
+  pub written : after ≡ before ++ (greeting_due old.standing between.standing ++ replies_text turns)
+  pub said : IsSaid old.standing → IsSaid between.standing
+  pub behind : IsBehind old.standing → (turns ≡ []) × (between.flags ≡ old.flags) × IsBehind between.standing
+  pub whole : ((end_of new.standing ≡ Some NoMemory) × ((requests ≡ []) ⊎ ((new.flags ≡ between.flags) × IsBehind between.standing))) ⊎ ((rest ≡ []) × (new ≡ between))
+
+-- the greeting is written where nothing was said yet, and else nothing
+abbrev pub Greets : Standing → Standing → List ℕ → List ℕ → Type 0
+Greets silent new before after = (new ≡ in_flags []) × (after ≡ before ++ greeting_bytes)
+Greets old new before after = (new ≡ old) × (after ≡ before)
+
+-- these bytes of a handshake were read
+pub record Advances (old : SessionState) (front before after : List ℕ) (new : SessionState) : Type 0 where
+  pub turns : List Turn
+  pub hears : HearsOn old front turns [] new
+  pub written : after ≡ before ++ replies_text turns
+
+-- What was left of the piece behind the handshake was read, to its end but where memory ran out.
+pub record Hands (old : Standing) (piece : List ℕ) (requests : List Message) (new : Standing) : Type 0 where
+  pub first : List ℕ
+  pub rest : List ℕ
+  pub between : Standing
+  pub parts : piece ≡ first ++ rest
+  pub said : IsSaid between
+  pub behind : IsBehind old → IsBehind between
+  pub hears : (size : ℕ) (flags : SessionFlags) → HearsOn (record { size = size; flags = flags; standing = old }) first [] requests
+      (record { size = size; flags = flags; standing = between })
+  pub whole : ((end_of new ≡ Some NoMemory) × ((requests ≡ []) ⊎ IsBehind between)) ⊎ ((rest ≡ []) × (new ≡ between))
+
+-- some first part of the piece was read, and the replies to the options in it were written
+pub record Runs (old : SessionState) (piece behind before after : List ℕ) (new : SessionState) : Type 0 where
+  pub turns : List Turn
+  pub taken : List ℕ
+  pub parts : piece ≡ taken ++ behind
+  pub hears : HearsOn old taken turns [] new
+  pub written : after ≡ before ++ replies_text turns
+
+-- the requests that are handed out
+abbrev pub handed : Result (Vec Message) End → List Message
+handed (Ok requests) = requests.items
+handed (Err fault) = []
+
+-- how many bytes are held
+abbrev pub held_by : Standing → ℕ
+held_by silent = 0
+held_by (in_flags bytes) = length bytes
+held_by (in_head bytes) = length bytes
+held_by (in_option code size bytes) = length bytes
+held_by (in_discard code missing) = 0
+held_by (in_requests reader) = held reader
+held_by ended = 0
+held_by broken = 0
+held_by exhausted = 0

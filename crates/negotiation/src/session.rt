@@ -1,0 +1,236 @@
+ghost use Rattle.std.specs.Prelude.{◌≡◌, ◌⊎◌, ◌↔◌, ℕ, ◌*◌, ◌+◌, ◌≤◌, ◌<◌, List, [], Some, IsTrue, length, vec_len, IfOk, IfErr, IsOkAnd, OnErr, Err, position};
+ghost use Rattle.negotiation.specs.declared.stage.Talk.{Talk};
+ghost use Rattle.negotiation.specs.Dialog.{ended, in_requests, is_disc, plain, silent};
+ghost use Rattle.negotiation.specs.Session.{Advances, Feeds, Greets, Hands, IsBehind, IsGreeted, IsSaid, IsStage, Runs, end_of, handed, held_by, standing_of, state_of, wanted_of};
+
+use crate::end::End;
+use crate::stage::{Stage, Talk, discard, take_data, take_flags, take_head, wanted};
+use image_model::{BLOCK_BYTES, Geometry};
+use nbd_wire::{DISCONNECT, Request, SessionFlags, StreamReader};
+use option_wire::greeting;
+use std::alloc::{AllocError, Global};
+use std::marker::Model;
+use std::mem;
+
+/// One connection as the server sees it, from its first byte on: the handshake, and the requests behind it. What the
+/// client sent may come in any pieces.
+#[derive(Drop)]
+pub struct Session {
+    alloc: Global,
+    size: u64,
+    flags: SessionFlags,
+    stage: Stage,
+}
+
+impl Model for Session {
+    ghost use Rattle.negotiation.specs.Session.{IsStage, SessionState, standing_of};
+
+    ghost Value = { SessionState };
+
+    ghost view = { λ session. record { size = session.size; flags = session.flags; standing = standing_of session.stage } };
+
+    ghost invariant = { λ session. IsStage session.stage };
+}
+
+impl Session {
+    /// A session in which nothing was said yet, over an export of this geometry.
+    pub fn new(alloc: Global, geometry: Geometry) -> Session
+        ensures { result ≡ record { size = 4096 * geometry.blocks; flags = plain; standing = silent } }
+    {
+        Session {
+            alloc,
+            size: geometry.blocks * BLOCK_BYTES,
+            flags: SessionFlags {
+                structured: false,
+                context: false,
+            },
+            stage: Stage::Silent,
+        }
+    }
+
+    /// Reads the next piece of what the client sent, appends what is due for it, and answers the requests that are
+    /// whole now and stand before a DISC ("Fixed newstyle negotiation" and "Transmission" of NBD's `proto.md`). The
+    /// greeting comes with the first piece, which may be empty.
+    ///
+    /// Refusals 0 (no memory) and 20 (protocol end: what the client sent ends the session). Each stands behind the
+    /// requests that came before it, and then for good.
+    pub fn feed(&mut self, piece: &[u8], out: &mut Vec<u8>) -> Result<Vec<Request>, End>
+        // However the input was cut, these are its next requests, and this was due for its next options.
+        ensures session { Feeds self.old piece.now out.old.items out.new.items (handed result) self.new }
+        ensures size { self.new.size ≡ self.old.size }
+
+        // An end comes where there is no request before it, and then always.
+        ensures fault { IfErr result (λ end. end_of self.new.standing ≡ Some end) }
+        ensures again { (end : End) → end_of self.old.standing ≡ Some end → result ≡ Err end }
+        ensures first { (end : End) → end_of self.new.standing ≡ Some end → IfOk result (λ requests. 0 < vec_len requests) }
+        ensures said { IsSaid self.new.standing }
+        ensures asks { IfOk result (λ requests. 0 < vec_len requests → IsBehind self.new.standing) }
+
+        // Whatever is announced, no more than this is held.
+        ensures held { held_by self.new.standing < 28 + 1048576 }
+    {
+        let stage = mem::replace(&mut self.stage, Stage::Exhausted);
+        let stage = greet(self.alloc, stage, out)?;
+        let talk = Talk {
+            flags: self.flags,
+            stage,
+        };
+        let (talk, rest) = negotiate(self.alloc, self.size, talk, piece, out)?;
+        self.flags = talk.flags;
+        let (stage, requests) = hand_out(self.alloc, talk.stage, rest);
+        self.stage = stage;
+        requests
+    }
+
+    /// What is agreed on.
+    pub fn flags(&self) -> SessionFlags
+        ensures { result ≡ self.now.flags }
+    {
+        self.flags
+    }
+
+    /// Whether the handshake is over.
+    pub fn is_behind(&self) -> bool
+        ensures { IsTrue result → IsBehind self.now.standing }
+    {
+        match self.stage {
+            Stage::Requests(_) | Stage::Ended | Stage::Broken | Stage::Exhausted => true,
+            _ => false,
+        }
+    }
+
+    /// Whether the client has ended the session, by an ABORT or a DISC.
+    pub fn ended(&self) -> bool
+        ensures { IsTrue result ↔ (self.now.standing ≡ ended) }
+    {
+        matches!(self.stage, Stage::Ended)
+    }
+}
+
+// Says the greeting, where nothing was said yet.
+fn greet(alloc: Global, stage: Stage, out: &mut Vec<u8>) -> Result<Stage, AllocError>
+    requires { IsStage stage }
+    ensures sound { IfOk result IsGreeted }
+    ensures greets { IfOk result (λ new. Greets (standing_of stage) (standing_of new) out.old.items out.new.items) }
+    ensures err { OnErr result (out.new.items ≡ out.old.items) }
+    ensures first { OnErr result (standing_of stage ≡ silent) }
+{
+    match stage {
+        Stage::Silent => {
+            out.extend_from_slice(&greeting())?;
+            Ok(Stage::Flags(Vec::new(alloc)))
+        }
+        stage => Ok(stage),
+    }
+}
+
+// Reads the handshake as far as the piece goes, and answers its options. The rest of the piece stands behind the
+// handshake.
+fn negotiate<'a>(
+    alloc: Global,
+    size: u64,
+    talk: Talk,
+    piece: &'a [u8],
+    out: &mut Vec<u8>,
+) -> Result<(Talk, &'a [u8]), AllocError>
+    requires { IsGreeted talk.stage }
+    ensures sound { IfOk result (λ read. IsGreeted read.0.stage) }
+    ensures runs { IfOk result (λ read. Runs (state_of size talk) piece.now read.1.now out.old.items out.new.items (state_of size read.0)) }
+    ensures all { IfOk result (λ read. (read.1.now ≡ []) ⊎ (wanted_of read.0.stage ≡ 0)) }
+    ensures still { wanted_of talk.stage ≡ 0 → IsOkAnd result (λ read. (read.0 ≡ talk) × (read.1.now ≡ piece.now)) × (out.new.items ≡ out.old.items) }
+    ensures err { OnErr result ((behind : List ℕ) × (between : Talk) × IsGreeted between.stage
+        × Runs (state_of size talk) piece.now behind out.old.items out.new.items (state_of size between)) }
+{
+    let mut talk = talk;
+    let mut rest = piece;
+    while !rest.is_empty() {
+        let wanted = wanted(&talk.stage);
+        if wanted == 0 {
+            break;
+        }
+        let (front, behind) = rest.split_at(rest.len().min(wanted));
+        talk = advance(alloc, size, talk, front, out)?;
+        rest = behind;
+    }
+    Ok((talk, rest))
+}
+
+// Takes the next bytes of the handshake, and answers the option that is whole now.
+fn advance(
+    alloc: Global,
+    size: u64,
+    talk: Talk,
+    front: &[u8],
+    out: &mut Vec<u8>,
+) -> Result<Talk, AllocError>
+    requires sound { IsGreeted talk.stage }
+    requires wanted { length front.now ≤ wanted_of talk.stage }
+    ensures sound { IfOk result (λ new. IsGreeted new.stage) }
+    ensures advances { IfOk result (λ new. Advances (state_of size talk) front.now out.old.items out.new.items (state_of size new)) }
+    ensures err { OnErr result (out.new.items ≡ out.old.items) }
+{
+    let Talk { flags, stage } = talk;
+    match stage {
+        Stage::Flags(bytes) => {
+            let stage = take_flags(alloc, bytes, front)?;
+            Ok(Talk { flags, stage })
+        }
+        Stage::Head(bytes) => take_head(alloc, size, flags, bytes, front, out),
+        Stage::Data { head, bytes } => take_data(alloc, size, flags, head, bytes, front, out),
+        Stage::Discard { option, missing } => { discard(alloc, flags, option, missing, front, out) }
+        stage => Ok(Talk { flags, stage }),
+    }
+}
+
+// Reads the rest of a piece behind the handshake, and hands out the requests in it.
+fn hand_out(alloc: Global, stage: Stage, rest: &[u8]) -> (Stage, Result<Vec<Request>, End>)
+    requires sound { IsGreeted stage }
+    requires all { (rest.now ≡ []) ⊎ (wanted_of stage ≡ 0) }
+    ensures sound { IsGreeted result.0 }
+    ensures hands { Hands (standing_of stage) rest.now (handed result.1) (standing_of result.0) }
+    ensures fault { IfErr result.1 (λ end. end_of (standing_of result.0) ≡ Some end) }
+    ensures again { (end : End) → end_of (standing_of stage) ≡ Some end → result.1 ≡ Err end }
+    ensures first { (end : End) → end_of (standing_of result.0) ≡ Some end → IfOk result.1 (λ requests. 0 < vec_len requests) }
+    ensures asks { IfOk result.1 (λ requests. 0 < vec_len requests → IsBehind (standing_of result.0)) }
+    ensures held { held_by (standing_of result.0) < 28 + 1048576 }
+{
+    match stage {
+        Stage::Requests(reader) => ask(reader, rest),
+        Stage::Broken => (Stage::Broken, Err(End::ProtocolEnd)),
+        Stage::Exhausted => (Stage::Exhausted, Err(End::NoMemory)),
+        stage => (stage, Ok(Vec::new(alloc))),
+    }
+}
+
+// Hands out the requests before a DISC.
+fn ask(reader: StreamReader, piece: &[u8]) -> (Stage, Result<Vec<Request>, End>)
+    ensures sound { IsGreeted result.0 }
+    ensures hands { Hands (in_requests reader) piece.now (handed result.1) (standing_of result.0) }
+    ensures fault { IfErr result.1 (λ end. end_of (standing_of result.0) ≡ Some end) }
+    ensures again { (end : End) → end_of (in_requests reader) ≡ Some end → result.1 ≡ Err end }
+    ensures first { (end : End) → end_of (standing_of result.0) ≡ Some end → IfOk result.1 (λ requests. 0 < vec_len requests) }
+    ensures asks { IfOk result.1 (λ requests. 0 < vec_len requests → IsBehind (standing_of result.0)) }
+    ensures held { held_by (standing_of result.0) < 28 + 1048576 }
+{
+    let mut reader = reader;
+    let mut requests = match reader.feed(piece) {
+        Ok(requests) => requests,
+        Err(fault) => return (Stage::Requests(reader), Err(End::from(fault))),
+    };
+    match disc_place(&requests) {
+        Some(place) => {
+            requests.truncate(place);
+            (Stage::Ended, Ok(requests))
+        }
+        None => (Stage::Requests(reader), Ok(requests)),
+    }
+}
+
+// Which of the requests is the first DISC.
+fn disc_place(requests: &[Request]) -> Option<usize>
+    ensures { result ≡ position is_disc requests.now }
+{
+    requests
+        .iter()
+        .position(|request| request.head().kind == DISCONNECT)
+}

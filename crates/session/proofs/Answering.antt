@@ -1,0 +1,131 @@
+-- How requests are answered one after another.
+use Rattle.std.proofs.Common.{◌≡◌, ℕ, Bool, true, List, [], ◌∷◌, ◌++◌, Option, Some, None, Result, Ok, Err, refl, sym, ap, subst, ◌∙◌, append_assoc}
+use Rattle.std.proofs.lemmas.List.{append-nil, reverse-append, reverse-reverse}
+use Rattle.std.specs.Prelude.{IsErr, is_ok, reverse}
+use Rattle.std.specs.Io.KnownBytes.{Appends}
+use Rattle.nbd_wire.specs.Request.{Message}
+use Rattle.nbd_wire.specs.declared.message.Reply.{Reply}
+use Rattle.nbd_wire.specs.declared.message.SessionFlags.{SessionFlags}
+use Rattle.negotiation.specs.declared.end.End.{End}
+use Rattle.session.specs.Streams.{Writes, WritesPart}
+use Rattle.session.specs.Talk.{Answers, AreSteps, Exchange, IsStep, Serves, asked, exchange_text, talk_text}
+use Rattle.session.proofs.Bytes.{appends_none, appends_on}
+
+-- ---- writing
+
+pub writes_nothing : (output : Option (List ℕ)) (due : List ℕ) → Writes output output due due true
+writes_nothing output due = record { text = []; unsent = due; begins = refl; written = appends_none output; left = λ e. refl }
+
+pub writes_part : (old new : Option (List ℕ)) (before after : List ℕ) (result : Result (Unit {0}) End) → WritesPart old new before result → after ≡ [] → Writes old new before after (is_ok result)
+writes_part old new before after (Ok done) part none = record { text = before; unsent = []; begins = sym (append-nil before); written = part; left = λ e. none }
+writes_part old new before after (Err end) part none = record { text = part.0; unsent = part.1; begins = part.2; written = part.3; left = λ e. cc }
+
+pub err_not_ok : (result : Result (Unit {0}) End) → IsErr result → is_ok result ≡ true → ⊥
+err_not_ok (Ok done) is ok = cc
+err_not_ok (Err end) is ok = cc
+
+-- ---- exchanges
+
+pub asked-append : (first more : List Exchange) → asked (first ++ more) ≡ asked first ++ asked more
+asked-append [] more = refl
+asked-append (exchange ∷ first) more = ap (λ (r : List Message). exchange.request ∷ r) (asked-append first more)
+
+pub talk_text-append : (flags : SessionFlags) (first more : List Exchange) → talk_text flags (first ++ more) ≡ talk_text flags first ++ talk_text flags more
+talk_text-append flags [] more = refl
+talk_text-append flags (exchange ∷ first) more =
+    ap (λ (t : List ℕ). exchange_text flags exchange ++ t) (talk_text-append flags first more) ∙ sym (append_assoc (exchange_text flags exchange) (talk_text flags first) (talk_text flags more))
+
+-- the requests were turned round, and some of them were served from the end
+module _ (all back left served : List Message) (turned : back ≡ reverse all) (whole : reverse back ≡ served ++ reverse left) where
+  again : all ≡ reverse back
+  again = sym (ap reverse turned ∙ reverse-reverse all)
+
+  -- the last of the list is the next
+  pub next_served : (rest : List Message) (request : Message) → left ≡ rest ++ request ∷ [] → reverse back ≡ (served ++ request ∷ []) ++ reverse rest
+  next_served rest request ends =
+      whole ∙ ap (λ (r : List Message). served ++ reverse r) ends
+      ∙ ap (λ (r : List Message). served ++ r) (reverse-append rest (request ∷ [])) ∙ sym (append_assoc served (request ∷ []) (reverse rest))
+
+  pub all_left : all ≡ served ++ reverse left
+  all_left = again ∙ whole
+
+module _ {P : Type 0} (allows : P → Message → SessionFlags → P → Reply → Type 0) (flags : SessionFlags) where
+  pub steps_on : (old between new : P) (first more : List Exchange) → AreSteps allows flags old first between → AreSteps allows flags between more new → AreSteps allows flags old (first ++ more) new
+  steps_on old between new [] more one two = subst (λ (p : P). AreSteps allows flags p more new) one two
+  steps_on old between new (exchange ∷ first) more one two = (one.0, one.1, steps_on one.0 between new first more one.2 two)
+
+  -- the first requests were answered; some of the text was written, and the rest of it is due
+  pub record Answering (old : P) (exchanges : List Exchange) (pass : P) (output made : Option (List ℕ)) (due : List ℕ) : Type 0 where
+    pub steps : AreSteps allows flags old exchanges pass
+    pub text : List ℕ
+    pub begins : talk_text flags exchanges ≡ text ++ due
+    pub written : Appends output made text
+
+  module _ (old pass : P) (output made : Option (List ℕ)) (due : List ℕ) where
+    pub answering_none : pass ≡ old → made ≡ output → due ≡ [] → Answering old [] pass output made due
+    answering_none same_pass same_made none = record {
+      steps = same_pass;
+      text = [];
+      begins = sym none;
+      written = subst (λ (m : Option (List ℕ)). Appends output m []) (sym same_made) (appends_none output);
+    }
+
+    pub answering_write : (exchanges : List Exchange) → Answering old exchanges pass output made due → (later : Option (List ℕ)) (left : List ℕ) → Writes made later due left true → Answering old exchanges pass output later left
+    answering_write exchanges going later left writes = record {
+      steps = going.steps;
+      text = going.text ++ writes.text;
+      begins = going.begins ∙ ap (λ (t : List ℕ). going.text ++ t) (writes.begins ∙ ap (λ (t : List ℕ). writes.text ++ t) (sym (writes.left refl))) ∙ sym (append_assoc going.text writes.text left);
+      written = appends_on output made later going.text writes.text going.written writes.written;
+    }
+
+    -- a write failed, or was the last
+    pub answers_written : (exchanges : List Exchange) (going : Answering old exchanges pass output made due) (later : Option (List ℕ)) (left : List ℕ) (ok : Bool) → Writes made later due left ok → (requests unanswered : List Message) → requests ≡ asked exchanges ++ unanswered
+        → (is_whole : Bool) → (is_whole ≡ true → (unanswered ≡ []) × (left ≡ []) × (ok ≡ true)) → Answers allows flags old requests pass output later is_whole
+    answers_written exchanges going later left ok writes requests unanswered all is_whole whole = record {
+      exchanges = exchanges;
+      unanswered = unanswered;
+      all = all;
+      steps = going.steps;
+      text = going.text ++ writes.text;
+      unsent = writes.unsent;
+      begins = going.begins ∙ ap (λ (t : List ℕ). going.text ++ t) writes.begins ∙ sym (append_assoc going.text writes.text writes.unsent);
+      written = appends_on output made later going.text writes.text going.written writes.written;
+      whole = λ is. ((whole is).0, sym (writes.left (whole is).2) ∙ (whole is).1);
+    }
+
+    module _ (exchanges : List Exchange) (going : Answering old exchanges pass output made due) (request : Message) (new : P) (after : List ℕ) (ok : Bool) (serves : Serves allows flags pass request new due after ok) where
+      abbrev pub exchange : Exchange
+      exchange = record { request = request; reply = serves.reply }
+
+      served : AreSteps allows flags old (exchanges ++ exchange ∷ []) new
+      served = steps_on old pass new exchanges (exchange ∷ []) going.steps (new, serves.step, refl)
+
+      text_on : talk_text flags (exchanges ++ exchange ∷ []) ≡ going.text ++ (due ++ exchange_text flags exchange)
+      text_on =
+          talk_text-append flags exchanges (exchange ∷ []) ∙ ap (λ (t : List ℕ). talk_text flags exchanges ++ t) (append-nil (exchange_text flags exchange))
+          ∙ ap (λ (t : List ℕ). t ++ exchange_text flags exchange) going.begins ∙ append_assoc going.text due (exchange_text flags exchange)
+
+      pub answering_next : ok ≡ true → Answering old (exchanges ++ exchange ∷ []) new output made after
+      answering_next is = record {
+        steps = served;
+        text = going.text;
+        begins = text_on ∙ ap (λ (t : List ℕ). going.text ++ t) (sym (serves.due is));
+        written = going.written;
+      }
+
+      pub asked_next : asked (exchanges ++ exchange ∷ []) ≡ asked exchanges ++ request ∷ []
+      asked_next = asked-append exchanges (exchange ∷ [])
+
+      -- there was no memory for the reply
+      pub answers_unwritten : (requests unanswered : List Message) → requests ≡ (asked exchanges ++ request ∷ []) ++ unanswered → (is_whole : Bool) → (is_whole ≡ true → ⊥) → Answers allows flags old requests new output made is_whole
+      answers_unwritten requests unanswered all is_whole part = record {
+        exchanges = exchanges ++ exchange ∷ [];
+        unanswered = unanswered;
+        all = all ∙ ap (λ (r : List Message). r ++ unanswered) (sym asked_next);
+        steps = served;
+        text = going.text;
+        unsent = due ++ exchange_text flags exchange;
+        begins = text_on;
+        written = going.written;
+        whole = λ is. absurd (part is);
+      }

@@ -1,0 +1,5 @@
+pub mod Answering
+pub mod Bytes
+pub mod Hearing
+pub mod Serving
+pub mod Transmitting

@@ -1,0 +1,75 @@
+use Rattle.std.proofs.Common.{◌≡◌, ◌<◌, List, ℕ, [], Ok, Err, Result, arith, refl, rules, subst, sym, take, vec_len}
+use Rattle.std.specs.Global.{Vec}
+use Rattle.std.specs.Io.KnownBytes.{Consumes}
+use Rattle.nbd_wire.specs.Request.{Message}
+use Rattle.negotiation.specs.declared.end.End.{End}
+use Rattle.session.specs.Hearing.{Hearing}
+use Rattle.negotiation.specs.Session.{end_of}
+use Rattle.negotiation.specs.declared.end.End.TheVariants.{PeerClosed}
+use Rattle.session.proofs.Hearing.{as_error, consumes_failed, consumes_nothing, fault_tells, heard_last, heard_none, heard_then, items_none, none_of, went_on}
+use Rattle.session.proofs.hear.hear.Goals as goal
+
+pub returns-in_err-requests-clause-hearing : goal.returns-in_err-requests-clause-hearing
+returns-in_err-requests-clause-hearing g c =
+    let input = g.R.Read.remaining c.args.input.now in
+    let output = g.W.Write.contents c.args.output.now in
+    let later = g.W.Write.contents c.take.new.output in
+    let old = c.args.session.now in
+    as_error (λ (r : Result (Vec Message) End). Hearing old (Consumes input input) output later r c.take.new.session) c.in_err-requests.field-0.0 c.from_residual.result c.from_residual.ensures.1
+    (heard_then old old input input output output (heard_none old input output c.requires.said) c.take.new.session input later (λ bytes. bytes ≡ []) (Err c.in_err-requests.field-0.0) c.in_err-requests.ensures.hearing (consumes_nothing input))
+
+pub returns-then-not-is_empty-clause-hearing : goal.returns-then-not-is_empty-clause-hearing
+returns-then-not-is_empty-clause-hearing g c =
+    let input = g.R.Read.remaining c.args.input.now in
+    let output = g.W.Write.contents c.args.output.now in
+    let old = c.args.session.now in
+    heard_then old old input input output output (heard_none old input output c.requires.said) c.take.new.session input (g.W.Write.contents c.take.new.output) (λ bytes. bytes ≡ []) (Ok c.in_ok-requests.requests) c.in_ok-requests.ensures.hearing
+    (consumes_nothing input)
+
+pub returns-in_err-count-clause-hearing : goal.returns-in_err-count-clause-hearing
+returns-in_err-count-clause-hearing g c =
+    let input = g.R.Read.remaining c.args.input.now in
+    let left = g.R.Read.remaining c.read_some.new.input in
+    let output = g.W.Write.contents c.args.output.now in
+    let made = g.W.Write.contents c.take.new.output in
+    let old = c.args.session.now in
+    let now = c.take.new.session in
+    let given = c.in_ok-requests.requests in
+    let zero : vec_len given ≡ 0 = search rules in
+    let none = items_none given zero in
+    let heard = went_on old now (λ bytes. bytes ≡ []) input input output made given c.in_ok-requests.ensures.hearing (consumes_nothing input) none (λ some. omega (arith, zero, some)) c.in_ok-requests.ensures.said in
+    let outcome = c.from_residual-in_err-count.result in
+    heard_last old now input input output made heard left outcome (consumes_failed input left c.in_err-count.ensures.bytes)
+    (fault_tells outcome c.in_err-count.field-0.0 c.from_residual-in_err-count.ensures.1 c.in_err-count.ensures.fault now [] [] [] now)
+
+pub returns-then-count-eq0-clause-hearing : goal.returns-then-count-eq0-clause-hearing
+returns-then-count-eq0-clause-hearing g c =
+    let input = g.R.Read.remaining c.args.input.now in
+    let left = g.R.Read.remaining c.read_some.new.input in
+    let output = g.W.Write.contents c.args.output.now in
+    let made = g.W.Write.contents c.take.new.output in
+    let old = c.args.session.now in
+    let now = c.take.new.session in
+    let given = c.in_ok-requests.requests in
+    let zero : vec_len given ≡ 0 = search rules in
+    let none = items_none given zero in
+    let heard = went_on old now (λ bytes. bytes ≡ []) input input output made given c.in_ok-requests.ensures.hearing (consumes_nothing input) none (λ some. omega (arith, zero, some)) c.in_ok-requests.ensures.said in
+    heard_last old now input input output made heard left (Err PeerClosed) (subst (λ (n : ℕ). Consumes input left (take n c.read_some.new.piece.items)) c.if-count-eq0.true c.in_ok-count.ensures.bytes.0)
+    (refl, refl, refl, refl, none_of (end_of now.standing) (λ end is. omega (arith, zero, c.in_ok-requests.ensures.first end is)))
+
+pub returns-clause-hearing : goal.returns-clause-hearing
+returns-clause-hearing g c =
+    let input = g.R.Read.remaining c.args.input.now in
+    let left = g.R.Read.remaining c.read_some.new.input in
+    let output = g.W.Write.contents c.args.output.now in
+    let made = g.W.Write.contents c.take.new.output in
+    let old = c.args.session.now in
+    let now = c.take.new.session in
+    let given = c.in_ok-requests.requests in
+    let piece = take c.in_ok-count.count c.deref.result.now in
+    let zero : vec_len given ≡ 0 = search rules in
+    let none = items_none given zero in
+    let heard = went_on old now (λ bytes. bytes ≡ []) input input output made given c.in_ok-requests.ensures.hearing (consumes_nothing input) none (λ some. omega (arith, zero, some)) c.in_ok-requests.ensures.said in
+    let read = subst (λ (bytes : List ℕ). Consumes input left (take c.in_ok-count.count bytes)) (sym c.deref.ensures.value) c.in_ok-count.ensures.bytes.0 in
+    heard_then old now input input output made heard c.take-2.new.session left (g.W.Write.contents c.take-2.new.output) (λ bytes. bytes ≡ piece) c.take-2.result c.take-2.ensures.hearing
+    (λ bytes same. subst (Consumes input left) (sym same) read)

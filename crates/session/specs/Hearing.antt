@@ -1,0 +1,40 @@
+-- What a session reads from a stream and writes for the handshake, and how that ended.
+use Rattle.std.specs.Prelude.{ℕ, ◌≡◌, ◌⊎◌, ◌<◌, List, [], ◌++◌, Option, Some, None, Result, Ok, Err, vec_len}
+use Rattle.std.specs.Global.{Vec}
+use Rattle.std.specs.Io.KnownBytes.{Appends}
+use Rattle.nbd_wire.specs.Request.{Message}
+use Rattle.negotiation.specs.Dialog.{Turn, replies_text}
+use Rattle.negotiation.specs.Session.{HearsOn, IsBehind, IsSaid, SessionState, end_of, greeting_due}
+use Rattle.negotiation.specs.declared.end.End.{End}
+use Rattle.negotiation.specs.declared.end.End.TheVariants.{IoFault, NoMemory, PeerClosed, ProtocolEnd}
+
+-- What an outcome says. At Ok all replies are written, and all bytes were heard, but where memory ran out behind the requests
+-- that are handed out. Where memory ran out, or a stream failed, it says nothing more.
+abbrev pub Tells : List Message → List ℕ → List ℕ → SessionState → SessionState → Result (Vec Message) End → Type 0
+Tells requests unsent unheard between new (Ok handed) =
+    (requests ≡ handed.items) × (unsent ≡ []) × (((unheard ≡ []) × (new ≡ between)) ⊎ ((end_of new.standing ≡ Some NoMemory) × (0 < vec_len handed) × (new.flags ≡ between.flags) × IsBehind between.standing))
+Tells requests unsent unheard between new (Err NoMemory) = Unit {0}
+Tells requests unsent unheard between new (Err PeerClosed) =
+    (requests ≡ []) × (unsent ≡ []) × (unheard ≡ []) × (new ≡ between) × (end_of new.standing ≡ None)
+Tells requests unsent unheard between new (Err ProtocolEnd) =
+    (requests ≡ []) × (unsent ≡ []) × (unheard ≡ []) × (new ≡ between) × (end_of new.standing ≡ Some ProtocolEnd)
+Tells requests unsent unheard between new (Err IoFault) = Unit {0}
+
+-- A session read these bytes and heard the first of them, and of the greeting, where it is due, and the replies to the options
+-- in them some first part was written. Behind the handshake there is none of it.
+pub record Hearing (old : SessionState) (IsRead : List ℕ → Type 0) (output made : Option (List ℕ)) (outcome : Result (Vec Message) End) (new : SessionState) : Type 0 where
+  pub stream : List ℕ
+  pub unheard : List ℕ
+  pub turns : List Turn
+  pub requests : List Message
+  pub between : SessionState
+  pub text : List ℕ
+  pub unsent : List ℕ
+  pub read : IsRead (stream ++ unheard)
+  pub hears : HearsOn old stream turns requests between
+  pub begins : greeting_due old.standing between.standing ++ replies_text turns ≡ text ++ unsent
+  pub written : Appends output made text
+  pub size : new.size ≡ old.size
+  pub said : IsSaid old.standing → IsSaid between.standing
+  pub behind : IsBehind old.standing → (turns ≡ []) × (between.flags ≡ old.flags) × IsBehind between.standing
+  pub tells : Tells requests unsent unheard between new outcome

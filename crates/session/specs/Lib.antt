@@ -1,0 +1,4 @@
+pub mod Hearing
+pub mod Serving
+pub mod Streams
+pub mod Talk

@@ -1,0 +1,119 @@
+ghost use Rattle.std.specs.Prelude.{◌≡◌, ℕ, ◌<◌, List, [], Some, IfErr, IfOk, IsErrAnd, IsErrOf, OnOk, vec_len};
+ghost use Rattle.std.specs.Io.KnownBytes.{Consumes, IsAtEnd};
+ghost use Rattle.negotiation.specs.Session.{IsBehind, IsSaid, end_of};
+ghost use Rattle.negotiation.specs.declared.end.End.{End};
+ghost use Rattle.session.specs.Hearing.{Hearing};
+ghost use Rattle.session.specs.Streams.{IsEarly};
+
+use crate::serve::write_due;
+use crate::streams::read_some;
+use nbd_wire::Request;
+use negotiation::{End, Session};
+use std::io::{Read, Write};
+
+/// Says the greeting and answers options until the handshake of a session is over, and hands out the requests that came with its last piece.
+/// Refusals 0 (no memory), 19 (peer closed), 20 (protocol end) and 21 (stream fault).
+pub fn negotiate<R: Read, W: Write>(
+    input: &mut R,
+    output: &mut W,
+    session: &mut Session,
+    piece: &mut Vec<u8>,
+    due: &mut Vec<u8>,
+) -> Result<Vec<Request>, End>
+    requires none_due { due.old.items ≡ [] }
+    requires some { 0 < vec_len piece.old }
+    ensures hearing { Hearing session.old (Consumes (R.remaining input.old) (R.remaining input.new)) (W.contents output.old) (W.contents output.new) result session.new }
+    ensures none_due { due.new.items ≡ [] }
+    ensures some { 0 < vec_len piece.new }
+    ensures closed { IsErrOf result End.PeerClosed → IsAtEnd (R.remaining input.new) }
+    ensures over { OnOk result (IsBehind session.new.standing) }
+    ensures said { IsSaid session.new.standing }
+{
+    let begun = take(session, &[], output, due)?;
+    if !begun.is_empty() {
+        return Ok(begun);
+    }
+    carry_on(input, output, session, piece, due)
+}
+
+// Answers options until the handshake is over.
+fn carry_on<R: Read, W: Write>(
+    input: &mut R,
+    output: &mut W,
+    session: &mut Session,
+    piece: &mut Vec<u8>,
+    due: &mut Vec<u8>,
+) -> Result<Vec<Request>, End>
+    requires said { IsSaid session.old.standing }
+    requires none_due { due.old.items ≡ [] }
+    requires some { 0 < vec_len piece.old }
+    ensures hearing { Hearing session.old (Consumes (R.remaining input.old) (R.remaining input.new)) (W.contents output.old) (W.contents output.new) result session.new }
+    ensures none_due { due.new.items ≡ [] }
+    ensures some { 0 < vec_len piece.new }
+    ensures closed { IsErrOf result End.PeerClosed → IsAtEnd (R.remaining input.new) }
+    ensures over { OnOk result (IsBehind session.new.standing) }
+    ensures said { IsSaid session.new.standing }
+{
+    for _ in 0..u64::MAX {
+        let requests = hear(input, output, session, piece, due)?;
+        if !requests.is_empty() {
+            return Ok(requests);
+        }
+        if session.is_behind() {
+            return Ok(requests);
+        }
+    }
+    Err(End::IoFault)
+}
+
+// Reads what there is, writes what is due for it, and hands out the requests in it. An end behind earlier requests is told
+// before more input is waited for.
+pub fn hear<R: Read, W: Write>(
+    input: &mut R,
+    output: &mut W,
+    session: &mut Session,
+    piece: &mut Vec<u8>,
+    due: &mut Vec<u8>,
+) -> Result<Vec<Request>, End>
+    requires said { IsSaid session.old.standing }
+    requires none_due { due.old.items ≡ [] }
+    requires some { 0 < vec_len piece.old }
+    ensures hearing { Hearing session.old (Consumes (R.remaining input.old) (R.remaining input.new)) (W.contents output.old) (W.contents output.new) result session.new }
+    ensures none_due { due.new.items ≡ [] }
+    ensures some { 0 < vec_len piece.new }
+    ensures closed { IsErrOf result End.PeerClosed → IsAtEnd (R.remaining input.new) }
+    ensures starved { end_of session.old.standing ≡ Some End.NoMemory → IsErrAnd result IsEarly }
+    ensures asks { IfOk result (λ requests. 0 < vec_len requests → IsBehind session.new.standing) }
+    ensures said { IsSaid session.new.standing }
+{
+    let requests = take(session, &[], output, due)?;
+    if !requests.is_empty() {
+        return Ok(requests);
+    }
+    let count = read_some(input, piece)?;
+    if count == 0 {
+        return Err(End::PeerClosed);
+    }
+    take(session, &piece[..count], output, due)
+}
+
+// Feeds a piece to a session, and writes what is due for it.
+fn take<W: Write>(
+    session: &mut Session,
+    piece: &[u8],
+    output: &mut W,
+    due: &mut Vec<u8>,
+) -> Result<Vec<Request>, End>
+    requires { due.old.items ≡ [] }
+    ensures hearing { Hearing session.old (λ bytes. bytes ≡ piece.now) (W.contents output.old) (W.contents output.new) result session.new }
+    ensures none_due { due.new.items ≡ [] }
+    ensures starved { end_of session.old.standing ≡ Some End.NoMemory → IsErrAnd result IsEarly }
+    ensures first { (end : End) → end_of session.new.standing ≡ Some end → IfOk result (λ requests. 0 < vec_len requests) }
+    ensures asks { IfOk result (λ requests. 0 < vec_len requests → IsBehind session.new.standing) }
+    ensures going { IsErrOf result End.PeerClosed → ⊥ }
+    ensures said { IsSaid session.new.standing }
+{
+    let fed = session.feed(piece, due);
+    write_due(output, due)?;
+    fed
+}
