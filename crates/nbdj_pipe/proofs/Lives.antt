@@ -6,9 +6,9 @@ use Rattle.checkpoint.specs.Opening.{IsOpening}
 use Rattle.checkpoint.specs.declared.fault.KeeperFault.TheVariants.{NoMemory}
 use Rattle.device_image.specs.Keeper.{KeeperState}
 use Rattle.device_image.specs.Keeps.{Keeps}
-use Rattle.device_image.specs.Stands.{StandsFor, holes}
+use Rattle.device_image.specs.Stands.{holes}
 use Rattle.device_image.proofs.Kept.{kept_content}
-use Rattle.disk_model.specs.Disk.{State, LeavesOnly, MayLeave}
+use Rattle.disk_model.specs.Disk.{State, MayLeave}
 use Rattle.disk_model.specs.Faults.{HasRisen}
 use Rattle.image_model.specs.Image.{Image}
 use Rattle.nbd_wire.specs.Request.{Message}

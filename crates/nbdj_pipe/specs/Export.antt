@@ -18,10 +18,8 @@ use Rattle.world.specs.declared.step.Step.{Step}
 use Rattle.world.specs.declared.step.Step.TheVariants as steps
 use Rattle.world.specs.declared.step.Step.TheVariants.{Send, Serve, Seal, Append, Publish}
 use Rattle.world.specs.World.{World}
-use Rattle.world.specs.declared.event.Event.TheVariants as Event
 use Rattle.world.specs.declared.event.Event.TheVariants.{Answered}
 use Rattle.world.specs.declared.event.StepFault.{StepFault}
-use Rattle.world.specs.declared.event.StepFault.TheVariants as StepFault
 use Rattle.nbdj_pipe.specs.declared.refusal.Refusal.{Refusal}
 use Rattle.nbdj_pipe.specs.declared.refusal.Refusal.TheVariants.{AreaFull, NoMemory}
 use Rattle.nbdj_pipe.specs.Talk.{IsAnswered, spoken}

@@ -1,5 +1,5 @@
 -- what a request that is served makes of an order, lifted to the world that the order is of
-use Rattle.std.proofs.Common.{◌≡◌, ◌⊎◌, inl, inr, ℕ, ◌+◌, ◌<◌, ◌==◌, Bool, true, false, if◌then◌else◌, Option, Result, Ok, Err, sym, ◌∙◌, ap, subst, refl}
+use Rattle.std.proofs.Common.{◌≡◌, inl, inr, ℕ, ◌+◌, ◌<◌, Option, Result, Ok, Err, sym, ◌∙◌, ap, subst, refl}
 use Rattle.image_model.specs.Change.{IsChange, change_of}
 use Rattle.image_model.specs.declared.command.Command.{Command}
 use Rattle.image_model.specs.declared.geometry.Geometry.{Geometry}
@@ -9,18 +9,16 @@ use Rattle.nbd_wire.specs.declared.error.Errno.{Errno}
 use Rattle.nbd_wire.specs.declared.error.Errno.TheVariants as errno
 use Rattle.nbd_wire.specs.declared.error.Errno.TheVariants.{Io}
 use Rattle.nbd_wire.specs.declared.message.Answer.TheVariants.{Refused}
-use Rattle.order_book.specs.Order.{OrderState, has_room, with_command}
+use Rattle.order_book.specs.Order.{OrderState, with_command}
 use Rattle.request_core.specs.Parts.{IsOrderOf}
-use Rattle.request_core.specs.Serving.{IsCommandServed, IsPassed, IsSameHand, IsServed, IsServedBy, IsWriteServed, event_for, ready_for, served_after, state_of}
+use Rattle.request_core.specs.Serving.{IsCommandServed, IsPassed, IsSameHand, IsServed, IsServedBy, IsWriteServed, event_for, ready_for, state_of}
 use Rattle.request_core.specs.declared.serving.Served.{Served}
 use Rattle.request_core.specs.declared.serving.Served.TheVariants as served
 use Rattle.request_core.proofs.Serves.{if_false, if_true, served_accepted, served_held, served_moved, served_numbered, served_quiet, write_accepted, write_full, write_held}
 use Rattle.world.specs.Log.{command_of, is_flush, waits_for_store}
-use Rattle.world.specs.Serve.{Failure, Nothing, OutOfMemory, accepted, held, judged, logged, moved, passed, ready, state_after, write_served}
+use Rattle.world.specs.Serve.{Failure, Nothing, OutOfMemory, accepted, held, judged, logged, moved, passed, ready, write_served}
 use Rattle.world.specs.World.{World, last_number}
 use Rattle.world.specs.declared.action.Action.{Action}
-use Rattle.world.specs.declared.action.Action.TheVariants as Action
-use Rattle.world.specs.declared.connection.Connection.{Connection}
 use Rattle.world.specs.declared.connection.Connection.TheVariants.{Requested, Waiting, Ready}
 use Rattle.world.specs.declared.event.Event.TheVariants.{Took}
 use Rattle.world.specs.declared.step.Mode.{Mode}

@@ -5,8 +5,7 @@ use Rattle.std.specs.List.{AllByRecursion}
 use Rattle.device_image.specs.Keeper.{KeeperState}
 use Rattle.device_image.specs.Keeps.{Keeps}
 use Rattle.device_image.specs.Stands.{StandsFor}
-use Rattle.disk_model.specs.Disk.{State, LeavesOnly, MayLeave, IsSound}
-use Rattle.disk_model.proofs.Moments.{begins}
+use Rattle.disk_model.specs.Disk.{State}
 use Rattle.image_model.specs.Change.{Change, AreChanges, change_of}
 use Rattle.image_model.specs.Image.{Image, apply, apply_all}
 use Rattle.image_model.specs.declared.geometry.Geometry.{Geometry}

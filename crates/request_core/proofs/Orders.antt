@@ -1,11 +1,10 @@
 -- what the calls of an order make of the world that it is of
-use Rattle.std.proofs.Common.{◌≡◌, ℕ, zero, suc, ◌+◌, ◌-◌, ◌/◌, ◌<◌, ◌≤◌, ◌&&◌, Bool, true, if◌then◌else◌, nat_le, Option, Some, None, List, [], ◌∷◌, ◌++◌, append_assoc, length, length-append, map, take, drop, sym, ◌∙◌, ap, subst, refl, arith}
+use Rattle.std.proofs.Common.{◌≡◌, ℕ, zero, suc, ◌+◌, ◌-◌, ◌<◌, ◌≤◌, ◌&&◌, Bool, true, if◌then◌else◌, nat_le, Option, Some, None, List, [], ◌∷◌, ◌++◌, append_assoc, length, length-append, map, take, drop, sym, ◌∙◌, ap, subst, refl, arith}
 use Rattle.std.proofs.lemmas.Bool.{and_from, le-leb, lt-leb}
 use Rattle.std.proofs.lemmas.List.{length-map, map-append, drop-append-le, drop-drop, drop-map, drop_at, take_at, take-map}
 use Rattle.std.proofs.lemmas.List.Sums.{sum_by-cons}
 use Rattle.std.specs.List.{sum, sum_by}
 use Rattle.image_model.specs.declared.command.Command.{Command}
-use Rattle.image_model.specs.declared.command.Command.TheVariants.{Put, Clear}
 use Rattle.image_model.specs.Change.{Change, change_of}
 use Rattle.image_model.specs.Command.{body_of, bodies_of}
 use Rattle.journal.specs.Group.{Numbered}

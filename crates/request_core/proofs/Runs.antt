@@ -1,14 +1,14 @@
 -- steps one after another
-use Rattle.std.proofs.Common.{◌≡◌, ℕ, ◌+◌, ◌≤◌, Bool, true, false, List, [], ◌∷◌, ◌++◌, sym, ◌∙◌, ap, subst, refl, arith}
+use Rattle.std.proofs.Common.{◌≡◌, ℕ, Bool, true, false, List, [], ◌∷◌, ◌++◌, sym, ◌∙◌, ap, subst, refl, arith}
 use Rattle.device_image.specs.Keeper.{KeeperState}
-use Rattle.disk_model.specs.Disk.{State, LeavesOnly, MayLeave, IsSound}
+use Rattle.disk_model.specs.Disk.{State, IsSound}
 use Rattle.disk_model.proofs.Moments.{begins, goes_on, weakens}
 use Rattle.image_model.specs.Change.{Change}
 use Rattle.image_model.specs.Image.{Image}
 use Rattle.order_book.specs.Order.{OrderState}
 use Rattle.request_core.specs.Bench.{BenchState, ConnectionsState}
 use Rattle.request_core.specs.Life.{IsDurable, IsRehearsed, IsStepped, Leads, Trusts}
-use Rattle.request_core.specs.Parts.{AreConnectionsOf, IsExportOf, IsWorldOf, StandsAfter}
+use Rattle.request_core.specs.Parts.{IsExportOf, StandsAfter}
 use Rattle.request_core.specs.Serving.{sent_state}
 use Rattle.request_core.specs.Steps.{IsPerformed}
 use Rattle.request_core.proofs.Lives.{stands_less, stands_more}

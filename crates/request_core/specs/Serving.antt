@@ -17,7 +17,6 @@ use Rattle.request_core.specs.declared.serving.Served.TheVariants as served
 use Rattle.request_core.specs.Parts.{AreConnectionsOf, IsOrderOf}
 use Rattle.world.specs.Log.{command_of, is_flush, waits_for_store}
 use Rattle.world.specs.declared.action.Action.{Action}
-use Rattle.world.specs.declared.action.Action.TheVariants as Action
 use Rattle.world.specs.declared.connection.Connection.{Connection}
 use Rattle.world.specs.declared.connection.Connection.TheVariants.{Idle, Requested, Waiting, Ready, Closed}
 use Rattle.world.specs.declared.event.Event.{Event}

@@ -1,4 +1,4 @@
-use Rattle.std.proofs.Common.{◌≡◌, ◌++◌, ◌∷◌, [], List, take, Result, Ok, Err, OnOk, IsErrAnd, sym, ◌∙◌, ap, subst, refl, arith}
+use Rattle.std.proofs.Common.{◌++◌, ◌∷◌, [], List, take, Result, Ok, Err, OnOk, IsErrAnd, sym, ◌∙◌, ap, subst, refl, arith}
 use Rattle.std.proofs.lemmas.List.{take_more}
 use Rattle.device_image.specs.Keeper.{KeeperState}
 use Rattle.order_book.specs.Order.{OrderState}

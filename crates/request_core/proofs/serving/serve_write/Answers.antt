@@ -1,4 +1,4 @@
-use Rattle.std.proofs.Common.{◌≡◌, ◌⊎◌, inl, inr, ◌/◌, Bool, List, ap, sym, ◌∙◌, vec_len, length, ℕ, arith}
+use Rattle.std.proofs.Common.{◌≡◌, inl, inr, ◌/◌, Bool, List, ap, sym, ◌∙◌, vec_len, length, ℕ, arith}
 use Rattle.std.proofs.lemmas.Grind.{common_steps}
 use Rattle.std.specs.Global.{Vec}
 use Rattle.image_model.specs.Change.{IsChange, Written, change_of}
