@@ -13,7 +13,7 @@ use Rattle.journal.specs.Area.{AreaState}
 use Rattle.journal.specs.GroupList.{IsListStored, LeavesEither, size_of}
 use Rattle.journal.specs.Spelling.{StoredGroup}
 use Rattle.journal.proofs.Spelled.{sizes-push}
-use Rattle.regions.specs.Layout.{area_at, behind}
+use Rattle.regions.specs.Layout.{block_at, area_at, behind}
 use Rattle.checkpoint.specs.Faults.{of_journal}
 use Rattle.device_image.specs.Keeper.{KeeperState, PlanState, earlier_of, phase_of}
 use Rattle.device_image.specs.Keeps.{AreHeld, IsCopyPlace, IsInPhase, Keeps}
@@ -21,6 +21,10 @@ use Rattle.device_image.specs.Stands.{StandsFor, next_number}
 use Rattle.device_image.proofs.Copied.{phase_on}
 use Rattle.device_image.proofs.Frame.{apart, area_high, fronts_of, held_kept, last_of, moved_list, others_in_use}
 use Rattle.device_image.proofs.Kept.{first, in_area, stands_more, stands_same}
+use Rattle.device_image.proofs.Lists.{KeepsLists}
+use Rattle.image_model.specs.Change.{Change}
+use Rattle.device_image.specs.Holds.{Holds}
+use Rattle.device_image.proofs.Holding.{holds_more}
 
 module _ {D : Type 0} (keeper : KeeperState D) (state : State) (image : Image) (number : ℕ) (keeps : Keeps keeper state image number) where
   torn_same : (content : List ℕ) → MayLeaveTorn state keeper.memory.area.from keeper.memory.area.bytes content → (place : ℕ)
@@ -56,7 +60,7 @@ module _ {D : Type 0} (keeper : KeeperState D) (state : State) (image : Image) (
         → now.memory.area.from ≡ keeper.memory.area.from → now.memory.area.bytes ≡ keeper.memory.area.bytes → now.memory.area.blocks ≡ keeper.memory.area.blocks
         → now.geometry ≡ keeper.geometry → now.generation ≡ keeper.generation → now.base ≡ keeper.base → now.phase ≡ keeper.phase → now.memory.header ≡ keeper.memory.header → now.memory.slot ≡ keeper.memory.slot → now.memory.map ≡ keeper.memory.map → now.memory.plan ≡ keeper.memory.plan
         → now.count ≡ count → now.used ≡ keeper.used + size_of group → now.failed ≡ keeper.failed
-        → Keeps now after (apply_all group.changes image) count
+        → KeepsLists now after (apply_all group.changes image) count keeps.areas.front (keeps.areas.groups ++ group ∷ [])
     keeps_more after now count sound count_is stored from bytes blocks geometry generation base phase header slot map plan counted used failed =
         let placed = keeps.areas.placed in
         let others : MayLeaveTorn state keeper.memory.area.from keeper.memory.area.bytes after.seen = record {
@@ -66,36 +70,64 @@ module _ {D : Type 0} (keeper : KeeperState D) (state : State) (image : Image) (
         } in
         let list = moved_list now.memory.area keeper.memory.area _ _ after.seen from bytes blocks stored.held.list in
         record {
-          works = failed ∙ keeps.works;
-          steady = λ place loose. stored.synced place (sound.loose place loose);
-          stands = stands_more keeper state image number keeps after.seen others.size (torn_same after.seen others) group count count_is list;
-          sizes = geometry ∙ keeps.sizes;
-          generation = generation ∙ keeps.generation;
-          from_base = base ∙ keeps.from_base;
-          headed = header ∙ keeps.headed;
-          slotted = slot ∙ keeps.slotted;
-          counted = counted;
-          mapped = map ∙ keeps.mapped;
-          areas = record {
-            front = keeps.areas.front;
-            groups = keeps.areas.groups ++ group ∷ [];
-            are = refl;
-            earlier_held = subst (λ (areas : List AreaState). AreHeld (fronts_of keeps.stands) keeps.stands.header.geometry (next_number keeps.stands.header.base) keeps.areas.front areas after) (ap earlier_of (sym plan))
-                (held_kept (fronts_of keeps.stands) (behind (mode_of keeps.stands.header.areas) keeps.stands.header.first_area) keeps.stands.header.geometry (next_number keeps.stands.header.base) keeps.areas.front
-                (earlier_of keeper.memory.plan) state after (others_in_use keeps.stands.header.areas keeps.stands.header.first_area)
-                (λ place below outside. torn_same after.seen others place outside (λ copy. omega (arith, below, copy.inside.0)))
-                (λ place below unsynced. stored.synced place unsynced) keeps.areas.earlier_held);
-            placed = record { from = from ∙ placed.from; bytes = bytes ∙ placed.bytes; blocks = blocks ∙ placed.blocks };
-            held = stored.held;
+          keeps = record {
+            works = failed ∙ keeps.works;
+            steady = λ place loose. stored.synced place (sound.loose place loose);
+            stands = stands_more keeper state image number keeps after.seen others.size (torn_same after.seen others) group count count_is list;
+            sizes = geometry ∙ keeps.sizes;
+            generation = generation ∙ keeps.generation;
+            from_base = base ∙ keeps.from_base;
+            headed = header ∙ keeps.headed;
+            slotted = slot ∙ keeps.slotted;
+            counted = counted;
+            mapped = map ∙ keeps.mapped;
+            areas = record {
+              front = keeps.areas.front;
+              groups = keeps.areas.groups ++ group ∷ [];
+              are = refl;
+              earlier_held = subst (λ (areas : List AreaState). AreHeld (fronts_of keeps.stands) keeps.stands.header.geometry (next_number keeps.stands.header.base) keeps.areas.front areas after) (ap earlier_of (sym plan))
+                  (held_kept (fronts_of keeps.stands) (behind (mode_of keeps.stands.header.areas) keeps.stands.header.first_area) keeps.stands.header.geometry (next_number keeps.stands.header.base) keeps.areas.front
+                  (earlier_of keeper.memory.plan) state after (others_in_use keeps.stands.header.areas keeps.stands.header.first_area)
+                  (λ place below outside. torn_same after.seen others place outside (λ copy. omega (arith, below, copy.inside.0)))
+                  (λ place below unsynced. stored.synced place unsynced) keeps.areas.earlier_held);
+              placed = record { from = from ∙ placed.from; bytes = bytes ∙ placed.bytes; blocks = blocks ∙ placed.blocks };
+              held = stored.held;
+            };
+            taken = omega (arith, used, keeps.taken, sizes-push keeps.areas.groups group);
+            phase = phase ∙ keeps.phase ∙ ap phase_of (sym plan);
+            phased = subst (λ (p : Option PlanState). IsInPhase p after keeps.stands.header keeps.stands.states keeps.areas.front) (sym plan)
+                (phase_more after
+                (λ place outside. stored.same place (λ within. outside (omega (arith, within.0, from), omega (arith, within.1, from, bytes))) (keeps.steady place))
+                stored.synced keeper.memory.plan keeps.phased);
+            unsynced = λ place unsynced. absurd (stored.synced place unsynced);
           };
-          taken = omega (arith, used, keeps.taken, sizes-push keeps.areas.groups group);
-          phase = phase ∙ keeps.phase ∙ ap phase_of (sym plan);
-          phased = subst (λ (p : Option PlanState). IsInPhase p after keeps.stands.header keeps.stands.states keeps.areas.front) (sym plan)
-              (phase_more after
-              (λ place outside. stored.same place (λ within. outside (omega (arith, within.0, from), omega (arith, within.1, from, bytes))) (keeps.steady place))
-              stored.synced keeper.memory.plan keeps.phased);
-          unsynced = λ place unsynced. absurd (stored.synced place unsynced);
+          front_is = refl;
+          groups_are = refl;
         }
+
+    -- the data stay
+    pub more_stay : (after : State) (now : KeeperState D) → IsListStored now.memory.area (first keeper state image number keeps) (keeps.areas.groups ++ group ∷ []) state after
+        → now.memory.area.from ≡ keeper.memory.area.from → now.memory.area.bytes ≡ keeper.memory.area.bytes
+        → (place : ℕ) → block_at keeps.stands.header.geometry 0 ≤ place → slice_index after.seen place ≡ slice_index state.seen place
+    more_stay after now stored from bytes place above =
+        stored.same place (λ within.
+        let there = in_area keeper state image number keeps place (omega (arith, within.0, from), omega (arith, within.1, from, bytes)) in
+        omega (arith, there.1, above, area_high keeps.stands.header.geometry (behind (mode_of keeps.stands.header.areas) keeps.stands.header.first_area)))
+        (keeps.steady place)
+
+-- and what the keeper then holds
+pub more_held : {D : Type 0} (keeper : KeeperState D) (state : State) (base : Image) (front last : List Change) (holds : Holds keeper state base front last) (group : StoredGroup) {extent : ℕ} (after : State) (now : KeeperState D) (count : ℕ)
+    → IsSound extent after → count ≡ keeper.base + length front + length last + length group.changes
+    → IsListStored now.memory.area (first keeper state _ _ holds.keeps) (holds.keeps.areas.groups ++ group ∷ []) state after
+    → now.memory.area.from ≡ keeper.memory.area.from → now.memory.area.bytes ≡ keeper.memory.area.bytes → now.memory.area.blocks ≡ keeper.memory.area.blocks
+    → now.geometry ≡ keeper.geometry → now.generation ≡ keeper.generation → now.base ≡ keeper.base → now.phase ≡ keeper.phase → now.memory.header ≡ keeper.memory.header → now.memory.slot ≡ keeper.memory.slot → now.memory.map ≡ keeper.memory.map → now.memory.plan ≡ keeper.memory.plan
+    → now.count ≡ count → now.used ≡ keeper.used + size_of group → now.failed ≡ keeper.failed
+    → Holds now after base front (last ++ group.changes)
+more_held keeper state base front last holds group after now count sound count_is stored from bytes blocks geometry generation base_is phase header slot map plan counted used failed =
+    holds_more keeper state base front last holds now after group count
+    (keeps_more keeper state _ _ holds.keeps group after now count sound count_is stored from bytes blocks geometry generation base_is phase header slot map plan counted used failed)
+    count_is base_is geometry map
+    (λ block offset small none. more_stay keeper state _ _ holds.keeps group after now stored from bytes (block_at holds.keeps.stands.header.geometry block + offset) (omega arith))
 
 -- the number behind the count is the next, where there is one
 pub count_below : (next first count : ℕ) → next ≡ next_number count → first < 18446744073709551616 → first ≡ count + 1 → (1 ≤ next) × (first ≡ next)

@@ -1,5 +1,5 @@
 -- The keeper after its next blocks were copied.
-use Rattle.std.proofs.Common.{◌≡◌, ℕ, ◌+◌, ◌-◌, ◌*◌, ◌≤◌, ◌<◌, Option, Some, None, List, [], ◌∷◌, sym, ◌∙◌, ap, subst, arith, false}
+use Rattle.std.proofs.Common.{slice_index, true, ◌≡◌, ℕ, ◌+◌, ◌-◌, ◌*◌, ◌≤◌, ◌<◌, Option, Some, None, List, [], ◌∷◌, sym, ◌∙◌, ap, subst, arith, false}
 use Rattle.disk_model.specs.Disk.{State, MayLeaveTorn}
 use Rattle.header_slots.specs.Header.{mode_of}
 use Rattle.header_slots.specs.declared.header.Areas.{Areas}
@@ -21,6 +21,10 @@ use Rattle.device_image.proofs.Copied.{copy_places, keeps_copied}
 use Rattle.device_image.proofs.Free.{torn_free}
 use Rattle.copy_plan.specs.Plan.{IsNextCopy}
 use Rattle.device_image.proofs.Puts.{all_counted, none_counted}
+use Rattle.device_image.proofs.Lists.{KeepsLists}
+use Rattle.image_model.specs.Change.{Change}
+use Rattle.device_image.specs.Holds.{Holds}
+use Rattle.device_image.proofs.Holding.{holds_still}
 
 -- the first area, where two are in use
 pub record IsFirst (area : AreaState) (header : Header) (front : List (List StoredGroup)) : Type 0 where
@@ -33,6 +37,9 @@ first_area area header (groups ∷ front) state next held = record {
   placed = held.0;
   touched = held.1.touched ∙ ap (λ (place : ℕ). touched_by_groups place groups) held.0.from;
 }
+
+not_both : true ≡ false → ⊥
+not_both is = cc
 
 module _ {D : Type 0} (keeper : KeeperState D) (state : State) (image : Image) (number : ℕ) (keeps : Keeps keeper state image number) (plan : PlanState) (is : keeper.memory.plan ≡ Some plan) where
   pub copying : IsCopying plan state keeps.stands.header keeps.stands.states keeps.areas.front
@@ -76,7 +83,8 @@ module _ {D : Type 0} (keeper : KeeperState D) (state : State) (image : Image) (
     -- and when they are
     pub copy_kept : (after : State) (now : KeeperState D) (offset count from : ℕ) (advanced : PlanState) → offset ≡ block_at keeps.stands.header.geometry put.first → count ≡ 4096 * put.blocks → from ≡ plan.first.from + put.place
         → IsCopiedOver state from offset count after → advanced ≡ record plan { copied = put.first + put.blocks; left = plan.left - put.blocks }
-        → now ≡ record keeper { disk = now.disk; turned = now.turned; phase = phase_of (Some advanced); memory = record keeper.memory { plan = Some advanced } } → Keeps now after image number
+        → now ≡ record keeper { disk = now.disk; turned = now.turned; phase = phase_of (Some advanced); memory = record keeper.memory { plan = Some advanced } }
+        → KeepsLists now after image number keeps.areas.front keeps.areas.groups
     copy_kept after now offset count from advanced offset_is count_is from_is done advanced_is now_is =
         keeps_copied keeper state image number keeps plan copying unmapped put.first put.blocks (plan.first.from + put.place) (plan.left - put.blocks)
         next.some next.behind blocks_inside none_before each_put still_counted after
@@ -85,3 +93,28 @@ module _ {D : Type 0} (keeper : KeeperState D) (state : State) (image : Image) (
         (subst (λ (p : ℕ). IsCopiedOver state p offset count after) from_is done)))
         now (ap earlier_of is)
         (subst (λ (p : PlanState). now ≡ record keeper { disk = now.disk; turned = now.turned; phase = phase_of (Some p); memory = record keeper.memory { plan = Some p } }) advanced_is now_is)
+
+    -- the data of blocks whose last touch isn't a put stay
+    pub others_stay : (after : State) (offset count from : ℕ) → offset ≡ block_at keeps.stands.header.geometry put.first → count ≡ 4096 * put.blocks → IsCopiedOver state from offset count after
+        → (block place : ℕ) → place < 4096 → is_put (last_touch block (touched_first keeps.stands.header keeps.areas.front)) ≡ false
+        → slice_index after.seen (block_at keeps.stands.header.geometry block + place) ≡ slice_index state.seen (block_at keeps.stands.header.geometry block + place)
+    others_stay after offset count from offset_is count_is done block place small none =
+        done.others (block_at keeps.stands.header.geometry block + place) (λ within.
+        let k = block - put.first in
+        let low : block_at keeps.stands.header.geometry put.first ≤ block_at keeps.stands.header.geometry block + place = omega (arith, within.0, offset_is) in
+        let high : block_at keeps.stands.header.geometry block + place < block_at keeps.stands.header.geometry put.first + 4096 * put.blocks = omega (arith, within.1, offset_is, count_is) in
+        let here : put.first + k ≡ block = omega (arith, low, small) in
+        let copied = ap is_put (each_put k (omega (arith, low, high, small))) in
+        not_both (sym copied ∙ ap (λ (b : ℕ). is_put (last_touch b (touched_first keeps.stands.header keeps.areas.front))) here ∙ none))
+
+-- what the keeper holds stays
+module _ {D : Type 0} (keeper : KeeperState D) (state : State) (base : Image) (front last : List Change) (holds : Holds keeper state base front last) (plan : PlanState) (is : keeper.memory.plan ≡ Some plan)
+    (put : PutRange) (most : ℕ) (next : IsNextCopy plan most put) (unmapped : plan.mapped ≡ None) where
+  pub copy_held : (after : State) (now : KeeperState D) (offset count from : ℕ) (advanced : PlanState) → offset ≡ block_at holds.keeps.stands.header.geometry put.first → count ≡ 4096 * put.blocks → from ≡ plan.first.from + put.place
+      → IsCopiedOver state from offset count after → advanced ≡ record plan { copied = put.first + put.blocks; left = plan.left - put.blocks }
+      → now ≡ record keeper { disk = now.disk; turned = now.turned; phase = phase_of (Some advanced); memory = record keeper.memory { plan = Some advanced } } → Holds now after base front last
+  copy_held after now offset count from advanced offset_is count_is from_is done advanced_is now_is =
+      holds_still keeper state base front last holds now after
+      (copy_kept keeper state _ _ holds.keeps plan is put most next unmapped after now offset count from advanced offset_is count_is from_is done advanced_is now_is)
+      (ap (λ (k : KeeperState D). k.base) now_is) (ap (λ (k : KeeperState D). k.geometry) now_is) (ap (λ (k : KeeperState D). k.memory.map) now_is)
+      (others_stay keeper state _ _ holds.keeps plan is put most next unmapped after offset count from offset_is count_is done)

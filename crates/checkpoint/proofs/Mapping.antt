@@ -17,6 +17,10 @@ use Rattle.device_image.proofs.Frame.{area_high, map_high, map_low}
 use Rattle.device_image.proofs.Free.{torn_free}
 use Rattle.device_image.proofs.Steps.{keeps_after}
 use Rattle.checkpoint.proofs.Copying.{copying, first}
+use Rattle.device_image.proofs.Lists.{KeepsLists}
+use Rattle.image_model.specs.Change.{Change}
+use Rattle.device_image.specs.Holds.{Holds}
+use Rattle.device_image.proofs.Holding.{holds_still}
 
 module _ {D : Type 0} (keeper : KeeperState D) (state : State) (image : Image) (number : ℕ) (keeps : Keeps keeper state image number) where
   -- while the map slot that isn't in force is written
@@ -38,7 +42,8 @@ module _ {D : Type 0} (keeper : KeeperState D) (state : State) (image : Image) (
         ∙ sym (done.others (from + k) (λ within. omega (arith, within.0, map_low geometry slot, there.2, small, area_high geometry keeps.stands.header.first_area)))
 
     pub map_kept : (now : KeeperState D) (mapped : PlanState) → mapped ≡ record plan { mapped = Some states }
-        → now ≡ record keeper { disk = now.disk; turned = now.turned; phase = phase_of (Some mapped); memory = record keeper.memory { plan = Some mapped } } → Keeps now after image number
+        → now ≡ record keeper { disk = now.disk; turned = now.turned; phase = phase_of (Some mapped); memory = record keeper.memory { plan = Some mapped } }
+        → KeepsLists now after image number keeps.areas.front keeps.areas.groups
     map_kept now mapped mapped_is now_is =
         let phased = copying keeper state image number keeps plan is in
         let touched = (first keeper state image number keeps plan is).touched in
@@ -60,3 +65,16 @@ module _ {D : Type 0} (keeper : KeeperState D) (state : State) (image : Image) (
           );
         })
         (subst (λ (p : PlanState). now ≡ record keeper { disk = now.disk; turned = now.turned; phase = phase_of (Some p); memory = record keeper.memory { plan = Some p } }) mapped_is now_is)
+
+-- what the keeper holds stays
+module _ {D : Type 0} (keeper : KeeperState D) (state : State) (base : Image) (front last : List Change) (holds : Holds keeper state base front last) (plan : PlanState) (is : keeper.memory.plan ≡ Some plan) where
+  pub map_held : (none_left : plan.left ≡ 0) (after : State) {extent : ℕ} (sound : IsSound extent after) (states : List Kind)
+      (done : IsMapStored state (map_at holds.keeps.stands.header.geometry (other_of holds.keeps.stands.header.map_slot)) holds.keeps.stands.header.geometry.blocks states after)
+      (states_after : AreStatesAfter plan.first.touched keeper.memory.map states) (now : KeeperState D) (mapped : PlanState) → mapped ≡ record plan { mapped = Some states }
+      → now ≡ record keeper { disk = now.disk; turned = now.turned; phase = phase_of (Some mapped); memory = record keeper.memory { plan = Some mapped } } → Holds now after base front last
+  map_held none_left after sound states done states_after now mapped mapped_is now_is =
+      let geometry = holds.keeps.stands.header.geometry in
+      holds_still keeper state base front last holds now after
+      (map_kept keeper state _ _ holds.keeps plan is none_left after sound states done states_after now mapped mapped_is now_is)
+      (ap (λ (k : KeeperState D). k.base) now_is) (ap (λ (k : KeeperState D). k.geometry) now_is) (ap (λ (k : KeeperState D). k.memory.map) now_is)
+      (λ block offset small none. done.others (block_at geometry block + offset) (λ within. omega (arith, within.1, map_high geometry (other_of holds.keeps.stands.header.map_slot))))

@@ -1,11 +1,14 @@
 -- A keeper while an opening recovers it.
-use Rattle.std.proofs.Common.{◌≡◌, ◌≢◌, ℕ, ◌-◌, Result, Ok, Err, IfErr, refl, sym, ◌∙◌, ap, subst, arith}
+use Rattle.std.proofs.Common.{◌≡◌, ◌≢◌, ℕ, ◌-◌, Result, Ok, Err, IfErr, OnOk, List, [], refl, sym, ◌∙◌, ap, subst, arith}
 use Rattle.disk_model.specs.Disk.{State}
-use Rattle.device_image.specs.Keeper.{KeeperState, Memory, Phase, Copying}
+use Rattle.device_image.specs.Keeper.{KeeperState, Memory, Phase, Copying, One}
 use Rattle.device_image.specs.Keeps.{Keeps}
-use Rattle.image_model.specs.Image.{Image}
+use Rattle.image_model.specs.Image.{Image, apply_all}
 use Rattle.checkpoint.specs.Keeper.{refused_by}
-use Rattle.checkpoint.specs.Steps.{copied_by, left_in}
+use Rattle.checkpoint.specs.Steps.{copied_by, finished_by, left_in}
+use Rattle.device_image.specs.Holds.{Holds}
+use Rattle.device_image.proofs.Holding.{held_as, keeps_again}
+use Rattle.image_model.specs.Change.{Change}
 use Rattle.checkpoint.specs.declared.fault.KeeperFault.{KeeperFault}
 use Rattle.checkpoint.specs.declared.fault.KeeperFault.TheVariants.{NoMemory, DeviceFault, BadMap, NoHeader, BadHeader, NumbersFull, AreaFull, OutOfOrder, DamagedGroup, NotNow, Failed}
 
@@ -43,3 +46,31 @@ module _ {D : Type 0} where
   still_kept state (Err DamagedGroup) old new image number is keeps = λ other. subst (λ (k : KeeperState D). Keeps k (state k.disk) image number) (sym is) keeps
   still_kept state (Err NotNow) old new image number is keeps = λ other. subst (λ (k : KeeperState D). Keeps k (state k.disk) image number) (sym is) keeps
   still_kept state (Err Failed) old new image number is keeps = λ other. subst (λ (k : KeeperState D). Keeps k (state k.disk) image number) (sym is) keeps
+
+  -- what holds the same as a keeper that keeps an image keeps it
+  pub keeps_by : (old new : KeeperState D) (before after : State) (image : Image) (number : ℕ) → Keeps old before image number → new.count ≡ old.count
+      → ((base : Image) (first last : List Change) → Holds old before base first last → Holds new after base first last) → Keeps new after image number
+  keeps_by old new before after image number keeps count held =
+      let what = held_as old before image number keeps in
+      keeps_again old before image number keeps new after what.base what.first what.last (held what.base what.first what.last what.holds) what.image_is count
+
+  -- the same where one area is in use, whose commands come to stand in front
+  pub keeps_begun : (old new : KeeperState D) (before after : State) (image : Image) (number : ℕ) → Keeps old before image number → old.phase ≡ One → new.count ≡ old.count
+      → ((base : Image) (last : List Change) → Holds old before base [] last → Holds new after base last []) → Keeps new after image number
+  keeps_begun old new before after image number keeps one count held =
+      let what = held_as old before image number keeps in
+      let none = what.one one in
+      keeps_again old before image number keeps new after what.base what.last [] (held what.base what.last (subst (λ (f : List Change). Holds old before what.base f what.last) none what.holds))
+      (what.image_is ∙ ap (λ (f : List Change). apply_all what.last (apply_all f what.base)) none) count
+
+  -- and where the commands in front are carried into map and data, unless that is refused
+  pub keeps_ended : {T : Type 0} (result : Result T KeeperFault) (old new : KeeperState D) (before after : State) (image : Image) (number : ℕ) → Keeps old before image number → OnOk result (new.count ≡ old.count)
+      → ((base : Image) (first last : List Change) → Holds old before base first last → OnOk result (Holds new after (apply_all first base) [] last)) → OnOk result (Keeps new after image number)
+  keeps_ended (Err fault) old new before after image number keeps count held = tt
+  keeps_ended (Ok done) old new before after image number keeps count held =
+      let what = held_as old before image number keeps in
+      keeps_again old before image number keeps new after (apply_all what.first what.base) [] what.last (held what.base what.first what.last what.holds) what.image_is count
+
+  pub count_ended : {T : Type 0} (result : Result T KeeperFault) (old new : KeeperState D) → OnOk result (new ≡ finished_by old new.disk new.memory) → OnOk result (new.count ≡ old.count)
+  count_ended (Err fault) old new is = tt
+  count_ended (Ok done) old new is = ap (λ (k : KeeperState D). k.count) is

@@ -1,27 +1,31 @@
 -- A keeper while the header changes, in what it remembers.
-use Rattle.std.proofs.Common.{◌≡◌, ℕ, ◌+◌, ◌%◌, ◌≤◌, ◌<◌, Option, Some, None, List, [], length, false, is_some, refl, sym, ◌∙◌, ap, subst, arith}
+use Rattle.std.proofs.Common.{slice_index, ◌≡◌, ℕ, ◌+◌, ◌%◌, ◌≤◌, ◌<◌, Option, Some, None, List, [], length, false, is_some, refl, sym, ◌∙◌, ap, subst, arith, ◌∷◌}
 use Rattle.disk_model.specs.Disk.{State, IsAllSynced, IsSound, IsSyncedIn}
 use Rattle.header_slots.specs.Change.{ComesNext, IsInPlace, LeavesEither}
 use Rattle.header_slots.specs.Slots.{HoldsHeader}
 use Rattle.header_slots.specs.declared.header.Areas.{Areas}
 use Rattle.header_slots.specs.declared.header.Header.{Header}
-use Rattle.image_model.specs.Image.{Image}
+use Rattle.image_model.specs.Image.{Image, apply_all}
 use Rattle.image_model.specs.Side.{other_of}
 use Rattle.image_model.specs.declared.command.Kind.{Kind}
 use Rattle.image_model.specs.declared.geometry.Geometry.{Geometry}
 use Rattle.image_model.specs.declared.side.Side.{Side}
 use Rattle.journal.specs.Area.{AreaState}
 use Rattle.journal.specs.GroupList.{changes_of}
-use Rattle.regions.specs.Layout.{area_at}
+use Rattle.regions.specs.Layout.{block_at, area_at}
 use Rattle.device_image.specs.Copied.{IsTurnBegun, LeavesTurn}
 use Rattle.checkpoint.specs.Steps.{IsFinishTime, map_after, map_in}
 use Rattle.device_image.specs.Keeper.{KeeperState, PlanState, count_puts, phase_in, phase_of, turned_of}
 use Rattle.device_image.specs.Keeps.{IsInPhase, Keeps}
 use Rattle.device_image.specs.Stands.{StandsFor}
 use Rattle.device_image.specs.Turn.{begun, ended}
-use Rattle.device_image.proofs.Frame.{area_low}
+use Rattle.device_image.proofs.Frame.{area_high, area_low}
 use Rattle.device_image.proofs.Turning.{all_synced, base_is, begin_left, end_left, keeps_begun, keeps_ended, two}
 use Rattle.device_image.proofs.Puts.{count_zero}
+use Rattle.device_image.proofs.Lists.{KeepsLists}
+use Rattle.image_model.specs.Change.{Change}
+use Rattle.device_image.specs.Holds.{Holds}
+use Rattle.device_image.proofs.Holding.{holds_begun, holds_ended}
 
 pub none_of : {X : Type 0} (option : Option X) → is_some option ≡ false → option ≡ None
 none_of None is = refl
@@ -67,6 +71,17 @@ module _ {D : Type 0} (keeper : KeeperState D) (state : State) (image : Image) (
         (subst (λ (slot : Side). LeavesTurn state extent from keeps.stands.header slot header content) keeps.slotted
         (subst (λ (h : Header). LeavesTurn state extent from h keeper.memory.slot header content) keeps.headed left))))
 
+    pub base_same : header.base ≡ keeper.base
+    base_same = ap (λ (h : Header). h.base) header_begun ∙ sym keeps.from_base
+
+    pub geometry_same : header.geometry ≡ keeper.geometry
+    geometry_same = ap (λ (h : Header). h.geometry) header_begun ∙ sym keeps.sizes
+
+    -- the data stay
+    pub data_stay : (after : State) → IsTurnBegun state extent from header (other_of keeper.memory.slot) after → (place : ℕ) → block_at keeps.stands.header.geometry 0 ≤ place → slice_index after.seen place ≡ slice_index state.seen place
+    data_stay after turn place above =
+        turn.others place (omega (arith, above)) (λ is. omega (arith, is, above, from_at, area_high keeps.stands.header.geometry (other_of keeps.stands.header.first_area), positive))
+
     pub rotate_kept : (after : State) → IsSound extent after → (now : KeeperState D) (slot : Side) (next : AreaState) (plan : PlanState) → slot ≡ other_of keeper.memory.slot → IsTurnBegun state extent from header (other_of keeper.memory.slot) after
         → next ≡ record { from = from; bytes = keeper.geometry.area; blocks = keeper.geometry.blocks; next = keeper.memory.area.next; gate = 0; touched = [] }
         → plan ≡ record { first = keeper.memory.area; copied = 0; left = count_puts keeper.memory.area.blocks keeper.memory.area.touched; mapped = None }
@@ -79,7 +94,7 @@ module _ {D : Type 0} (keeper : KeeperState D) (state : State) (image : Image) (
           phase = phase_of (Some plan);
           geometry = header.geometry;
           memory = record keeper.memory { header = header; slot = slot; plan = Some plan; area = next };
-        } → Keeps now after image number
+        } → KeepsLists now after image number (keeps.areas.groups ∷ []) []
     rotate_kept after after_sound now slot next plan slot_is turn next_is plan_is now_is =
         keeps_begun keeper state image number keeps one extent sound positive after after_sound now next plan
         (subst (λ (place : ℕ). IsTurnBegun state extent place (begun keeps.stands.header) (other_of keeps.stands.slot) after) from_at
@@ -90,14 +105,8 @@ module _ {D : Type 0} (keeper : KeeperState D) (state : State) (image : Image) (
         plan_is (count_zero _)
         (now_is ∙ view_is)
       where
-        base_same : header.base ≡ keeper.base
-        base_same = ap (λ (h : Header). h.base) header_begun ∙ sym keeps.from_base
-
         generation_more : header.generation ≡ keeper.generation + 1
         generation_more = ap (λ (h : Header). h.generation) header_begun ∙ sym (ap (λ (n : ℕ). n + 1) keeps.generation)
-
-        geometry_same : header.geometry ≡ keeper.geometry
-        geometry_same = ap (λ (h : Header). h.geometry) header_begun ∙ sym keeps.sizes
 
         used_none : next.gate ≡ 0
         used_none = ap (λ (a : AreaState). a.gate) next_is
@@ -162,7 +171,7 @@ module _ {D : Type 0} (keeper : KeeperState D) (state : State) (image : Image) (
           turned = now.turned;
           phase = phase_of None;
           memory = record keeper.memory { header = header; slot = other_of keeper.memory.slot; map = after; plan = None };
-        } → Keeps now later image number
+        } → KeepsLists now later image number [] keeps.areas.groups
     finish_kept later then_sound now placed now_is =
         keeps_ended keeper state image number keeps plan is after mapped extent sound fits later then_sound now header header_ended
         (subst (λ (slot : Side). IsInPlace state extent header (other_of slot) later) keeps.slotted placed)
@@ -174,6 +183,52 @@ module _ {D : Type 0} (keeper : KeeperState D) (state : State) (image : Image) (
           phase = phase_of None;
           memory = record keeper.memory { header = header; slot = other_of slot; map = after; plan = None };
         }) keeps.slotted)
+
+-- what the keeper holds, once its area stands in front of another
+pub rotate_held : {D : Type 0} (keeper : KeeperState D) (state : State) (base : Image) (last : List Change) (holds : Holds keeper state base [] last) {extent : ℕ} (sound : IsSound extent state)
+    (none : keeper.memory.plan ≡ None) (header : Header) (header_is : header ≡ begun keeper.memory.header) (from : ℕ) (from_is : from ≡ area_at keeper.geometry (other_of keeper.memory.header.first_area))
+    (after : State) → IsSound extent after → (now : KeeperState D) (slot : Side) (next : AreaState) (plan : PlanState) → slot ≡ other_of keeper.memory.slot → IsTurnBegun state extent from header (other_of keeper.memory.slot) after
+    → next ≡ record { from = from; bytes = keeper.geometry.area; blocks = keeper.geometry.blocks; next = keeper.memory.area.next; gate = 0; touched = [] }
+    → plan ≡ record { first = keeper.memory.area; copied = 0; left = count_puts keeper.memory.area.blocks keeper.memory.area.touched; mapped = None }
+    → now ≡ record keeper {
+      disk = now.disk;
+      generation = header.generation;
+      base = header.base;
+      used = next.gate;
+      turned = now.turned;
+      phase = phase_of (Some plan);
+      geometry = header.geometry;
+      memory = record keeper.memory { header = header; slot = slot; plan = Some plan; area = next };
+    } → Holds now after base last []
+rotate_held {D} keeper state base last holds sound none header header_is from from_is after after_sound now slot next plan slot_is turn next_is plan_is now_is =
+    holds_begun keeper state base last holds now after
+    (rotate_kept keeper state _ _ holds.keeps sound none header header_is from from_is after after_sound now slot next plan slot_is turn next_is plan_is now_is)
+    (ap (λ (k : KeeperState D). k.base) now_is ∙ base_same keeper state _ _ holds.keeps sound none header header_is from from_is)
+    (ap (λ (k : KeeperState D). k.geometry) now_is ∙ geometry_same keeper state _ _ holds.keeps sound none header header_is from from_is)
+    (ap (λ (k : KeeperState D). k.memory.map) now_is)
+    (data_stay keeper state _ _ holds.keeps sound none header header_is from from_is after turn)
+
+-- and once the first area was let go
+pub finish_held : {D : Type 0} (keeper : KeeperState D) (state : State) (base : Image) (front last : List Change) (holds : Holds keeper state base front last) {extent : ℕ} (sound : IsSound extent state)
+    (plan : PlanState) (is : keeper.memory.plan ≡ Some plan) (after : List Kind) (mapped : plan.mapped ≡ Some after) (base_fits : keeper.base < 18446744073709551616)
+    (header : Header) (number : ℕ) (number_at : number ≡ (plan.first.next + 18446744073709551615) % 18446744073709551616) (header_is : header ≡ ended keeper.memory.header number)
+    (later : State) → IsSound extent later → (now : KeeperState D) → IsInPlace state extent header (other_of keeper.memory.slot) later
+    → now ≡ record keeper {
+      disk = now.disk;
+      generation = header.generation;
+      base = header.base;
+      turned = now.turned;
+      phase = phase_of None;
+      memory = record keeper.memory { header = header; slot = other_of keeper.memory.slot; map = after; plan = None };
+    } → Holds now later (apply_all front base) [] last
+finish_held {D} keeper state base front last holds sound plan is after mapped base_fits header number number_at header_is later later_sound now placed now_is =
+    holds_ended keeper state base front last holds plan is after mapped _ sound (omega (arith, base_fits, holds.keeps.from_base)) now later (later_sound.size ∙ sym sound.size)
+    (λ place above. placed.others place above (holds.keeps.steady place))
+    (finish_kept keeper state _ _ holds.keeps sound plan is after mapped base_fits header number number_at header_is later later_sound now placed now_is)
+    (let base_is = ap (λ (h : Header). h.base) (header_ended keeper state _ _ holds.keeps sound plan is after mapped base_fits header number number_at header_is) in
+    let now_base = ap (λ (k : KeeperState D). k.base) now_is in
+    omega (arith, now_base, base_is, holds.keeps.from_base))
+    (ap (λ (k : KeeperState D). k.geometry) now_is) (ap (λ (k : KeeperState D). k.memory.map) now_is)
 
 -- what is known where the map is written
 pub record IsEnding (plan : Option PlanState) (base : ℕ) (map : List Kind) : Type 0 where

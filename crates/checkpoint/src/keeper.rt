@@ -1,10 +1,11 @@
-ghost use Rattle.std.specs.Prelude.{◌≡◌, ◌≢◌, ℕ, ◌+◌, ◌≤◌, ◌<◌, ◌⊎◌, ◌↔◌, List, length, map, IfErr, IfOk, OnOk, IsErrAnd, IsTrue, false};
+ghost use Rattle.std.specs.Prelude.{◌≡◌, ◌≢◌, ℕ, ◌+◌, ◌++◌, ◌≤◌, ◌<◌, ◌⊎◌, ◌↔◌, List, length, map, IfErr, IfOk, OnOk, IsErrAnd, IsTrue, false};
 ghost use Rattle.checkpoint.specs.Keeper.{end_after, faults_by, grown_by, refused_by, IsAppendFault};
+ghost use Rattle.device_image.specs.Holds.{Holds};
 ghost use Rattle.device_image.specs.Keeps.{Keeps};
 ghost use Rattle.device_image.specs.Stands.{StandsFor};
 ghost use Rattle.checkpoint.specs.declared.fault.KeeperFault.TheVariants as KeeperFault;
 ghost use Rattle.disk_model.specs.Disk.{IsAllSynced, LeavesOnly, MayLeave};
-ghost use Rattle.image_model.specs.Change.{AreChanges, change_of};
+ghost use Rattle.image_model.specs.Change.{AreChanges, Change, change_of};
 ghost use Rattle.image_model.specs.Image.{Image, apply_all};
 
 use crate::fault::KeeperFault;
@@ -134,11 +135,11 @@ impl<D: Disk> Keeper<D> {
         ensures faults_ok { OnOk result (D.faults self.new.disk ≡ D.faults self.old.disk) }
         ensures faults_err { IfErr result (λ refused. D.faults self.new.disk ≡ faults_by refused.0 (D.faults self.old.disk)) }
 
-        // On an honest device, where the keeper keeps an image whose size takes the group's commands: at `Ok` it keeps
-        // the image with the commands carried out, and a crash at any moment leaves the image without or with them.
-        ensures stored { D.honest self.old.disk → (image : Image) (number : ℕ) → Keeps self.old (D.state self.old.disk) image number
+        // On an honest device, where the image's size takes the group's commands: at `Ok` the keeper holds them behind
+        // the others, and where it keeps an image a crash at any moment leaves it without or with them.
+        ensures held { D.honest self.old.disk → (base : Image) (first last : List Change) → Holds self.old (D.state self.old.disk) base first last
             → AreChanges self.old.geometry.blocks (map change_of group.commands)
-            → OnOk result (Keeps self.new (D.state self.new.disk) (apply_all (map change_of group.commands) image) (number + length group.commands)) }
+            → OnOk result (Holds self.new (D.state self.new.disk) base first (last ++ map change_of group.commands)) }
         ensures any_moment { D.honest self.old.disk → (image : Image) (number : ℕ) → Keeps self.old (D.state self.old.disk) image number
             → AreChanges self.old.geometry.blocks (map change_of group.commands)
             → LeavesOnly (D.state self.old.disk) (D.state self.new.disk) (λ content. StandsFor content image number

@@ -1,13 +1,15 @@
-ghost use Rattle.std.specs.Prelude.{◌≡◌, ◌≢◌, ◌⊎◌, ℕ, ◌≤◌, ◌↔◌, [], false, IfErr, IfNone, IfOk, IfSome, IsTrue, Err, None, OnOk};
+ghost use Rattle.std.specs.Prelude.{◌≡◌, ◌≢◌, ◌⊎◌, ℕ, ◌≤◌, ◌↔◌, List, [], false, IfErr, IfNone, IfOk, IfSome, IsTrue, Err, None, OnOk};
 ghost use Rattle.checkpoint.specs.Keeper.{faults_by, refused_by};
 ghost use Rattle.checkpoint.specs.Steps.{IsCopyTime, IsFinishTime, IsMapTime, IsRotateTime, IsStepFault, copied_by, finished_by, map_after, mapped_by, rotated_by};
 ghost use Rattle.checkpoint.specs.declared.fault.KeeperFault.TheVariants as KeeperFault;
+ghost use Rattle.device_image.specs.Holds.{Holds};
 ghost use Rattle.device_image.specs.Keeps.{Keeps};
 ghost use Rattle.device_image.specs.Keeper.{One};
 ghost use Rattle.device_image.specs.Stands.{StandsFor};
 ghost use Rattle.device_image.specs.Turn.{with_both, with_second};
 ghost use Rattle.disk_model.specs.Disk.{LeavesOnly};
-ghost use Rattle.image_model.specs.Image.{Image};
+ghost use Rattle.image_model.specs.Change.{Change};
+ghost use Rattle.image_model.specs.Image.{Image, apply_all};
 ghost use Rattle.image_model.specs.Side.{other_of};
 ghost use Rattle.regions.specs.Layout.{area_at};
 
@@ -42,10 +44,10 @@ impl<D: Disk> Keeper<D> {
         ensures faults_err { IfErr result (λ fault. D.faults self.new.disk ≡ faults_by fault (D.faults self.old.disk)) }
         ensures honest { D.honest self.new.disk ↔ D.honest self.old.disk }
 
-        // On an honest device, where the keeper keeps an image: at `Ok` it keeps the same, and whatever a crash at any
-        // moment leaves stands for the same.
-        ensures kept { D.honest self.old.disk → (image : Image) (number : ℕ) → Keeps self.old (D.state self.old.disk) image number
-            → OnOk result (Keeps self.new (D.state self.new.disk) image number) }
+        // On an honest device: at `Ok` the keeper holds the same commands over the same image, and where it keeps an image
+        // whatever a crash at any moment leaves stands for it.
+        ensures held { D.honest self.old.disk → (base : Image) (first last : List Change) → Holds self.old (D.state self.old.disk) base first last
+            → OnOk result (Holds self.new (D.state self.new.disk) base first last) }
         ensures any_moment { D.honest self.old.disk → (image : Image) (number : ℕ) → Keeps self.old (D.state self.old.disk) image number
             → LeavesOnly (D.state self.old.disk) (D.state self.new.disk) (λ content. StandsFor content image number) }
     {
@@ -94,8 +96,8 @@ impl<D: Disk> Keeper<D> {
         ensures honest { D.honest self.new.disk ↔ D.honest self.old.disk }
 
         // As for `copy_some`.
-        ensures kept { D.honest self.old.disk → (image : Image) (number : ℕ) → Keeps self.old (D.state self.old.disk) image number
-            → OnOk result (Keeps self.new (D.state self.new.disk) image number) }
+        ensures held { D.honest self.old.disk → (base : Image) (first last : List Change) → Holds self.old (D.state self.old.disk) base first last
+            → OnOk result (Holds self.new (D.state self.new.disk) base first last) }
         ensures any_moment { D.honest self.old.disk → (image : Image) (number : ℕ) → Keeps self.old (D.state self.old.disk) image number
             → LeavesOnly (D.state self.old.disk) (D.state self.new.disk) (λ content. StandsFor content image number) }
     {
@@ -124,9 +126,9 @@ impl<D: Disk> Keeper<D> {
         ensures faults_err { IfErr result (λ fault. D.faults self.new.disk ≡ faults_by fault (D.faults self.old.disk)) }
         ensures honest { D.honest self.new.disk ↔ D.honest self.old.disk }
 
-        // As for `copy_some`.
-        ensures kept { D.honest self.old.disk → (image : Image) (number : ℕ) → Keeps self.old (D.state self.old.disk) image number
-            → OnOk result (Keeps self.new (D.state self.new.disk) image number) }
+        // On an honest device: at `Ok` the commands of the one area stand in front of an empty list. A crash as for `copy_some`.
+        ensures held { D.honest self.old.disk → (base : Image) (last : List Change) → Holds self.old (D.state self.old.disk) base [] last
+            → OnOk result (Holds self.new (D.state self.new.disk) base last []) }
         ensures any_moment { D.honest self.old.disk → (image : Image) (number : ℕ) → Keeps self.old (D.state self.old.disk) image number
             → LeavesOnly (D.state self.old.disk) (D.state self.new.disk) (λ content. StandsFor content image number) }
     {
@@ -223,8 +225,8 @@ impl<D: Disk> Keeper<D> {
         ensures honest { D.honest self.new.disk ↔ D.honest self.old.disk }
 
         // As for `copy_some`.
-        ensures kept { D.honest self.old.disk → (image : Image) (number : ℕ) → Keeps self.old (D.state self.old.disk) image number
-            → OnOk result (Keeps self.new (D.state self.new.disk) image number) }
+        ensures held { D.honest self.old.disk → (base : Image) (first last : List Change) → Holds self.old (D.state self.old.disk) base first last
+            → OnOk result (Holds self.new (D.state self.new.disk) base first last) }
         ensures any_moment { D.honest self.old.disk → (image : Image) (number : ℕ) → Keeps self.old (D.state self.old.disk) image number
             → LeavesOnly (D.state self.old.disk) (D.state self.new.disk) (λ content. StandsFor content image number) }
     {
@@ -277,9 +279,10 @@ impl<D: Disk> Keeper<D> {
         ensures faults_err { IfErr result (λ fault. D.faults self.new.disk ≡ faults_by fault (D.faults self.old.disk)) }
         ensures honest { D.honest self.new.disk ↔ D.honest self.old.disk }
 
-        // As for `copy_some`.
-        ensures kept { D.honest self.old.disk → (image : Image) (number : ℕ) → Keeps self.old (D.state self.old.disk) image number
-            → OnOk result (Keeps self.new (D.state self.new.disk) image number) }
+        // On an honest device: at `Ok` map and data hold what the commands in front made of the image that they held. A crash
+        // as for `copy_some`.
+        ensures held { D.honest self.old.disk → (base : Image) (first last : List Change) → Holds self.old (D.state self.old.disk) base first last
+            → OnOk result (Holds self.new (D.state self.new.disk) (apply_all first base) [] last) }
         ensures any_moment { D.honest self.old.disk → (image : Image) (number : ℕ) → Keeps self.old (D.state self.old.disk) image number
             → LeavesOnly (D.state self.old.disk) (D.state self.new.disk) (λ content. StandsFor content image number) }
     {

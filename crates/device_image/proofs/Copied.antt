@@ -23,6 +23,7 @@ use Rattle.device_image.specs.Keeps.{AreCopied, IsCopyPlace, IsCopying, IsInPhas
 use Rattle.device_image.specs.Stands.{HoldLists, area_of, next_number}
 use Rattle.device_image.proofs.Frame.{area_high, map_low}
 use Rattle.device_image.proofs.Kept.{held}
+use Rattle.device_image.proofs.Lists.{KeepsLists}
 use Rattle.device_image.proofs.Steps.{keeps_after}
 use Rattle.device_image.proofs.Touched.{IsSoundTouch, groups_sound}
 use Rattle.device_image.proofs.Turned.{slot_kept}
@@ -145,7 +146,7 @@ module _ {D : Type 0} (keeper : KeeperState D) (before : State) (image : Image) 
 
       pub keeps_copied : (now : KeeperState D) → earlier_of keeper.memory.plan ≡ plan.first ∷ []
           → now ≡ record keeper { disk = now.disk; turned = now.turned; phase = phase_of (Some (record plan { copied = first + blocks; left = left })); memory = record keeper.memory { plan = Some (record plan { copied = first + blocks; left = left }) } }
-          → Keeps now after image number
+          → KeepsLists now after image number keeps.areas.front keeps.areas.groups
       keeps_copied now earlier is =
           keeps_after keeper before image number keeps after done.size
           (λ place used. done.others place (λ within. used (to_be_copied (copy_places place within))))

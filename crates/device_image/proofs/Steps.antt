@@ -16,6 +16,7 @@ use Rattle.device_image.specs.Keeper.{KeeperState, PlanState, earlier_of, phase_
 use Rattle.device_image.specs.Keeps.{AreHeld, HoldsAreas, IsCopyPlace, IsInPhase, Keeps}
 use Rattle.device_image.specs.Stands.{next_number}
 use Rattle.device_image.proofs.Frame.{area_high, fronts_of, one_kept}
+use Rattle.device_image.proofs.Lists.{KeepsLists}
 use Rattle.device_image.proofs.Free.{AreSame, first_used, free_content, second_used}
 
 -- areas that are held still are where their bytes stay
@@ -67,30 +68,35 @@ module _ {D : Type 0} (keeper : KeeperState D) (before : State) (image : Image) 
 
   -- the same keeper but for its device and how far the checkpoint is
   pub keeps_after : (now : KeeperState D) (plan : Option PlanState) → earlier_of plan ≡ earlier_of keeper.memory.plan → IsInPhase plan after keeps.stands.header keeps.stands.states keeps.areas.front
-      → now ≡ record keeper { disk = now.disk; turned = now.turned; phase = phase_of plan; memory = record keeper.memory { plan = plan } } → Keeps now after image number
+      → now ≡ record keeper { disk = now.disk; turned = now.turned; phase = phase_of plan; memory = record keeper.memory { plan = plan } }
+      → KeepsLists now after image number keeps.areas.front keeps.areas.groups
   keeps_after now plan earlier phased is =
-      subst (λ (k : KeeperState D). Keeps k after image number) (sym is) (record {
-        works = keeps.works;
-        steady = steady;
-        stands = free_content keeper before image number keeps after.seen size same;
-        sizes = keeps.sizes;
-        generation = keeps.generation;
-        from_base = keeps.from_base;
-        headed = keeps.headed;
-        slotted = keeps.slotted;
-        counted = keeps.counted;
-        mapped = keeps.mapped;
-        areas = record {
-          front = keeps.areas.front;
-          groups = keeps.areas.groups;
-          are = keeps.areas.are;
-          earlier_held = subst (λ (areas : List AreaState). AreHeld (fronts_of keeps.stands) keeps.stands.header.geometry (next_number keeps.stands.header.base) keeps.areas.front areas after) (sym earlier)
-              areas_after.earlier_held;
-          placed = keeps.areas.placed;
-          held = areas_after.held;
+      subst (λ (k : KeeperState D). KeepsLists k after image number keeps.areas.front keeps.areas.groups) (sym is) (record {
+        keeps = record {
+          works = keeps.works;
+          steady = steady;
+          stands = free_content keeper before image number keeps after.seen size same;
+          sizes = keeps.sizes;
+          generation = keeps.generation;
+          from_base = keeps.from_base;
+          headed = keeps.headed;
+          slotted = keeps.slotted;
+          counted = keeps.counted;
+          mapped = keeps.mapped;
+          areas = record {
+            front = keeps.areas.front;
+            groups = keeps.areas.groups;
+            are = keeps.areas.are;
+            earlier_held = subst (λ (areas : List AreaState). AreHeld (fronts_of keeps.stands) keeps.stands.header.geometry (next_number keeps.stands.header.base) keeps.areas.front areas after) (sym earlier)
+                areas_after.earlier_held;
+            placed = keeps.areas.placed;
+            held = areas_after.held;
+          };
+          taken = keeps.taken;
+          phase = refl;
+          phased = phased;
+          unsynced = unsynced;
         };
-        taken = keeps.taken;
-        phase = refl;
-        phased = phased;
-        unsynced = unsynced;
+        front_is = refl;
+        groups_are = refl;
       })

@@ -21,15 +21,18 @@ use Rattle.journal.specs.declared.touch.TouchedRange.{TouchedRange}
 use Rattle.regions.specs.Layout.{area_at, behind, block_at, ring}
 use Rattle.device_image.specs.Copied.{IsTurnBegun, LeavesTurn}
 use Rattle.device_image.specs.Free.{in_spare_area}
+use Rattle.device_image.specs.Holds.{IsBase}
 use Rattle.device_image.specs.Keeper.{AreStatesAfter, KeeperState, PlanState, count_puts, earlier_of, is_put, phase_of}
 use Rattle.device_image.specs.Keeps.{AreHeld, IsCopying, IsInPhase, IsMapWritten, IsPlaced, Keeps, behind_lists, touched_first}
 use Rattle.device_image.specs.Stands.{StandsFor, all_changes, area_of, next_number, stored_image}
 use Rattle.device_image.specs.Turn.{begun, ended}
-use Rattle.device_image.proofs.Frame.{area_low, apart, moved_list, one_kept}
+use Rattle.device_image.proofs.Frame.{area_low, apart, image_kept, moved_list, one_kept}
 use Rattle.device_image.proofs.Free.{stands_still}
+use Rattle.device_image.proofs.Holds.{made_same}
+use Rattle.device_image.proofs.Lists.{KeepsLists}
 use Rattle.device_image.proofs.Kept.{held}
 use Rattle.device_image.proofs.Puts.{count_more, count_one}
-use Rattle.device_image.proofs.Turned.{begins_turn, ends_turn, follows}
+use Rattle.device_image.proofs.Turned.{begins_turn, ends_turn, follows, taken_over}
 
 front_none : (areas : Areas) (first : Side) (geometry : Geometry) (next : ℕ) (front : List (List StoredGroup)) (earlier : List AreaState) (state : State) → areas ≡ Areas.One
     → AreHeld (ring (mode_of areas) first) geometry next front earlier state → front ≡ []
@@ -134,7 +137,7 @@ module _ {D : Type 0} (keeper : KeeperState D) (before : State) (image : Image) 
           turned = now.turned;
           phase = phase_of (Some plan);
           memory = record keeper.memory { header = begun keeps.stands.header; slot = other_of keeps.stands.slot; plan = Some plan; area = next };
-        } → Keeps now after image number
+        } → KeepsLists now after image number (keeps.areas.groups ∷ []) []
     keeps_begun after after_sound now next plan begun_is next_is plan_is zero_puts now_is =
         let header = keeps.stands.header in
         let geometry = header.geometry in
@@ -147,48 +150,52 @@ module _ {D : Type 0} (keeper : KeeperState D) (before : State) (image : Image) 
         λ place here. begun_is.others place (omega (arith, here.0, area_low geometry header.first_area)) (λ is. apart geometry header.first_area place here (omega (arith, is), omega (arith, is, positive))) in
         let fresh : AreaState = record { from = other; bytes = geometry.area; blocks = geometry.blocks; next = keeper.memory.area.next; gate = 0; touched = [] } in
         let started : PlanState = record { first = keeper.memory.area; copied = 0; left = count_puts keeper.memory.area.blocks keeper.memory.area.touched; mapped = None } in
-        subst (λ (k : KeeperState D). Keeps k after image number) (sym now_is)
-        (subst (λ (p : PlanState). Keeps (record keeper { disk = now.disk; generation = keeper.generation + 1; used = 0; turned = now.turned; phase = phase_of (Some p); memory = record keeper.memory { header = begun header; slot = other_of keeps.stands.slot; plan = Some p; area = next } }) after image number) (sym plan_is)
-        (subst (λ (a : AreaState). Keeps (record keeper { disk = now.disk; generation = keeper.generation + 1; used = 0; turned = now.turned; phase = phase_of (Some started); memory = record keeper.memory { header = begun header; slot = other_of keeps.stands.slot; plan = Some started; area = a } }) after image number) (sym next_is)
+        subst (λ (k : KeeperState D). KeepsLists k after image number (keeps.areas.groups ∷ []) []) (sym now_is)
+        (subst (λ (p : PlanState). KeepsLists (record keeper { disk = now.disk; generation = keeper.generation + 1; used = 0; turned = now.turned; phase = phase_of (Some p); memory = record keeper.memory { header = begun header; slot = other_of keeps.stands.slot; plan = Some p; area = next } }) after image number (keeps.areas.groups ∷ []) []) (sym plan_is)
+        (subst (λ (a : AreaState). KeepsLists (record keeper { disk = now.disk; generation = keeper.generation + 1; used = 0; turned = now.turned; phase = phase_of (Some started); memory = record keeper.memory { header = begun header; slot = other_of keeps.stands.slot; plan = Some started; area = a } }) after image number (keeps.areas.groups ∷ []) []) (sym next_is)
         (record {
-          works = keeps.works;
-          steady = λ place loose. begun_is.synced place (after_sound.loose place loose);
-          stands = stands_begun after.seen size begun_is.others (other_of keeps.stands.slot) begun_is.closed begun_is.held;
-          sizes = keeps.sizes;
-          generation = ap (λ (n : ℕ). n + 1) keeps.generation;
-          from_base = keeps.from_base;
-          headed = refl;
-          slotted = refl;
-          counted = keeps.counted;
-          mapped = keeps.mapped;
-          areas = record {
-            front = keeps.areas.groups ∷ [];
-            groups = [];
-            are = refl;
-            earlier_held = (
-              placed_first,
-              one_kept keeper.memory.area geometry header.first_area (next_number header.base) keeps.areas.groups before after placed_first first_same (λ place here. begun_is.synced place) held_first,
-              tt,
-            );
-            placed = record { from = refl; bytes = refl; blocks = refl };
-            held = record {
-              list = record { stand = λ is_open. absurd (omega (arith, begun_is.closed, is_open)); inside = positive };
-              gate = refl;
-              next = held_first.next;
-              touched = refl;
-              synced = λ place within. begun_is.synced place;
+          keeps = record {
+            works = keeps.works;
+            steady = λ place loose. begun_is.synced place (after_sound.loose place loose);
+            stands = stands_begun after.seen size begun_is.others (other_of keeps.stands.slot) begun_is.closed begun_is.held;
+            sizes = keeps.sizes;
+            generation = ap (λ (n : ℕ). n + 1) keeps.generation;
+            from_base = keeps.from_base;
+            headed = refl;
+            slotted = refl;
+            counted = keeps.counted;
+            mapped = keeps.mapped;
+            areas = record {
+              front = keeps.areas.groups ∷ [];
+              groups = [];
+              are = refl;
+              earlier_held = (
+                placed_first,
+                one_kept keeper.memory.area geometry header.first_area (next_number header.base) keeps.areas.groups before after placed_first first_same (λ place here. begun_is.synced place) held_first,
+                tt,
+              );
+              placed = record { from = refl; bytes = refl; blocks = refl };
+              held = record {
+                list = record { stand = λ is_open. absurd (omega (arith, begun_is.closed, is_open)); inside = positive };
+                gate = refl;
+                next = held_first.next;
+                touched = refl;
+                synced = λ place within. begun_is.synced place;
+              };
             };
+            taken = refl;
+            phase = refl;
+            phased = record {
+              areas = refl;
+              within = omega arith;
+              counted = omega (arith, puts, zero_puts);
+              are_copied = λ block from below. absurd (omega (arith, below));
+              map_written = tt;
+            };
+            unsynced = λ place unsynced. absurd (begun_is.synced place unsynced);
           };
-          taken = refl;
-          phase = refl;
-          phased = record {
-            areas = refl;
-            within = omega arith;
-            counted = omega (arith, puts, zero_puts);
-            are_copied = λ block from below. absurd (omega (arith, below));
-            map_written = tt;
-          };
-          unsynced = λ place unsynced. absurd (begun_is.synced place unsynced);
+          front_is = refl;
+          groups_are = refl;
         })))
 
 -- two are in use: the second list behind the first
@@ -282,7 +289,7 @@ module _ {D : Type 0} (keeper : KeeperState D) (before : State) (image : Image) 
         turned = now.turned;
         phase = phase_of None;
         memory = record keeper.memory { header = header; slot = other_of keeps.stands.slot; map = after; plan = None };
-      } → Keeps now state image number
+      } → KeepsLists now state image number [] keeps.areas.groups
   keeps_ended extent sound fits state after_sound now header header_is in_place now_is =
       let old = keeps.stands.header in
       let new = ended old (old.base + length (changes_of two.first)) in
@@ -290,31 +297,50 @@ module _ {D : Type 0} (keeper : KeeperState D) (before : State) (image : Image) 
       let same : (place : ℕ) → 8192 ≤ place → slice_index state.seen place ≡ slice_index before.seen place = λ place above. in_place.others place above (keeps.steady place) in
       let held : HoldsHeader state.seen extent new (other_of keeps.stands.slot) = subst (λ (h : Header). HoldsHeader state.seen extent h (other_of keeps.stands.slot)) header_is in_place.held in
       let number_is = (follows plan.first.blocks before.seen plan.first.from (next_number old.base) old.base two.first fits refl two.first_held.list.stand).following in
-      subst (λ (k : KeeperState D). Keeps k state image number) (sym now_is)
-      (subst (λ (h : Header). Keeps (record keeper { disk = now.disk; generation = h.generation; base = h.base; turned = now.turned; phase = phase_of None; memory = record keeper.memory { header = h; slot = other_of keeps.stands.slot; map = after; plan = None } }) state image number) (sym header_is)
+      subst (λ (k : KeeperState D). KeepsLists k state image number [] keeps.areas.groups) (sym now_is)
+      (subst (λ (h : Header). KeepsLists (record keeper { disk = now.disk; generation = h.generation; base = h.base; turned = now.turned; phase = phase_of None; memory = record keeper.memory { header = h; slot = other_of keeps.stands.slot; map = after; plan = None } }) state image number [] keeps.areas.groups) (sym header_is)
       (record {
-        works = keeps.works;
-        steady = λ place loose. in_place.synced place (after_sound.loose place loose);
-        stands = stands_ended extent sound fits state.seen size same (other_of keeps.stands.slot) held;
-        sizes = keeps.sizes;
-        generation = refl;
-        from_base = refl;
-        headed = refl;
-        slotted = refl;
-        counted = keeps.counted;
-        mapped = refl;
-        areas = record {
-          front = [];
-          groups = keeps.areas.groups;
-          are = refl;
-          earlier_held = tt;
-          placed = two.placed;
-          held = subst (λ (next : ℕ). IsHeld keeper.memory.area next keeps.areas.groups state) number_is
-              (one_kept keeper.memory.area old.geometry (other_of old.first_area) (next_behind (next_number old.base) two.first) keeps.areas.groups before state two.placed
-              (λ place here. same place (omega (arith, here.0, area_low old.geometry (other_of old.first_area)))) (λ place here. in_place.synced place) two.held);
+        keeps = record {
+          works = keeps.works;
+          steady = λ place loose. in_place.synced place (after_sound.loose place loose);
+          stands = stands_ended extent sound fits state.seen size same (other_of keeps.stands.slot) held;
+          sizes = keeps.sizes;
+          generation = refl;
+          from_base = refl;
+          headed = refl;
+          slotted = refl;
+          counted = keeps.counted;
+          mapped = refl;
+          areas = record {
+            front = [];
+            groups = keeps.areas.groups;
+            are = refl;
+            earlier_held = tt;
+            placed = two.placed;
+            held = subst (λ (next : ℕ). IsHeld keeper.memory.area next keeps.areas.groups state) number_is
+                (one_kept keeper.memory.area old.geometry (other_of old.first_area) (next_behind (next_number old.base) two.first) keeps.areas.groups before state two.placed
+                (λ place here. same place (omega (arith, here.0, area_low old.geometry (other_of old.first_area)))) (λ place here. in_place.synced place) two.held);
+          };
+          taken = keeps.taken;
+          phase = refl;
+          phased = refl;
+          unsynced = λ place unsynced. absurd (in_place.synced place unsynced);
         };
-        taken = keeps.taken;
-        phase = refl;
-        phased = refl;
-        unsynced = λ place unsynced. absurd (in_place.synced place unsynced);
+        front_is = refl;
+        groups_are = refl;
       }))
+
+  -- what the commands of the first area make of the base is then what map and data hold
+  pub base_ended : (extent : ℕ) (sound : IsSound extent before) (fits : keeps.stands.header.base < 18446744073709551616) (content : List ℕ) (size : length content ≡ length before.seen)
+      (same : (place : ℕ) → 8192 ≤ place → slice_index content place ≡ slice_index before.seen place) (base : Image)
+      → IsBase base before.seen keeps.stands.header.geometry keeps.stands.states (changes_of two.first)
+      → apply_all (changes_of two.first) base ≡ stored_image content keeps.stands.header.geometry after
+  base_ended extent sound fits content size same base is =
+      let header = keeps.stands.header in
+      let place = area_at header.geometry header.first_area in
+      let list = moved_list plan.first (area_of header.geometry header.first_area) _ _ before.seen two.first_placed.from two.first_placed.bytes two.first_placed.blocks two.first_held.list in
+      made_same base before.seen header.geometry keeps.stands.states place (next_number header.base) two.first list.stand is
+      ∙ taken_over before.seen header.geometry place (next_number header.base) two.first list.stand keeps.stands.states after keeps.stands.map.count
+      (subst (λ (front : List (List StoredGroup)). AreStatesAfter (touched_first header front) keeps.stands.states after) two.is written.1)
+      (puts_copied extent sound fits content size same)
+      ∙ sym (image_kept before.seen content header.geometry (λ p above. same p (omega (arith, above))) after)

@@ -1,9 +1,13 @@
-ghost use Rattle.std.specs.Prelude.{◌≡◌, ℕ, List};
+ghost use Rattle.std.specs.Prelude.{◌≡◌, ℕ, List, []};
+ghost use Rattle.std.specs.FinMap.{len};
 ghost use Rattle.device_image.specs.Damage.{HasBadMap, HasDamagedGroup};
-ghost use Rattle.device_image.specs.Keeper.{KeeperState};
+ghost use Rattle.device_image.specs.Holds.{Holds, HoldsAs};
+ghost use Rattle.device_image.specs.Keeper.{KeeperState, One, count_puts};
 ghost use Rattle.device_image.specs.Keeps.{Keeps};
 ghost use Rattle.device_image.specs.Stands.{StandsFor};
 ghost use Rattle.disk_model.specs.Disk.{MayLeave};
+ghost use Rattle.image_model.specs.Change.{Change};
+ghost use Rattle.image_model.specs.Dirty.{dirty_blocks};
 ghost use Rattle.image_model.specs.Image.{Image};
 
 use disk_model::Disk;
@@ -18,10 +22,18 @@ pub fn stands_laws()
     ensures good_groups { (content : List ℕ) (image : Image) (number : ℕ) → StandsFor content image number → HasDamagedGroup content → ⊥ }
 {}
 
-/// The image that a keeper keeps has the blocks of its geometry, and a crash leaves it.
+/// The image that a keeper keeps has the blocks of its geometry, and a crash leaves it. What it holds makes that image: an
+/// empty journal holds nothing over it. And as many blocks are to be copied out of its last area as the commands there
+/// leave dirty.
 pub fn keeper_laws<D: Disk>()
     ensures size { (keeper : KeeperState D) (image : Image) (number : ℕ) → Keeps keeper (D.state keeper.disk) image number →
         image.blocks ≡ keeper.geometry.blocks }
     ensures left { (keeper : KeeperState D) (image : Image) (number : ℕ) (content : List ℕ) →
         Keeps keeper (D.state keeper.disk) image number → MayLeave (D.state keeper.disk) content → StandsFor content image number }
+    ensures held { (keeper : KeeperState D) (image : Image) (number : ℕ) → Keeps keeper (D.state keeper.disk) image number →
+        HoldsAs keeper (D.state keeper.disk) image number }
+    ensures empty { (keeper : KeeperState D) (image : Image) (number : ℕ) → Keeps keeper (D.state keeper.disk) image number →
+        keeper.phase ≡ One → keeper.used ≡ 0 → Holds keeper (D.state keeper.disk) image [] [] }
+    ensures dirty { (keeper : KeeperState D) (base : Image) (first last : List Change) (number : ℕ) → Holds keeper (D.state keeper.disk) base first last →
+        count_puts keeper.geometry.blocks keeper.memory.area.touched ≡ len (dirty_blocks number last) }
 {}

@@ -15,8 +15,9 @@ use Rattle.device_image.specs.Keeper.{KeeperState}
 use Rattle.device_image.specs.Keeps.{Keeps}
 use Rattle.device_image.specs.Stands.{StandsFor}
 use Rattle.device_image.proofs.Kept.{first}
-use Rattle.checkpoint.proofs.Added.{leaves_either, keeps_more, count_below, count_above, count_on, is_next, ordered}
+use Rattle.checkpoint.proofs.Added.{more_held, leaves_either, count_below, count_above, count_on, is_next, ordered}
 use Rattle.checkpoint.proofs.keeper.Keeper.append.Goals as goal
+use Rattle.device_image.specs.Holds.{Holds}
 
 -- the area takes what the keeper's sizes take
 taken : {D : Type 0} (keeper : KeeperState D) (state : State) (image : Image) (number : ℕ) (group : Numbered) → Keeps keeper state image number
@@ -39,11 +40,11 @@ any_moment {D} state honest inside now group after image number same clause =
     weakens (clause is_honest (first inside (state inside.disk) image number keeps) keeps.areas.groups keeps.areas.held (taken inside (state inside.disk) image number group keeps changes))
     (λ content left. leaves_either inside (state inside.disk) image number keeps (stored_of group) (number + length group.commands) content (omega (arith, long)) left))
 
-pub returns-in-Ok-clause-stored : goal.returns-in-Ok-clause-stored
-returns-in-Ok-clause-stored g c honest image number keeps changes =
+pub returns-in-Ok-clause-held : goal.returns-in-Ok-clause-held
+returns-in-Ok-clause-held g c honest base front last holds changes =
     let keeper = c.self.inside in
     let group = c.args.group in
-    let inside = subst (λ (k : KeeperState g.row.D.Denot). Keeps k (g.D.Disk.state k.disk) image number) (sym c.self.view_is) keeps in
+    let inside = subst (λ (k : KeeperState g.row.D.Denot). Holds k (g.D.Disk.state k.disk) base front last) (sym c.self.view_is) holds in
     let sound = subst (λ (k : KeeperState g.row.D.Denot). g.D.Disk.honest k.disk) (sym c.self.view_is) honest in
     let sizes = subst (λ (k : KeeperState g.row.D.Denot). AreChanges k.geometry.blocks (map change_of group.commands)) (sym c.self.view_is) changes in
     let long : length (map change_of group.commands) ≡ length group.commands = length-map group.commands change_of in
@@ -52,13 +53,13 @@ returns-in-Ok-clause-stored g c honest image number keeps changes =
     let full = c.in-Ok.ensures.full in
     let next = is_next keeper.area.next group.first (λ not. c.in-Ok.ensures.out_of_order.1 (omega (arith, full.1), not)) in
     let honest_after = c.in-Ok.ensures.honest.1 sound in
-    keeps_more _ (g.D.Disk.state keeper.disk) image number inside (stored_of group) (g.D.Disk.state c.append.new.disk) _ (number + length group.commands)
+    more_held _ (g.D.Disk.state keeper.disk) base front last inside (stored_of group) (g.D.Disk.state c.append.new.disk) _ (keeper.header.base + length front + length last + length group.commands)
     (g.met.D.Disk.sound c.append.new.disk honest_after)
     (omega (arith, long))
-    (c.in-Ok.ensures.stored sound (first _ (g.D.Disk.state keeper.disk) image number inside) inside.areas.groups inside.areas.held (taken _ _ image number group inside sizes))
+    (c.in-Ok.ensures.stored sound (first _ (g.D.Disk.state keeper.disk) _ _ inside.keeps) inside.keeps.areas.groups inside.keeps.areas.held (taken _ _ _ _ group inside.keeps sizes))
     (ap (λ (area : AreaState). area.from) grown_is) (ap (λ (area : AreaState). area.bytes) grown_is) (ap (λ (area : AreaState). area.blocks) grown_is)
     refl refl refl refl refl refl refl refl
-    (count_on keeper.area.next group.first (length group.commands) keeper.count number c.next.result c.self.invariant.4 (omega arith) next whole.some whole.numbers (c.next.ensures ∙ ap (λ (area : AreaState). area.next) grown_is) inside.counted)
+    (count_on keeper.area.next group.first (length group.commands) keeper.count (keeper.header.base + length front + length last) c.next.result c.self.invariant.4 (omega arith) next whole.some whole.numbers (c.next.ensures ∙ ap (λ (area : AreaState). area.next) grown_is) inside.keeps.counted)
     (omega (arith, ap (λ (area : AreaState). area.gate) grown_is, size-stored group)) refl
 
 pub returns-in-Ok-clause-any_moment : goal.returns-in-Ok-clause-any_moment

@@ -1,7 +1,8 @@
-use Rattle.std.proofs.Common.{◌∙◌, refl, arith}
+use Rattle.device_image.specs.Keeper.{KeeperState}
+use Rattle.std.proofs.Common.{ap, ◌∙◌, refl, arith}
 use Rattle.disk_model.proofs.Moments.{begins, goes_on}
 use Rattle.device_image.proofs.Kept.{kept_content}
-use Rattle.checkpoint.proofs.Recovered.{copied_first, copied_last, copied_next}
+use Rattle.checkpoint.proofs.Recovered.{copied_first, copied_last, copied_next, keeps_by}
 use Rattle.checkpoint.proofs.keeper.Keeper.copy_all.Goals as goal
 
 pub loop-self-init : goal.loop-self-init
@@ -29,7 +30,8 @@ loop-self-preserved g c =
       extent = call.extent ∙ so_far.extent;
       faults = call.faults_ok ∙ so_far.faults;
       honest = (λ honest. so_far.honest.0 (call.honest.0 honest), λ honest. call.honest.1 (so_far.honest.1 honest));
-      kept = λ honest image number keeps. call.kept (so_far.honest.1 honest) image number (so_far.kept honest image number keeps);
+      kept = λ honest image number keeps. keeps_by c.loop-self.self c.copy_some.new.self _ _ image number (so_far.kept honest image number keeps)
+          (ap (λ (k : KeeperState g.row.D.Denot). k.count) call.ok.2) (call.held (so_far.honest.1 honest));
       any_moment = λ honest image number keeps. goes_on (so_far.any_moment honest image number keeps)
           (call.any_moment (so_far.honest.1 honest) image number (so_far.kept honest image number keeps)) (λ content stands. stands);
     }

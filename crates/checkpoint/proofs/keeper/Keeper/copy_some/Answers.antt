@@ -7,8 +7,9 @@ use Rattle.device_image.specs.Keeps.{Keeps}
 use Rattle.device_image.specs.Stands.{StandsFor}
 use Rattle.device_image.proofs.Kept.{kept_content}
 use Rattle.regions.specs.Layout.{block_at}
-use Rattle.checkpoint.proofs.Copying.{copy_kept, copy_left}
+use Rattle.checkpoint.proofs.Copying.{copy_held, copy_left}
 use Rattle.checkpoint.proofs.keeper.Keeper.copy_some.Goals as goal
+use Rattle.device_image.specs.Holds.{Holds}
 
 pub returns-in_default-clause-any_moment : goal.returns-in_default-clause-any_moment
 returns-in_default-clause-any_moment g c honest image number keeps =
@@ -28,17 +29,17 @@ returns-in_err-buffer-clause-any_moment g c honest image number keeps =
     subst (λ (disk : g.row.D.Denot). LeavesOnly (g.D.Disk.state c.args.self.now.disk) (g.D.Disk.state disk) (λ content. StandsFor content image number)) same
     (begins (g.met.D.Disk.sound c.args.self.now.disk honest) (λ content left. kept_content _ _ image number keeps content left))
 
-pub returns-in-Ok-clause-kept : goal.returns-in-Ok-clause-kept
-returns-in-Ok-clause-kept g c honest image number keeps =
-    let inside = subst (λ (k : KeeperState g.row.D.Denot). Keeps k (g.D.Disk.state k.disk) image number) (sym c.self.view_is) keeps in
+pub returns-in-Ok-clause-held : goal.returns-in-Ok-clause-held
+returns-in-Ok-clause-held g c honest base first last holds =
+    let inside = subst (λ (k : KeeperState g.row.D.Denot). Holds k (g.D.Disk.state k.disk) base first last) (sym c.self.view_is) holds in
     let sound = subst (λ (k : KeeperState g.row.D.Denot). g.D.Disk.honest k.disk) (sym c.self.view_is) honest in
     let put = c.in-Some-next_copy.put in
-    let place : block_at c.of-regions.result.geometry put.first ≡ block_at inside.stands.header.geometry put.first = ap (λ (size : Geometry). block_at size put.first) (c.of-regions.ensures ∙ inside.sizes) in
+    let place : block_at c.of-regions.result.geometry put.first ≡ block_at inside.keeps.stands.header.geometry put.first = ap (λ (size : Geometry). block_at size put.first) (c.of-regions.ensures ∙ inside.keeps.sizes) in
     let count : length c.deref_mut.result.now ≡ 4096 * put.blocks = omega (arith, c.deref_mut.ensures.len, c.in_ok-buffer.ensures.len) in
     let from : c.start.result + put.place ≡ c.in-Some.plan.first.from + put.place = ap (λ (n : ℕ). n + put.place) (c.start.ensures ∙ ap (λ a. a.from) c.first.ensures) in
-    copy_kept _ (g.D.Disk.state c.self.inside.disk) image number inside c.in-Some.plan c.in-Some.is put c.args.most c.in-Some-next_copy.ensures.some c.in-Some-next_copy.ensures.unmapped
+    copy_held _ (g.D.Disk.state c.self.inside.disk) base first last inside c.in-Some.plan c.in-Some.is put c.args.most c.in-Some-next_copy.ensures.some c.in-Some-next_copy.ensures.unmapped
     (g.D.Disk.state c.copy_over.new.disk) _ _ _ _ c.advance.new.self place count from
-    (c.in-Ok.ensures.copied sound inside.steady) c.advance.ensures refl
+    (c.in-Ok.ensures.copied sound inside.keeps.steady) c.advance.ensures refl
 
 pub returns-in-Ok-clause-any_moment : goal.returns-in-Ok-clause-any_moment
 returns-in-Ok-clause-any_moment g c honest image number keeps =

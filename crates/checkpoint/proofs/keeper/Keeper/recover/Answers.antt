@@ -1,3 +1,6 @@
+use Rattle.std.proofs.Common.{ap}
+use Rattle.device_image.specs.Keeper.{KeeperState}
+use Rattle.checkpoint.proofs.Recovered.{keeps_begun}
 use Rattle.disk_model.proofs.Moments.{goes_on}
 use Rattle.checkpoint.proofs.keeper.Keeper.recover.Goals as goal
 
@@ -14,18 +17,18 @@ returns-clause-any_moment g c honest image number keeps =
     let first_honest = first.honest.1 honest in
     let first_kept = first.kept honest image number keeps in
     goes_on (goes_on (first.any_moment honest image number keeps) (second.any_moment first_honest image number first_kept) (λ content stands. stands))
-    (c.end_checkpoint.ensures.any_moment (second.honest.1 first_honest) image number (second.kept first_honest image number first_kept)) (λ content stands. stands)
+    (c.end_checkpoint.ensures.any_moment (second.honest.1 first_honest) image number (keeps_begun c.end_begun.new.self c.rotate.new.self _ _ image number first_kept first.ok.1 (ap (λ (k : KeeperState g.row.D.Denot). k.count) second.ok) (second.held first_honest))) (λ content stands. stands)
 
 pub returns-clause-kept : goal.returns-clause-kept
 returns-clause-kept g c honest image number keeps =
     let first = c.in_ok-end_begun.ensures in
     let second = c.in_ok-rotate.ensures in
     let first_honest = first.honest.1 honest in
-    c.end_checkpoint.ensures.kept (second.honest.1 first_honest) image number (second.kept first_honest image number (first.kept honest image number keeps))
+    c.end_checkpoint.ensures.kept (second.honest.1 first_honest) image number (keeps_begun c.end_begun.new.self c.rotate.new.self _ _ image number (first.kept honest image number keeps) first.ok.1 (ap (λ (k : KeeperState g.row.D.Denot). k.count) second.ok) (second.held first_honest))
 
 pub returns-clause-kept_still : goal.returns-clause-kept_still
 returns-clause-kept_still g c honest image number keeps =
     let first = c.in_ok-end_begun.ensures in
     let second = c.in_ok-rotate.ensures in
     let first_honest = first.honest.1 honest in
-    c.end_checkpoint.ensures.kept_still (second.honest.1 first_honest) image number (second.kept first_honest image number (first.kept honest image number keeps))
+    c.end_checkpoint.ensures.kept_still (second.honest.1 first_honest) image number (keeps_begun c.end_begun.new.self c.rotate.new.self _ _ image number (first.kept honest image number keeps) first.ok.1 (ap (λ (k : KeeperState g.row.D.Denot). k.count) second.ok) (second.held first_honest))

@@ -12,8 +12,9 @@ use Rattle.device_image.proofs.Kept.{kept_content}
 use Rattle.image_model.specs.Geometry.{map_bytes_of}
 use Rattle.regions.specs.Layout.{map_at}
 use Rattle.device_image.specs.Copied.{IsMapStored}
-use Rattle.checkpoint.proofs.Mapping.{map_kept, map_left}
+use Rattle.checkpoint.proofs.Mapping.{map_held, map_left}
 use Rattle.checkpoint.proofs.keeper.Keeper.write_map.Goals as goal
+use Rattle.device_image.specs.Holds.{Holds}
 
 pub returns-in_default-clause-any_moment : goal.returns-in_default-clause-any_moment
 returns-in_default-clause-any_moment g c honest image number keeps =
@@ -39,18 +40,18 @@ returns-in_err-map-clause-any_moment g c honest image number keeps =
     subst (λ (disk : g.row.D.Denot). LeavesOnly (g.D.Disk.state c.args.self.now.disk) (g.D.Disk.state disk) (λ content. StandsFor content image number)) same
     (begins (g.met.D.Disk.sound c.args.self.now.disk honest) (λ content left. kept_content _ _ image number keeps content left))
 
-pub returns-in-Ok-clause-kept : goal.returns-in-Ok-clause-kept
-returns-in-Ok-clause-kept g c honest image number keeps =
-    let inside = subst (λ (k : KeeperState g.row.D.Denot). Keeps k (g.D.Disk.state k.disk) image number) (sym c.self.view_is) keeps in
+pub returns-in-Ok-clause-held : goal.returns-in-Ok-clause-held
+returns-in-Ok-clause-held g c honest base first last holds =
+    let inside = subst (λ (k : KeeperState g.row.D.Denot). Holds k (g.D.Disk.state k.disk) base first last) (sym c.self.view_is) holds in
     let sound = subst (λ (k : KeeperState g.row.D.Denot). g.D.Disk.honest k.disk) (sym c.self.view_is) honest in
     let call = c.in-Ok.ensures in
-    let geometry : c.of.result.geometry ≡ inside.stands.header.geometry = c.of.ensures ∙ inside.sizes in
-    let slot : c.other-slot.result ≡ other_of inside.stands.header.map_slot = c.other-slot.ensures ∙ ap (λ (h : Header). other_of h.map_slot) inside.headed in
+    let geometry : c.of.result.geometry ≡ inside.keeps.stands.header.geometry = c.of.ensures ∙ inside.keeps.sizes in
+    let slot : c.other-slot.result ≡ other_of inside.keeps.stands.header.map_slot = c.other-slot.ensures ∙ ap (λ (h : Header). other_of h.map_slot) inside.keeps.headed in
     let before = g.D.Disk.state c.self.inside.disk in
     let after = g.D.Disk.state c.store_map.new.disk in
-    let stored = subst (λ (s : Side). IsMapStored before (map_at inside.stands.header.geometry s) inside.stands.header.geometry.blocks c.in_ok-map.map after) slot
-    (subst (λ (size : Geometry). IsMapStored before (map_at size c.other-slot.result) size.blocks c.in_ok-map.map after) geometry (call.stored sound inside.steady)) in
-    map_kept _ before image number inside c.in-Some.plan c.in-Some.is (omega (arith, c.if-left-gt0.false, c.left.ensures)) after (g.met.D.Disk.sound c.store_map.new.disk (call.honest.1 sound)) c.in_ok-map.map stored
+    let stored = subst (λ (s : Side). IsMapStored before (map_at inside.keeps.stands.header.geometry s) inside.keeps.stands.header.geometry.blocks c.in_ok-map.map after) slot
+    (subst (λ (size : Geometry). IsMapStored before (map_at size c.other-slot.result) size.blocks c.in_ok-map.map after) geometry (call.stored sound inside.keeps.steady)) in
+    map_held _ before base first last inside c.in-Some.plan c.in-Some.is (omega (arith, c.if-left-gt0.false, c.left.ensures)) after (g.met.D.Disk.sound c.store_map.new.disk (call.honest.1 sound)) c.in_ok-map.map stored
     c.in_ok-map.ensures _ c.set_map.new.self c.set_map.ensures refl
 
 pub returns-in-Ok-clause-any_moment : goal.returns-in-Ok-clause-any_moment

@@ -1,0 +1,43 @@
+-- Which commands a journal holds, and over which image.
+use Rattle.std.specs.Prelude.{ℕ, ◌≡◌, ◌+◌, ◌*◌, ◌<◌, Bool, false, ◌&&◌, List, [], length}
+use Rattle.std.specs.List.{list_any}
+use Rattle.alloc_map.specs.Codes.{state_at}
+use Rattle.disk_model.specs.Disk.{State}
+use Rattle.image_model.specs.Change.{Change}
+use Rattle.image_model.specs.Dirty.{is_write, touches}
+use Rattle.image_model.specs.Image.{Image, apply_all}
+use Rattle.image_model.specs.declared.command.Kind.{Kind}
+use Rattle.image_model.specs.declared.geometry.Geometry.{Geometry}
+use Rattle.journal.specs.GroupList.{changes_of}
+use Rattle.device_image.specs.Keeper.{KeeperState, One}
+use Rattle.device_image.specs.Keeps.{Keeps}
+use Rattle.device_image.specs.Stands.{all_changes, stored_image}
+
+-- whether one of the commands writes the block
+abbrev pub is_written : ℕ → List Change → Bool
+is_written block changes = list_any (λ change. touches block change && is_write change) changes
+
+-- Map and data hold this image, but for the data of blocks that the commands write, which a checkpoint may have copied.
+pub record IsBase (base : Image) (content : List ℕ) (geometry : Geometry) (states : List Kind) (commands : List Change) : Type 0 where
+  pub blocks : base.blocks ≡ geometry.blocks
+  pub kinds : (block : ℕ) → base.kind block ≡ state_at states block
+  pub bytes : (block offset : ℕ) → offset < 4096 → is_written block commands ≡ false
+      → base.byte (4096 * block + offset) ≡ (stored_image content geometry states).byte (4096 * block + offset)
+
+-- The keeper, whose device is in this state, holds this image in map and data, and over it these commands: the first of
+-- them in the areas in front of the last one, which a checkpoint carries into map and data, and the others in the last.
+pub record Holds {D : Type 0} (keeper : KeeperState D) (state : State) (base : Image) (first last : List Change) : Type 0 where
+  pub keeps : Keeps keeper state (apply_all last (apply_all first base)) (keeper.base + length first + length last)
+  pub in_front : all_changes keeps.areas.front ≡ first
+  pub in_last : changes_of keeps.areas.groups ≡ last
+  pub is_base : IsBase base state.seen keeper.geometry keeper.memory.map first
+
+-- What a keeper holds that keeps this image: nothing in front of the last area where one is in use.
+pub record HoldsAs {D : Type 0} (keeper : KeeperState D) (state : State) (image : Image) (number : ℕ) : Type 0 where
+  pub base : Image
+  pub first : List Change
+  pub last : List Change
+  pub holds : Holds keeper state base first last
+  pub image_is : image ≡ apply_all last (apply_all first base)
+  pub number_is : number ≡ keeper.base + length first + length last
+  pub one : keeper.phase ≡ One → first ≡ []
