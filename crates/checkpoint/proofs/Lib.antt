@@ -1,9 +1,9 @@
 pub mod Added
 pub mod Areas
+pub mod BaseRead
 pub mod Beginning
 pub mod Copying
 pub mod Formatted
-pub mod Located
 pub mod MapStored
 pub mod Mapping
 pub mod Opened

@@ -5,4 +5,3 @@ pub mod Opening
 pub mod Recovery
 pub mod Report
 pub mod Steps
-pub mod Stored

@@ -7,11 +7,11 @@ mod format;
 mod keeper;
 mod laws;
 mod opening;
+mod reading;
 mod recovery;
 mod report;
 mod simulated;
 mod steps;
-mod stored;
 
 pub use fault::KeeperFault;
 pub use keeper::Keeper;
