@@ -7,3 +7,4 @@ pub mod Steps
 pub mod Talk
 pub mod Truthful
 pub mod Waiting
+pub mod Within
