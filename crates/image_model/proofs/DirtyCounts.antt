@@ -1,6 +1,6 @@
 -- how many blocks are dirty
 use Rattle.std.proofs.Common.{◌≡◌, ◌⊎◌, inl, inr, ℕ, zero, suc, ◌+◌, ◌-◌, ◌<◌, ◌≤◌, Bool, true, false, cond, if◌then◌else◌, ◌&&◌, Option, Some, None, List, [], ◌∷◌, length, drop, sym, ap, ◌∙◌, refl, arith}
-use Rattle.std.proofs.lemmas.Bool.{both_ways, cases_eq, eq-eqb, ne_eqb}
+use Rattle.std.proofs.lemmas.Bool.{both_ways, cases_Bool, cases_eq, eq-eqb, ne_eqb}
 use Rattle.std.specs.Option.{is_some}
 use Rattle.std.specs.List.{list_any}
 use Rattle.std.specs.Ordering.{nat_cmp, eq_by_cmp}
@@ -63,6 +63,50 @@ dirty_len_same dirty other same =
     let some = dirty_len_within dirty other (λ q is. sym (same q) ∙ is) in
     let all = dirty_len_within other dirty (λ q is. same q ∙ is) in
     omega (arith, some, all)
+
+-- a count over the blocks that goes up by one at each dirty one comes to how many there are
+pub dirty_len_counted : (blocks : ℕ) (dirty : Dirty) (count : ℕ → ℕ) → count 0 ≡ 0
+    → ((q : ℕ) → q < blocks → count (suc q) ≡ count q + (if is_some (get dirty q) then 1 else 0)) → ((q : ℕ) → is_some (get dirty q) ≡ true → q < blocks)
+    → len dirty ≡ count blocks
+dirty_len_counted zero dirty count start step within = by_count (cases_eq (len dirty) 0)
+  where
+    by_count : (len dirty ≡ 0) ⊎ (len dirty ≡ 0 → ⊥) → len dirty ≡ count 0
+    by_count (inl none) = none ∙ sym start
+    by_count (inr some) =
+        let first = dirty_first dirty (len dirty - 1) (omega (arith, some)) in
+        let below = within first.0 first.1 in absurd (omega (arith, below))
+dirty_len_counted (suc blocks) dirty count start step within =
+    by_last (cases_Bool (is_some (get dirty blocks)))
+    (λ same_within. dirty_len_counted blocks dirty count start (λ q below. step q (omega (arith, below))) same_within)
+    (dirty_len_counted blocks (remove dirty blocks) count start (λ q below. step q (omega (arith, below)) ∙ sym (kept q below)) rest_within)
+  where
+    kept : (q : ℕ) → q < blocks → count q + (if is_some (get (remove dirty blocks) q) then 1 else 0) ≡ count q + (if is_some (get dirty q) then 1 else 0)
+    kept q below = ap (λ (o : Option ℕ). count q + (if is_some o then 1 else 0))
+        (get-remove nat_cmp_total dirty blocks q ∙ ap (λ test. cond test None (get dirty q)) (unsigned_tied q blocks ∙ ne_eqb q blocks (λ same. omega (arith, below, same))))
+
+    below_last : (q : ℕ) → q < suc blocks → (q ≡ blocks → ⊥) → q < blocks
+    below_last q below other = omega (arith, below, other)
+
+    rest_within : (q : ℕ) → is_some (get (remove dirty blocks) q) ≡ true → q < blocks
+    rest_within q is = by_place (cases_eq q blocks) (sym (ap is_some (get-remove nat_cmp_total dirty blocks q)) ∙ is)
+      where
+        by_place : (q ≡ blocks) ⊎ (q ≡ blocks → ⊥) → is_some (cond (eq_by_cmp nat_cmp q blocks) None (get dirty q)) ≡ true → q < blocks
+        by_place (inl same) there =
+            absurd (both_ways false refl (sym (ap (λ test. is_some (cond test None (get dirty q))) (unsigned_tied q blocks ∙ eq-eqb q blocks same)) ∙ there))
+        by_place (inr other) there =
+            below_last q (within q (sym (ap (λ test. is_some (cond test None (get dirty q))) (unsigned_tied q blocks ∙ ne_eqb q blocks other)) ∙ there)) other
+
+    by_last : (is_some (get dirty blocks) ≡ true) ⊎ (is_some (get dirty blocks) ≡ false)
+        → (((q : ℕ) → is_some (get dirty q) ≡ true → q < blocks) → len dirty ≡ count blocks) → len (remove dirty blocks) ≡ count blocks → len dirty ≡ count (suc blocks)
+    by_last (inl has) same rest =
+        let next = step blocks (omega arith) ∙ ap (λ test. count blocks + (if test then 1 else 0)) has in
+        let one_less = len_without dirty blocks has in
+        let some = counted_block dirty blocks has in
+        omega (arith, next, one_less, some, rest)
+    by_last (inr none) same rest =
+        let next = step blocks (omega arith) ∙ ap (λ test. count blocks + (if test then 1 else 0)) none in
+        let all = same (λ q is. below_last q (within q is) (λ here. both_ways (is_some (get dirty blocks)) none (ap (λ (b : ℕ). is_some (get dirty b)) (sym here) ∙ is))) in
+        omega (arith, next, all)
 
 both_some : (again put : Bool) (this other : Option ℕ) (here there : ℕ) → is_some this ≡ is_some other
     → is_some (if again then this else (if put then Some here else None)) ≡ is_some (if again then other else (if put then Some there else None))

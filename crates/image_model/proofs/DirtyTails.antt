@@ -1,12 +1,12 @@
 -- the dirty blocks of the last of some commands, among those of all of them
 use Rattle.std.proofs.Common.{◌≡◌, ◌⊎◌, inl, inr, ℕ, ◌+◌, ◌-◌, ◌<◌, ◌≤◌, Bool, true, false, cond, if◌then◌else◌, ◌&&◌, Some, None, List, [], ◌∷◌, ◌++◌, length, length-drop, take, drop, sym, ap, ◌∙◌, subst, arith}
 use Rattle.std.proofs.lemmas.Bool.{cases_Bool}
-use Rattle.std.proofs.lemmas.List.{drop-drop, length-take, take-append-drop}
+use Rattle.std.proofs.lemmas.List.{drop-append-le, drop-drop, length-take, take-append-drop}
 use Rattle.std.specs.List.{list_any}
 use Rattle.std.specs.FinMap.{empty, get}
 use Rattle.image_model.specs.Change.{Change}
-use Rattle.image_model.specs.Dirty.{dirty_blocks, touches, is_write, last_write}
-use Rattle.image_model.proofs.DirtyMaps.{dirty_from-append, get-dirty_blocks, get-dirty_from, untouched}
+use Rattle.image_model.specs.Dirty.{dirty_after, dirty_blocks, touches, is_write, last_write}
+use Rattle.image_model.proofs.DirtyMaps.{dirty_blocks-push, dirty_from-append, get-dirty_blocks, get-dirty_from, untouched}
 
 -- a write has the number of one of the commands
 last_write_within : (q last : ℕ) (changes : List Change) (number : ℕ) → last_write q last changes ≡ Some number → (last < number) × (number ≤ last + length changes)
@@ -84,3 +84,11 @@ module _ (last : ℕ) (changes : List Change) (few many : ℕ) (further : few �
   dirty_behind_few q number above is = subst (λ (n : ℕ). get (dirty_blocks n (drop many changes)) q ≡ Some number) number_at
       (dirty_last (last + few) front (drop many changes) q number (omega (arith, number_at, above))
       (subst (λ (rest : List Change). get (dirty_blocks (last + few) rest) q ≡ Some number) (sym parts) is))
+
+-- one command more, behind the first `count`
+pub dirty_behind_push : (last : ℕ) (changes : List Change) (count : ℕ) (change : Change) → count ≤ length changes
+    → dirty_blocks (last + count) (drop count (changes ++ change ∷ [])) ≡ dirty_after (dirty_blocks (last + count) (drop count changes)) (last + length changes + 1) change
+dirty_behind_push last changes count change within =
+    ap (dirty_blocks (last + count)) (drop-append-le count changes (change ∷ []) within)
+    ∙ dirty_blocks-push (last + count) (drop count changes) change
+    ∙ ap (λ (n : ℕ). dirty_after (dirty_blocks (last + count) (drop count changes)) n change) (omega (arith, length-drop count changes, within))

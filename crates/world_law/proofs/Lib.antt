@@ -1,6 +1,7 @@
 pub mod Events
 pub mod Logged
 pub mod Ordered
+pub mod Parts
 pub mod Reached
 pub mod Sound
 pub mod Steps

@@ -1,11 +1,8 @@
 -- in each world the numbers stand within one another
-use Rattle.std.proofs.Common.{◌≡◌, ℕ, ◌+◌, ◌-◌, ◌<◌, ◌≤◌, ◌==◌, ◌&&◌, Bool, true, false, if◌then◌else◌, nat_le, nat_lt, not, Result, Ok, Err, List, [], ◌∷◌, ◌++◌, length, length-append, length-drop, take, drop, ◌∙◌, ap, subst, refl, arith}
+use Rattle.std.proofs.Common.{◌≡◌, ℕ, ◌+◌, ◌-◌, ◌<◌, ◌≤◌, ◌==◌, ◌&&◌, Bool, true, false, if◌then◌else◌, nat_le, nat_lt, not, Result, Ok, Err, List, [], ◌∷◌, ◌++◌, length, length-append, length-drop, drop, subst, refl, arith}
 use Rattle.std.proofs.lemmas.Bool.{and_parts, both_ways, not-true, ltb-true, eqb-true}
-use Rattle.std.proofs.lemmas.List.{take-append-le, drop-append-le}
-use Rattle.std.specs.FinMap.{len}
 use Rattle.image_model.specs.Bodies.{body_bytes, body_limit, longest}
 use Rattle.image_model.specs.Change.{Change}
-use Rattle.image_model.specs.Dirty.{dirty_blocks}
 use Rattle.nbd_wire.specs.Request.{Message}
 use Rattle.nbd_wire.specs.declared.error.Errno.{Errno}
 use Rattle.world.specs.declared.action.Action.{Action}
@@ -24,6 +21,7 @@ use Rattle.world.specs.Step.{after_step, append, in_time, with_generation, seale
 use Rattle.world.specs.Verdict.{verdict}
 use Rattle.world.specs.World.{World, Stage, Setting, fits, fresh, has_room, last_number}
 use Rattle.world_law.specs.Law.{IsRising, IsWithin}
+use Rattle.world_law.proofs.Parts.{copied_same}
 use Rattle.world_law.proofs.Steps.{of_either}
 
 -- no more commands fit a group than there are
@@ -49,13 +47,8 @@ rising_end : (base : ℕ) (turned : List ℕ) (stored : ℕ) → last_turned bas
 rising_end base [] stored some is = (some, omega arith)
 rising_end base (first ∷ rest) stored some is = (is.0, rising_end first rest stored some is.1)
 
--- commands at the end of the order are in no area in front of the last
-copied_same : (base until : ℕ) (order more : List Change) → base ≤ until → until ≤ length order → to_copy base until (order ++ more) ≡ to_copy base until order
-copied_same base until order more above within = ap (λ (l : List Change). len (dirty_blocks base l))
-    (ap (take (until - base)) (drop-append-le base order more (omega (arith, above, within)))
-    ∙ take-append-le (until - base) (drop base order) more (omega (arith, length-drop base order, within)))
-
-behind_same : (base : ℕ) (turned : List ℕ) (stored : ℕ) (order more : List Change) → IsRising base turned stored → stored ≤ length order
+-- what goes into data stays the same while commands come to the end of the order
+pub behind_same : (base : ℕ) (turned : List ℕ) (stored : ℕ) (order more : List Change) → IsRising base turned stored → stored ≤ length order
     → left_behind base turned (order ++ more) ≡ left_behind base turned order
 behind_same base [] stored order more is within = refl
 behind_same base (first ∷ rest) stored order more is within =
