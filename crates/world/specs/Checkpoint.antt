@@ -29,20 +29,23 @@ abbrev pub is_turned : List ℕ → Bool
 is_turned [] = false
 is_turned (first ∷ rest) = true
 
--- whether it is time for each step: an area isn't in use and the last one that is holds something; a block is left to copy;
--- none is left, and the map isn't written; it is; and a block that is dirty was last touched by a command in map and data
+-- an area isn't in use, and the last one that is holds something
 abbrev pub can_rotate : Stage → Bool
 can_rotate stage = nat_lt (length stage.turned + 1) area_count && nat_lt (last_turned stage.base stage.turned) stage.stored
 
+-- a block of the first of several areas in use is left to copy
 abbrev pub can_copy : Stage → Bool
 can_copy stage = is_turned stage.turned && not stage.mapped && nat_lt 0 stage.left
 
+-- none is left, and the map behind them isn't written
 abbrev pub can_map : Stage → Bool
 can_map stage = is_turned stage.turned && not stage.mapped && (stage.left == 0)
 
+-- the map is written
 abbrev pub can_finish : Stage → Bool
 can_finish stage = is_turned stage.turned && stage.mapped
 
+-- a dirty block was last touched by a command that map and data hold: not all dirty ones are so behind these
 abbrev pub can_clean : Stage → Bool
 can_clean stage = nat_lt (len (dirty_behind stage.base stage)) (len (dirty_behind stage.cleaned stage))
 
