@@ -86,7 +86,7 @@ touched_given true false put last number was = refl
 touched_given false true put last number was = refl
 touched_given false false put last number was = refl
 
-get-dirty_from : (dirty : Dirty) (last : ℕ) (changes : List Change) (q : ℕ) →
+pub get-dirty_from : (dirty : Dirty) (last : ℕ) (changes : List Change) (q : ℕ) →
     get (dirty_from dirty last changes) q ≡ (if list_any (touches q) changes then last_write q last changes else get dirty q)
 get-dirty_from dirty last [] q = refl
 get-dirty_from dirty last (change ∷ later) q =
@@ -95,7 +95,7 @@ get-dirty_from dirty last (change ∷ later) q =
     ∙ decide (list_any (touches q) later) (touches q change) (last_write q (last + 1) later) (given (last + 1) change) (get dirty q)
     ∙ touched_given (list_any (touches q) later) (touches q change) (is_write change) (last_write q (last + 1) later) (last + 1) (get dirty q)
 
-untouched : (q last : ℕ) (changes : List Change) → cond (list_any (touches q) changes) (last_write q last changes) None ≡ last_write q last changes
+pub untouched : (q last : ℕ) (changes : List Change) → cond (list_any (touches q) changes) (last_write q last changes) None ≡ last_write q last changes
 untouched q last [] = refl
 untouched q last (change ∷ later) =
     none (list_any (touches q) later) (touches q change) (is_write change) (last_write q (last + 1) later) (last + 1)

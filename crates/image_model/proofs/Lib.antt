@@ -1,2 +1,4 @@
+pub mod DirtyCounts
 pub mod DirtyMaps
+pub mod DirtyTails
 pub mod Positions

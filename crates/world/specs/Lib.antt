@@ -1,3 +1,4 @@
+pub mod Checkpoint
 pub mod Covered
 pub mod Log
 pub mod Run

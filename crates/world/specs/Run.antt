@@ -1,5 +1,5 @@
 -- runs of the world
-use Rattle.std.specs.Prelude.{ℕ, ◌≡◌, List, [], ◌∷◌}
+use Rattle.std.specs.Prelude.{◌≡◌, List, [], ◌∷◌}
 use Rattle.world.specs.declared.step.Step.{Step}
 use Rattle.world.specs.Serve.{Failure}
 use Rattle.world.specs.Step.{after_step}
@@ -7,7 +7,7 @@ use Rattle.world.specs.World.{World, Setting, fresh}
 
 -- the worlds that schedules lead to: fresh ones, and those that a step leaves of another
 pub data IsReached : World → Type 0 where
-  Fresh : (setting : Setting) (end : ℕ) → IsReached (fresh setting end)
+  Fresh : (setting : Setting) → IsReached (fresh setting)
   After : {world : World} (step : Step) (failure : Failure) → IsReached world → IsReached (after_step world step failure)
 
 -- the steps, each with what fails in it, lead from one world to another

@@ -1,14 +1,15 @@
 -- how each step changes the world
-use Rattle.std.specs.Prelude.{ℕ, ◌+◌, true, ◌&&◌, ◌==◌, nat_lt, if◌then◌else◌, length, drop}
+use Rattle.std.specs.Prelude.{ℕ, ◌+◌, ◌-◌, Bool, true, ◌&&◌, ◌==◌, nat_lt, if◌then◌else◌, length, drop}
 use Rattle.disk_model.specs.Faults.{counted}
 use Rattle.image_model.specs.Bodies.{bodies_bytes, body_limit, longest}
 use Rattle.nbd_wire.specs.Request.{Message}
 use Rattle.world.specs.declared.connection.Connection.{Connection}
 use Rattle.world.specs.declared.connection.Connection.TheVariants.{Idle, Requested, Waiting, Ready, Closed}
 use Rattle.world.specs.declared.event.Event.TheVariants.{Sent, Took, Failed}
-use Rattle.world.specs.declared.event.StepFault.TheVariants.{NoMemory, DeviceFault, FailedBefore}
+use Rattle.world.specs.declared.event.StepFault.TheVariants.{NoMemory, DeviceFault, NumbersFull, FailedBefore}
 use Rattle.world.specs.declared.step.Step.{Step}
-use Rattle.world.specs.declared.step.Step.TheVariants.{Send, Serve, Answer, Seal, Append, Publish}
+use Rattle.world.specs.declared.step.Step.TheVariants.{Send, Serve, Answer, Seal, Append, Publish, Rotate, Copy, Map, Finish, Clean}
+use Rattle.world.specs.Checkpoint.{can_rotate, can_copy, can_map, can_finish, can_clean, is_full, rotated, finished}
 use Rattle.world.specs.Serve.{Failure, Nothing, OutOfMemory, DeviceFailure, logged, held, moved, serve, answer}
 use Rattle.world.specs.World.{World, Stage, put, in_hand, fits}
 
@@ -55,12 +56,16 @@ put_back world = staged world (record world.stage { sealed = world.stage.stored 
 abbrev pub faulted : World → World
 faulted world = staged world (record world.stage { sealed = world.stage.stored; stopped = true; faults = counted world.stage.faults })
 
+-- a step that writes the device, and what order and keeper come to where nothing fails
+abbrev pub written : Failure → World → Stage → World
+written Nothing world stage = logged (staged world stage) Took
+written OutOfMemory world stage = out_of_memory world
+written DeviceFailure world stage = logged (faulted world) (Failed DeviceFault)
+
 -- the group in hand is stored
 abbrev pub stored_more : Failure → World → World
-stored_more Nothing world =
-    logged (staged world (record world.stage { stored = world.stage.sealed; at = world.stage.at + 17 + bodies_bytes (in_hand world) })) Took
-stored_more OutOfMemory world = out_of_memory world
-stored_more DeviceFailure world = logged (faulted world) (Failed DeviceFault)
+stored_more failure world =
+    written failure world (record world.stage { stored = world.stage.sealed; at = world.stage.at + 17 + bodies_bytes (in_hand world) })
 
 -- appending the group in hand: pending again where the device has failed before, or where it doesn't fit
 abbrev pub append_in_hand : Failure → World → World
@@ -75,6 +80,42 @@ append failure world = if nat_lt world.stage.stored world.stage.sealed then appe
 abbrev pub publish : World → World
 publish world = if nat_lt world.stage.durable world.stage.stored then logged (staged world (record world.stage { durable = world.stage.stored })) Took else held world
 
+-- a step of a checkpoint, which takes place in its time and where no call of the device has failed
+abbrev pub in_time : Bool → World → World → World
+in_time is_time world next =
+    if world.stage.stopped then logged world (Failed FailedBefore) else (if is_time then next else held world)
+
+-- a step that writes a header, which takes a greater generation
+abbrev pub with_generation : World → World → World
+with_generation world next = if is_full world.stage then logged world (Failed NumbersFull) else next
+
+-- the next area comes into use
+abbrev pub rotate : Failure → World → World
+rotate failure world = in_time (can_rotate world.stage) world (with_generation world (written failure world (rotated world.stage)))
+
+-- a block of the first area in use is copied
+abbrev pub copy_block : Failure → World → World
+copy_block failure world = in_time (can_copy world.stage) world (written failure world (record world.stage { left = world.stage.left - 1 }))
+
+-- the map after the first area in use is written
+abbrev pub write_map : Failure → World → World
+write_map failure world = in_time (can_map world.stage) world (written failure world (record world.stage { mapped = true }))
+
+-- what fails in a step that takes no memory
+abbrev pub without_memory : Failure → Failure
+without_memory Nothing = Nothing
+without_memory OutOfMemory = Nothing
+without_memory DeviceFailure = DeviceFailure
+
+-- the first area is no longer in use
+abbrev pub finish : Failure → World → World
+finish failure world =
+    in_time (can_finish world.stage) world (with_generation world (written (without_memory failure) world (finished world.stage world.stage.turned)))
+
+-- the frames of dirty blocks that map and data hold are let go
+abbrev pub clean : World → World
+clean world = if can_clean world.stage then logged (staged world (record world.stage { cleaned = world.stage.base })) Took else held world
+
 abbrev pub after_step : World → Step → Failure → World
 after_step world (Send connection request) failure = send failure world connection request (world.connections connection)
 after_step world (Serve connection) failure = serve failure world connection (world.connections connection)
@@ -82,3 +123,8 @@ after_step world (Answer connection) failure = answer world connection (world.co
 after_step world Seal failure = seal failure world
 after_step world Append failure = append failure world
 after_step world Publish failure = publish world
+after_step world Rotate failure = rotate failure world
+after_step world Copy failure = copy_block failure world
+after_step world Map failure = write_map failure world
+after_step world Finish failure = finish failure world
+after_step world Clean failure = clean world

@@ -2,7 +2,7 @@
 use Rattle.std.specs.Prelude.{ℕ, ◌+◌, ◌-◌, ◌&&◌, ◌==◌, Bool, false, nat_le, nat_lt, if◌then◌else◌, List, [], length, drop, take}
 use Rattle.image_model.specs.Bodies.{body_bytes, bodies_bytes}
 use Rattle.image_model.specs.Change.{Change}
-use Rattle.image_model.specs.Dirty.{dirty_blocks, frames_suffice}
+use Rattle.image_model.specs.Dirty.{Dirty, dirty_blocks, frames_suffice}
 use Rattle.image_model.specs.Image.{Image}
 use Rattle.image_model.specs.declared.geometry.Geometry.{Geometry}
 use Rattle.nbd_wire.specs.declared.message.SessionFlags.{SessionFlags}
@@ -19,10 +19,11 @@ pub record Setting : Type 0 where
   -- how many connections there are, and the most blocks that may be dirty
   pub connections : ℕ
   pub frames : ℕ
-  -- the image that the opening found, the number of its last command, and of the last that map and data hold
+  -- what the opening left: the image, all of it in map and data, the number of its last command, and the generation of the
+  -- header in force
   pub image : Image
   pub opening : ℕ
-  pub base : ℕ
+  pub generation : ℕ
   -- how many faults the device had counted when it was opened
   pub failures : ℕ
 
@@ -38,6 +39,17 @@ pub record Stage : Type 0 where
   pub durable : ℕ
   -- where in its area of the journal the next group begins
   pub at : ℕ
+  -- how many commands map and data hold
+  pub base : ℕ
+  -- of each area in use but the last, in the order of the ring, how many commands were stored when the next came into use
+  pub turned : List ℕ
+  -- how many blocks of the first of several areas in use are left to copy, and whether the map after that area is written
+  pub left : ℕ
+  pub mapped : Bool
+  -- of how many commands, from the first on, the frames of dirty blocks were let go
+  pub cleaned : ℕ
+  -- the generation of the header in force
+  pub generation : ℕ
   -- whether a call of the device has failed, and how many faults it has counted
   pub stopped : Bool
   pub faults : ℕ
@@ -55,16 +67,22 @@ pub record World : Type 0 where
 abbrev pub put : {X : Type 0} → (ℕ → X) → ℕ → X → ℕ → X
 put function place value k = if k == place then value else function k
 
--- a world in which nothing has happened yet; `end` is where the opening found the end of the journal
-abbrev pub fresh : Setting → ℕ → World
-fresh given end = record {
+-- a world in which nothing has happened yet: the opening left an empty journal
+abbrev pub fresh : Setting → World
+fresh given = record {
   stage = record {
     setting = given;
     order = [];
     sealed = 0;
     stored = 0;
     durable = 0;
-    at = end;
+    at = 0;
+    base = 0;
+    turned = [];
+    left = 0;
+    mapped = false;
+    cleaned = 0;
+    generation = given.generation;
     stopped = false;
     faults = given.failures;
   };
@@ -82,11 +100,15 @@ last_number world = world.stage.setting.opening + length world.stage.order
 abbrev pub in_hand : World → List Change
 in_hand world = take (world.stage.sealed - world.stage.stored) (drop world.stage.stored world.stage.order)
 
+-- the blocks whose last touch by the commands behind the first so many is a write, each with the number of that write
+abbrev pub dirty_behind : ℕ → Stage → Dirty
+dirty_behind count stage = dirty_blocks (stage.setting.opening + count) (drop count stage.order)
+
 -- whether a command has room: its blocks and the dirty ones in the frames, and its body and those of the commands
 -- that aren't durable in 67,108,864 bytes
 abbrev pub has_room : World → Change → Bool
 has_room world command =
-    frames_suffice world.stage.setting.frames (dirty_blocks world.stage.setting.opening world.stage.order) (last_number world + 1) command
+    frames_suffice world.stage.setting.frames (dirty_behind world.stage.cleaned world.stage) (last_number world + 1) command
     && nat_le (bodies_bytes (drop world.stage.durable world.stage.order) + body_bytes command) 67108864
 
 -- whether the group in hand and the gate behind it fit the area

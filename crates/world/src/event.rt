@@ -27,6 +27,9 @@ pub enum StepFault {
     /// 1: a call of the device failed.
     #[error("device fault")]
     DeviceFault,
+    /// 9: no generation is greater than that of the header in force.
+    #[error("numbers full")]
+    NumbersFull,
     /// 16: a call of the device has failed before.
     #[error("failed")]
     FailedBefore,

@@ -15,6 +15,16 @@ pub enum Step {
     Append,
     /// What is stored counts as durable.
     Publish,
+    /// The next area of the journal comes into use.
+    Rotate,
+    /// A block of the first area in use is copied into data.
+    Copy,
+    /// The map after the first area in use is written.
+    Map,
+    /// The first area is no longer in use: map and data hold what it held.
+    Finish,
+    /// The frames of dirty blocks that map and data hold are let go.
+    Clean,
 }
 
 /// When a write command without FUA is answered.

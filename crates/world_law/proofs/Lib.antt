@@ -1,9 +1,11 @@
 pub mod Events
 pub mod Logged
 pub mod Ordered
+pub mod Parts
 pub mod Reached
 pub mod Sound
 pub mod Steps
 pub mod Talk
 pub mod Truthful
 pub mod Waiting
+pub mod Within

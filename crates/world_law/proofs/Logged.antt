@@ -151,7 +151,6 @@ pub sound_quiet : (world : World) (event : Event) → IsQuiet event → IsSound 
 sound_quiet world event quiet sound = record {
   legal = legal_more world event allowed idle sound.legal;
   durable = durable_more world event allowed idle sound.legal sound.durable;
-  within = record { durable = sound.within.durable; stored = sound.within.stored; sealed = sound.within.sealed };
   right = λ connection. right_more (facts_of world) event connection (world.places connection) (world.connections connection) (quiet.unanswered connection) (quiet.unsent connection) (sound.right connection);
 }
   where
@@ -167,7 +166,6 @@ pub sound_moved : (world : World) (c : ℕ) (state : Connection) → IsSound wor
 sound_moved world c state sound right = record {
   legal = sound.legal;
   durable = sound.durable;
-  within = record { durable = sound.within.durable; stored = sound.within.stored; sealed = sound.within.sealed };
   right = λ d. by_place d (cases_eq d c);
 }
   where

@@ -158,7 +158,6 @@ module _ (world : World) (c : ℕ) (request : Message) (sound : IsSound world) (
   sound_ordered state right = record {
     legal = legal_ordered;
     durable = durable_ordered;
-    within = record { durable = sound.within.durable; stored = sound.within.stored; sealed = let sealed = sound.within.sealed in omega (arith, length-append world.stage.order (command_of request ∷ []), sealed) };
     right = λ d. by_place d (cases_eq d c);
   }
     where

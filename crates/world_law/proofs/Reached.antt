@@ -1,5 +1,5 @@
 -- what schedules lead to
-use Rattle.std.proofs.Common.{◌≡◌, inl, inr, ℕ, ◌+◌, ◌<◌, ◌≤◌, ◌==◌, ◌&&◌, true, nat_le, nat_lt, Result, Ok, Err, List, [], ◌∷◌, ◌++◌, append_assoc, append-nil, length, length-append, sym, ◌∙◌, ap, subst, refl, arith}
+use Rattle.std.proofs.Common.{◌≡◌, inl, inr, ℕ, ◌+◌, ◌≤◌, ◌==◌, ◌&&◌, Bool, true, nat_le, nat_lt, Result, Ok, Err, List, [], ◌∷◌, ◌++◌, append_assoc, append-nil, length, length-append, sym, ◌∙◌, ap, subst, refl, arith}
 use Rattle.std.proofs.lemmas.Bool.{ltb-true}
 use Rattle.image_model.specs.Change.{Change}
 use Rattle.nbd_wire.specs.Request.{Message}
@@ -10,7 +10,9 @@ use Rattle.world.specs.declared.action.Action.TheVariants.{End, Serve}
 use Rattle.world.specs.declared.connection.Connection.{Connection}
 use Rattle.world.specs.declared.connection.Connection.TheVariants.{Idle, Requested, Waiting, Ready, Closed}
 use Rattle.world.specs.declared.event.Event.{Event}
-use Rattle.world.specs.declared.event.Event.TheVariants.{Answered, Took, Held}
+use Rattle.world.specs.declared.event.Event.TheVariants.{Answered, Took, Held, Failed}
+use Rattle.world.specs.declared.event.StepFault.{StepFault}
+use Rattle.world.specs.declared.event.StepFault.TheVariants as fault
 use Rattle.nbd_wire.specs.declared.message.Answer.TheVariants.{Done, Refused}
 use Rattle.world.specs.declared.step.Step.{Step}
 use Rattle.world.specs.declared.step.Step.TheVariants as steps
@@ -18,17 +20,19 @@ use Rattle.world.specs.Covered.{Covers, IsCovered}
 use Rattle.world.specs.Log.{command_of, is_flush}
 use Rattle.world.specs.Run.{IsReached, IsRun, Fresh, After}
 use Rattle.world.specs.Serve.{Failure, Nothing, OutOfMemory, DeviceFailure, logged, held, moved, ordered, accepted, passed, judged, serve, answer}
-use Rattle.world.specs.Step.{staged, sent, send, sealed_more, put_back, stored_more, append, publish, after_step}
+use Rattle.world.specs.Checkpoint.{can_rotate, can_copy, can_map, can_finish, can_clean, is_full, finished}
+use Rattle.world.specs.Step.{staged, sent, send, sealed_more, put_back, faulted, written, append, publish, in_time, with_generation, without_memory, after_step}
 use Rattle.world.specs.Verdict.{verdict}
-use Rattle.world.specs.World.{World, last_number, has_room, fits}
-use Rattle.world_law.specs.Law.{Grows}
+use Rattle.world.specs.World.{World, Stage, last_number, has_room, fits}
+use Rattle.world_law.specs.Law.{Grows, IsRising, IsWithin}
 use Rattle.world_law.proofs.Logged.{put_other}
 use Rattle.world_law.proofs.Sound.{IsSound}
 use Rattle.world_law.proofs.Steps.{of_either, sound_fresh, sound_step}
+use Rattle.world_law.proofs.Within.{within_step}
 
 -- what schedules lead to is sound
 pub sound_reached : (world : World) → IsReached world → IsSound world
-sound_reached world (Fresh setting end) = sound_fresh setting end
+sound_reached world (Fresh setting) = sound_fresh setting
 sound_reached world (After {world = before} step failure reached) = sound_step before (sound_reached before reached) step failure
 
 pub covers_durable : (world : World) → IsSound world → Covers world world.stage.durable
@@ -46,29 +50,33 @@ reached_run world last (step ∷ steps) run reached = reached_run (after_step wo
 
 -- a step that orders no command
 grows_plain : (world next : World) (event : Event) → next.stage.setting ≡ world.stage.setting → next.log ≡ world.log ++ event ∷ [] → next.stage.order ≡ world.stage.order
-    → next.paired ≡ world.paired → world.stage.stored ≤ next.stage.stored → world.stage.durable ≤ next.stage.durable → (world.stage.stopped ≡ true → next.stage.stopped ≡ true) → Grows world next
-grows_plain world next event setting log order paired stored durable stopped = record {
+    → next.paired ≡ world.paired → world.stage.stored ≤ next.stage.stored → world.stage.durable ≤ next.stage.durable → (IsWithin world → world.stage.base ≤ next.stage.base)
+    → (IsWithin world → world.stage.cleaned ≤ next.stage.cleaned) → world.stage.generation ≤ next.stage.generation → (world.stage.stopped ≡ true → next.stage.stopped ≡ true) → Grows world next
+grows_plain world next event setting log order paired stored durable base cleaned generation stopped = record {
   setting = setting;
   log = (event ∷ [], log);
   order = ([], order ∙ sym (append-nil world.stage.order));
   paired = λ k below. ap (λ (f : ℕ → ℕ). f k) paired;
   stored = stored;
   durable = durable;
+  base = base;
+  cleaned = cleaned;
+  generation = generation;
   stopped = stopped;
 }
 
 module _ (world : World) where
   grows_held : Grows world (held world)
-  grows_held = grows_plain world (held world) Held refl refl refl refl (omega arith) (omega arith) (λ is. is)
+  grows_held = grows_plain world (held world) Held refl refl refl refl (omega arith) (omega arith) (λ within. omega arith) (λ within. omega arith) (omega arith) (λ is. is)
 
   module _ (c : ℕ) where
     grows_moved : (state : Connection) (event : Event) → Grows world (logged (moved world c state) event)
-    grows_moved state event = grows_plain world (logged (moved world c state) event) event refl refl refl refl (omega arith) (omega arith) (λ is. is)
+    grows_moved state event = grows_plain world (logged (moved world c state) event) event refl refl refl refl (omega arith) (omega arith) (λ within. omega arith) (λ within. omega arith) (omega arith) (λ is. is)
 
     grows_sent : (failure : Failure) (request : Message) → Grows world (sent failure world c request)
-    grows_sent OutOfMemory request = grows_plain world (sent OutOfMemory world c request) _ refl refl refl refl (omega arith) (omega arith) (λ is. is)
-    grows_sent Nothing request = grows_plain world (sent Nothing world c request) _ refl refl refl refl (omega arith) (omega arith) (λ is. is)
-    grows_sent DeviceFailure request = grows_plain world (sent DeviceFailure world c request) _ refl refl refl refl (omega arith) (omega arith) (λ is. is)
+    grows_sent OutOfMemory request = grows_plain world (sent OutOfMemory world c request) _ refl refl refl refl (omega arith) (omega arith) (λ within. omega arith) (λ within. omega arith) (omega arith) (λ is. is)
+    grows_sent Nothing request = grows_plain world (sent Nothing world c request) _ refl refl refl refl (omega arith) (omega arith) (λ within. omega arith) (λ within. omega arith) (omega arith) (λ is. is)
+    grows_sent DeviceFailure request = grows_plain world (sent DeviceFailure world c request) _ refl refl refl refl (omega arith) (omega arith) (λ within. omega arith) (λ within. omega arith) (omega arith) (λ is. is)
 
     grows_send : (failure : Failure) (request : Message) (state : Connection) → Grows world (send failure world c request state)
     grows_send failure request Idle = grows_sent failure request
@@ -85,6 +93,9 @@ module _ (world : World) where
       paired = λ k below. put_other world.paired (length world.stage.order) (world.places c) k (λ is. omega (arith, is, below));
       stored = omega arith;
       durable = omega arith;
+      base = λ within. omega arith;
+      cleaned = λ within. omega arith;
+      generation = omega arith;
       stopped = λ is. is;
     }
 
@@ -120,28 +131,52 @@ module _ (world : World) where
     grows_answer Closed = grows_held
 
   grows_sealed : (failure : Failure) → Grows world (sealed_more failure world)
-  grows_sealed OutOfMemory = grows_plain world (sealed_more OutOfMemory world) _ refl refl refl refl (omega arith) (omega arith) (λ is. is)
-  grows_sealed Nothing = grows_plain world (sealed_more Nothing world) Took refl refl refl refl (omega arith) (omega arith) (λ is. is)
-  grows_sealed DeviceFailure = grows_plain world (sealed_more DeviceFailure world) Took refl refl refl refl (omega arith) (omega arith) (λ is. is)
+  grows_sealed OutOfMemory = grows_plain world (sealed_more OutOfMemory world) _ refl refl refl refl (omega arith) (omega arith) (λ within. omega arith) (λ within. omega arith) (omega arith) (λ is. is)
+  grows_sealed Nothing = grows_plain world (sealed_more Nothing world) Took refl refl refl refl (omega arith) (omega arith) (λ within. omega arith) (λ within. omega arith) (omega arith) (λ is. is)
+  grows_sealed DeviceFailure = grows_plain world (sealed_more DeviceFailure world) Took refl refl refl refl (omega arith) (omega arith) (λ within. omega arith) (λ within. omega arith) (omega arith) (λ is. is)
 
-  grows_stored : (failure : Failure) → world.stage.stored < world.stage.sealed → Grows world (stored_more failure world)
-  grows_stored OutOfMemory hand = grows_plain world (stored_more OutOfMemory world) _ refl refl refl refl (omega arith) (omega arith) (λ is. is)
-  grows_stored Nothing hand = grows_plain world (stored_more Nothing world) Took refl refl refl refl (omega (arith, hand)) (omega arith) (λ is. is)
-  grows_stored DeviceFailure hand = grows_plain world (stored_more DeviceFailure world) _ refl refl refl refl (omega arith) (omega arith) (λ is. refl)
+  grows_failed : (fault : StepFault) → Grows world (logged world (Failed fault))
+  grows_failed fault = grows_plain world (logged world (Failed fault)) _ refl refl refl refl (omega arith) (omega arith) (λ within. omega arith) (λ within. omega arith) (omega arith) (λ is. is)
+
+  grows_written : (failure : Failure) (stage : Stage) → Grows world (logged (staged world stage) Took) → Grows world (written failure world stage)
+  grows_written Nothing stage is = is
+  grows_written OutOfMemory stage is = grows_failed fault.NoMemory
+  grows_written DeviceFailure stage is = grows_plain world (logged (faulted world) (Failed fault.DeviceFault)) _ refl refl refl refl (omega arith) (omega arith) (λ within. omega arith) (λ within. omega arith) (omega arith) (λ is. refl)
 
   grows_back : (event : Event) → Grows world (logged (put_back world) event)
-  grows_back event = grows_plain world (logged (put_back world) event) event refl refl refl refl (omega arith) (omega arith) (λ is. is)
+  grows_back event = grows_plain world (logged (put_back world) event) event refl refl refl refl (omega arith) (omega arith) (λ within. omega arith) (λ within. omega arith) (omega arith) (λ is. is)
 
   grows_append : (failure : Failure) → Grows world (append failure world)
   grows_append failure = of_either (Grows world) (nat_lt world.stage.stored world.stage.sealed) _ _
       (λ hand. of_either (Grows world) world.stage.stopped _ _ (λ stopped. grows_back _)
-      (λ works. of_either (Grows world) (fits world) _ _ (λ fit. grows_stored failure (ltb-true world.stage.stored world.stage.sealed hand)) (λ full. grows_back Held)))
+      (λ works. of_either (Grows world) (fits world) _ _ (λ fit. let more = ltb-true world.stage.stored world.stage.sealed hand in
+      grows_written failure _ (grows_plain world _ Took refl refl refl refl (omega (arith, more)) (omega arith) (λ within. omega arith) (λ within. omega arith) (omega arith) (λ is. is))) (λ full. grows_back Held)))
       (λ none. grows_held)
+
+  -- what a checkpoint comes to
+  grows_turned : (base : ℕ) (turned : List ℕ) (left : ℕ) (mapped : Bool) (cleaned at generation : ℕ) → (IsWithin world → world.stage.base ≤ base)
+      → (IsWithin world → world.stage.cleaned ≤ cleaned) → world.stage.generation ≤ generation
+      → Grows world (logged (staged world (record world.stage { base = base; turned = turned; left = left; mapped = mapped; cleaned = cleaned; at = at; generation = generation })) Took)
+  grows_turned base turned left mapped cleaned at generation first second third = grows_plain world _ Took refl refl refl refl (omega arith) (omega arith) first second third (λ is. is)
+
+  grows_in_time : (is_time : Bool) (next : World) → Grows world next → Grows world (in_time is_time world next)
+  grows_in_time is_time next is = of_either (Grows world) world.stage.stopped _ _ (λ stopped. grows_failed fault.FailedBefore)
+      (λ works. of_either (Grows world) is_time next _ (λ now. is) (λ not_now. grows_held))
+
+  grows_full : (next : World) → Grows world next → Grows world (with_generation world next)
+  grows_full next is = of_either (Grows world) (is_full world.stage) _ next (λ full. grows_failed fault.NumbersFull) (λ room. is)
+
+  grows_finished : (turned : List ℕ) → world.stage.turned ≡ turned → Grows world (logged (staged world (finished world.stage turned)) Took)
+  grows_finished [] is = grows_plain world _ Took refl refl refl refl (omega arith) (omega arith) (λ within. omega arith) (λ within. omega arith) (omega arith) (λ is. is)
+  grows_finished (first ∷ rest) is = grows_turned _ _ _ _ _ _ _ through (λ within. omega arith) (omega arith)
+    where
+      through : IsWithin world → world.stage.base ≤ first
+      through within = let above = (subst (λ (turned : List ℕ). IsRising world.stage.base turned world.stage.stored) is within.rising).0 in omega (arith, above)
 
   grows_publish : Grows world (publish world)
   grows_publish = of_either (Grows world) (nat_lt world.stage.durable world.stage.stored) _ _
       (λ more. let above = ltb-true world.stage.durable world.stage.stored more in
-      grows_plain world (logged (staged world (record world.stage { durable = world.stage.stored })) Took) Took refl refl refl refl (omega arith) (omega (arith, above)) (λ is. is))
+      grows_plain world (logged (staged world (record world.stage { durable = world.stage.stored })) Took) Took refl refl refl refl (omega arith) (omega (arith, above)) (λ within. omega arith) (λ within. omega arith) (omega arith) (λ is. is))
       (λ none. grows_held)
 
   pub grows_step : (step : Step) (failure : Failure) → Grows world (after_step world step failure)
@@ -152,6 +187,11 @@ module _ (world : World) where
       (λ pending. grows_sealed failure) (λ none. grows_held)
   grows_step steps.Append failure = grows_append failure
   grows_step steps.Publish failure = grows_publish
+  grows_step steps.Rotate failure = grows_in_time (can_rotate world.stage) _ (grows_full _ (grows_written failure _ (grows_turned _ _ _ _ _ _ _ (λ within. omega arith) (λ within. omega arith) (omega arith))))
+  grows_step steps.Copy failure = grows_in_time (can_copy world.stage) _ (grows_written failure _ (grows_turned _ _ _ _ _ _ _ (λ within. omega arith) (λ within. omega arith) (omega arith)))
+  grows_step steps.Map failure = grows_in_time (can_map world.stage) _ (grows_written failure _ (grows_turned _ _ _ _ _ _ _ (λ within. omega arith) (λ within. omega arith) (omega arith)))
+  grows_step steps.Finish failure = grows_in_time (can_finish world.stage) _ (grows_full _ (grows_written (without_memory failure) _ (grows_finished world.stage.turned refl)))
+  grows_step steps.Clean failure = of_either (Grows world) (can_clean world.stage) _ _ (λ more. grows_turned _ _ _ _ _ _ _ (λ within. omega arith) (λ within. within.cleaned) (omega arith)) (λ none. grows_held)
 
 grows_same : (world last : World) → last ≡ world → Grows world last
 grows_same world last is = subst (Grows world) (sym is) (record {
@@ -161,20 +201,26 @@ grows_same world last is = subst (Grows world) (sym is) (record {
   paired = λ k below. refl;
   stored = omega arith;
   durable = omega arith;
+  base = λ within. omega arith;
+  cleaned = λ within. omega arith;
+  generation = omega arith;
   stopped = λ stopped. stopped;
 })
 
-grows_on : (world next last : World) → Grows world next → Grows next last → Grows world last
-grows_on world next last one two = record {
+grows_on : (world next last : World) → (IsWithin world → IsWithin next) → Grows world next → Grows next last → Grows world last
+grows_on world next last on one two = record {
   setting = two.setting ∙ one.setting;
   log = (one.log.0 ++ two.log.0, two.log.1 ∙ (ap (λ (l : List Event). l ++ two.log.0) one.log.1 ∙ append_assoc world.log one.log.0 two.log.0));
   order = (one.order.0 ++ two.order.0, two.order.1 ∙ (ap (λ (l : List Change). l ++ two.order.0) one.order.1 ∙ append_assoc world.stage.order one.order.0 two.order.0));
   paired = λ k below. two.paired k (let longer = ap length one.order.1 in omega (arith, longer, length-append world.stage.order one.order.0, below)) ∙ one.paired k below;
   stored = let a = one.stored in let b = two.stored in omega arith;
   durable = let a = one.durable in let b = two.durable in omega arith;
+  base = λ within. let a = one.base within in let b = two.base (on within) in omega (arith, a, b);
+  cleaned = λ within. let a = one.cleaned within in let b = two.cleaned (on within) in omega (arith, a, b);
+  generation = let a = one.generation in let b = two.generation in omega (arith, a, b);
   stopped = λ is. two.stopped (one.stopped is);
 }
 
 pub grows_run : (world last : World) (steps : List Step) → IsRun world steps last → Grows world last
 grows_run world last [] is = grows_same world last is
-grows_run world last (step ∷ steps) run = grows_on world (after_step world step run.0) last (grows_step world step run.0) (grows_run (after_step world step run.0) last steps run.1)
+grows_run world last (step ∷ steps) run = grows_on world (after_step world step run.0) last (λ within. within_step world within step run.0) (grows_step world step run.0) (grows_run (after_step world step run.0) last steps run.1)

@@ -16,7 +16,6 @@ use Rattle.world.specs.declared.step.Mode.{Mode}
 use Rattle.world.specs.Covered.{IsConfirmed, IsCovered}
 use Rattle.world.specs.Log.{StandsAt, IsAnswered, IsLegal, is_write, is_flush, waits_for_store}
 use Rattle.world.specs.World.{World}
-use Rattle.world_law.specs.Law.{IsWithin}
 use Rattle.world_law.proofs.Events.{IsLast, answered_split, get_more, get_split}
 
 -- the connection's request that was sent at the place is its last, and is not answered
@@ -85,7 +84,6 @@ IsRight facts connection place Closed = Unit {0}
 pub record IsSound (world : World) : Type 0 where
   pub legal : IsLegal world.log world.stage.order world.paired
   pub durable : (k : ℕ) → k < length world.stage.order → IsCovered world.stage.setting.mode world.log (world.paired k) → k < world.stage.durable
-  pub within : IsWithin world
   pub right : (connection : ℕ) → IsRight (facts_of world) connection (world.places connection) (world.connections connection)
 
 -- what the answer of a request has to be

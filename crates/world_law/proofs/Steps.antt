@@ -1,7 +1,6 @@
 -- each step leaves a world sound
-use Rattle.std.proofs.Common.{◌≡◌, ◌⊎◌, inl, inr, ℕ, suc, ◌+◌, ◌-◌, ◌<◌, ◌≤◌, ◌==◌, ◌&&◌, ◌||◌, ◌*◌, Bool, true, false, if◌then◌else◌, nat_le, nat_lt, not, Result, Ok, Err, List, [], ◌∷◌, ◌++◌, length, length-append, length-drop, drop, refl, arith, bit_and}
+use Rattle.std.proofs.Common.{◌≡◌, ◌⊎◌, inl, inr, ℕ, ◌+◌, ◌-◌, ◌<◌, ◌≤◌, ◌==◌, ◌&&◌, ◌||◌, ◌*◌, Bool, true, false, if◌then◌else◌, nat_le, nat_lt, not, Result, Ok, Err, List, [], ◌∷◌, ◌++◌, length, length-append, drop, refl, arith, bit_and}
 use Rattle.std.proofs.lemmas.Bool.{and_parts, both_ways, cases_Bool, ltb-true, leb-true, not-false}
-use Rattle.image_model.specs.Change.{Change}
 use Rattle.nbd_wire.specs.Request.{Message}
 use Rattle.nbd_wire.specs.declared.error.Errno.{Errno}
 use Rattle.nbd_wire.specs.declared.error.Errno.TheVariants.{Io, NoMemory, NoSpace, Invalid}
@@ -20,13 +19,13 @@ use Rattle.nbd_wire.specs.declared.message.Answer.{Answer}
 use Rattle.nbd_wire.specs.declared.message.Answer.TheVariants.{Done, Refused, Bytes, States}
 use Rattle.world.specs.declared.step.Step.{Step}
 use Rattle.world.specs.declared.step.Step.TheVariants as steps
-use Rattle.disk_model.specs.Faults.{counted}
-use Rattle.image_model.specs.Bodies.{bodies_bytes, body_bytes, body_limit, longest}
+use Rattle.image_model.specs.Bodies.{bodies_bytes, body_limit, longest}
 use Rattle.world.specs.Log.{command_of, is_write, is_flush, waits_for_store, IsAnswered}
 use Rattle.world.specs.Serve.{Failure, Nothing, OutOfMemory, DeviceFailure, logged, held, moved, ready, ordered, state_after, accepted, write_served, passed, judged, serve, answer}
-use Rattle.world.specs.Step.{staged, send, sealed_more, seal, put_back, stored_more, append, publish, after_step}
+use Rattle.world.specs.Checkpoint.{can_rotate, can_copy, can_map, can_finish, can_clean, is_full, rotated, finished}
+use Rattle.world.specs.Step.{staged, send, sealed_more, seal, put_back, faulted, written, stored_more, append, publish, in_time, with_generation, without_memory, clean, after_step}
 use Rattle.world.specs.Verdict.{verdict, first_of_rules, is_known, allowed_flags, is_unaligned, past_end}
-use Rattle.world.specs.World.{World, Setting, fresh, last_number, has_room, fits, in_hand}
+use Rattle.world.specs.World.{World, Stage, Setting, fresh, last_number, has_room, fits, in_hand}
 use Rattle.world_law.proofs.Logged.{IsQuiet, put_same, sound_quiet, sound_moved}
 use Rattle.world_law.proofs.Ordered.{sound_ordered}
 use Rattle.world_law.proofs.Sound.{AwaitsOthers, IsRight, IsSound, facts_of}
@@ -184,42 +183,29 @@ module _ (world : World) (c : ℕ) (sound : IsSound world) where
   sound_send failure request (Ready outcome) right = sound_held world sound
   sound_send failure request Closed right = sound_held world sound
 
--- the numbers come to others that are in order, and no fewer commands are durable
-sound_counts : (world : World) (sealed stored durable at faults : ℕ) (stopped : Bool) → IsSound world → world.stage.durable ≤ durable → durable ≤ stored → stored ≤ sealed
-    → sealed ≤ length world.stage.order → IsSound (staged world (record world.stage { sealed = sealed; stored = stored; durable = durable; at = at; faults = faults; stopped = stopped }))
-sound_counts world sealed stored durable at faults stopped sound more first second third = record {
+-- order and keeper come to this, and no fewer commands are durable
+sound_staged : (world : World) (stage : Stage) → IsSound world → world.stage.durable ≤ stage.durable
+    → IsSound (staged world (record stage { setting = world.stage.setting; order = world.stage.order }))
+sound_staged world stage sound more = record {
   legal = sound.legal;
   durable = λ k below covered. let before = sound.durable k below covered in omega (arith, before, more);
-  within = record { durable = first; stored = second; sealed = third };
   right = sound.right;
 }
 
--- no more commands fit a group than there are
-pub longest-le : (limit : ℕ) (commands : List Change) → longest limit commands ≤ length commands
-longest-le limit [] = omega arith
-longest-le limit (command ∷ commands) =
-    of_either (λ (n : ℕ). n ≤ suc (length commands)) (nat_le (body_bytes command) limit) _ _
-    (λ fit. let rest = longest-le (limit - body_bytes command) commands in omega (arith, rest))
-    (λ none. omega arith)
-
 module _ (world : World) (sound : IsSound world) where
-  sound_took : (sealed stored durable at faults : ℕ) (stopped : Bool) (event : Event) → IsQuiet event → world.stage.durable ≤ durable → durable ≤ stored → stored ≤ sealed
-      → sealed ≤ length world.stage.order → IsSound (logged (staged world (record world.stage { sealed = sealed; stored = stored; durable = durable; at = at; faults = faults; stopped = stopped })) event)
-  sound_took sealed stored durable at faults stopped event quiet more first second third =
-      sound_quiet (staged world (record world.stage { sealed = sealed; stored = stored; durable = durable; at = at; faults = faults; stopped = stopped })) event quiet
-      (sound_counts world sealed stored durable at faults stopped sound more first second third)
+  sound_took : (stage : Stage) (event : Event) → IsQuiet event → world.stage.durable ≤ stage.durable
+      → IsSound (logged (staged world (record stage { setting = world.stage.setting; order = world.stage.order })) event)
+  sound_took stage event quiet more =
+      sound_quiet (staged world (record stage { setting = world.stage.setting; order = world.stage.order })) event quiet (sound_staged world stage sound more)
+
+  sound_failed : (fault : StepFault) → IsSound (logged world (Failed fault))
+  sound_failed fault = sound_quiet world (Failed fault) (quiet_failed fault) sound
 
   sound_grouped : IsSound (sealed_more Nothing world)
-  sound_grouped =
-      let count = longest (body_limit world.stage.setting.geometry.area) (drop world.stage.sealed world.stage.order) in
-      let most = longest-le (body_limit world.stage.setting.geometry.area) (drop world.stage.sealed world.stage.order) in
-      let rest = length-drop world.stage.sealed world.stage.order in
-      let durable = sound.within.durable in let stored = sound.within.stored in let sealed = sound.within.sealed in
-      sound_took (world.stage.sealed + count) world.stage.stored world.stage.durable world.stage.at world.stage.faults world.stage.stopped Took quiet_took
-      (omega arith) durable (omega (arith, stored)) (omega (arith, most, rest, sealed))
+  sound_grouped = sound_took (record world.stage { sealed = world.stage.sealed + longest (body_limit world.stage.setting.geometry.area) (drop world.stage.sealed world.stage.order) }) Took quiet_took (omega arith)
 
   sound_sealed_more : (failure : Failure) → IsSound (sealed_more failure world)
-  sound_sealed_more OutOfMemory = sound_quiet world (Failed fault.NoMemory) (quiet_failed fault.NoMemory) sound
+  sound_sealed_more OutOfMemory = sound_failed fault.NoMemory
   sound_sealed_more Nothing = sound_grouped
   sound_sealed_more DeviceFailure = sound_grouped
 
@@ -228,20 +214,16 @@ module _ (world : World) (sound : IsSound world) where
       (λ pending. sound_sealed_more failure) (λ none. sound_held world sound)
 
   sound_put_back : (event : Event) → IsQuiet event → IsSound (logged (put_back world) event)
-  sound_put_back event quiet =
-      let durable = sound.within.durable in let stored = sound.within.stored in let sealed = sound.within.sealed in
-      sound_took world.stage.stored world.stage.stored world.stage.durable world.stage.at world.stage.faults world.stage.stopped event quiet (omega arith) durable (omega arith) (omega (arith, stored, sealed))
+  sound_put_back event quiet = sound_took (put_back world).stage event quiet (omega arith)
+
+  sound_written : (failure : Failure) (stage : Stage) → world.stage.durable ≤ stage.durable
+      → IsSound (written failure world (record stage { setting = world.stage.setting; order = world.stage.order }))
+  sound_written Nothing stage more = sound_took stage Took quiet_took more
+  sound_written OutOfMemory stage more = sound_failed fault.NoMemory
+  sound_written DeviceFailure stage more = sound_took (faulted world).stage (Failed fault.DeviceFault) (quiet_failed fault.DeviceFault) (omega arith)
 
   sound_stored_more : (failure : Failure) → IsSound (stored_more failure world)
-  sound_stored_more Nothing =
-      let durable = sound.within.durable in let stored = sound.within.stored in let sealed = sound.within.sealed in
-      sound_took world.stage.sealed world.stage.sealed world.stage.durable (world.stage.at + 17 + bodies_bytes (in_hand world)) world.stage.faults world.stage.stopped Took quiet_took
-      (omega arith) (omega (arith, durable, stored)) (omega arith) sealed
-  sound_stored_more OutOfMemory = sound_quiet world (Failed fault.NoMemory) (quiet_failed fault.NoMemory) sound
-  sound_stored_more DeviceFailure =
-      let durable = sound.within.durable in let stored = sound.within.stored in let sealed = sound.within.sealed in
-      sound_took world.stage.stored world.stage.stored world.stage.durable world.stage.at (counted world.stage.faults) true (Failed fault.DeviceFault) (quiet_failed fault.DeviceFault)
-      (omega arith) durable (omega arith) (omega (arith, stored, sealed))
+  sound_stored_more failure = sound_written failure (record world.stage { stored = world.stage.sealed; at = world.stage.at + 17 + bodies_bytes (in_hand world) }) (omega arith)
 
   sound_append : (failure : Failure) → IsSound (append failure world)
   sound_append failure = of_either IsSound (nat_lt world.stage.stored world.stage.sealed) _ _
@@ -252,10 +234,22 @@ module _ (world : World) (sound : IsSound world) where
 
   sound_publish : IsSound (publish world)
   sound_publish = of_either IsSound (nat_lt world.stage.durable world.stage.stored) _ _
-      (λ more. let stored = sound.within.stored in let sealed = sound.within.sealed in
-      sound_took world.stage.sealed world.stage.stored world.stage.stored world.stage.at world.stage.faults world.stage.stopped Took quiet_took
-      (let above = ltb-true world.stage.durable world.stage.stored more in omega (arith, above)) (omega arith) stored sealed)
+      (λ more. sound_took (record world.stage { durable = world.stage.stored }) Took quiet_took (let above = ltb-true world.stage.durable world.stage.stored more in omega (arith, above)))
       (λ none. sound_held world sound)
+
+  sound_in_time : (is_time : Bool) (next : World) → IsSound next → IsSound (in_time is_time world next)
+  sound_in_time is_time next is = of_either IsSound world.stage.stopped _ _ (λ stopped. sound_failed fault.FailedBefore)
+      (λ works. of_either IsSound is_time next (held world) (λ now. is) (λ not_now. sound_held world sound))
+
+  sound_full : (next : World) → IsSound next → IsSound (with_generation world next)
+  sound_full next is = of_either IsSound (is_full world.stage) _ next (λ full. sound_failed fault.NumbersFull) (λ room. is)
+
+  sound_finished : (failure : Failure) (turned : List ℕ) → IsSound (written failure world (finished world.stage turned))
+  sound_finished failure [] = sound_written failure world.stage (omega arith)
+  sound_finished failure (first ∷ rest) = sound_written failure (finished world.stage (first ∷ rest)) (omega arith)
+
+  sound_clean : IsSound (clean world)
+  sound_clean = of_either IsSound (can_clean world.stage) _ _ (λ more. sound_took (record world.stage { cleaned = world.stage.base }) Took quiet_took (omega arith)) (λ none. sound_held world sound)
 
   -- each step leaves the world sound
   pub sound_step : (step : Step) (failure : Failure) → IsSound (after_step world step failure)
@@ -265,10 +259,15 @@ module _ (world : World) (sound : IsSound world) where
   sound_step steps.Seal failure = sound_seal failure
   sound_step steps.Append failure = sound_append failure
   sound_step steps.Publish failure = sound_publish
+  sound_step steps.Rotate failure = sound_in_time (can_rotate world.stage) _ (sound_full _ (sound_written failure (rotated world.stage) (omega arith)))
+  sound_step steps.Copy failure = sound_in_time (can_copy world.stage) _ (sound_written failure (record world.stage { left = world.stage.left - 1 }) (omega arith))
+  sound_step steps.Map failure = sound_in_time (can_map world.stage) _ (sound_written failure (record world.stage { mapped = true }) (omega arith))
+  sound_step steps.Finish failure = sound_in_time (can_finish world.stage) _ (sound_full _ (sound_finished (without_memory failure) world.stage.turned))
+  sound_step steps.Clean failure = sound_clean
 
 -- a fresh world is sound
-pub sound_fresh : (setting : Setting) (end : ℕ) → IsSound (fresh setting end)
-sound_fresh setting end = record {
+pub sound_fresh : (setting : Setting) → IsSound (fresh setting)
+sound_fresh setting = record {
   legal = record {
     own = λ k command at. cc;
     apart = λ k m before below. absurd (omega (arith, below));
@@ -278,8 +277,7 @@ sound_fresh setting end = record {
     one_open = λ c place next request other before at later. cc;
   };
   durable = λ k below covered. absurd (omega (arith, below));
-  within = record { durable = omega arith; stored = omega arith; sealed = omega arith };
-  right = λ c. of_either (λ (s : Connection). IsRight (facts_of (fresh setting end)) c 0 s) (nat_lt c setting.connections) Idle Closed
+  right = λ c. of_either (λ (s : Connection). IsRight (facts_of (fresh setting)) c 0 s) (nat_lt c setting.connections) Idle Closed
       (λ inside place request at. cc) (λ outside. tt);
 }
   where

@@ -34,7 +34,6 @@ pub sound_sent : (world : World) (c : ℕ) (request : Message) → IsSound world
 sound_sent world c request sound all = record {
   legal = legal_more world (Sent c request) allowed idle sound.legal;
   durable = durable_more world (Sent c request) allowed idle sound.legal sound.durable;
-  within = record { durable = sound.within.durable; stored = sound.within.stored; sealed = sound.within.sealed };
   right = λ d. by_place d (cases_eq d c);
 }
   where
@@ -80,7 +79,6 @@ pub sound_answered : (world : World) (c : ℕ) (request : Message) (outcome : An
 sound_answered world c request outcome sound is_open is_allowed = record {
   legal = legal_more world (Answered c outcome) allowed idle sound.legal;
   durable = durable_more world (Answered c outcome) allowed idle sound.legal sound.durable;
-  within = record { durable = sound.within.durable; stored = sound.within.stored; sealed = sound.within.sealed };
   right = λ d. by_place d (cases_eq d c);
 }
   where

@@ -1,6 +1,7 @@
 -- what a log tells of the device is true
-use Rattle.std.proofs.Common.{◌≡◌, ◌⊎◌, inl, inr, ℕ, ◌+◌, ◌<◌, ◌≤◌, ◌==◌, ◌&&◌, ◌||◌, ◌*◌, Bool, true, false, nat_le, nat_lt, not, Result, Ok, Err, List, [], ◌∷◌, ◌++◌, length, sym, ◌∙◌, ap, if◌then◌else◌, subst, refl, arith, bit_and}
-use Rattle.std.proofs.lemmas.Bool.{cases_eq, cases_lt}
+use Rattle.std.proofs.Common.{◌≡◌, ◌⊎◌, inl, inr, ℕ, ◌+◌, ◌-◌, ◌<◌, ◌≤◌, ◌==◌, ◌&&◌, ◌||◌, ◌*◌, Bool, true, false, nat_le, nat_lt, not, Result, Ok, Err, List, [], ◌∷◌, ◌++◌, drop, length, sym, ◌∙◌, ap, if◌then◌else◌, subst, refl, arith, bit_and}
+use Rattle.std.proofs.lemmas.Bool.{both_ways, cases_eq, cases_lt}
+use Rattle.image_model.specs.Bodies.{bodies_bytes, body_limit, longest}
 use Rattle.image_model.specs.declared.geometry.Geometry.{Geometry}
 use Rattle.nbd_wire.specs.Request.{Message}
 use Rattle.nbd_wire.specs.declared.error.Errno.{Errno}
@@ -21,17 +22,52 @@ use Rattle.world.specs.declared.step.Step.TheVariants as steps
 use Rattle.world.specs.Log.{StandsAt, command_of, is_flush}
 use Rattle.world.specs.Run.{IsReached, Fresh, After}
 use Rattle.world.specs.Serve.{Failure, Nothing, OutOfMemory, DeviceFailure, logged, held, moved, ready, ordered, state_after, accepted, passed, judged, serve, answered, answer}
-use Rattle.world.specs.Step.{staged, send, sent, sealed_more, faulted, stored_more, append, publish, after_step}
+use Rattle.world.specs.Checkpoint.{can_rotate, can_copy, can_map, can_finish, can_clean, is_full, rotated, finished}
+use Rattle.world.specs.Step.{staged, send, sent, sealed_more, put_back, faulted, written, append, publish, in_time, with_generation, without_memory, after_step}
 use Rattle.world.specs.Verdict.{verdict, first_of_rules, is_known, allowed_flags, is_unaligned, past_end}
-use Rattle.world.specs.World.{World, Setting, fresh, put, last_number, has_room, fits}
+use Rattle.world.specs.World.{World, Stage, Setting, fresh, put, last_number, has_room, in_hand, fits}
 use Rattle.world_law.specs.Law.{HasFailed, TellsFault, TellsTruth}
 use Rattle.world_law.proofs.Events.{get_split}
 use Rattle.world_law.proofs.Logged.{put_same, put_other}
 use Rattle.world_law.proofs.Steps.{of_either}
 
--- Whatever tells of a fault stands beside an order that was stopped, and that is so only after a fault.
+-- what an event tells is so: an order that was stopped where it tells of a fault, and no generation left where it says so
+abbrev IsBacked : Stage → Event → Type 0
+IsBacked stage (Answered connection outcome) = outcome ≡ Refused Io → stage.stopped ≡ true
+IsBacked stage (Failed fault.DeviceFault) = stage.stopped ≡ true
+IsBacked stage (Failed fault.FailedBefore) = stage.stopped ≡ true
+IsBacked stage (Failed fault.NumbersFull) = is_full stage ≡ true
+IsBacked stage (Failed fault.NoMemory) = Unit {0}
+IsBacked stage (Sent connection request) = Unit {0}
+IsBacked stage (Numbered connection number) = Unit {0}
+IsBacked stage Took = Unit {0}
+IsBacked stage Held = Unit {0}
+
+backed_more : (old new : Stage) (event : Event) → (old.stopped ≡ true → new.stopped ≡ true) → (is_full old ≡ true → is_full new ≡ true) → IsBacked old event → IsBacked new event
+backed_more old new (Answered connection outcome) stopped full is = λ fault. stopped (is fault)
+backed_more old new (Failed fault.DeviceFault) stopped full is = stopped is
+backed_more old new (Failed fault.FailedBefore) stopped full is = stopped is
+backed_more old new (Failed fault.NumbersFull) stopped full is = full is
+backed_more old new (Failed fault.NoMemory) stopped full is = tt
+backed_more old new (Sent connection request) stopped full is = tt
+backed_more old new (Numbered connection number) stopped full is = tt
+backed_more old new Took stopped full is = tt
+backed_more old new Held stopped full is = tt
+
+backed_stopped : (stage : Stage) (event : Event) → IsBacked stage event → TellsFault event → stage.stopped ≡ true
+backed_stopped stage (Answered connection outcome) is tells = is tells
+backed_stopped stage (Failed fault.DeviceFault) is tells = is
+backed_stopped stage (Failed fault.FailedBefore) is tells = is
+backed_stopped stage (Failed fault.NumbersFull) is tells = absurd tells
+backed_stopped stage (Failed fault.NoMemory) is tells = absurd tells
+backed_stopped stage (Sent connection request) is tells = absurd tells
+backed_stopped stage (Numbered connection number) is tells = absurd tells
+backed_stopped stage Took is tells = absurd tells
+backed_stopped stage Held is tells = absurd tells
+
+-- What events tell is so, and an order was stopped only after a fault.
 record IsTruthful (world : World) : Type 0 where
-  told : (place : ℕ) (event : Event) → StandsAt world.log place event → TellsFault event → world.stage.stopped ≡ true
+  told : (place : ℕ) (event : Event) → StandsAt world.log place event → IsBacked world.stage event
   due : (connection : ℕ) → world.connections connection ≡ Ready (Refused Io) → world.stage.stopped ≡ true
   failed : world.stage.stopped ≡ true → HasFailed world.stage
   -- the count doesn't fall
@@ -86,22 +122,27 @@ refused_inside : (errno : Errno) → Ready (Refused errno) ≡ Ready (Refused Io
 refused_inside errno is = cc
 
 module _ (world : World) (true_so_far : IsTruthful world) where
+  told_more : (stage : Stage) (event : Event) → (world.stage.stopped ≡ true → stage.stopped ≡ true) → (is_full world.stage ≡ true → is_full stage ≡ true) → IsBacked stage event
+      → (place : ℕ) (other : Event) → StandsAt (world.log ++ event ∷ []) place other → IsBacked stage other
+  told_more stage event stopped full backed place other at = by_place (get_split world.log event place other at)
+    where
+      by_place : StandsAt world.log place other ⊎ ((place ≡ length world.log) × (other ≡ event)) → IsBacked stage other
+      by_place (inl before) = backed_more world.stage stage other stopped full (true_so_far.told place other before)
+      by_place (inr last) = subst (IsBacked stage) (sym last.1) backed
+
   -- a step after which order and keeper have met no fault more
   calm : (next : World) (event : Event) → next.log ≡ world.log ++ event ∷ [] → next.stage.stopped ≡ world.stage.stopped → next.stage.faults ≡ world.stage.faults
-      → next.stage.setting ≡ world.stage.setting → (TellsFault event → world.stage.stopped ≡ true)
+      → next.stage.setting ≡ world.stage.setting → (is_full world.stage ≡ true → is_full next.stage ≡ true) → IsBacked world.stage event
       → ((connection : ℕ) → next.connections connection ≡ Ready (Refused Io) → world.stage.stopped ≡ true) → IsTruthful next
-  calm next event log stopped faults setting tells due = record {
-    told = λ place other at tells_other. stopped ∙ before place other (get_split world.log event place other (subst (λ (l : List Event). StandsAt l place other) log at)) tells_other;
+  calm next event log stopped faults setting full backed due = record {
+    told = λ place other at. told_more next.stage event (λ is. stopped ∙ is) full (backed_more world.stage next.stage event (λ is. stopped ∙ is) full backed) place other
+        (subst (λ (l : List Event). StandsAt l place other) log at);
     due = λ connection is. stopped ∙ due connection is;
     failed = λ is. still (true_so_far.failed (sym stopped ∙ is));
     since = going true_so_far.since;
     quiet = λ works. faults ∙ true_so_far.quiet (sym stopped ∙ works) ∙ sym given;
   }
     where
-      before : (place : ℕ) (other : Event) → StandsAt world.log place other ⊎ ((place ≡ length world.log) × (other ≡ event)) → TellsFault other → world.stage.stopped ≡ true
-      before place other (inl at) tells_other = true_so_far.told place other at tells_other
-      before place other (inr last) tells_other = tells (subst TellsFault last.1 tells_other)
-
       given : next.stage.setting.failures ≡ world.stage.setting.failures
       given = ap (λ (s : Setting). s.failures) setting
 
@@ -115,10 +156,10 @@ module _ (world : World) (true_so_far : IsTruthful world) where
       going (inr most) = inr (omega (arith, most, faults))
 
   calm_held : IsTruthful (held world)
-  calm_held = calm (held world) Held refl refl refl refl (λ tells. absurd tells) true_so_far.due
+  calm_held = calm (held world) Held refl refl refl refl (λ is. is) tt true_so_far.due
 
   calm_failed : IsTruthful (logged world (Failed fault.NoMemory))
-  calm_failed = calm (logged world (Failed fault.NoMemory)) (Failed fault.NoMemory) refl refl refl refl (λ tells. absurd tells) true_so_far.due
+  calm_failed = calm (logged world (Failed fault.NoMemory)) (Failed fault.NoMemory) refl refl refl refl (λ is. is) tt true_so_far.due
 
   due_put : (c : ℕ) (state : Connection) → (state ≡ Ready (Refused Io) → world.stage.stopped ≡ true)
       → (d : ℕ) → put world.connections c state d ≡ Ready (Refused Io) → world.stage.stopped ≡ true
@@ -129,17 +170,17 @@ module _ (world : World) (true_so_far : IsTruthful world) where
       by_case (inr other) there = true_so_far.due d (sym (put_other world.connections c state d other) ∙ there)
 
   module _ (c : ℕ) where
-    calm_moved : (state : Connection) (event : Event) → (TellsFault event → world.stage.stopped ≡ true) → (state ≡ Ready (Refused Io) → world.stage.stopped ≡ true)
+    calm_moved : (state : Connection) (event : Event) → IsBacked world.stage event → (state ≡ Ready (Refused Io) → world.stage.stopped ≡ true)
         → IsTruthful (logged (moved world c state) event)
-    calm_moved state event tells here = calm (logged (moved world c state) event) event refl refl refl refl tells (due_put c state here)
+    calm_moved state event tells here = calm (logged (moved world c state) event) event refl refl refl refl (λ is. is) tells (due_put c state here)
 
     calm_ready : (errno : Errno) → (errno ≡ Io → world.stage.stopped ≡ true) → IsTruthful (ready world c (Refused errno))
-    calm_ready errno here = calm_moved (Ready (Refused errno)) Took (λ tells. absurd tells) (λ is. here (refused_inside errno is))
+    calm_ready errno here = calm_moved (Ready (Refused errno)) Took tt (λ is. here (refused_inside errno is))
 
     calm_sent : (failure : Failure) (request : Message) → IsTruthful (sent failure world c request)
     calm_sent OutOfMemory request = calm_failed
-    calm_sent Nothing request = calm (sent Nothing world c request) (Sent c request) refl refl refl refl (λ tells. absurd tells) (due_put c (Requested request) (λ is. cc))
-    calm_sent DeviceFailure request = calm (sent DeviceFailure world c request) (Sent c request) refl refl refl refl (λ tells. absurd tells) (due_put c (Requested request) (λ is. cc))
+    calm_sent Nothing request = calm (sent Nothing world c request) (Sent c request) refl refl refl refl (λ is. is) tt (due_put c (Requested request) (λ is. cc))
+    calm_sent DeviceFailure request = calm (sent DeviceFailure world c request) (Sent c request) refl refl refl refl (λ is. is) tt (due_put c (Requested request) (λ is. cc))
 
     calm_send : (failure : Failure) (request : Message) (state : Connection) → IsTruthful (send failure world c request state)
     calm_send failure request Idle = calm_sent failure request
@@ -154,7 +195,7 @@ module _ (world : World) (true_so_far : IsTruthful world) where
 
     calm_numbered : (request : Message) (waits : Bool) (number : ℕ) → IsTruthful (logged (moved (ordered world c request) c (state_after waits number)) (Numbered c number))
     calm_numbered request waits number = calm (logged (moved (ordered world c request) c (state_after waits number)) (Numbered c number)) (Numbered c number) refl refl refl refl
-        (λ tells. absurd tells) (due_put c (state_after waits number) (λ is. absurd (after_unlike waits number is)))
+        (λ is. is) tt (due_put c (state_after waits number) (λ is. absurd (after_unlike waits number is)))
 
     memory_unlike : NoMemory ≡ Io → ⊥
     memory_unlike is = cc
@@ -169,12 +210,12 @@ module _ (world : World) (true_so_far : IsTruthful world) where
 
     calm_passed : (failure : Failure) (request : Message) → IsTruthful (passed failure world c request)
     calm_passed failure request = of_either IsTruthful world.stage.stopped _ _ (λ stopped. calm_ready Io (λ is. stopped))
-        (λ works. of_either IsTruthful (is_flush request) _ _ (λ flush. calm_moved (Waiting (last_number world)) Took (λ tells. absurd tells) (λ is. cc))
+        (λ works. of_either IsTruthful (is_flush request) _ _ (λ flush. calm_moved (Waiting (last_number world)) Took tt (λ is. cc))
         (λ other. of_either IsTruthful (last_number world == 18446744073709551615) _ _ (λ full. calm_ready NoSpace (λ is. absurd (space_unlike is)))
         (λ left. of_either IsTruthful (has_room world (command_of request)) _ _ (λ room. calm_accepted failure request) (λ none. calm_held))))
 
     calm_judged : (result : Result Action Errno) → (result ≡ Err Io → ⊥) → (failure : Failure) (request : Message) → IsTruthful (judged result failure world c request)
-    calm_judged (Ok End) unlike failure request = calm_moved Closed Took (λ tells. absurd tells) (λ is. cc)
+    calm_judged (Ok End) unlike failure request = calm_moved Closed Took tt (λ is. cc)
     calm_judged (Ok Serve) unlike failure request = calm_passed failure request
     calm_judged (Err errno) unlike failure request = calm_ready errno (λ is. absurd (unlike (ap (λ (e : Errno). let result : Result Action Errno = Err e in result) is)))
 
@@ -201,15 +242,18 @@ module _ (world : World) (true_so_far : IsTruthful world) where
     calm_answer Closed at = calm_held
 
   -- a step of order and keeper that meets no fault
-  calm_staged : (sealed stored durable at : ℕ) (event : Event) → (TellsFault event → world.stage.stopped ≡ true)
-      → IsTruthful (logged (staged world (record world.stage { sealed = sealed; stored = stored; durable = durable; at = at })) event)
-  calm_staged sealed stored durable at event tells =
-      calm (logged (staged world (record world.stage { sealed = sealed; stored = stored; durable = durable; at = at })) event) event refl refl refl refl tells true_so_far.due
+  calm_staged : (stage : Stage) (event : Event) → (is_full world.stage ≡ true → is_full stage ≡ true) → IsBacked world.stage event
+      → IsTruthful (logged (staged world (record stage { setting = world.stage.setting; stopped = world.stage.stopped; faults = world.stage.faults })) event)
+  calm_staged stage event full backed =
+      calm (logged (staged world (record stage { setting = world.stage.setting; stopped = world.stage.stopped; faults = world.stage.faults })) event) event refl refl refl refl full backed true_so_far.due
+
+  calm_grouped : IsTruthful (sealed_more Nothing world)
+  calm_grouped = calm_staged (record world.stage { sealed = world.stage.sealed + longest (body_limit world.stage.setting.geometry.area) (drop world.stage.sealed world.stage.order) }) Took (λ is. is) tt
 
   calm_sealed : (failure : Failure) → IsTruthful (sealed_more failure world)
   calm_sealed OutOfMemory = calm_failed
-  calm_sealed Nothing = calm_staged _ _ _ _ Took (λ tells. absurd tells)
-  calm_sealed DeviceFailure = calm_staged _ _ _ _ Took (λ tells. absurd tells)
+  calm_sealed Nothing = calm_grouped
+  calm_sealed DeviceFailure = calm_grouped
 
   -- a fault more is counted, if the count isn't at its end
   rises : (world.stage.setting.failures ≤ world.stage.faults) ⊎ (18446744073709551615 ≤ world.stage.faults)
@@ -226,25 +270,43 @@ module _ (world : World) (true_so_far : IsTruthful world) where
   risen_since (inl more) = inl (omega (arith, more))
   risen_since (inr most) = inr most
 
-  calm_stored : (failure : Failure) → IsTruthful (stored_more failure world)
-  calm_stored OutOfMemory = calm_failed
-  calm_stored Nothing = calm_staged _ _ _ _ Took (λ tells. absurd tells)
-  calm_stored DeviceFailure = record {
-    told = λ place other at tells. refl;
+  calm_written : (failure : Failure) (stage : Stage) → (is_full world.stage ≡ true → is_full stage ≡ true)
+      → IsTruthful (written failure world (record stage { setting = world.stage.setting; stopped = world.stage.stopped; faults = world.stage.faults }))
+  calm_written OutOfMemory stage full = calm_failed
+  calm_written Nothing stage full = calm_staged stage Took full tt
+  calm_written DeviceFailure stage full = record {
+    told = told_more (faulted world).stage (Failed fault.DeviceFault) (λ is. refl) (λ is. is) refl;
     due = λ connection is. refl;
     failed = λ is. rises true_so_far.since;
     since = risen_since (rises true_so_far.since);
     quiet = λ works. cc;
   }
 
+  calm_back : (event : Event) → IsBacked world.stage event → IsTruthful (logged (put_back world) event)
+  calm_back event backed = calm_staged (put_back world).stage event (λ is. is) backed
+
   calm_append : (failure : Failure) → IsTruthful (append failure world)
   calm_append failure = of_either IsTruthful (nat_lt world.stage.stored world.stage.sealed) _ _
-      (λ hand. of_either IsTruthful world.stage.stopped _ _ (λ stopped. calm_staged _ _ _ _ (Failed fault.FailedBefore) (λ tells. stopped))
-      (λ works. of_either IsTruthful (fits world) _ _ (λ fit. calm_stored failure) (λ full. calm_staged _ _ _ _ Held (λ tells. absurd tells))))
+      (λ hand. of_either IsTruthful world.stage.stopped _ _ (λ stopped. calm_back (Failed fault.FailedBefore) stopped)
+      (λ works. of_either IsTruthful (fits world) _ _
+      (λ fit. calm_written failure (record world.stage { stored = world.stage.sealed; at = world.stage.at + 17 + bodies_bytes (in_hand world) }) (λ is. is)) (λ full. calm_back Held tt)))
       (λ none. calm_held)
 
   calm_publish : IsTruthful (publish world)
-  calm_publish = of_either IsTruthful (nat_lt world.stage.durable world.stage.stored) _ _ (λ more. calm_staged _ _ _ _ Took (λ tells. absurd tells)) (λ none. calm_held)
+  calm_publish = of_either IsTruthful (nat_lt world.stage.durable world.stage.stored) _ _ (λ more. calm_staged (record world.stage { durable = world.stage.stored }) Took (λ is. is) tt) (λ none. calm_held)
+
+  calm_in_time : (is_time : Bool) (next : World) → IsTruthful next → IsTruthful (in_time is_time world next)
+  calm_in_time is_time next is = of_either IsTruthful world.stage.stopped _ _
+      (λ stopped. calm (logged world (Failed fault.FailedBefore)) (Failed fault.FailedBefore) refl refl refl refl (λ same. same) stopped true_so_far.due)
+      (λ works. of_either IsTruthful is_time next _ (λ now. is) (λ not_now. calm_held))
+
+  calm_full : (next : World) → (is_full world.stage ≡ false → IsTruthful next) → IsTruthful (with_generation world next)
+  calm_full next is = of_either IsTruthful (is_full world.stage) _ next
+      (λ full. calm (logged world (Failed fault.NumbersFull)) (Failed fault.NumbersFull) refl refl refl refl (λ same. same) full true_so_far.due) is
+
+  calm_finished : (failure : Failure) (turned : List ℕ) → is_full world.stage ≡ false → IsTruthful (written failure world (finished world.stage turned))
+  calm_finished failure [] room = calm_written failure world.stage (λ is. is)
+  calm_finished failure (first ∷ rest) room = calm_written failure (finished world.stage (first ∷ rest)) (λ is. absurd (both_ways (is_full world.stage) room is))
 
   true_step : (step : Step) (failure : Failure) → IsTruthful (after_step world step failure)
   true_step (steps.Send c request) failure = calm_send c failure request (world.connections c)
@@ -254,10 +316,16 @@ module _ (world : World) (true_so_far : IsTruthful world) where
       (λ pending. calm_sealed failure) (λ none. calm_held)
   true_step steps.Append failure = calm_append failure
   true_step steps.Publish failure = calm_publish
+  true_step steps.Rotate failure = calm_in_time (can_rotate world.stage) _
+      (calm_full _ (λ room. calm_written failure (rotated world.stage) (λ is. absurd (both_ways (is_full world.stage) room is))))
+  true_step steps.Copy failure = calm_in_time (can_copy world.stage) _ (calm_written failure (record world.stage { left = world.stage.left - 1 }) (λ is. is))
+  true_step steps.Map failure = calm_in_time (can_map world.stage) _ (calm_written failure (record world.stage { mapped = true }) (λ is. is))
+  true_step steps.Finish failure = calm_in_time (can_finish world.stage) _ (calm_full _ (λ room. calm_finished (without_memory failure) world.stage.turned room))
+  true_step steps.Clean failure = of_either IsTruthful (can_clean world.stage) _ _ (λ more. calm_staged (record world.stage { cleaned = world.stage.base }) Took (λ is. is) tt) (λ none. calm_held)
 
-true_fresh : (setting : Setting) (end : ℕ) → IsTruthful (fresh setting end)
-true_fresh setting end = record {
-  told = λ place event at tells. cc;
+true_fresh : (setting : Setting) → IsTruthful (fresh setting)
+true_fresh setting = record {
+  told = λ place event at. cc;
   due = λ c is. absurd (of_either (λ (s : Connection). s ≡ Ready (Refused Io) → ⊥) (nat_lt c setting.connections) Idle Closed (λ inside idle. cc) (λ outside closed. cc) is);
   failed = λ is. cc;
   since = inl (omega arith);
@@ -265,11 +333,16 @@ true_fresh setting end = record {
 }
 
 true_reached : (world : World) → IsReached world → IsTruthful world
-true_reached world (Fresh setting end) = true_fresh setting end
+true_reached world (Fresh setting) = true_fresh setting
 true_reached world (After {world = before} step failure reached) = true_step before (true_reached before reached) step failure
 
 -- what schedules lead to tells the truth
 pub truth_reached : (world : World) → IsReached world → TellsTruth world
 truth_reached world reached =
     let is = true_reached world reached in
-    record { told = λ place event at tells. is.failed (is.told place event at tells); stopped = is.failed; quiet = is.quiet }
+    record {
+      told = λ place event at tells. is.failed (backed_stopped world.stage event (is.told place event at) tells);
+      stopped = is.failed;
+      quiet = is.quiet;
+      full = λ place at. is.told place (Failed fault.NumbersFull) at;
+    }

@@ -1,5 +1,5 @@
 -- a connection waits for a number of the order
-use Rattle.std.proofs.Common.{◌≡◌, ℕ, ◌+◌, ◌≤◌, ◌==◌, ◌&&◌, Bool, true, false, nat_le, nat_lt, Result, Ok, Err, [], ◌∷◌, ◌++◌, length, length-append, subst, arith}
+use Rattle.std.proofs.Common.{◌≡◌, ℕ, ◌+◌, ◌-◌, ◌≤◌, ◌==◌, ◌&&◌, Bool, true, false, nat_le, nat_lt, Result, Ok, Err, List, [], ◌∷◌, ◌++◌, length, length-append, subst, arith}
 use Rattle.nbd_wire.specs.Request.{Message}
 use Rattle.nbd_wire.specs.declared.error.Errno.{Errno}
 use Rattle.nbd_wire.specs.declared.error.Errno.TheVariants.{Io, NoMemory, NoSpace}
@@ -10,12 +10,14 @@ use Rattle.world.specs.declared.connection.Connection.{Connection}
 use Rattle.world.specs.declared.connection.Connection.TheVariants.{Idle, Requested, Waiting, Ready, Closed}
 use Rattle.world.specs.declared.step.Step.{Step}
 use Rattle.world.specs.declared.step.Step.TheVariants as steps
+use Rattle.image_model.specs.Bodies.{bodies_bytes}
 use Rattle.world.specs.Log.{command_of, is_flush, waits_for_store}
 use Rattle.world.specs.Run.{IsReached, Fresh, After}
 use Rattle.world.specs.Serve.{Failure, Nothing, OutOfMemory, DeviceFailure, accepted, answer, judged, passed, serve, state_after}
-use Rattle.world.specs.Step.{after_step, append, sealed_more, send, sent, stored_more}
+use Rattle.world.specs.Checkpoint.{can_rotate, can_copy, can_map, can_finish, can_clean, is_full, rotated, finished}
+use Rattle.world.specs.Step.{after_step, append, in_time, with_generation, sealed_more, send, sent, without_memory, written}
 use Rattle.world.specs.Verdict.{verdict}
-use Rattle.world.specs.World.{World, Setting, fits, fresh, has_room, last_number, put}
+use Rattle.world.specs.World.{World, Stage, Setting, fits, fresh, has_room, in_hand, last_number, put}
 use Rattle.world_law.proofs.Steps.{of_either}
 
 -- where a connection in this state waits for a number, it is no greater than the last one
@@ -105,15 +107,25 @@ module _ (world : World) (all : AllWait world) where
   wait_sealed Nothing = all
   wait_sealed DeviceFailure = all
 
-  wait_stored : (failure : Failure) → AllWait (stored_more failure world)
-  wait_stored OutOfMemory = all
-  wait_stored Nothing = all
-  wait_stored DeviceFailure = all
+  wait_written : (failure : Failure) (stage : Stage) → AllWait (written failure world (record stage { setting = world.stage.setting; order = world.stage.order }))
+  wait_written OutOfMemory stage = all
+  wait_written Nothing stage = all
+  wait_written DeviceFailure stage = all
 
   wait_append : (failure : Failure) → AllWait (append failure world)
   wait_append failure = of_either AllWait (nat_lt world.stage.stored world.stage.sealed) _ _
       (λ hand. of_either AllWait world.stage.stopped _ _ (λ stopped. all)
-      (λ works. of_either AllWait (fits world) _ _ (λ fit. wait_stored failure) (λ full. all))) (λ none. all)
+      (λ works. of_either AllWait (fits world) _ _ (λ fit. wait_written failure (record world.stage { stored = world.stage.sealed; at = world.stage.at + 17 + bodies_bytes (in_hand world) })) (λ full. all))) (λ none. all)
+
+  wait_in_time : (is_time : Bool) (next : World) → AllWait next → AllWait (in_time is_time world next)
+  wait_in_time is_time next is = of_either AllWait world.stage.stopped _ _ (λ stopped. all) (λ works. of_either AllWait is_time next _ (λ now. is) (λ not_now. all))
+
+  wait_full : (next : World) → AllWait next → AllWait (with_generation world next)
+  wait_full next is = of_either AllWait (is_full world.stage) _ next (λ full. all) (λ room. is)
+
+  wait_finished : (failure : Failure) (turned : List ℕ) → AllWait (written failure world (finished world.stage turned))
+  wait_finished failure [] = wait_written failure world.stage
+  wait_finished failure (first ∷ rest) = wait_written failure (finished world.stage (first ∷ rest))
 
   wait_step : (step : Step) (failure : Failure) → AllWait (after_step world step failure)
   wait_step (steps.Send c request) failure = wait_send failure c request (world.connections c)
@@ -123,12 +135,17 @@ module _ (world : World) (all : AllWait world) where
       (λ pending. wait_sealed failure) (λ none. all)
   wait_step steps.Append failure = wait_append failure
   wait_step steps.Publish failure = of_either AllWait (nat_lt world.stage.durable world.stage.stored) _ _ (λ more. all) (λ none. all)
+  wait_step steps.Rotate failure = wait_in_time (can_rotate world.stage) _ (wait_full _ (wait_written failure (rotated world.stage)))
+  wait_step steps.Copy failure = wait_in_time (can_copy world.stage) _ (wait_written failure (record world.stage { left = world.stage.left - 1 }))
+  wait_step steps.Map failure = wait_in_time (can_map world.stage) _ (wait_written failure (record world.stage { mapped = true }))
+  wait_step steps.Finish failure = wait_in_time (can_finish world.stage) _ (wait_full _ (wait_finished (without_memory failure) world.stage.turned))
+  wait_step steps.Clean failure = of_either AllWait (can_clean world.stage) _ _ (λ more. all) (λ none. all)
 
-wait_fresh : (setting : Setting) (end : ℕ) → AllWait (fresh setting end)
-wait_fresh setting end c = of_either (WaitsWithin (last_number (fresh setting end))) (nat_lt c setting.connections) Idle Closed (λ inside. tt) (λ outside. tt)
+wait_fresh : (setting : Setting) → AllWait (fresh setting)
+wait_fresh setting c = of_either (WaitsWithin (last_number (fresh setting))) (nat_lt c setting.connections) Idle Closed (λ inside. tt) (λ outside. tt)
 
 all_wait : (world : World) → IsReached world → AllWait world
-all_wait world (Fresh setting end) = wait_fresh setting end
+all_wait world (Fresh setting) = wait_fresh setting
 all_wait world (After {world = before} step failure reached) = wait_step before (all_wait before reached) step failure
 
 -- who waits in a world that schedules lead to waits for a number of its order

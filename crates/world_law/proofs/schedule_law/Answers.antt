@@ -1,13 +1,14 @@
 use Rattle.world_law.proofs.Reached.{sound_reached, covers_durable, grows_run, reached_run}
 use Rattle.world_law.proofs.Truthful.{truth_reached}
 use Rattle.world_law.proofs.Waiting.{waiting_reached}
+use Rattle.world_law.proofs.Within.{within_reached}
 use Rattle.world_law.proofs.schedule_law.Goals as goal
 
 pub returns : goal.returns
 returns c = record {
   legal = λ world reached. (sound_reached world reached).legal;
   covered = λ world reached. covers_durable world (sound_reached world reached);
-  within = λ world reached. (sound_reached world reached).within;
+  within = within_reached;
   truth = truth_reached;
   grows = grows_run;
   reached = reached_run;
