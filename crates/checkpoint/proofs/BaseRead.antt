@@ -24,7 +24,7 @@ use Rattle.device_image.proofs.Lists.{KeepsLists}
 use Rattle.checkpoint.proofs.Readings.{seen_steady}
 
 -- what stands for an image still does where the content is the same
-abbrev stands_there : (content other : List ℕ) (image : Image) (number : ℕ) → content ≡ other → StandsFor content image number → StandsFor other image number
+abbrev pub stands_there : (content other : List ℕ) (image : Image) (number : ℕ) → content ≡ other → StandsFor content image number → StandsFor other image number
 stands_there content other image number same stands = record {
   header = stands.header;
   slot = stands.slot;

@@ -1,5 +1,5 @@
 -- A keeper while an opening recovers it.
-use Rattle.std.proofs.Common.{◌≡◌, ◌≢◌, ℕ, ◌-◌, Result, Ok, Err, IfErr, OnOk, List, [], refl, sym, ◌∙◌, ap, subst, arith}
+use Rattle.std.proofs.Common.{◌≡◌, ◌≢◌, ℕ, ◌-◌, Result, Ok, Err, IfErr, OnOk, List, [], refl, sym, ◌∙◌, ap, subst, arith, false}
 use Rattle.disk_model.specs.Disk.{State}
 use Rattle.device_image.specs.Keeper.{KeeperState, Memory, Phase, Copying, One}
 use Rattle.device_image.specs.Keeps.{Keeps}
@@ -11,6 +11,8 @@ use Rattle.device_image.proofs.Holding.{held_as, keeps_again}
 use Rattle.image_model.specs.Change.{Change}
 use Rattle.checkpoint.specs.declared.fault.KeeperFault.{KeeperFault}
 use Rattle.checkpoint.specs.declared.fault.KeeperFault.TheVariants.{NoMemory, DeviceFault, BadMap, NoHeader, BadHeader, NumbersFull, AreaFull, OutOfOrder, DamagedGroup, NotNow, Failed}
+use Rattle.device_image.specs.Remembers.{Remembers}
+use Rattle.checkpoint.specs.Recovery.{IsRecovered}
 
 -- a keeper of which some blocks more were copied
 abbrev pub copied_to : {D : Type 0} → KeeperState D → D → ℕ → Memory → KeeperState D
@@ -74,3 +76,14 @@ module _ {D : Type 0} where
   pub count_ended : {T : Type 0} (result : Result T KeeperFault) (old new : KeeperState D) → OnOk result (new ≡ finished_by old new.disk new.memory) → OnOk result (new.count ≡ old.count)
   count_ended (Err fault) old new is = tt
   count_ended (Ok done) old new is = ap (λ (k : KeeperState D). k.count) is
+
+  -- what an opening leaves once a checkpoint has ended
+  pub recovered_by : {T : Type 0} (result : Result T KeeperFault) (old new : KeeperState D) → OnOk result (new ≡ finished_by old new.disk new.memory) → old.failed ≡ false → old.used ≡ 0
+      → OnOk result (Remembers new []) → OnOk result (IsRecovered new)
+  recovered_by (Err fault) old new is works used remembers = tt
+  recovered_by (Ok done) old new is works used remembers = record {
+    works = ap (λ (k : KeeperState D). k.failed) is ∙ works;
+    phase = ap (λ (k : KeeperState D). k.phase) is;
+    used = ap (λ (k : KeeperState D). k.used) is ∙ used;
+    remembers = remembers;
+  }

@@ -14,8 +14,8 @@ use Rattle.image_model.specs.declared.command.Kind.{Kind}
 use Rattle.image_model.specs.declared.command.Kind.TheVariants.{Data, Zero, Hole}
 use Rattle.image_model.specs.declared.side.Side.{Side}
 use Rattle.journal.specs.Area.{AreaState}
-use Rattle.journal.specs.GroupList.{changes_of}
-use Rattle.journal.specs.Touches.{kind_after, last_touch}
+use Rattle.journal.specs.GroupList.{changes_of, next_behind}
+use Rattle.journal.specs.Touches.{kind_after, last_touch, later}
 use Rattle.journal.specs.declared.touch.TouchedRange.{TouchedRange}
 use Rattle.journal.proofs.LastTouches.{groups_kind}
 use Rattle.regions.specs.Layout.{ring}
@@ -25,8 +25,11 @@ use Rattle.device_image.specs.Stands.{all_changes, next_number, stored_image}
 use Rattle.device_image.proofs.Frame.{all_changes-append, apply_all-append, blocks-apply_all}
 use Rattle.checkpoint.specs.Opening.{IsOpened}
 use Rattle.checkpoint.specs.Report.{AreStatesBehind, IsReport, blocks_of}
-use Rattle.checkpoint.proofs.Located.{front_kind}
 use Rattle.checkpoint.proofs.Opened.{last_number, opened_image, opened_stands}
+use Rattle.journal.specs.declared.touch.Touch.{Touch}
+use Rattle.journal.specs.declared.touch.Touch.TheVariants.{Put, Clear}
+use Rattle.journal.specs.Spelling.{StoredGroup}
+use Rattle.image_model.specs.declared.geometry.Geometry.{Geometry}
 
 count_map : (p : Kind → Bool) (f : ℕ → Kind) (places : List ℕ) → count_by p (map f places) ≡ count_by (λ place. p (f place)) places
 count_map p f [] = refl
@@ -40,6 +43,33 @@ pub blocks_counted : (kind : Kind) (image : Image) (states : List Kind) → leng
 blocks_counted kind image states count each =
     ap (count_by (is_state kind)) (fill_by_all image.kind states image.blocks Hole count each)
     ∙ count_map (is_state kind) image.kind (range_with_len 0 image.blocks)
+
+-- the last touch of a block in areas that stand in the ring one after another
+abbrev last_touch_in : ℕ → List AreaState → Option Touch
+last_touch_in block [] = None
+last_touch_in block (area ∷ areas) = later (last_touch block area.touched) (last_touch_in block areas)
+
+-- the later of two touches counts
+kind_later : (touch other : Option Touch) (kind : Kind) → kind_after other (kind_after touch kind) ≡ kind_after (later touch other) kind
+kind_later touch None kind = refl
+kind_later touch (Some (Put place)) kind = refl
+kind_later touch (Some (Clear cleared)) kind = refl
+
+-- the lists of the areas in front of the last
+front_kind : (sides : List Side) (geometry : Geometry) (next : ℕ) (lists : List (List StoredGroup)) (areas : List AreaState) (state : State) → AreHeld sides geometry next lists areas state → (image : Image) (block : ℕ)
+    → (apply_all (all_changes lists) image).kind block ≡ kind_after (last_touch_in block areas) (image.kind block)
+front_kind [] geometry next [] [] state held image block = refl
+front_kind [] geometry next [] (area ∷ areas) state held image block = absurd held
+front_kind [] geometry next (groups ∷ lists) areas state held image block = absurd held
+front_kind (side ∷ sides) geometry next [] areas state held image block = absurd held
+front_kind (side ∷ sides) geometry next (groups ∷ lists) [] state held image block = absurd held
+front_kind (side ∷ sides) geometry next (groups ∷ lists) (area ∷ areas) state held image block =
+    ap (λ (i : Image). i.kind block) (apply_all-append (changes_of groups) (all_changes lists) image)
+    ∙ front_kind sides geometry (next_behind next groups) lists areas state held.2 (apply_all (changes_of groups) image) block
+    ∙ ap (kind_after (last_touch_in block areas))
+    (groups_kind area.blocks state.seen area.from next groups held.1.list.stand image block
+    ∙ ap (λ (touched : List TouchedRange). kind_after (last_touch block touched) (image.kind block)) (sym held.1.touched))
+    ∙ kind_later (last_touch block area.touched) (last_touch_in block areas) (image.kind block)
 
 module _ (state : State) (header : Header) (slot : Side) (states : List Kind) (plan : Option PlanState) (area : AreaState) (opened : IsOpened state header slot states plan area) (fits : header.base < 18446744073709551616) where
   base : Image

@@ -15,7 +15,7 @@ use Rattle.journal.specs.GroupList.{changes_of}
 use Rattle.regions.specs.Layout.{block_at, area_at}
 use Rattle.device_image.specs.Copied.{IsTurnBegun, LeavesTurn}
 use Rattle.checkpoint.specs.Steps.{IsFinishTime, map_after, map_in}
-use Rattle.device_image.specs.Keeper.{KeeperState, PlanState, count_puts, phase_in, phase_of, turned_of}
+use Rattle.device_image.specs.Keeper.{KeeperState, PlanState, count_puts, phase_in, phase_of, turned_of, Copying}
 use Rattle.device_image.specs.Keeps.{IsInPhase, Keeps}
 use Rattle.device_image.specs.Stands.{StandsFor}
 use Rattle.device_image.specs.Turn.{begun, ended}
@@ -26,6 +26,10 @@ use Rattle.device_image.proofs.Lists.{KeepsLists}
 use Rattle.image_model.specs.Change.{Change}
 use Rattle.device_image.specs.Holds.{Holds}
 use Rattle.device_image.proofs.Holding.{holds_begun, holds_ended}
+use Rattle.device_image.specs.Remembers.{Remembers}
+use Rattle.device_image.proofs.Counted.{left_dirty}
+use Rattle.std.specs.FinMap.{len}
+use Rattle.image_model.specs.Dirty.{dirty_blocks}
 
 pub none_of : {X : Type 0} (option : Option X) → is_some option ≡ false → option ≡ None
 none_of None is = refl
@@ -280,3 +284,12 @@ in_map keeper state image number keeps disk header map after same = λ i. record
   phase = phase_of None;
   memory = record keeper.memory { header = header; slot = other_of keeper.memory.slot; map = same i; plan = None };
 }
+
+-- how many blocks are then left to copy
+pub rotated_left : {D : Type 0} (keeper : KeeperState D) (plan : PlanState) (commands : List Change) → keeper.memory.area.blocks ≡ keeper.geometry.blocks
+    → plan ≡ record { first = keeper.memory.area; copied = 0; left = count_puts keeper.memory.area.blocks keeper.memory.area.touched; mapped = None } → Remembers keeper commands
+    → phase_of (Some plan) ≡ Copying (len (dirty_blocks 0 commands))
+rotated_left keeper plan commands blocks plan_is remembers =
+    ap (λ (p : PlanState). phase_of (Some p)) plan_is
+    ∙ ap (λ (b : ℕ). Copying (count_puts b keeper.memory.area.touched)) blocks
+    ∙ ap (λ (n : ℕ). Copying n) (left_dirty keeper commands remembers)

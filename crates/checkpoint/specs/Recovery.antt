@@ -1,6 +1,7 @@
 -- what an opening makes of a device that it has read
-use Rattle.std.specs.Prelude.{◌≡◌, false}
+use Rattle.std.specs.Prelude.{◌≡◌, [], false}
 use Rattle.device_image.specs.Keeper.{KeeperState, Phase, One, Copying, Mapped}
+use Rattle.device_image.specs.Remembers.{Remembers}
 use Rattle.checkpoint.specs.declared.fault.KeeperFault.{KeeperFault}
 use Rattle.checkpoint.specs.declared.fault.KeeperFault.TheVariants.{NoMemory, DeviceFault, BadMap, NoHeader, BadHeader, NumbersFull, AreaFull, OutOfOrder, DamagedGroup, NotNow, Failed}
 
@@ -15,6 +16,7 @@ pub record IsRecovered {D : Type 0} (keeper : KeeperState D) : Type 0 where
   pub works : keeper.failed ≡ false
   pub phase : keeper.phase ≡ One
   pub used : keeper.used ≡ 0
+  pub remembers : Remembers keeper []
 
 -- the refusals that the steps of a checkpoint give in their times
 abbrev pub IsRecoveryFault : KeeperFault → Type 0

@@ -2,6 +2,7 @@ ghost use Rattle.std.specs.Prelude.{◌≡◌, ◌≢◌, ℕ, ◌+◌, ◌++◌
 ghost use Rattle.checkpoint.specs.Keeper.{end_after, faults_by, grown_by, refused_by, IsAppendFault};
 ghost use Rattle.device_image.specs.Holds.{Holds};
 ghost use Rattle.device_image.specs.Keeps.{Keeps};
+ghost use Rattle.device_image.specs.Remembers.{Remembers};
 ghost use Rattle.device_image.specs.Stands.{StandsFor};
 ghost use Rattle.checkpoint.specs.declared.fault.KeeperFault.TheVariants as KeeperFault;
 ghost use Rattle.disk_model.specs.Disk.{IsAllSynced, LeavesOnly, MayLeave};
@@ -37,7 +38,7 @@ pub struct Keeper<D: Disk> {
 }
 
 impl<D: Disk> Model for Keeper<D> {
-    ghost use Rattle.std.specs.Prelude.{◌≡◌, length, IfSome};
+    ghost use Rattle.std.specs.Prelude.{◌≡◌, length, IfSome, []};
     ghost use Rattle.checkpoint.specs.Keeper.{IsSized};
     ghost use Rattle.image_model.specs.Geometry.{device_bytes_of};
     ghost use Rattle.device_image.specs.Keeper.{KeeperState, phase_of, turned_of};
@@ -62,7 +63,8 @@ impl<D: Disk> Model for Keeper<D> {
         × (length keeper.map ≡ keeper.header.geometry.blocks)
         × IfSome keeper.plan (λ plan. IsSized plan.first keeper.header.geometry (D.extent keeper.disk))
         × IsSized keeper.area keeper.header.geometry (D.extent keeper.disk)
-        × (keeper.area.next ≡ next_number keeper.count) };
+        × (keeper.area.next ≡ next_number keeper.count)
+        × (keeper.area.gate ≡ 0 → keeper.area.touched ≡ []) };
 }
 
 impl<D: Disk> Keeper<D> {
@@ -124,6 +126,8 @@ impl<D: Disk> Keeper<D> {
         ensures group_back { IfErr result (λ refused. refused.1 ≡ group) }
         ensures extent { D.extent self.new.disk ≡ D.extent self.old.disk }
         ensures honest { D.honest self.new.disk ↔ D.honest self.old.disk }
+        ensures remembered { (commands : List Change) → Remembers self.old commands → AreChanges self.old.geometry.blocks (map change_of group.commands)
+            → OnOk result (Remembers self.new (commands ++ map change_of group.commands)) }
 
         // When it is refused, and which refusals count as a fault of the device.
         ensures failed { IsErrAnd result (λ refused. refused.0 ≡ KeeperFault.Failed) ↔ IsTrue self.old.failed }

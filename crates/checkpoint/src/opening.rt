@@ -1,4 +1,4 @@
-ghost use Rattle.std.specs.Prelude.{◌≡◌, ◌≢◌, ◌+◌, ◌≤◌, ◌↔◌, List, length, false, IfErr, IfOk, IfSome, MatchResult, OnOk};
+ghost use Rattle.std.specs.Prelude.{◌≡◌, ◌≢◌, ◌+◌, ◌≤◌, ◌↔◌, List, [], length, false, IfErr, IfOk, IfSome, MatchResult, OnOk};
 ghost use Rattle.checkpoint.specs.Keeper.{IsSized, faults_by};
 ghost use Rattle.device_image.specs.Keeps.{HoldsAreas, IsPlaced, Keeps};
 ghost use Rattle.device_image.specs.Damage.{IsAreaDamaged};
@@ -87,6 +87,7 @@ fn read_device<D: Disk>(alloc: Global, disk: &mut D) -> Result<Opened, KeeperFau
     ensures whole { IfOk result (λ opened. D.extent disk.old ≡ device_bytes_of opened.header.geometry.blocks opened.header.geometry.area) }
     ensures placed { IfOk result (λ opened.
         IsPlaced opened.area opened.header.geometry (behind (mode_of opened.header.areas) opened.header.first_area)) }
+    ensures none { IfOk result (λ opened. opened.area.gate ≡ 0 → opened.area.touched ≡ []) }
 
     ensures sized { IfOk result (λ opened. IfSome opened.plan (λ plan. IsSized plan.first opened.header.geometry (D.extent disk.old))) }
     ensures blocks { IfOk result (λ opened. length opened.map ≡ opened.header.geometry.blocks) }
@@ -112,6 +113,7 @@ pub fn read_parts<D: Disk>(alloc: Global, disk: &mut D) -> Result<Opened, Keeper
     ensures whole { IfOk result (λ opened. D.extent disk.old ≡ device_bytes_of opened.header.geometry.blocks opened.header.geometry.area) }
     ensures placed { IfOk result (λ opened.
         IsPlaced opened.area opened.header.geometry (behind (mode_of opened.header.areas) opened.header.first_area)) }
+    ensures none { IfOk result (λ opened. opened.area.gate ≡ 0 → opened.area.touched ≡ []) }
     ensures sized { IfOk result (λ opened. IfSome opened.plan (λ plan. IsSized plan.first opened.header.geometry (D.extent disk.old))) }
     ensures blocks { IfOk result (λ opened. length opened.map ≡ opened.header.geometry.blocks) }
     ensures uncopied { IfOk result (λ opened. IsUncopied opened.header.areas opened.plan) }
@@ -146,6 +148,7 @@ fn read_areas<D: Disk>(
     ensures honest { D.honest disk.new ↔ D.honest disk.old }
     ensures placed { IfOk result (λ areas.
         IsPlaced areas.1 header.now.geometry (behind (mode_of header.now.areas) header.now.first_area)) }
+    ensures none { IfOk result (λ areas. areas.1.gate ≡ 0 → areas.1.touched ≡ []) }
     ensures sized { IfOk result (λ areas. IfSome areas.0 (λ plan. IsSized plan.first header.now.geometry (D.extent disk.old))) }
     ensures uncopied { IfOk result (λ areas. IsUncopied header.now.areas areas.0) }
 
@@ -186,6 +189,7 @@ fn read_area<D: Disk>(
     ensures faults_err { IfErr result (λ fault. D.faults disk.new ≡ faults_by fault (D.faults disk.old)) }
     ensures honest { D.honest disk.new ↔ D.honest disk.old }
     ensures placed { IfOk result (λ area. IsPlaced area geometry.now side) }
+    ensures none { IfOk result (λ area. area.gate ≡ 0 → area.touched ≡ []) }
 
     ensures only_read { D.honest disk.old → IsOnlyRead (D.state disk.old) (D.state disk.new) }
     ensures read { D.honest disk.old → IsAllSynced (D.state disk.old) → MatchResult result

@@ -3,7 +3,6 @@ ghost use Rattle.alloc_map.specs.Codes.{state_at};
 ghost use Rattle.checkpoint.specs.Keeper.{faults_by, refused_by};
 ghost use Rattle.checkpoint.specs.declared.fault.KeeperFault.TheVariants as KeeperFault;
 ghost use Rattle.device_image.specs.Holds.{Holds, is_written};
-ghost use Rattle.disk_model.specs.Disk.{State};
 ghost use Rattle.image_model.specs.Change.{Change};
 ghost use Rattle.image_model.specs.Image.{Image};
 ghost use Rattle.image_model.specs.declared.command.Kind.TheVariants.{Data};
@@ -57,7 +56,7 @@ impl<D: Disk> Keeper<D> {
     /// A copy of the map: the states of the blocks at the base.
     pub fn map(&self, alloc: Global) -> Result<AllocMap, AllocError>
         ensures blocks { IfOk result (λ map. length map ≡ self.now.geometry.blocks) }
-        ensures kinds { (state : State) (base : Image) (front last : List Change) → Holds self.now state base front last
+        ensures kinds { (base : Image) (front last : List Change) → Holds self.now (D.state self.now.disk) base front last
             → IfOk result (λ map. (block : ℕ) → state_at map block ≡ base.kind block) }
     {
         self.map.copy(alloc)

@@ -1,10 +1,12 @@
-ghost use Rattle.std.specs.Prelude.{◌≡◌, ◌≢◌, ◌⊎◌, ◌==◌, ℕ, ◌↔◌, List, false, IfErr, IfOk, IsTrue, OnOk, Err, Ok};
+ghost use Rattle.std.specs.Prelude.{◌≡◌, ◌≢◌, ◌⊎◌, ◌==◌, ℕ, ◌↔◌, List, [], false, IfErr, IfOk, IsTrue, OnOk, Err, Ok};
 ghost use Rattle.checkpoint.specs.Keeper.{faults_by};
 ghost use Rattle.checkpoint.specs.Opening.{IsAtRest, IsOpening, IsPassing, disk_after, faults_after_opening};
 ghost use Rattle.checkpoint.specs.Recovery.{IsBegun, IsRecovered, IsRecoveryFault};
 ghost use Rattle.checkpoint.specs.Steps.{copied_by, finished_by, left_in};
 ghost use Rattle.checkpoint.specs.declared.fault.KeeperFault.TheVariants as KeeperFault;
 ghost use Rattle.device_image.specs.Keeps.{Keeps};
+ghost use Rattle.device_image.specs.Remembers.{Remembers};
+ghost use Rattle.image_model.specs.Change.{Change};
 ghost use Rattle.device_image.specs.Keeper.{Copying, One};
 ghost use Rattle.device_image.specs.Stands.{StandsFor};
 ghost use Rattle.disk_model.specs.Disk.{IsAllSynced, LeavesOnly, MayLeave};
@@ -130,6 +132,7 @@ impl<D: Disk> Keeper<D> {
         ensures faults_ok { OnOk result (D.faults self.new.disk ≡ D.faults self.old.disk) }
         ensures faults_err { IfErr result (λ fault. D.faults self.new.disk ≡ faults_by fault (D.faults self.old.disk)) }
         ensures honest { D.honest self.new.disk ↔ D.honest self.old.disk }
+        ensures remembered { (commands : List Change) → Remembers self.old commands → OnOk result (Remembers self.new commands) }
 
         ensures kept { D.honest self.old.disk → (image : Image) (number : ℕ) → Keeps self.old (D.state self.old.disk) image number
             → OnOk result (Keeps self.new (D.state self.new.disk) image number) }
@@ -154,6 +157,7 @@ impl<D: Disk> Keeper<D> {
         ensures faults_ok { OnOk result (D.faults self.new.disk ≡ D.faults self.old.disk) }
         ensures faults_err { IfErr result (λ fault. D.faults self.new.disk ≡ faults_by fault (D.faults self.old.disk)) }
         ensures honest { D.honest self.new.disk ↔ D.honest self.old.disk }
+        ensures remembered { (commands : List Change) → Remembers self.old commands → OnOk result (Remembers self.new commands) }
 
         ensures kept { D.honest self.old.disk → (image : Image) (number : ℕ) → Keeps self.old (D.state self.old.disk) image number
             → OnOk result (Keeps self.new (D.state self.new.disk) image number) }
@@ -187,7 +191,8 @@ impl<D: Disk> Keeper<D> {
 
     // Whether the list of the area that groups go to is empty.
     fn is_empty(&self) -> bool
-        ensures { result ≡ (self.now.used == 0) }
+        ensures empty { result ≡ (self.now.used == 0) }
+        ensures untouched { self.now.used ≡ 0 → self.now.memory.area.touched ≡ [] }
     {
         self.area.is_empty()
     }

@@ -4,7 +4,10 @@ ghost use Rattle.checkpoint.specs.Steps.{IsCopyTime, IsFinishTime, IsMapTime, Is
 ghost use Rattle.checkpoint.specs.declared.fault.KeeperFault.TheVariants as KeeperFault;
 ghost use Rattle.device_image.specs.Holds.{Holds};
 ghost use Rattle.device_image.specs.Keeps.{Keeps};
-ghost use Rattle.device_image.specs.Keeper.{One};
+ghost use Rattle.device_image.specs.Keeper.{Copying, One};
+ghost use Rattle.device_image.specs.Remembers.{Remembers};
+ghost use Rattle.image_model.specs.Dirty.{dirty_blocks};
+ghost use Rattle.std.specs.FinMap.{len};
 ghost use Rattle.device_image.specs.Stands.{StandsFor};
 ghost use Rattle.device_image.specs.Turn.{with_both, with_second};
 ghost use Rattle.disk_model.specs.Disk.{LeavesOnly};
@@ -43,6 +46,7 @@ impl<D: Disk> Keeper<D> {
         ensures faults_ok { OnOk result (D.faults self.new.disk ≡ D.faults self.old.disk) }
         ensures faults_err { IfErr result (λ fault. D.faults self.new.disk ≡ faults_by fault (D.faults self.old.disk)) }
         ensures honest { D.honest self.new.disk ↔ D.honest self.old.disk }
+        ensures remembered { (commands : List Change) → Remembers self.old commands → OnOk result (Remembers self.new commands) }
 
         // On an honest device: at `Ok` the keeper holds the same commands over the same image, and where it keeps an image
         // whatever a crash at any moment leaves stands for it.
@@ -94,6 +98,7 @@ impl<D: Disk> Keeper<D> {
         ensures faults_ok { OnOk result (D.faults self.new.disk ≡ D.faults self.old.disk) }
         ensures faults_err { IfErr result (λ fault. D.faults self.new.disk ≡ faults_by fault (D.faults self.old.disk)) }
         ensures honest { D.honest self.new.disk ↔ D.honest self.old.disk }
+        ensures remembered { (commands : List Change) → Remembers self.old commands → OnOk result (Remembers self.new commands) }
 
         // As for `copy_some`.
         ensures held { D.honest self.old.disk → (base : Image) (first last : List Change) → Holds self.old (D.state self.old.disk) base first last
@@ -125,6 +130,8 @@ impl<D: Disk> Keeper<D> {
         ensures faults_ok { OnOk result (D.faults self.new.disk ≡ D.faults self.old.disk) }
         ensures faults_err { IfErr result (λ fault. D.faults self.new.disk ≡ faults_by fault (D.faults self.old.disk)) }
         ensures honest { D.honest self.new.disk ↔ D.honest self.old.disk }
+        ensures fresh { OnOk result (Remembers self.new []) }
+        ensures left { (commands : List Change) → Remembers self.old commands → OnOk result (self.new.phase ≡ Copying (len (dirty_blocks 0 commands))) }
 
         // On an honest device: at `Ok` the commands of the one area stand in front of an empty list. A crash as for `copy_some`.
         ensures held { D.honest self.old.disk → (base : Image) (last : List Change) → Holds self.old (D.state self.old.disk) base [] last
@@ -223,6 +230,7 @@ impl<D: Disk> Keeper<D> {
         ensures faults_ok { OnOk result (D.faults self.new.disk ≡ D.faults self.old.disk) }
         ensures faults_err { IfErr result (λ fault. D.faults self.new.disk ≡ faults_by fault (D.faults self.old.disk)) }
         ensures honest { D.honest self.new.disk ↔ D.honest self.old.disk }
+        ensures remembered { (commands : List Change) → Remembers self.old commands → OnOk result (Remembers self.new commands) }
 
         // As for `copy_some`.
         ensures held { D.honest self.old.disk → (base : Image) (first last : List Change) → Holds self.old (D.state self.old.disk) base first last
@@ -272,12 +280,14 @@ impl<D: Disk> Keeper<D> {
         ensures not_now { (result ≡ Err KeeperFault.NotNow) ↔ ((self.old.failed ≡ false) × (IsFinishTime self.old.phase → ⊥)) }
         ensures full { (result ≡ Err KeeperFault.NumbersFull)
             ↔ ((self.old.failed ≡ false) × IsFinishTime self.old.phase × (self.old.generation ≡ 18446744073709551615)) }
+        ensures memory { result ≢ Err KeeperFault.NoMemory }
         ensures only { IfErr result IsStepFault }
         ensures unchanged { IfErr result (λ fault. (fault ≡ KeeperFault.DeviceFault) ⊎ (self.new.disk ≡ self.old.disk)) }
         ensures extent { D.extent self.new.disk ≡ D.extent self.old.disk }
         ensures faults_ok { OnOk result (D.faults self.new.disk ≡ D.faults self.old.disk) }
         ensures faults_err { IfErr result (λ fault. D.faults self.new.disk ≡ faults_by fault (D.faults self.old.disk)) }
         ensures honest { D.honest self.new.disk ↔ D.honest self.old.disk }
+        ensures remembered { (commands : List Change) → Remembers self.old commands → OnOk result (Remembers self.new commands) }
 
         // On an honest device: at `Ok` map and data hold what the commands in front made of the image that they held. A crash
         // as for `copy_some`.

@@ -1,5 +1,5 @@
 -- The last touches of blocks and the commands that made them.
-use Rattle.std.proofs.Common.{◌≡◌, ℕ, ◌+◌, ◌-◌, ◌*◌, ◌/◌, Bool, true, false, ◌&&◌, ◌||◌, if◌then◌else◌, Option, Some, None, List, [], ◌∷◌, ◌++◌, length, refl, sym, ◌∙◌, ap, arith}
+use Rattle.std.proofs.Common.{◌≤◌, ◌≡◌, ℕ, ◌+◌, ◌-◌, ◌*◌, ◌/◌, Bool, true, false, ◌&&◌, ◌||◌, if◌then◌else◌, Option, Some, None, List, [], ◌∷◌, ◌++◌, length, refl, sym, ◌∙◌, ap, arith}
 use Rattle.std.specs.Option.{is_some}
 use Rattle.std.specs.List.{list_any}
 use Rattle.image_model.specs.Change.{Change, Written, Cleared, IsChange, AreChanges}
@@ -14,6 +14,8 @@ use Rattle.journal.specs.declared.touch.TouchedRange.{TouchedRange}
 use Rattle.journal.proofs.LastTouches.{last_touch-append}
 use Rattle.device_image.specs.Holds.{is_written}
 use Rattle.device_image.specs.Keeper.{is_put}
+use Rattle.device_image.specs.Remembers.{TellOf}
+use Rattle.std.proofs.lemmas.Bool.Decides.{nat_tests}
 
 -- whether the last of the commands that touches the block writes it
 abbrev pub ends_written : ℕ → List Change → Bool
@@ -78,7 +80,7 @@ ends_append block (x ∷ xs) ys =
     three false true one two this = refl
     three false false one two this = refl
 
-append_touched : (block : ℕ) (ranges more : List TouchedRange) (changes others : List Change) → AreTouchedBy block ranges changes → AreTouchedBy block more others → AreTouchedBy block (ranges ++ more) (changes ++ others)
+pub append_touched : (block : ℕ) (ranges more : List TouchedRange) (changes others : List Change) → AreTouchedBy block ranges changes → AreTouchedBy block more others → AreTouchedBy block (ranges ++ more) (changes ++ others)
 append_touched block ranges more changes others first second = record {
   any = ap is_some (last_touch-append block ranges more)
       ∙ some_later (last_touch block ranges) (last_touch block more)
@@ -120,7 +122,7 @@ change_touched limit block place (Cleared first blocks kind) is = record {
   put = one_clear (covers first blocks block) kind;
 }
 
-changes_touched : (limit block place : ℕ) (changes : List Change) → AreChanges limit changes → AreTouchedBy block (touched_by_changes place changes) changes
+pub changes_touched : (limit block place : ℕ) (changes : List Change) → AreChanges limit changes → AreTouchedBy block (touched_by_changes place changes) changes
 changes_touched limit block place [] are = record { any = refl; put = refl }
 changes_touched limit block place (change ∷ changes) are =
     append_touched block (touched_by place change ∷ []) (touched_by_changes (place + length (change_bytes change)) changes) (change ∷ []) changes
@@ -163,3 +165,27 @@ written_append block (x ∷ xs) ys = ap (λ b. (touches block x && is_write x) |
     or_or : (a b c : Bool) → (a || (b || c)) ≡ ((a || b) || c)
     or_or true b c = refl
     or_or false b c = refl
+
+-- the same in the words of a keeper's contract
+pub tell_of : (block : ℕ) (ranges : List TouchedRange) (changes : List Change) → AreTouchedBy block ranges changes → TellOf block ranges changes
+tell_of block ranges changes are = record { any = are.any; put = are.put ∙ sym (last_write_is block 0 changes) }
+
+pub touched_as : (block : ℕ) (ranges : List TouchedRange) (changes : List Change) → TellOf block ranges changes → AreTouchedBy block ranges changes
+touched_as block ranges changes tell = record { any = tell.any; put = tell.put ∙ last_write_is block 0 changes }
+
+-- a block past the image is touched by no command that the image takes
+past_change : (limit block : ℕ) (change : Change) → IsChange limit change → limit ≤ block → touches block change ≡ false
+past_change limit block (Written first bytes) is above =
+    let end : first + (length bytes + 4095) / 4096 ≤ block = omega (arith, is.1, is.4, above) in
+    grind (arith, nat_tests, end)
+past_change limit block (Cleared first blocks kind) is above =
+    let end : first + blocks ≤ block = omega (arith, is.1, above) in
+    grind (arith, nat_tests, end)
+
+pub past_image : (limit block : ℕ) (changes : List Change) → AreChanges limit changes → limit ≤ block → list_any (touches block) changes ≡ false
+past_image limit block [] are above = refl
+past_image limit block (change ∷ changes) are above = (λ i. past_change limit block change are.0 above i || past_image limit block changes are.1 above i)
+
+pub takes_append : (limit : ℕ) (changes more : List Change) → AreChanges limit changes → AreChanges limit more → AreChanges limit (changes ++ more)
+takes_append limit [] more are also = also
+takes_append limit (change ∷ changes) more are also = (are.0, takes_append limit changes more are.1 also)

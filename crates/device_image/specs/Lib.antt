@@ -4,5 +4,6 @@ pub mod Free
 pub mod Holds
 pub mod Keeper
 pub mod Keeps
+pub mod Remembers
 pub mod Stands
 pub mod Turn

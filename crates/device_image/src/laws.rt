@@ -1,13 +1,11 @@
 ghost use Rattle.std.specs.Prelude.{◌≡◌, ℕ, List, []};
-ghost use Rattle.std.specs.FinMap.{len};
 ghost use Rattle.device_image.specs.Damage.{HasBadMap, HasDamagedGroup};
 ghost use Rattle.device_image.specs.Holds.{Holds, HoldsAs};
-ghost use Rattle.device_image.specs.Keeper.{KeeperState, One, count_puts};
+ghost use Rattle.device_image.specs.Keeper.{KeeperState, One};
 ghost use Rattle.device_image.specs.Keeps.{Keeps};
 ghost use Rattle.device_image.specs.Stands.{StandsFor};
 ghost use Rattle.disk_model.specs.Disk.{MayLeave};
 ghost use Rattle.image_model.specs.Change.{Change};
-ghost use Rattle.image_model.specs.Dirty.{dirty_blocks};
 ghost use Rattle.image_model.specs.Image.{Image};
 
 use disk_model::Disk;
@@ -23,8 +21,7 @@ pub fn stands_laws()
 {}
 
 /// The image that a keeper keeps has the blocks of its geometry, and a crash leaves it. What it holds makes that image: an
-/// empty journal holds nothing over it. And as many blocks are to be copied out of its last area as the commands there
-/// leave dirty.
+/// empty journal holds nothing over it.
 pub fn keeper_laws<D: Disk>()
     ensures size { (keeper : KeeperState D) (image : Image) (number : ℕ) → Keeps keeper (D.state keeper.disk) image number →
         image.blocks ≡ keeper.geometry.blocks }
@@ -34,6 +31,4 @@ pub fn keeper_laws<D: Disk>()
         HoldsAs keeper (D.state keeper.disk) image number }
     ensures empty { (keeper : KeeperState D) (image : Image) (number : ℕ) → Keeps keeper (D.state keeper.disk) image number →
         keeper.phase ≡ One → keeper.used ≡ 0 → Holds keeper (D.state keeper.disk) image [] [] }
-    ensures dirty { (keeper : KeeperState D) (base : Image) (first last : List Change) (number : ℕ) → Holds keeper (D.state keeper.disk) base first last →
-        count_puts keeper.geometry.blocks keeper.memory.area.touched ≡ len (dirty_blocks number last) }
 {}

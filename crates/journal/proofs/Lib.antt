@@ -6,7 +6,6 @@ pub mod Found
 pub mod Groups
 pub mod Heads
 pub mod LastTouches
-pub mod NextTouched
 pub mod Noted
 pub mod OneList
 pub mod Spelled

@@ -1,5 +1,5 @@
 -- Which blocks the commands of an area's groups touch, and the last touch of each block.
-use Rattle.std.specs.Prelude.{ℕ, ◌≡◌, ◌+◌, ◌-◌, ◌*◌, ◌/◌, ◌≤◌, ◌<◌, min, IfSome, if◌then◌else◌, List, [], ◌∷◌, ◌++◌, length, slice_index, Option, Some, None}
+use Rattle.std.specs.Prelude.{ℕ, ◌+◌, ◌-◌, ◌*◌, ◌/◌, ◌≤◌, if◌then◌else◌, List, [], ◌∷◌, ◌++◌, length, slice_index, Option, Some, None}
 use Rattle.std.specs.List.{AllByRecursion}
 use Rattle.image_model.specs.declared.command.Kind.{Kind}
 use Rattle.image_model.specs.declared.command.Kind.TheVariants.{Data}
@@ -45,23 +45,6 @@ later touch (Some second) = Some second
 abbrev pub last_touch : ℕ → List TouchedRange → Option Touch
 last_touch block [] = None
 last_touch block (range ∷ ranges) = later (touch_in block range) (last_touch block ranges)
-
--- every number comes before none
-abbrev pub IsBefore : ℕ → Option ℕ → Type 0
-IsBefore block None = Unit {0}
-IsBefore block (Some found) = block < found
-
--- the first block from a number on that the ranges touch; none where they touch none there
-pub record IsNextTouched (from : ℕ) (ranges : List TouchedRange) (found : Option ℕ) : Type 0 where
-  pub behind : IfSome found (λ block. from ≤ block)
-  pub touched : IfSome found (λ block. last_touch block ranges ≡ None → ⊥)
-  pub first : (block : ℕ) → from ≤ block → IsBefore block found → last_touch block ranges ≡ None
-
--- the smaller of two numbers, where there are any
-abbrev pub earlier : Option ℕ → Option ℕ → Option ℕ
-earlier None b = b
-earlier (Some x) None = Some x
-earlier (Some x) (Some y) = Some (min x y)
 
 -- the bytes of a put of so many blocks stand between these places of the device
 abbrev pub HasBytesWithin : ℕ → ℕ → ℕ → Touch → Type 0

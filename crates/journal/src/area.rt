@@ -8,12 +8,12 @@ ghost use Rattle.journal.specs.GroupList.{HoldsList, IsDamaged, IsHeld, IsList, 
 ghost use Rattle.journal.specs.Reading.{IsOnlyRead};
 ghost use Rattle.journal.specs.Scanning.{IsScanFault};
 ghost use Rattle.journal.specs.Spelling.{StoredGroup, stored_of};
-ghost use Rattle.journal.specs.Touches.{AreWithin, HasBytesWithin, IsNextTouched, last_touch};
+ghost use Rattle.journal.specs.Touches.{AreWithin};
 
 use crate::fault::JournalFault;
 use crate::group::Group;
 use crate::scan::Place;
-use crate::touch::{Touch, TouchedRange, next_touched};
+use crate::touch::TouchedRange;
 use disk_model::{DeviceFault, Disk, write_synced};
 use image_model::{CLOSED, OPEN};
 use std::alloc::Global;
@@ -223,6 +223,7 @@ impl Area {
         ensures err { OnErr result (self.new ≡ self.old) }
         ensures causes { IfErr result IsScanFault }
         ensures same { (self.new.from ≡ self.old.from) × (self.new.bytes ≡ self.old.bytes) × (self.new.blocks ≡ self.old.blocks) }
+        ensures none { OnOk result (self.new.gate ≡ 0 → self.new.touched ≡ []) }
         ensures extent { D.extent disk.new ≡ D.extent disk.old }
         ensures honest { D.honest disk.new ↔ D.honest disk.old }
         ensures faults_ok { OnOk result (D.faults disk.new ≡ D.faults disk.old) }
@@ -259,40 +260,6 @@ impl Area {
         ensures within { (end : ℕ) → self.now.from + self.now.bytes ≤ end → AreWithin self.now.from end self.now.touched }
     {
         &self.touched
-    }
-
-    /// The last touch of the block by a command of the area's list; none where no command touches it.
-    pub fn last_touch(&self, block: u64) -> Option<Touch>
-        ensures exact { result ≡ last_touch block self.now.touched }
-        ensures readable { IfSome result (HasBytesWithin self.now.from (self.now.from + self.now.bytes) 1) }
-    {
-        let mut index = self.touched.len();
-        while index > 0 {
-            index -= 1;
-            if let Some(touch) = self.touch_at(index, block) {
-                return Some(touch);
-            }
-        }
-        None
-    }
-
-    /// The first block from `from` on that a command of the area's list touches; none where there is none.
-    pub fn next_touched(&self, from: u64) -> Option<u64>
-        ensures { IsNextTouched from self.now.touched result }
-    {
-        next_touched(&self.touched, from)
-    }
-
-    // What the command at this index made of the block, where no later one touches it.
-    fn touch_at(&self, index: usize, block: u64) -> Option<Touch>
-        requires { index < length self.now.touched }
-        ensures last { last_touch block (drop (index + 1) self.now.touched) ≡ None
-            → IfSome result (λ touch. last_touch block self.now.touched ≡ Some touch) }
-        ensures none { last_touch block (drop (index + 1) self.now.touched) ≡ None
-            → IfNone result (last_touch block (drop index self.now.touched) ≡ None) }
-        ensures readable { IfSome result (HasBytesWithin self.now.from (self.now.from + self.now.bytes) 1) }
-    {
-        self.touched[index].of_block(block)
     }
 
     // Whether the group fits and is the next one.

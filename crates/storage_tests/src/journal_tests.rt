@@ -2,6 +2,7 @@
 ghost use Rattle.std.specs.Prelude.{◌≡◌, ◌+◌, ◌*◌, ◌≤◌, ◌<◌, ◌^◌, length, IfOk};
 ghost use Rattle.image_model.specs.Command.{bodies_of};
 
+use crate::areas::last_touch;
 use disk_model::{CallKind, CrashChoice, Disk, SimDisk};
 use image_model::{Command, Kind};
 use journal::{Area, Group, JournalFault, Touch};
@@ -179,13 +180,9 @@ fn check_list(rt: &impl Abort, area: &Area, second: bool) {
     } else {
         Touch::Clear(Kind::Hole)
     };
-    assert!(rt; area.last_touch(1) == Some(touch));
-    assert!(rt; area.last_touch(3) == Some(Touch::Clear(Kind::Hole)));
-    assert!(rt; area.last_touch(4).is_none());
-    for block in 0..4 {
-        assert!(rt; area.next_touched(block) == Some(block));
-    }
-    assert!(rt; area.next_touched(4).is_none());
+    assert!(rt; last_touch(area, 1) == Some(touch));
+    assert!(rt; last_touch(area, 3) == Some(Touch::Clear(Kind::Hole)));
+    assert!(rt; last_touch(area, 4).is_none());
 }
 
 // A device whose area has one clear, and the area.

@@ -2,59 +2,13 @@
 ghost use Rattle.std.specs.Prelude.{◌≡◌, ◌+◌, ◌<◌, ◌^◌, length, IfOk};
 ghost use Rattle.image_model.specs.Geometry.{device_bytes_of};
 
+use crate::devices::{append, block_of, formatted, opened, put};
 use checkpoint::{Keeper, KeeperFault};
 use disk_model::{CrashChoice, DeviceFault, Disk, SimDisk};
-use image_model::{Command, Geometry, Kind};
-use journal::Group;
+use image_model::{Geometry, Kind};
 use std::alloc::{AllocError, Global};
 use std::process::Abort;
 use std::test::Fail;
-
-// A device with an image of holes.
-fn formatted(alloc: Global, geometry: Geometry) -> Result<SimDisk, KeeperFault> {
-    let mut disk = SimDisk::new(alloc, geometry.device_bytes())?;
-    Keeper::format(alloc, &mut disk, geometry)?;
-    Ok(disk)
-}
-
-// A put of one block.
-#[tactic(auto, using(std::proofs::lemmas::List::Sums::sum_by_push))]
-fn put(alloc: Global, number: u32, block: u64, byte: u8) -> Result<Group, AllocError> {
-    let mut commands = Vec::new(alloc);
-    commands.push(Command::Put {
-        first: block,
-        bytes: vec![in alloc; byte; 4096]?,
-    })?;
-    Ok(Group::of(number as u64, commands))
-}
-
-// Adds a group; a refused one is taken apart.
-fn append(keeper: &mut Keeper<SimDisk>, group: Group) -> Result<(), KeeperFault> {
-    match keeper.append(group) {
-        Ok(()) => Ok(()),
-        Err((fault, group)) => {
-            let _parts = group.into_parts();
-            Err(fault)
-        }
-    }
-}
-
-// The keeper of a device; one that is refused is let go.
-fn opened(alloc: Global, disk: SimDisk) -> Result<Keeper<SimDisk>, KeeperFault> {
-    match Keeper::open(alloc, disk) {
-        Ok(keeper) => Ok(keeper),
-        Err((fault, _disk)) => Err(fault),
-    }
-}
-
-// The state of a block, all of whose bytes are this one.
-fn block_of(rt: &impl Abort, keeper: &mut Keeper<SimDisk>, block: u64, byte: u8) -> Kind {
-    let mut bytes = [0xee; 4096];
-    assert!(rt; block < keeper.geometry().blocks);
-    let kind = keeper.read_stored(block, &mut bytes);
-    assert!(rt; bytes == [byte; 4096]);
-    kind.ok().expect(rt, "no fault")
-}
 
 // Stores two puts of block 3, after a group that isn't the next.
 fn store_two(
@@ -69,10 +23,10 @@ fn store_two(
 }
 
 // What stands there then.
-fn check_stored(rt: &impl Abort, keeper: &mut Keeper<SimDisk>) {
+fn check_stored(rt: &impl Abort, alloc: Global, keeper: &mut Keeper<SimDisk>) {
     assert!(rt; keeper.count() == 2);
-    assert!(rt; block_of(rt, keeper, 3, 0x42) == Kind::Data);
-    assert!(rt; block_of(rt, keeper, 4, 0) == Kind::Hole);
+    assert!(rt; block_of(rt, alloc, keeper, 3, 0x42) == Kind::Data);
+    assert!(rt; block_of(rt, alloc, keeper, 4, 0) == Kind::Hole);
 }
 
 #[test]
@@ -82,11 +36,11 @@ fn stores_and_reads(rt: HostRuntime) -> Result<(), Fail> {
     let mut keeper = opened(alloc, formatted(alloc, geometry)?)?;
     assert!(rt; keeper.count() == 0);
     store_two(&rt, alloc, &mut keeper)?;
-    check_stored(&rt, &mut keeper);
-    assert!(rt; keeper.base() == 0 && keeper.generation() == 1);
+    assert!(rt; keeper.count() == 2 && keeper.base() == 0 && keeper.generation() == 1);
+    assert!(rt; block_of(&rt, alloc, &mut keeper, 3, 0) == Kind::Hole);
     // An opening copies what is stored into the image.
     let mut keeper = opened(alloc, keeper.into_disk())?;
-    check_stored(&rt, &mut keeper);
+    check_stored(&rt, alloc, &mut keeper);
     assert!(rt; keeper.base() == 2 && keeper.generation() == 3);
     Ok(())
 }
@@ -132,8 +86,8 @@ fn checkpoint_moves_the_image_out_of_the_journal(rt: HostRuntime) -> Result<(), 
     check_header(&rt, &mut disk)?;
     let mut keeper = opened(alloc, disk)?;
     assert!(rt; keeper.count() == 2 && keeper.base() == 2);
-    assert!(rt; block_of(&rt, &mut keeper, 3, 0x42) == Kind::Data);
-    assert!(rt; block_of(&rt, &mut keeper, 4, 0) == Kind::Hole);
+    assert!(rt; block_of(&rt, alloc, &mut keeper, 3, 0x42) == Kind::Data);
+    assert!(rt; block_of(&rt, alloc, &mut keeper, 4, 0) == Kind::Hole);
     Ok(())
 }
 

@@ -2,6 +2,10 @@
 #![tactic(auto)]
 
 #[cfg(test)]
+mod areas;
+#[cfg(test)]
+mod devices;
+#[cfg(test)]
 mod journal_tests;
 #[cfg(test)]
 mod keeper_tests;

@@ -1,4 +1,5 @@
 //! Checkpoints and openings that are cut off at each of their calls: what is found again.
+use crate::devices::{append, block_of, formatted, opened, put};
 use checkpoint::{Keeper, KeeperFault};
 use disk_model::{CrashChoice, SimDisk};
 use image_model::{Command, Geometry, Kind};
@@ -19,17 +20,6 @@ const CHOICES: [CrashChoice; 5] = [
 // No step and no opening of these devices makes so many calls.
 const MOST_CALLS: u64 = 60;
 
-// A put of one block.
-#[tactic(auto, using(std::proofs::lemmas::List::Sums::sum_by_push))]
-fn put(alloc: Global, number: u32, block: u64, byte: u8) -> Result<Group, AllocError> {
-    let mut commands = Vec::new(alloc);
-    commands.push(Command::Put {
-        first: block,
-        bytes: vec![in alloc; byte; 4096]?,
-    })?;
-    Ok(Group::of(number as u64, commands))
-}
-
 // A group that clears one block.
 #[tactic(auto, using(std::proofs::lemmas::List::Sums::sum_by_push))]
 fn clear(alloc: Global, number: u32, block: u64) -> Result<Group, AllocError> {
@@ -42,29 +32,10 @@ fn clear(alloc: Global, number: u32, block: u64) -> Result<Group, AllocError> {
     Ok(Group::of(number as u64, commands))
 }
 
-fn append(keeper: &mut Keeper<SimDisk>, group: Group) -> Result<(), KeeperFault> {
-    match keeper.append(group) {
-        Ok(()) => Ok(()),
-        Err((fault, group)) => {
-            let _parts = group.into_parts();
-            Err(fault)
-        }
-    }
-}
-
-fn opened(alloc: Global, disk: SimDisk) -> Result<Keeper<SimDisk>, KeeperFault> {
-    match Keeper::open(alloc, disk) {
-        Ok(keeper) => Ok(keeper),
-        Err((fault, _disk)) => Err(fault),
-    }
-}
-
 // A device of 16 blocks, where block 3 was written and cleared, and blocks 4 and 7 were written.
 fn stored(alloc: Global) -> Result<Keeper<SimDisk>, Fail> {
     let geometry = Geometry::new(16, 2_097_152).ok_or("outside the limits")?;
-    let mut disk = SimDisk::new(alloc, geometry.device_bytes())?;
-    Keeper::format(alloc, &mut disk, geometry)?;
-    let mut keeper = opened(alloc, disk)?;
+    let mut keeper = opened(alloc, formatted(alloc, geometry)?)?;
     append(&mut keeper, put(alloc, 1, 3, 0x41)?)?;
     append(&mut keeper, put(alloc, 2, 4, 0x42)?)?;
     append(&mut keeper, clear(alloc, 3, 3)?)?;
@@ -101,23 +72,14 @@ fn carry(keeper: &mut Keeper<SimDisk>, step: u32) -> Result<(), KeeperFault> {
     }
 }
 
-// The state of a block, all of whose bytes are this one.
-fn block_of(rt: &impl Abort, keeper: &mut Keeper<SimDisk>, block: u64, byte: u8) -> Kind {
-    let mut bytes = [0xee; 4096];
-    assert!(rt; block < keeper.geometry().blocks);
-    let kind = keeper.read_stored(block, &mut bytes);
-    assert!(rt; bytes == [byte; 4096]);
-    kind.ok().expect(rt, "no fault")
-}
-
 // The device is recovered, and holds what was written.
 fn check_image(rt: &impl Abort, alloc: Global, disk: SimDisk) -> Result<(), Fail> {
     let mut keeper = opened(alloc, disk)?;
     assert!(rt; keeper.count() == 5 && keeper.base() == 5);
-    assert!(rt; block_of(rt, &mut keeper, 3, 0) == Kind::Zero);
-    assert!(rt; block_of(rt, &mut keeper, 4, 0x45) == Kind::Data);
-    assert!(rt; block_of(rt, &mut keeper, 7, 0x44) == Kind::Data);
-    assert!(rt; block_of(rt, &mut keeper, 8, 0) == Kind::Hole);
+    assert!(rt; block_of(rt, alloc, &mut keeper, 3, 0) == Kind::Zero);
+    assert!(rt; block_of(rt, alloc, &mut keeper, 4, 0x45) == Kind::Data);
+    assert!(rt; block_of(rt, alloc, &mut keeper, 7, 0x44) == Kind::Data);
+    assert!(rt; block_of(rt, alloc, &mut keeper, 8, 0) == Kind::Hole);
     assert!(rt; keeper.rotate() == Err(KeeperFault::NotNow));
     Ok(())
 }

@@ -1,6 +1,7 @@
 //! An area over a device whose reads give other bytes after a failed call.
 ghost use Rattle.std.specs.Prelude.{◌≡◌, ◌<◌, ◌^◌, IfOk};
 
+use crate::areas::last_touch;
 use crate::scrambling::ScramblingDisk;
 use disk_model::{DeviceFault, Disk};
 use image_model::Command;
@@ -104,7 +105,7 @@ fn stored(rt: &impl Abort, alloc: Global, disk: &mut ScramblingDisk) -> Result<(
     ensures { ⟦<ScramblingDisk as Disk>⟧.extent disk.new ≡ 16384 }
 {
     let area = found(alloc, disk)?;
-    let Some(Touch::Put(place)) = area.last_touch(3) else {
+    let Some(Touch::Put(place)) = last_touch(&area, 3) else {
         return Err(Fail::from("no put"));
     };
     let first = byte_at(rt, disk, place);

@@ -1,4 +1,3 @@
-use Rattle.device_image.proofs.Counted.{last_counted}
 use Rattle.device_image.proofs.Holding.{held_as, held_empty}
 use Rattle.device_image.proofs.Kept.{kept_content, kept_size}
 use Rattle.device_image.proofs.laws.keeper_laws.Goals as goal
@@ -9,5 +8,4 @@ returns g c = record {
   left = λ keeper image number content keeps left. kept_content keeper (g.D.Disk.state keeper.disk) image number keeps content left;
   held = λ keeper image number keeps. held_as keeper (g.D.Disk.state keeper.disk) image number keeps;
   empty = λ keeper image number keeps one none. held_empty keeper (g.D.Disk.state keeper.disk) image number keeps one none;
-  dirty = λ keeper base first last number holds. last_counted keeper (g.D.Disk.state keeper.disk) base first last number holds;
 }

@@ -18,6 +18,8 @@ use Rattle.device_image.proofs.Kept.{first}
 use Rattle.checkpoint.proofs.Added.{more_held, leaves_either, count_below, count_above, count_on, is_next, ordered}
 use Rattle.checkpoint.proofs.keeper.Keeper.append.Goals as goal
 use Rattle.device_image.specs.Holds.{Holds}
+use Rattle.device_image.specs.Remembers.{Remembers}
+use Rattle.device_image.proofs.Counted.{remembers_more}
 
 -- the area takes what the keeper's sizes take
 taken : {D : Type 0} (keeper : KeeperState D) (state : State) (image : Image) (number : ℕ) (group : Numbered) → Keeps keeper state image number
@@ -87,3 +89,10 @@ returns-in-Err-clause-out_of_order g c =
 pub returns-in-Err-clause-any_moment : goal.returns-in-Err-clause-any_moment
 returns-in-Err-clause-any_moment g c honest image number keeps changes =
     any_moment g.D.Disk.state g.D.Disk.honest _ c.args.self.now c.args.group (g.D.Disk.state c.append.new.disk) image number c.self.view_is c.append.ensures.any_moment honest keeps changes
+
+pub returns-in-Ok-clause-remembered : goal.returns-in-Ok-clause-remembered
+returns-in-Ok-clause-remembered g c commands remembers changes =
+    let group = c.args.group in
+    let inside = subst (λ (k : KeeperState g.row.D.Denot). Remembers k commands) (sym c.self.view_is) remembers in
+    let sizes = subst (λ (k : KeeperState g.row.D.Denot). AreChanges k.geometry.blocks (map change_of group.commands)) (sym c.self.view_is) changes in
+    remembers_more _ _ commands (map change_of group.commands) (c.self.inside.area.from + c.self.inside.area.gate + 17) refl (ap (λ (area : AreaState). area.touched) c.in-Ok.ensures.ok) sizes inside

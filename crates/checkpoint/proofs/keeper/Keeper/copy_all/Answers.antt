@@ -11,6 +11,7 @@ loop-self-init g c = record {
   extent = refl;
   faults = refl;
   honest = (λ honest. honest, λ honest. honest);
+  remembered = λ commands remembers. remembers;
   kept = λ honest image number keeps. keeps;
   any_moment = λ honest image number keeps. begins (g.met.D.Disk.sound c.args.self.now.disk honest) (λ content left. kept_content _ _ image number keeps content left);
 }
@@ -30,6 +31,7 @@ loop-self-preserved g c =
       extent = call.extent ∙ so_far.extent;
       faults = call.faults_ok ∙ so_far.faults;
       honest = (λ honest. so_far.honest.0 (call.honest.0 honest), λ honest. call.honest.1 (so_far.honest.1 honest));
+      remembered = λ commands remembers. call.remembered commands (so_far.remembered commands remembers);
       kept = λ honest image number keeps. keeps_by c.loop-self.self c.copy_some.new.self _ _ image number (so_far.kept honest image number keeps)
           (ap (λ (k : KeeperState g.row.D.Denot). k.count) call.ok.2) (call.held (so_far.honest.1 honest));
       any_moment = λ honest image number keeps. goes_on (so_far.any_moment honest image number keeps)
@@ -38,3 +40,6 @@ loop-self-preserved g c =
 
 pub returns-clause-ok : goal.returns-clause-ok
 returns-clause-ok g c = copied_last c.args.self.now c.loop-self.self c.loop-self.invariant.copied (omega (arith, c.left.ensures, c.loop-self-test.false))
+
+pub returns-clause-remembered : goal.returns-clause-remembered
+returns-clause-remembered g c commands remembers = c.loop-self.invariant.remembered commands remembers

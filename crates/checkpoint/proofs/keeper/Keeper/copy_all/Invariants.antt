@@ -1,4 +1,4 @@
-use Rattle.std.proofs.Common.{◌≡◌, ◌↔◌, ℕ}
+use Rattle.std.proofs.Common.{◌≡◌, ◌↔◌, ℕ, List}
 use Rattle.disk_model.specs.Disk.{LeavesOnly}
 use Rattle.image_model.specs.Image.{Image}
 use Rattle.device_image.specs.Keeps.{Keeps}
@@ -6,6 +6,8 @@ use Rattle.device_image.specs.Stands.{StandsFor}
 use Rattle.checkpoint.specs.Steps.{left_in}
 use Rattle.checkpoint.proofs.Recovered.{copied_to}
 use Rattle.checkpoint.proofs.keeper.Keeper.copy_all.Given as goal
+use Rattle.device_image.specs.Remembers.{Remembers}
+use Rattle.image_model.specs.Change.{Change}
 
 abbrev pub invariant-loop-self : goal.invariant-loop-self
 invariant-loop-self g l = record {
@@ -13,6 +15,7 @@ invariant-loop-self g l = record {
   extent : g.D.Disk.extent l.self.disk ≡ g.D.Disk.extent l.fn.self.disk;
   faults : g.D.Disk.faults l.self.disk ≡ g.D.Disk.faults l.fn.self.disk;
   honest : g.D.Disk.honest l.self.disk ↔ g.D.Disk.honest l.fn.self.disk;
+  remembered : (commands : List Change) → Remembers l.fn.self commands → Remembers l.self commands;
   kept : g.D.Disk.honest l.fn.self.disk → (image : Image) (number : ℕ) → Keeps l.fn.self (g.D.Disk.state l.fn.self.disk) image number
       → Keeps l.self (g.D.Disk.state l.self.disk) image number;
   any_moment : g.D.Disk.honest l.fn.self.disk → (image : Image) (number : ℕ) → Keeps l.fn.self (g.D.Disk.state l.fn.self.disk) image number

@@ -34,3 +34,7 @@ returns-clause-kept g c honest image number keeps =
     let mapped = keeps_by c.copy_all.new.self c.write_map.new.self _ _ image number (first.kept honest image number keeps) (ap (λ (k : KeeperState g.row.D.Denot). k.count) second.ok) (second.held first_honest) in
     keeps_ended c.finish.result c.write_map.new.self c.finish.new.self _ _ image number mapped (count_ended c.finish.result c.write_map.new.self c.finish.new.self c.finish.ensures.ok)
     (c.finish.ensures.held (second.honest.1 first_honest))
+
+pub returns-clause-remembered : goal.returns-clause-remembered
+returns-clause-remembered g c commands remembers =
+    c.finish.ensures.remembered commands (c.in_ok-write_map.ensures.remembered commands (c.in_ok-copy_all.ensures.remembered commands remembers))

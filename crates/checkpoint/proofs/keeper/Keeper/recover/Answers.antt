@@ -1,8 +1,10 @@
-use Rattle.std.proofs.Common.{ap}
+use Rattle.std.proofs.Common.{ap, [], ◌∙◌, ◌≡◌, arith, ℕ, true, ◌==◌, sym}
 use Rattle.device_image.specs.Keeper.{KeeperState}
-use Rattle.checkpoint.proofs.Recovered.{keeps_begun}
+use Rattle.checkpoint.proofs.Recovered.{keeps_begun, recovered_by}
 use Rattle.disk_model.proofs.Moments.{goes_on}
 use Rattle.checkpoint.proofs.keeper.Keeper.recover.Goals as goal
+use Rattle.device_image.proofs.Counted.{remembers_none}
+use Rattle.std.proofs.lemmas.Bool.Decides.{nat_tests}
 
 pub returns-in_err-rotate-clause-any_moment : goal.returns-in_err-rotate-clause-any_moment
 returns-in_err-rotate-clause-any_moment g c honest image number keeps =
@@ -32,3 +34,20 @@ returns-clause-kept_still g c honest image number keeps =
     let second = c.in_ok-rotate.ensures in
     let first_honest = first.honest.1 honest in
     c.end_checkpoint.ensures.kept_still (second.honest.1 first_honest) image number (keeps_begun c.end_begun.new.self c.rotate.new.self _ _ image number (first.kept honest image number keeps) first.ok.1 (ap (λ (k : KeeperState g.row.D.Denot). k.count) second.ok) (second.held first_honest))
+
+zero_is : (n : ℕ) → true ≡ (n == 0) → n ≡ 0
+zero_is n is = grind (arith, nat_tests)
+
+pub returns-then-is_empty-clause-ok : goal.returns-then-is_empty-clause-ok
+returns-then-is_empty-clause-ok g c =
+    let first = c.in_ok-end_begun.ensures in
+    let none = zero_is c.end_begun.new.self.used (sym c.if-is_empty.true ∙ c.is_empty.ensures.empty) in
+    record { works = first.ok.0; phase = first.ok.1; used = none; remembers = remembers_none _ (c.is_empty.ensures.untouched none) }
+
+pub returns-clause-ok : goal.returns-clause-ok
+returns-clause-ok g c =
+    let first = c.in_ok-end_begun.ensures in
+    let second = c.in_ok-rotate.ensures in
+    recovered_by c.end_checkpoint.result c.rotate.new.self c.end_checkpoint.new.self c.end_checkpoint.ensures.ok
+    (ap (λ (k : KeeperState g.row.D.Denot). k.failed) second.ok ∙ first.ok.0) (ap (λ (k : KeeperState g.row.D.Denot). k.used) second.ok)
+    (c.end_checkpoint.ensures.remembered [] second.fresh)

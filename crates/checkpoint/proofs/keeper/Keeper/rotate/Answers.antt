@@ -10,9 +10,10 @@ use Rattle.regions.specs.Layout.{area_at}
 use Rattle.journal.specs.Area.{AreaState}
 use Rattle.device_image.specs.Turn.{begun, with_both}
 use Rattle.header_slots.specs.Change.{renewed}
-use Rattle.checkpoint.proofs.Rotating.{rotate_held, comes_next, current_held, from_above, none_of, rotate_left, synced_before}
+use Rattle.checkpoint.proofs.Rotating.{rotate_held, comes_next, current_held, from_above, none_of, rotate_left, synced_before, rotated_left}
 use Rattle.checkpoint.proofs.keeper.Keeper.rotate.Goals as goal
 use Rattle.device_image.specs.Holds.{Holds}
+use Rattle.device_image.specs.Remembers.{Remembers}
 
 pub returns-then-is_some-clause-any_moment : goal.returns-then-is_some-clause-any_moment
 returns-then-is_some-clause-any_moment g c honest image number keeps =
@@ -86,3 +87,9 @@ returns-in-Err-clause-any_moment g c honest image number keeps =
     (comes_next _ before image number inside sound none c.in-Some.header header_is from from_is))
     (rotate_left _ before image number inside sound none c.in-Some.header header_is from from_is))
     honest keeps
+
+pub returns-in-Ok-clause-left : goal.returns-in-Ok-clause-left
+returns-in-Ok-clause-left g c commands remembers =
+    let inside = subst (λ (k : KeeperState g.row.D.Denot). Remembers k commands) (sym c.self.view_is) remembers in
+    rotated_left _ c.of.result commands c.self.invariant.3.blocks
+    (c.of.ensures ∙ ap (λ (a : AreaState). let plan : PlanState = record { first = a; copied = 0; left = count_puts a.blocks a.touched; mapped = None } in plan) c.replace-first.ensures.value) inside

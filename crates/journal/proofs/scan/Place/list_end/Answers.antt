@@ -16,6 +16,7 @@ loop-window-init g c =
       honest = (λ honest. honest, λ honest. honest);
       only_read = λ honest. none_read (g.met.D.Disk.sound c.args.disk.now honest);
       within = c.requires.some;
+      none = λ none. c.requires.none_noted;
       noted = subst (AreWithin area.from (area.from + area.bytes)) (sym c.requires.none_noted) tt;
       read_as = λ honest content known. record { scanned = known; held = λ k below. absurd (omega (arith, below, c.in_ok-window.ensures)) };
       found = λ honest content known. lead_none area.blocks content area.from c.args.next c.args.touched.now.items c.requires.none_noted;
@@ -41,6 +42,7 @@ loop-window-preserved g c =
       honest = (λ honest. loop.honest.0 (read.honest.0 honest), λ honest. read.honest.1 (loop.honest.1 honest));
       only_read = λ honest. reads_on (g.met.D.Disk.sound c.args.disk.now honest) (loop.only_read honest) (read.only_read (loop.honest.1 honest));
       within = later.1;
+      none = λ none. absurd (omega (arith, later.0, none));
       noted = read.within loop.noted;
       read_as = λ honest content known. read.read_as (loop.honest.1 honest) content (loop.read_as honest content known);
       found = λ honest content known.
@@ -81,3 +83,8 @@ pub returns-in_err-behind-clause-only_read : goal.returns-in_err-behind-clause-o
 returns-in_err-behind-clause-only_read g c honest =
     let loop = c.loop-window.invariant in
     reads_on (g.met.D.Disk.sound c.args.disk.now honest) (loop.only_read honest) (c.in_err-behind.ensures.only_read (loop.honest.1 honest))
+
+pub returns-clause-none : goal.returns-clause-none
+returns-clause-none g c none =
+    let same = rw c.in_default.is at c.in_ok-behind.ensures.same in
+    same ∙ c.loop-window.invariant.none none

@@ -1,4 +1,4 @@
-use Rattle.std.proofs.Common.{◌≡◌, ◌+◌, ◌-◌, ◌<◌, ◌↔◌, List, ℕ}
+use Rattle.std.proofs.Common.{◌≡◌, ◌+◌, ◌-◌, ◌<◌, ◌↔◌, List, [], ℕ}
 use Rattle.journal.specs.Reading.{IsOnlyRead}
 use Rattle.journal.specs.Scanning.{IsReadAs, IsScanned}
 use Rattle.journal.specs.Touches.{AreWithin}
@@ -12,6 +12,7 @@ invariant-loop-window g l = record {
   honest : g.D.Disk.honest l.disk ↔ g.D.Disk.honest l.fn.disk;
   only_read : g.D.Disk.honest l.fn.disk → IsOnlyRead (g.D.Disk.state l.fn.disk) (g.D.Disk.state l.disk);
   within : l.end.gate < l.self.bytes;
+  none : l.end.gate ≡ 0 → l.touched.items ≡ [];
   noted : AreWithin l.self.from (l.self.from + l.self.bytes) l.touched.items;
   read_as : g.D.Disk.honest l.fn.disk → (content : List ℕ) → IsScanned content (g.D.Disk.state l.fn.disk) l.self.from l.self.bytes → IsReadAs content (g.D.Disk.state l.disk) l.self.from l.self.bytes l.window;
   found : g.D.Disk.honest l.fn.disk → (content : List ℕ) → IsScanned content (g.D.Disk.state l.fn.disk) l.self.from l.self.bytes
