@@ -1,2 +1,3 @@
+pub mod CleanedMaps
 pub mod DirtyMaps
 pub mod Positions

@@ -1,11 +1,11 @@
-ghost use Rattle.std.specs.Prelude.{◌≡◌, ◌+◌, ◌/◌, ◌<◌, ◌≤◌, ◌^◌, ℕ, Some, None, if◌then◌else◌, nat_eq, OnOk, OnErr, List, fold, length, map as mapped};
+ghost use Rattle.std.specs.Prelude.{◌≡◌, ◌+◌, ◌/◌, ◌<◌, ◌≤◌, ◌↔◌, ◌^◌, ℕ, Some, None, false, if◌then◌else◌, nat_eq, nat_lt, IsTrue, OnOk, OnErr, List, filter, fold, length, map as mapped};
 ghost use Rattle.std.specs.HashMap as hash;
 ghost use Rattle.std.specs.FinMap as map;
 ghost use Rattle.std.specs.Ordering.{nat_cmp};
 ghost use Rattle.std.specs.Coded.{coded_ℕ};
 ghost use Rattle.image_model.specs.declared.command.Command.{Command};
 ghost use Rattle.image_model.specs.Change.{Change, change_of};
-ghost use Rattle.image_model.specs.Dirty.{with_blocks, without_blocks, dirty_after, dirty_blocks, frames_suffice, last_write};
+ghost use Rattle.image_model.specs.Dirty.{with_blocks, without_blocks, clean_through, dirty_after, dirty_blocks, frames_suffice, last_write};
 ghost use Rattle.image_model.specs.Image.{covers};
 ghost use Rattle.order_book.specs.Order.{IsWrite, new_order, with_command};
 
@@ -84,6 +84,13 @@ fn retain_outside(numbers: &mut HashMap<u64, u64>, first: u64, count: u64)
     numbers.retain(|block, _| *block < first || end <= *block);
 }
 
+// Drops the blocks whose number is at most this one.
+fn retain_above(numbers: &mut HashMap<u64, u64>, number: u64)
+    ensures { numbers.new.entries ≡ filter (λ entry. nat_lt number entry.1) numbers.old.entries }
+{
+    numbers.retain(|_, own| number < *own);
+}
+
 impl DirtyBlocks {
     pub(crate) fn new(alloc: Global) -> DirtyBlocks
         ensures { result ≡ map.empty }
@@ -114,6 +121,18 @@ impl DirtyBlocks {
         } else {
             retain_outside(&mut self.numbers, first, count);
         }
+    }
+
+    /// Makes the blocks clean whose number is at most this one, by a look at each dirty block, and tells whether there
+    /// were any.
+    pub(crate) fn clean_through(&mut self, number: u64) -> bool
+        ensures new { self.new ≡ clean_through self.old number }
+        ensures any { IsTrue result ↔ (map.len self.new < map.len self.old) }
+        ensures none { (result ≡ false) ↔ (self.new ≡ self.old) }
+    {
+        let before = self.numbers.len();
+        retain_above(&mut self.numbers, number);
+        self.numbers.len() < before
     }
 
     /// Whether `frames` frames hold the dirty blocks and those of the command.

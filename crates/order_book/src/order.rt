@@ -1,6 +1,8 @@
-ghost use Rattle.std.specs.Prelude.{◌≡◌, ◌+◌, ◌<◌, ◌≤◌, ◌↔◌, [], true, false, ◌⊎◌, IsErrAnd, IfErr, IfOk, IfSome, IfNone, OnErr, OnOk};
+ghost use Rattle.std.specs.Prelude.{◌≡◌, ◌+◌, ◌<◌, ◌≤◌, ◌↔◌, [], true, false, ◌⊎◌, IsErrAnd, IfErr, IfOk, IfSome, IfNone, IsTrue, OnErr, OnOk};
+ghost use Rattle.std.specs.FinMap.{len};
 ghost use Rattle.order_book.specs.Order.{OrderState, new_order, IsNumbered, IsWrite, has_room, refusal_of, with_command, Seals, IsInHand, with_group, with_durable};
 ghost use Rattle.image_model.specs.Bodies.{body_limit};
+ghost use Rattle.image_model.specs.Dirty.{clean_through};
 
 use crate::backlog::Backlog;
 use crate::dirty::DirtyBlocks;
@@ -242,5 +244,15 @@ impl Order {
             self.backlog.forget(count - self.durable);
             self.durable = count;
         }
+    }
+
+    /// Makes the dirty blocks clean whose number is at most the keeper's base, by a look at each dirty block, and tells
+    /// whether there were any.
+    pub fn clean<D: Disk>(&mut self, keeper: &Keeper<D>) -> bool
+        ensures new { self.new ≡ record self.old { dirty = clean_through self.old.dirty keeper.now.base } }
+        ensures any { IsTrue result ↔ (len self.new.dirty < len self.old.dirty) }
+        ensures none { (result ≡ false) ↔ (self.new ≡ self.old) }
+    {
+        self.dirty.clean_through(keeper.base())
     }
 }
