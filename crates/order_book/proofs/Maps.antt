@@ -31,10 +31,6 @@ get-entries entries q = get-from_entries nat_cmp_total entries q ∙ find-lookup
 made : (entries : Entries) (dirty : Dirty) → ((q : ℕ) → lookup (nat_eq q) entries ≡ get dirty q) → from_entries entries ≡ dirty
 made entries dirty is = same_map nat_cmp_total nat_cmp-IsAntisymmetric _ _ (λ q. get-entries entries q ∙ is q)
 
--- two lists with the same look-ups make one map
-pub made-same : (old new : Entries) → ((q : ℕ) → lookup (nat_eq q) new ≡ lookup (nat_eq q) old) → from_entries {R = nat_cmp} new ≡ from_entries old
-made-same old new same = made new (from_entries old) (λ q. same q ∙ sym (get-entries old q))
-
 -- the blocks of a range have a number
 pub made-with_blocks : (old new : Entries) (number first count : ℕ)
     → ((q : ℕ) → lookup (nat_eq q) new ≡ (if covers first count q then Some number else lookup (nat_eq q) old))
