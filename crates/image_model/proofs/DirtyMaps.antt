@@ -62,7 +62,7 @@ pub with_blocks_none : (dirty : Dirty) (number first : ℕ) → with_blocks dirt
 unfolding with_blocks
 with_blocks_none dirty number first = refl
 
-abbrev given : ℕ → Change → Option ℕ
+abbrev pub given : ℕ → Change → Option ℕ
 given number change = if is_write change then Some number else None
 
 -- one command decides for the blocks that it touches

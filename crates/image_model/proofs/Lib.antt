@@ -1,3 +1,4 @@
+pub mod CleanedMaps
 pub mod DirtyCounts
 pub mod DirtyMaps
 pub mod DirtyTails

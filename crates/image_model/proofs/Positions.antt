@@ -54,7 +54,7 @@ same_image : (image other : Image) → image.blocks ≡ other.blocks → ((place
 same_image image other size bytes kinds = λ i. record { blocks = size i; byte = λ place. bytes place i; kind = λ block. kinds block i }
 
 -- and a list has as many items as before
-length-patched : {X : Type 0} (list : List X) (at : ℕ) (items : List X) → at + length items ≤ length list → length (patched list at items) ≡ length list
+pub length-patched : {X : Type 0} (list : List X) (at : ℕ) (items : List X) → at + length items ≤ length list → length (patched list at items) ≡ length list
 length-patched list at items fits = simp (length-append, length-take, length-drop) (omega arith)
 
 -- what a put makes of the two lists

@@ -1,8 +1,8 @@
 -- the dirty blocks: those whose last touch is a write, each with that write's number
-use Rattle.std.specs.Prelude.{ℕ, ◌+◌, zero, suc, Bool, true, false, not, nat_le, if◌then◌else◌, ◌&&◌, Option, Some, None, List, [], ◌∷◌}
+use Rattle.std.specs.Prelude.{ℕ, ◌+◌, zero, suc, Bool, true, false, not, nat_le, nat_lt, if◌then◌else◌, ◌&&◌, Option, Some, None, List, [], ◌∷◌}
 use Rattle.std.specs.List.{list_any}
 use Rattle.std.specs.Ordering.{nat_cmp}
-use Rattle.std.specs.FinMap.{FinMap, empty, insert, retain_keys, len}
+use Rattle.std.specs.FinMap.{FinMap, empty, get, insert, retain_keys, len}
 use Rattle.image_model.specs.Change.{Change, Written, Cleared}
 use Rattle.image_model.specs.Image.{covers, first_of, blocks_of}
 
@@ -17,6 +17,15 @@ with_blocks dirty number first (suc count) = insert (with_blocks dirty number fi
 -- so many blocks from the first one on are clean
 abbrev pub without_blocks : Dirty → ℕ → ℕ → Dirty
 without_blocks dirty first count = retain_keys dirty (λ block. not (covers first count block))
+
+-- whether a block's number, where it has one, is above this number
+abbrev pub is_above : ℕ → Option ℕ → Bool
+is_above number None = false
+is_above number (Some own) = nat_lt number own
+
+-- the blocks whose number is at most this one are clean; the others keep theirs
+abbrev pub clean_through : Dirty → ℕ → Dirty
+clean_through dirty number = retain_keys dirty (λ block. is_above number (get dirty block))
 
 -- the dirty blocks after a command with this number
 abbrev pub dirty_after : Dirty → ℕ → Change → Dirty

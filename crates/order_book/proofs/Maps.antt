@@ -1,17 +1,19 @@
 -- maps of dirty blocks as lists of entries
-use Rattle.std.proofs.Common.{◌≡◌, ℕ, ◌+◌, suc, Bool, false, cond, if◌then◌else◌, nat_eq, Option, Some, None, List, [], ◌∷◌, length, map, sym, ap, ◌∙◌, refl, arith}
+use Rattle.std.proofs.Common.{◌≡◌, ℕ, ◌+◌, ◌≤◌, suc, Bool, true, false, cond, if◌then◌else◌, nat_eq, nat_lt, Option, Some, None, List, [], ◌∷◌, length, map, filter, sym, ap, ◌∙◌, refl, arith}
 use Rattle.std.specs.Prelude.{fold}
 use Rattle.std.specs.Option.{is_some}
 use Rattle.std.specs.List.{IsDistinct, AllByRecursion}
 use Rattle.std.specs.Map.{lookup, keys_of}
 use Rattle.std.specs.Ordering.{nat_cmp}
-use Rattle.std.specs.Cmp.{nat_cmp_total, unsigned_tied}
+use Rattle.std.specs.Cmp.{nat_cmp_total, nat_eq_equiv, unsigned_tied}
 use Rattle.std.specs.FinMap.{find, get, len, from_entries, get-from_entries, len-empty, len-insert, same_map, nat_cmp-IsAntisymmetric}
+use Rattle.std.proofs.lemmas.Map.Entries.{option_filter, lookup-filter-values}
 use Rattle.image_model.specs.declared.command.Command.{Command}
 use Rattle.image_model.specs.Change.{change_of}
 use Rattle.image_model.specs.Image.{covers}
-use Rattle.image_model.specs.Dirty.{Dirty, with_blocks, without_blocks, dirty_from}
+use Rattle.image_model.specs.Dirty.{Dirty, with_blocks, without_blocks, clean_through, dirty_from}
 use Rattle.image_model.proofs.DirtyMaps.{get-with_blocks, get-without_blocks, len-with_blocks_more}
+use Rattle.image_model.proofs.CleanedMaps.{above, get-clean_through}
 use Rattle.order_book.specs.Order.{OrderState, with_command}
 
 abbrev pub Entries : Type 0
@@ -28,10 +30,6 @@ get-entries entries q = get-from_entries nat_cmp_total entries q ∙ find-lookup
 -- entries in which a look-up finds what a map has make that map
 made : (entries : Entries) (dirty : Dirty) → ((q : ℕ) → lookup (nat_eq q) entries ≡ get dirty q) → from_entries entries ≡ dirty
 made entries dirty is = same_map nat_cmp_total nat_cmp-IsAntisymmetric _ _ (λ q. get-entries entries q ∙ is q)
-
--- two lists with the same look-ups make one map
-pub made-same : (old new : Entries) → ((q : ℕ) → lookup (nat_eq q) new ≡ lookup (nat_eq q) old) → from_entries {R = nat_cmp} new ≡ from_entries old
-made-same old new same = made new (from_entries old) (λ q. same q ∙ sym (get-entries old q))
 
 -- the blocks of a range have a number
 pub made-with_blocks : (old new : Entries) (number first count : ℕ)
@@ -80,3 +78,31 @@ pub dirty-fold : (order : OrderState) (commands : List Command) →
     (fold with_command order commands).dirty ≡ dirty_from order.dirty order.mark (map change_of commands)
 dirty-fold order [] = refl
 dirty-fold order (command ∷ commands) = dirty-fold (with_command order command) commands
+
+clean_found : (number : ℕ) (found : Option ℕ) → option_filter (λ own. nat_lt number own) found ≡ above number found
+clean_found number None = refl
+clean_found number (Some own) = refl
+
+-- the entries above a number make the map whose other blocks are clean
+pub made-clean_through : (old : Entries) (number : ℕ) → IsDistinct nat_eq (keys_of old)
+    → from_entries (filter (λ (e : ℕ × ℕ). nat_lt number e.1) old) ≡ clean_through (from_entries old) number
+made-clean_through old number distinct = made _ (clean_through (from_entries old) number) (λ q.
+    lookup-filter-values nat_eq_equiv (λ own. nat_lt number own) q old distinct
+    ∙ clean_found number (lookup (nat_eq q) old)
+    ∙ sym (get-clean_through (from_entries old) number q ∙ ap (above number) (get-entries old q)))
+
+shorter : {X : Type 0} (test : X → Bool) (list : List X) → length (filter test list) ≤ length list
+shorter test [] = omega arith
+shorter test (x ∷ list) = elim (test x) as (λ b. length (cond b (x ∷ filter test list) (filter test list)) ≤ length (x ∷ list)) [
+  | true ↦ omega (arith, shorter test list)
+  | false ↦ omega (arith, shorter test list)
+]
+
+-- a list that a filter leaves as long as it was is as it was
+pub all_kept : {X : Type 0} (test : X → Bool) (list : List X) → length list ≤ length (filter test list) → filter test list ≡ list
+all_kept test [] long = refl
+all_kept test (x ∷ list) long =
+    elim (test x) as (λ b. length (x ∷ list) ≤ length (cond b (x ∷ filter test list) (filter test list)) → cond b (x ∷ filter test list) (filter test list) ≡ x ∷ list) [
+      | true ↦ λ l. ap (λ rest. x ∷ rest) (all_kept test list (omega (arith, l)))
+      | false ↦ λ l. absurd (omega (arith, l, shorter test list))
+    ] long

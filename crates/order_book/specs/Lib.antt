@@ -1,4 +1,5 @@
 pub mod Backlog
+pub mod Cached
 pub mod Order
 pub mod Pending
 pub mod State

@@ -2,14 +2,18 @@
 use Rattle.std.specs.Prelude.{◌≡◌, ℕ, ◌+◌, ◌-◌, ◌<◌, ◌≤◌, ◌&&◌, ◌==◌, Option, Some, None, Bool, false, nat_le, if◌then◌else◌, List, [], ◌∷◌, ◌++◌, length, drop, take, sum, All}
 use Rattle.std.specs.FinMap.{empty}
 use Rattle.image_model.specs.declared.command.Command.{Command}
+use Rattle.image_model.specs.declared.command.Kind.{Kind}
 use Rattle.image_model.specs.Bodies.{body_limit}
 use Rattle.image_model.specs.Change.{change_of}
-use Rattle.image_model.specs.Command.{IsCommand, body_of, bodies_of}
-use Rattle.image_model.specs.Dirty.{Dirty, dirty_after, frames_suffice}
+use Rattle.image_model.specs.Command.{body_of, bodies_of}
+use Rattle.image_model.specs.Dirty.{Dirty, clean_through, dirty_after, frames_suffice}
 use Rattle.journal.specs.Group.{Numbered}
+use Rattle.order_book.specs.Cached.{cache_after, cache_cleaned}
 use Rattle.order_book.specs.declared.fault.OrderFault.{OrderFault}
 use Rattle.order_book.specs.declared.fault.OrderFault.TheVariants.{NumbersFull, NoRoom, Stopped}
 use Rattle.order_book.specs.Pending.{HasSmallBody}
+use Rattle.shared_cache.specs.Blocks.{DirtyBlock}
+use Rattle.shared_cache.specs.Cache.{CacheState}
 
 pub record OrderState : Type 0 where
   -- the last number before the first command
@@ -24,17 +28,19 @@ pub record OrderState : Type 0 where
   pub pending : List Command
   -- the bytes that each command above the durable number takes in a group
   pub bodies : List ℕ
-  -- the blocks whose last touch is a Put, each with that command's number
+  -- the current state of each block, and the blocks that are in memory
+  pub cache : CacheState
+  -- of these the dirty ones, each with the number of the Put that wrote it, and how many frames there are for all
   pub dirty : Dirty
-  -- the most blocks that may be dirty, and the bytes of a journal area
   pub frames : ℕ
+  -- the bytes of a journal area
   pub area : ℕ
   -- whether commands are refused from now on
   pub stopped : Bool
 
--- nothing was accepted yet
-abbrev pub new_order : ℕ → ℕ → ℕ → OrderState
-new_order last most bytes = record {
+-- nothing was accepted yet, and the image has these states
+abbrev pub new_order : List Kind → ℕ → ℕ → ℕ → OrderState
+new_order states last most bytes = record {
   opening = last;
   durable = last;
   sealed = last;
@@ -42,17 +48,12 @@ new_order last most bytes = record {
   in_hand = 0;
   pending = [];
   bodies = [];
+  cache = record { states = states; blocks = record { free = most; clean = []; dirty = [] } };
   dirty = empty;
   frames = most;
   area = bytes;
   stopped = false;
 }
-
--- a command that an image of so many blocks takes, which have numbers of 64 bits
-pub record IsWrite (command : Command) : Type 0 where
-  pub image : ℕ
-  pub numbers : image < 18446744073709551616
-  pub is : IsCommand image command
 
 -- whether a command has room: in the frames, and in the 67,108,864 bytes for what isn't durable
 abbrev pub has_room : OrderState → Command → Bool
@@ -73,8 +74,13 @@ with_command order command = record order {
   mark = order.mark + 1;
   pending = order.pending ++ command ∷ [];
   bodies = order.bodies ++ body_of command ∷ [];
+  cache = cache_after order.cache (order.mark + 1) (change_of command);
   dirty = dirty_after order.dirty (order.mark + 1) (change_of command);
 }
+
+-- the order once the dirty blocks up to a number are clean
+abbrev pub with_clean : OrderState → ℕ → OrderState
+with_clean order number = record order { cache = cache_cleaned order.cache number; dirty = clean_through order.dirty number }
 
 -- the longest beginning of the pending list became a group
 pub record Seals (old new : OrderState) (group : Numbered) : Type 0 where
@@ -118,5 +124,7 @@ pub record IsOrder (order : OrderState) (spare : ℕ) : Type 0 where
   pub backlog : sum order.bodies ≤ 67108864
   pub small : All HasSmallBody order.pending
   pub area : (2097152 ≤ order.area) × (order.area < 4294967296)
+  -- the dirty blocks were written by commands up to the last one
+  pub dirty : All (λ (held : DirtyBlock). held.number ≤ order.mark) order.cache.blocks.dirty
   -- a group in hand has its places
   pub kept : order.in_hand ≤ spare

@@ -1,5 +1,6 @@
 -- what callers see of an order's fields
 use Rattle.order_book.specs.declared.order.Order.TheInside.{Inside}
+use Rattle.order_book.specs.Cached.{dirty_of, frames_of}
 use Rattle.order_book.specs.Order.{OrderState}
 
 abbrev pub state_of : Inside → OrderState
@@ -11,8 +12,9 @@ state_of order = record {
   in_hand = order.in_hand;
   pending = order.pending.commands;
   bodies = order.backlog.bodies;
-  dirty = order.dirty;
-  frames = order.frames;
+  cache = order.cache;
+  dirty = dirty_of order.cache;
+  frames = frames_of order.cache;
   area = order.area;
   stopped = order.stopped;
 }

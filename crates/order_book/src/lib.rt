@@ -2,11 +2,12 @@
 #![tactic(auto)]
 
 mod backlog;
-mod dirty;
+mod commands;
 mod fault;
+mod laws;
 mod order;
 mod pending;
 
-pub use dirty::dirty_blocks_law;
 pub use fault::OrderFault;
+pub use laws::dirty_blocks_law;
 pub use order::Order;

@@ -1,15 +1,24 @@
-ghost use Rattle.std.specs.Prelude.{◌≡◌, ◌+◌, ◌<◌, ◌≤◌, ◌↔◌, [], true, false, ◌⊎◌, IsErrAnd, IfErr, IfOk, IfSome, IfNone, OnErr, OnOk};
-ghost use Rattle.order_book.specs.Order.{OrderState, new_order, IsNumbered, IsWrite, has_room, refusal_of, with_command, Seals, IsInHand, with_group, with_durable};
+ghost use Rattle.std.specs.Prelude.{◌≡◌, ◌+◌, ◌<◌, ◌≤◌, ◌↔◌, ◌^◌, [], ℕ, List, length, slice_index_or, true, false, ◌⊎◌, Some, IsErr, IsErrAnd, IfErr, IfOk, IfSome, IfNone, IsTrue, OnErr, OnOk};
+ghost use Rattle.std.specs.FinMap.{len};
+ghost use Rattle.alloc_map.specs.Runs.{AreRuns};
 ghost use Rattle.image_model.specs.Bodies.{body_limit};
+ghost use Rattle.image_model.specs.Change.{change_of};
+ghost use Rattle.image_model.specs.Command.{IsCommand};
+ghost use Rattle.order_book.specs.Cached.{ShowsCommand};
+ghost use Rattle.order_book.specs.Order.{OrderState, new_order, IsNumbered, has_room, refusal_of, with_command, with_clean, Seals, IsInHand, with_group, with_durable};
+ghost use Rattle.shared_cache.specs.Cache.{LacksBytes, bytes_seen};
+ghost use Rattle.shared_cache.specs.View.{ShowsClean};
 
 use crate::backlog::Backlog;
-use crate::dirty::DirtyBlocks;
+use crate::commands::{apply, clean_through, has_frames};
 use crate::fault::OrderFault;
 use crate::pending::PendingCommands;
+use alloc_map::{AllocMap, Run};
 use checkpoint::Keeper;
 use disk_model::Disk;
 use image_model::Command;
 use journal::{Group, MOST_BODY_BYTES};
+use shared_cache::{Cache, Missing};
 use std::alloc::{AllocError, Global};
 use std::marker::Model;
 
@@ -29,8 +38,7 @@ pub struct Order {
     in_hand: usize,
     pending: PendingCommands,
     backlog: Backlog,
-    dirty: DirtyBlocks,
-    frames: u32,
+    cache: Cache,
     area: u32,
     stopped: bool,
 }
@@ -69,12 +77,22 @@ fn make_room(
 }
 
 impl Order {
-    /// An order whose next number is `opening` + 1, for at most `frames` dirty blocks and journal areas of `area` bytes.
-    pub fn new(alloc: Global, opening: u64, frames: u32, area: u32) -> Order
-        requires { 2097152 ≤ area }
-        ensures { result ≡ new_order opening frames area }
+    /// An order over an image with these states, whose next number is `opening` + 1, with so many frames for blocks and
+    /// journal areas of `area` bytes. It takes the memory of all frames.
+    pub fn new(
+        alloc: Global,
+        map: AllocMap,
+        opening: u64,
+        frames: u32,
+        area: u32,
+    ) -> Result<Order, AllocError>
+        requires area { 2097152 ≤ area }
+        requires frames { frames + 3 < 2 ^ 31 }
+        requires few { length map ≤ 16777216 }
+        ensures { IfOk result (λ order. order ≡ new_order map opening frames area) }
     {
-        Order {
+        let cache = Cache::new(alloc, map, frames)?;
+        Ok(Order {
             opening,
             durable: opening,
             sealed: opening,
@@ -82,11 +100,10 @@ impl Order {
             in_hand: 0,
             pending: PendingCommands::new(alloc),
             backlog: Backlog::new(alloc),
-            dirty: DirtyBlocks::new(alloc),
-            frames,
+            cache,
             area,
             stopped: false,
-        }
+        })
     }
 
     /// The last number before the first command.
@@ -136,9 +153,11 @@ impl Order {
     ///
     /// The refusals, in the order in which they are looked for: 18 (stopped), 9 (numbers full), 17 (no room), 0 (no memory).
     pub fn accept(&mut self, command: Command) -> Result<u64, (OrderFault, Command)>
-        requires { IsWrite command }
+        requires { IsCommand (length self.old.cache.states) command }
         ensures number { IfOk result (λ number. number ≡ self.old.mark + 1) }
         ensures accepted { OnOk result (self.new ≡ with_command self.old command) }
+        ensures view { OnOk result (ShowsCommand (change_of command) self.old.cache self.new.cache) }
+        ensures blocks { length self.new.cache.states ≡ length self.old.cache.states }
         ensures handed_back { IfErr result (λ refused. refused.1 ≡ command) }
         ensures unchanged { OnErr result (self.new ≡ self.old) }
 
@@ -155,7 +174,7 @@ impl Order {
         let Ok(()) = make_room(&mut self.pending, &mut self.backlog, self.in_hand + 1) else {
             return Err((OrderFault::NoMemory, command));
         };
-        let Ok(()) = self.dirty.apply(&command, self.mark + 1) else {
+        let Ok(()) = apply(&mut self.cache, &command, self.mark + 1) else {
             return Err((OrderFault::NoMemory, command));
         };
         let body = command.body_bytes();
@@ -167,7 +186,7 @@ impl Order {
 
     // Why a command is refused before any growth.
     fn refusal(&self, command: &Command) -> Option<OrderFault>
-        requires { IsWrite command.now }
+        requires { IsCommand (length self.now.cache.states) command.now }
         ensures { result ≡ refusal_of self.now command.now }
     {
         if self.stopped {
@@ -183,10 +202,10 @@ impl Order {
     }
 
     fn has_room(&self, command: &Command) -> bool
-        requires { IsWrite command.now }
+        requires { IsCommand (length self.now.cache.states) command.now }
         ensures { result ≡ has_room self.now command.now }
     {
-        self.dirty.has_frames(command, self.frames)
+        has_frames(&self.cache, command)
             && self.backlog.total() + command.body_bytes() <= MOST_BACKLOG_BYTES
     }
 
@@ -242,5 +261,42 @@ impl Order {
             self.backlog.forget(count - self.durable);
             self.durable = count;
         }
+    }
+
+    /// Makes the dirty blocks clean whose number is at most the keeper's base, by a step for each of them, and tells
+    /// whether there were any. What is known of the image stays.
+    pub fn clean<D: Disk>(&mut self, keeper: &Keeper<D>) -> bool
+        ensures new { self.new ≡ with_clean self.old keeper.now.base }
+        ensures view { ShowsClean keeper.now.base self.old.cache self.new.cache }
+        ensures any { IsTrue result ↔ (len self.new.dirty < len self.old.dirty) }
+        ensures none { (result ≡ false) ↔ (self.new ≡ self.old) }
+    {
+        clean_through(&mut self.cache, keeper.base())
+    }
+
+    /// Reads blocks from the first one on, as all that was accepted left them. It is refused with 14 exactly where one
+    /// that is data has no frame; the slice then holds any bytes.
+    pub fn read_cached(&self, first: u64, into: &mut [[u8; 4096]]) -> Result<(), Missing>
+        requires range { first + length into.old ≤ length self.now.cache.states }
+        ensures ok { OnOk result ((k : ℕ) (d : List ℕ) → k < length into.new → bytes_seen self.now.cache (first + k) ≡ Some (slice_index_or into.new k d)) }
+        ensures missing { IsErr result ↔ LacksBytes self.now.cache first (length into.old) }
+    {
+        self.cache.read_cached(first, into)
+    }
+
+    /// The longest runs of blocks in one state, from one block on up to another, the first `limit` of them, as all that
+    /// was accepted left them.
+    pub fn status(
+        &self,
+        alloc: Global,
+        from: u64,
+        to: u64,
+        limit: usize,
+    ) -> Result<Vec<Run>, AllocError>
+        requires order { from ≤ to }
+        requires inside { to ≤ length self.now.cache.states }
+        ensures { IfOk result (λ runs. AreRuns self.now.cache.states from to limit runs.items) }
+    {
+        self.cache.map().runs(alloc, from, to, limit)
     }
 }

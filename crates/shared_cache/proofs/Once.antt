@@ -8,24 +8,9 @@ use Rattle.frame_pool.specs.Lists.{times}
 use Rattle.frame_pool.specs.Pool.{DirtyFrame, PoolState, frames_of}
 use Rattle.frame_pool.proofs.Times.{times_head}
 use Rattle.shared_cache.proofs.Kept.{stands_once}
+pub use Rattle.shared_cache.specs.Blocks.{IsOnce, all_held, as_clean, times_in}
 use Rattle.shared_cache.specs.Blocks.{BlocksState, CleanBlock, DirtyBlock, bytes_of, clean_bytes, dirty_bytes, clean_outside, dirty_outside, is_clean, is_dirty, is_held, option_or, without}
 use Rattle.shared_cache.specs.Held.{HeldState, IsHeld, block_at, blocks_of, clean_block, dirty_block, held_times}
-
--- a dirty block as one whose number is of no matter
-abbrev pub as_clean : DirtyBlock → CleanBlock
-as_clean held = record { block = held.block; bytes = held.bytes }
-
--- the blocks that are held, and how often a block is one of them
-abbrev pub all_held : BlocksState → List CleanBlock
-all_held blocks = blocks.clean ++ map as_clean blocks.dirty
-
-abbrev pub times_in : ℕ → List CleanBlock → ℕ
-times_in block [] = 0
-times_in block (held ∷ rest) = (if held.block == block then 1 else 0) + times_in block rest
-
--- Each block is held once at most.
-pub record IsOnce (blocks : BlocksState) : Type 0 where
-  pub once : (block : ℕ) → times_in block (all_held blocks) ≤ 1
 
 pub times_in-append : (block : ℕ) (xs ys : List CleanBlock) → times_in block (xs ++ ys) ≡ times_in block xs + times_in block ys
 times_in-append block [] ys = omega arith

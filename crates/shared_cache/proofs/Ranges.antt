@@ -68,15 +68,15 @@ count_put number block first (suc count) bytes s below =
     rw (dirty_other number block first bytes s (λ e. omega arith))
     (ap (λ (n : ℕ). (if is_dirty first s then 0 else 1) + n) (count_put number block (first + 1) count bytes s (omega arith)))
 
-outside_le : (inside : ℕ → Bool) (dirty : List DirtyBlock) → length (dirty_outside inside dirty) ≤ length dirty
+pub outside_le : (inside : ℕ → Bool) (dirty : List DirtyBlock) → length (dirty_outside inside dirty) ≤ length dirty
 outside_le inside [] = omega arith
 outside_le inside (h ∷ dirty) = elim (cases_Bool (inside h.block)) [ inl e ↦ rw e (omega (arith, outside_le inside dirty)) | inr e ↦ rw e (omega (arith, outside_le inside dirty)) ]
 
-clean_le : (inside : ℕ → Bool) (clean : List CleanBlock) → length (clean_outside inside clean) ≤ length clean
+pub clean_le : (inside : ℕ → Bool) (clean : List CleanBlock) → length (clean_outside inside clean) ≤ length clean
 clean_le inside [] = omega arith
 clean_le inside (h ∷ clean) = elim (cases_Bool (inside h.block)) [ inl e ↦ rw e (omega (arith, clean_le inside clean)) | inr e ↦ rw e (omega (arith, clean_le inside clean)) ]
 
-outside_less : (block : ℕ) (dirty : List DirtyBlock)
+pub outside_less : (block : ℕ) (dirty : List DirtyBlock)
     → length (dirty_outside (λ b. b == block) dirty) + 1 ≤ length dirty + (if list_any (λ (h : DirtyBlock). h.block == block) dirty then 0 else 1)
 outside_less block [] = omega arith
 outside_less block (h ∷ dirty) =

@@ -18,6 +18,22 @@ pub record BlocksState : Type 0 where
   pub clean : List CleanBlock
   pub dirty : List DirtyBlock
 
+-- a dirty block as one whose number is of no matter
+abbrev pub as_clean : DirtyBlock → CleanBlock
+as_clean held = record { block = held.block; bytes = held.bytes }
+
+-- the blocks that are held, and how often a block is one of them
+abbrev pub all_held : BlocksState → List CleanBlock
+all_held blocks = blocks.clean ++ map as_clean blocks.dirty
+
+abbrev pub times_in : ℕ → List CleanBlock → ℕ
+times_in block [] = 0
+times_in block (held ∷ rest) = (if held.block == block then 1 else 0) + times_in block rest
+
+-- Each block is held once at most: no two frames hold one block.
+pub record IsOnce (blocks : BlocksState) : Type 0 where
+  pub once : (block : ℕ) → times_in block (all_held blocks) ≤ 1
+
 -- the blocks that are in none of these places
 abbrev pub clean_outside : (ℕ → Bool) → List CleanBlock → List CleanBlock
 clean_outside inside clean = filter (λ (held : CleanBlock). not (inside held.block)) clean

@@ -1,10 +1,10 @@
-ghost use Rattle.std.specs.Prelude.{◌≡◌, ◌≢◌, ◌+◌, ◌<◌, ◌≤◌, ◌^◌, ◌↔◌, true, [], ℕ, All, length, replicate, List, Some, IfOk, IsErr, OnOk, OnErr, slice_index_or};
+ghost use Rattle.std.specs.Prelude.{◌≡◌, ◌≢◌, ◌+◌, ◌<◌, ◌≤◌, ◌^◌, ◌↔◌, true, [], ℕ, All, length, replicate, List, Some, IfOk, IsErr, OnOk, OnErr, slice_index_or, IsTrue};
 ghost use Rattle.std.specs.Option.{option_copied};
 ghost use Rattle.alloc_map.specs.Codes.{state_at};
 ghost use Rattle.image_model.specs.Image.{covers};
 ghost use Rattle.image_model.specs.Patched.{patched};
 ghost use Rattle.image_model.specs.declared.command.Kind.TheVariants as Kind;
-ghost use Rattle.shared_cache.specs.Blocks.{DirtyBlock, HasNoFrame, at_hand, cleaned, count_missing, is_held, with_fill, with_puts, without};
+ghost use Rattle.shared_cache.specs.Blocks.{DirtyBlock, HasNoFrame, IsOnce, at_hand, cleaned, count_missing, is_held, with_fill, with_puts, without};
 ghost use Rattle.shared_cache.specs.Cache.{LacksBytes, bytes_seen};
 ghost use Rattle.shared_cache.specs.View.{ShowsClean, ShowsClear, ShowsFill, ShowsPut};
 ghost use Rattle.shared_cache.specs.declared.fault.KeepFault.TheVariants as KeepFault;
@@ -58,6 +58,23 @@ impl Cache {
         &self.map
     }
 
+    /// How many blocks are dirty.
+    pub fn dirty_blocks(&self) -> u32
+        ensures count { result ≡ length self.now.blocks.dirty }
+        ensures once { IsOnce self.now.blocks }
+    {
+        self.held.dirty_blocks()
+    }
+
+    /// Whether so many blocks from the first one on find frames, beside the blocks that are dirty.
+    pub fn has_frames(&self, first: u64, count: u64) -> bool
+        requires range { first + count ≤ length self.now.states }
+        ensures enough { IsTrue result ↔ (count_missing first count self.now.blocks ≤ at_hand self.now.blocks) }
+        ensures once { IsOnce self.now.blocks }
+    {
+        self.held.count_missing(first, count) <= self.held.at_hand()
+    }
+
     /// Writes blocks from the first one on, with the number of their command, which is no smaller than those of the
     /// blocks that are dirty; they become data. Each takes the frame that it has, else a free one, else that of the
     /// clean front. It is refused with 13 exactly where these don't suffice, and where it is refused nothing has changed.
@@ -69,11 +86,12 @@ impl Cache {
           blocks = with_puts number first blocks.now self.old.blocks;
         }) }
         ensures view { OnOk result (ShowsPut first blocks.now self.old self.new) }
+        ensures once { IsOnce self.new.blocks }
         ensures no_frame { (result ≡ Err KeepFault.NoFrame) ↔ (at_hand self.old.blocks < count_missing first (length blocks.now) self.old.blocks) }
         ensures err { OnErr result (self.new ≡ self.old) }
     {
         let count = blocks.len() as u64;
-        if self.held.at_hand() < self.held.count_missing(first, count) {
+        if !self.has_frames(first, count) {
             return Err(KeepFault::NoFrame);
         }
         self.held.reserve(blocks.len())?;

@@ -260,6 +260,13 @@ impl Held {
         u64::from(self.pool.frames() - self.pool.dirty_frames())
     }
 
+    // How many blocks are dirty.
+    pub fn dirty_blocks(&self) -> u32
+        ensures { result ≡ length (blocks_of self.now.pool self.now.blocks).dirty }
+    {
+        self.pool.dirty_frames()
+    }
+
     // Writes the blocks from the first one on, for whose frames there is room.
     pub fn put_all(&mut self, number: u64, first: u64, blocks: &[[u8; 4096]])
         requires range { first + length blocks.now < 2 ^ 64 }

@@ -12,7 +12,9 @@ fn a_put_is_kept_and_cleared(rt: HostRuntime) -> Result<(), Fail> {
         Err(KeepFault::NoFrame)
     );
     assert_eq!(rt; cache.put(1, 1, &[[7; 4096], [8; 4096]]), Ok(()));
+    assert_eq!(rt; cache.dirty_blocks(), 2);
     cache.clean_through(1);
+    assert_eq!(rt; cache.dirty_blocks(), 0);
     cache.clear(0, 4, Kind::Zero);
     Ok(())
 }

@@ -1,10 +1,10 @@
 use Rattle.image_model.proofs.DirtyMaps.{get-dirty_blocks}
 use Rattle.order_book.specs.Order.{new_order}
 use Rattle.order_book.proofs.Maps.{dirty-fold}
-use Rattle.order_book.proofs.dirty.dirty_blocks_law.Goals as goal
+use Rattle.order_book.proofs.laws.dirty_blocks_law.Goals as goal
 
 pub returns : goal.returns
 returns c = record {
-  accepted = λ opening frames area commands. dirty-fold (new_order opening frames area) commands;
+  accepted = λ states opening frames area commands. dirty-fold (new_order states opening frames area) commands;
   last_touch = get-dirty_blocks;
 }
