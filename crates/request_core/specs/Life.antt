@@ -35,9 +35,9 @@ first_world keeper found faults most count given kept =
       frames = most;
       image = found;
       opening = keeper.count;
-      base = keeper.base;
+      generation = keeper.generation;
       failures = faults;
-    }) keeper.used
+    })
 
 -- What is said of a device's content has its honesty as a premise. Where the device isn't trusted, nothing is said of it,
 -- and nothing has to be known.

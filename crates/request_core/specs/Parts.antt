@@ -1,7 +1,8 @@
 -- when the parts of an export are of a world
-use Rattle.std.specs.Prelude.{ℕ, ◌≡◌, ◌+◌, ◌≤◌, ◌<◌, false, Option, Some, None, IfSome, List, [], ◌++◌, length, map, drop, take, slice_index_or}
-use Rattle.device_image.specs.Keeper.{KeeperState}
-use Rattle.device_image.specs.Keeps.{Keeps}
+use Rattle.std.specs.Prelude.{ℕ, ◌≡◌, ◌+◌, ◌-◌, ◌≤◌, ◌<◌, false, if◌then◌else◌, Option, Some, None, IfSome, List, [], ◌++◌, length, map, drop, take, slice_index_or}
+use Rattle.device_image.specs.Holds.{Holds}
+use Rattle.device_image.specs.Keeper.{KeeperState, Phase, One, Copying, Mapped}
+use Rattle.device_image.specs.Remembers.{Remembers}
 use Rattle.device_image.specs.Stands.{StandsFor}
 use Rattle.disk_model.specs.Disk.{State, MayLeave}
 use Rattle.image_model.specs.Change.{Change, AreChanges, change_of}
@@ -12,9 +13,9 @@ use Rattle.request_core.specs.Bench.{BenchState, ConnectionsState}
 use Rattle.world.specs.declared.connection.Connection.{Connection}
 use Rattle.world.specs.declared.connection.Connection.TheVariants.{Closed}
 use Rattle.image_model.specs.Bodies.{body_bytes}
-use Rattle.image_model.specs.Dirty.{dirty_blocks}
 use Rattle.world.specs.Run.{IsReached}
-use Rattle.world.specs.World.{World, Stage}
+use Rattle.world.specs.Checkpoint.{is_turned, last_turned}
+use Rattle.world.specs.World.{World, Stage, dirty_behind}
 
 -- the image after the first commands of an order
 abbrev pub image_after : List Change → ℕ → Image → Image
@@ -27,6 +28,25 @@ pub record StandsAfter (order : List Change) (image : Image) (opening least : �
   pub reaches : least ≤ count
   pub within : count ≤ length order
   pub stands : StandsFor content (image_after order count image) (opening + count)
+
+-- the commands of an order behind the first so many, up to another number of them
+abbrev pub part : List Change → ℕ → ℕ → List Change
+part order from until = take (until - from) (drop from order)
+
+-- how many commands stand in front of the last area in use
+abbrev pub turned_at : Stage → ℕ
+turned_at stage = last_turned stage.base stage.turned
+
+-- the commands in the areas in front of the last, and those in the last
+abbrev pub first_commands : Stage → List Change
+first_commands stage = part stage.order stage.base (turned_at stage)
+
+abbrev pub last_commands : Stage → List Change
+last_commands stage = part stage.order (turned_at stage) stage.stored
+
+-- where the checkpoint is
+abbrev pub phase_at : Stage → Phase
+phase_at stage = if is_turned stage.turned then (if stage.mapped then Mapped else Copying stage.left) else One
 
 -- the commands of a group in hand
 abbrev pub commands_in : Option Numbered → List Change
@@ -44,8 +64,9 @@ pub record IsOrderOf (stage : Stage) (order : OrderState) (group : Option Number
   pub first : IfSome group (λ held. held.first ≡ stage.setting.opening + stage.stored + 1)
   pub some : IfSome group (λ held. 1 ≤ length held.commands)
   pub bodies : order.bodies ≡ map body_bytes (drop stage.durable stage.order)
-  pub dirty : order.dirty ≡ dirty_blocks stage.setting.opening stage.order
+  pub dirty : order.dirty ≡ dirty_behind stage.cleaned stage
   pub frames : order.frames ≡ stage.setting.frames
+  pub blocks : length order.cache.states ≡ stage.setting.geometry.blocks
   pub area : order.area ≡ stage.setting.geometry.area
   pub stopped : order.stopped ≡ stage.stopped
   -- the last number has 64 bits
@@ -55,21 +76,25 @@ pub record IsOrderOf (stage : Stage) (order : OrderState) (group : Option Number
 pub record IsKeeperOf {D : Type 0} (stage : Stage) (keeper : KeeperState D) (failures : ℕ) : Type 0 where
   pub geometry : keeper.geometry ≡ stage.setting.geometry
   pub count : keeper.count ≡ stage.setting.opening + stage.stored
-  pub base : keeper.base ≡ stage.setting.base
+  pub base : keeper.base ≡ stage.setting.opening + stage.base
+  pub turned : keeper.turned ≡ stage.setting.opening + turned_at stage
+  pub generation : keeper.generation ≡ stage.generation
+  pub phase : keeper.phase ≡ phase_at stage
   pub used : keeper.used ≡ stage.at
   pub failed : keeper.failed ≡ stage.stopped
   pub faults : failures ≡ stage.faults
-  -- the image takes the commands
+  -- the image takes the commands, and the keeper remembers those in its last area
   pub takes : AreChanges stage.setting.geometry.blocks stage.order
+  pub remembers : Remembers keeper (last_commands stage)
 
 -- what each connection is at
 abbrev pub AreConnectionsOf : World → List Connection → Type 0
 AreConnectionsOf world connections = (connection : ℕ) → slice_index_or connections connection Closed ≡ world.connections connection
 
--- The keeper, whose device is in this state, is that of a world: as long as the device hasn't failed the keeper keeps
--- what is stored, and whatever a crash may leave reaches it.
+-- The keeper, whose device is in this state, is that of a world: as long as the device hasn't failed the keeper holds the
+-- image up to the base and what is stored above it, and whatever a crash may leave reaches all that is stored.
 pub record IsDiskOf {D : Type 0} (stage : Stage) (keeper : KeeperState D) (state : State) : Type 0 where
-  pub keeps : stage.stopped ≡ false → Keeps keeper state (image_after stage.order stage.stored stage.setting.image) (stage.setting.opening + stage.stored)
+  pub holds : stage.stopped ≡ false → Holds keeper state (image_after stage.order stage.base stage.setting.image) (first_commands stage) (last_commands stage)
   pub leaves : (content : List ℕ) → MayLeave state content → StandsAfter stage.order stage.setting.image stage.setting.opening stage.stored content
 
 -- Order, keeper and connections are of a world that a schedule leads to. Where the keeper's device is honest, it is of

@@ -1,5 +1,5 @@
 -- in each world the numbers stand within one another
-use Rattle.std.proofs.Common.{◌≡◌, ℕ, ◌+◌, ◌-◌, ◌<◌, ◌≤◌, ◌==◌, ◌&&◌, Bool, true, false, if◌then◌else◌, nat_le, nat_lt, not, Result, Ok, Err, List, [], ◌∷◌, ◌++◌, length, length-append, length-drop, drop, subst, refl, arith}
+use Rattle.std.proofs.Common.{◌≡◌, ℕ, ◌+◌, ◌-◌, ◌<◌, ◌≤◌, ◌==◌, ◌&&◌, Bool, true, false, if◌then◌else◌, nat_le, nat_lt, not, Result, Ok, Err, List, [], ◌∷◌, ◌++◌, length, length-append, length-drop, drop, subst, refl, arith, ◌↔◌, sym}
 use Rattle.std.proofs.lemmas.Bool.{and_parts, both_ways, not-true, ltb-true, eqb-true}
 use Rattle.image_model.specs.Bodies.{body_bytes, body_limit, longest}
 use Rattle.image_model.specs.Change.{Change}
@@ -47,6 +47,15 @@ rising_end : (base : ℕ) (turned : List ℕ) (stored : ℕ) → last_turned bas
 rising_end base [] stored some is = (some, omega arith)
 rising_end base (first ∷ rest) stored some is = (is.0, rising_end first rest stored some is.1)
 
+-- the last area in use stands behind what is stored
+pub turned_through : (base : ℕ) (turned : List ℕ) (stored : ℕ) → IsRising base turned stored → last_turned base turned ≤ stored
+turned_through base [] stored is = is
+turned_through base (first ∷ rest) stored is = turned_through first rest stored is.1
+
+last_of_more : (base : ℕ) (turned : List ℕ) (stored : ℕ) → last_turned base (turned ++ stored ∷ []) ≡ stored
+last_of_more base [] stored = refl
+last_of_more base (first ∷ rest) stored = last_of_more first rest stored
+
 -- what goes into data stays the same while commands come to the end of the order
 pub behind_same : (base : ℕ) (turned : List ℕ) (stored : ℕ) (order more : List Change) → IsRising base turned stored → stored ≤ length order
     → left_behind base turned (order ++ more) ≡ left_behind base turned order
@@ -77,6 +86,7 @@ module _ (world : World) (within : IsWithin world) where
     sealed = within.sealed;
     cleaned = within.cleaned;
     rising = within.rising;
+    taken = within.taken;
     left = within.left;
     mapped = within.mapped;
   }
@@ -91,40 +101,44 @@ module _ (world : World) (within : IsWithin world) where
         sealed = omega (arith, length-append world.stage.order commands, sealed);
         cleaned = within.cleaned;
         rising = within.rising;
+        taken = within.taken;
         left = let left = within.left in omega (arith, left, behind_same world.stage.base world.stage.turned world.stage.stored world.stage.order commands within.rising (omega (arith, stored, sealed)));
         mapped = within.mapped;
       }
 
   -- the numbers of what is in groups, stored and durable come to others that are in order
   within_counts : (sealed stored durable at faults : ℕ) (stopped : Bool) (event : Event) → durable ≤ stored → world.stage.stored ≤ stored → stored ≤ sealed → sealed ≤ length world.stage.order
+      → ((at ≡ 0) ↔ (stored ≡ last_turned world.stage.base world.stage.turned))
       → IsWithin (logged (staged world (record world.stage { sealed = sealed; stored = stored; durable = durable; at = at; faults = faults; stopped = stopped })) event)
-  within_counts sealed stored durable at faults stopped event first more second third = record {
+  within_counts sealed stored durable at faults stopped event first more second third taken = record {
     durable = first;
     stored = second;
     sealed = third;
     cleaned = within.cleaned;
     rising = rising_more world.stage.base world.stage.turned world.stage.stored stored more within.rising;
+    taken = taken;
     left = within.left;
     mapped = within.mapped;
   }
 
-  within_back : (at faults : ℕ) (stopped : Bool) (event : Event)
-      → IsWithin (logged (staged world (record world.stage { sealed = world.stage.stored; at = at; faults = faults; stopped = stopped })) event)
-  within_back at faults stopped event =
+  within_back : (faults : ℕ) (stopped : Bool) (event : Event)
+      → IsWithin (logged (staged world (record world.stage { sealed = world.stage.stored; faults = faults; stopped = stopped })) event)
+  within_back faults stopped event =
       let stored = within.stored in let sealed = within.sealed in
-      within_counts world.stage.stored world.stage.stored world.stage.durable at faults stopped event within.durable (omega arith) (omega arith) (omega (arith, stored, sealed))
+      within_counts world.stage.stored world.stage.stored world.stage.durable world.stage.at faults stopped event within.durable (omega arith) (omega arith) (omega (arith, stored, sealed)) within.taken
 
   -- what a checkpoint comes to
   within_turned : (base : ℕ) (turned : List ℕ) (left : ℕ) (mapped : Bool) (cleaned at generation : ℕ) (event : Event)
-      → cleaned ≤ base → IsRising base turned world.stage.stored → left ≤ left_behind base turned world.stage.order
+      → cleaned ≤ base → IsRising base turned world.stage.stored → ((at ≡ 0) ↔ (world.stage.stored ≡ last_turned base turned)) → left ≤ left_behind base turned world.stage.order
       → (mapped ≡ true → (is_turned turned ≡ true) × (left ≡ 0))
       → IsWithin (logged (staged world (record world.stage { base = base; turned = turned; left = left; mapped = mapped; cleaned = cleaned; at = at; generation = generation })) event)
-  within_turned base turned left mapped cleaned at generation event first second third fourth = record {
+  within_turned base turned left mapped cleaned at generation event first second taken third fourth = record {
     durable = within.durable;
     stored = within.stored;
     sealed = within.sealed;
     cleaned = first;
     rising = second;
+    taken = taken;
     left = third;
     mapped = fourth;
   }
@@ -177,7 +191,7 @@ module _ (world : World) (within : IsWithin world) where
       let most = longest-le (body_limit world.stage.setting.geometry.area) (drop world.stage.sealed world.stage.order) in
       let rest = length-drop world.stage.sealed world.stage.order in
       let stored = within.stored in let sealed = within.sealed in
-      within_counts _ _ _ _ _ _ _ within.durable (omega arith) (omega (arith, stored)) (omega (arith, most, rest, sealed))
+      within_counts _ _ _ _ _ _ _ within.durable (omega arith) (omega (arith, stored)) (omega (arith, most, rest, sealed)) within.taken
 
   within_sealed : (failure : Failure) → IsWithin (sealed_more failure world)
   within_sealed OutOfMemory = within_elsewhere _ _ _ _
@@ -187,15 +201,22 @@ module _ (world : World) (within : IsWithin world) where
   within_written : (failure : Failure) (stage : Stage) → IsWithin (logged (staged world stage) Took) → IsWithin (written failure world stage)
   within_written Nothing stage is = is
   within_written OutOfMemory stage is = within_elsewhere _ _ _ _
-  within_written DeviceFailure stage is = within_back _ _ _ _
+  within_written DeviceFailure stage is = within_back _ _ _
+
+  -- a group takes some of the last area
+  more_taken : nat_lt world.stage.stored world.stage.sealed ≡ true → (bodies : ℕ) → (world.stage.at + 17 + bodies ≡ 0) ↔ (world.stage.sealed ≡ last_turned world.stage.base world.stage.turned)
+  more_taken hand bodies =
+      let above = ltb-true world.stage.stored world.stage.sealed hand in
+      let behind = turned_through world.stage.base world.stage.turned world.stage.stored within.rising in
+      (λ none. absurd (omega (arith, none)), λ same. absurd (omega (arith, same, above, behind)))
 
   within_append : (failure : Failure) → IsWithin (append failure world)
   within_append failure = of_either IsWithin (nat_lt world.stage.stored world.stage.sealed) _ _
-      (λ hand. of_either IsWithin world.stage.stopped _ _ (λ stopped. within_back _ _ _ _)
+      (λ hand. of_either IsWithin world.stage.stopped _ _ (λ stopped. within_back _ _ _)
       (λ works. of_either IsWithin (fits world) _ _
       (λ fit. let durable = within.durable in let stored = within.stored in
-      within_written failure _ (within_counts _ _ _ _ _ _ _ (omega (arith, durable, stored)) stored (omega arith) within.sealed))
-      (λ full. within_back _ _ _ _))) (λ none. within_elsewhere _ _ _ _)
+      within_written failure _ (within_counts _ _ _ _ _ _ _ (omega (arith, durable, stored)) stored (omega arith) within.sealed (more_taken hand _)))
+      (λ full. within_back _ _ _))) (λ none. within_elsewhere _ _ _ _)
 
   within_in_time : (is_time : Bool) (next : World) → (is_time ≡ true → IsWithin next) → IsWithin (in_time is_time world next)
   within_in_time is_time next is = of_either IsWithin world.stage.stopped _ _ (λ stopped. within_elsewhere _ _ _ _)
@@ -209,6 +230,7 @@ module _ (world : World) (within : IsWithin world) where
       let tests = and_parts (nat_lt (length world.stage.turned + 1) 2) (nat_lt (last_turned world.stage.base world.stage.turned) world.stage.stored) now in
       within_turned _ _ _ _ _ _ _ _ within.cleaned
       (rising_end world.stage.base world.stage.turned world.stage.stored (ltb-true (last_turned world.stage.base world.stage.turned) world.stage.stored tests.1) within.rising)
+      (λ none. sym (last_of_more world.stage.base world.stage.turned world.stage.stored), λ same. refl)
       (rotated_left world.stage world.stage.turned within.left)
       (λ is. rotated_mapped world.stage world.stage.turned (within.mapped is))
 
@@ -217,7 +239,8 @@ module _ (world : World) (within : IsWithin world) where
   within_finished (first ∷ rest) is =
       let rising = subst (λ (turned : List ℕ). IsRising world.stage.base turned world.stage.stored) is within.rising in
       let above = rising.0 in let cleaned = within.cleaned in
-      within_turned _ _ _ _ _ _ _ _ (omega (arith, above, cleaned)) rising.1 (omega arith) (λ mapped. absurd (both_ways false refl mapped))
+      within_turned _ _ _ _ _ _ _ _ (omega (arith, above, cleaned)) rising.1
+      (subst (λ (turned : List ℕ). (world.stage.at ≡ 0) ↔ (world.stage.stored ≡ last_turned world.stage.base turned)) is within.taken) (omega arith) (λ mapped. absurd (both_ways false refl mapped))
 
   copying : can_copy world.stage ≡ true → world.stage.mapped ≡ true → (is_turned world.stage.turned ≡ true) × (world.stage.left - 1 ≡ 0)
   copying now mapped =
@@ -237,13 +260,13 @@ module _ (world : World) (within : IsWithin world) where
       (λ pending. within_sealed failure) (λ none. within_elsewhere _ _ _ _)
   within_step steps.Append failure = within_append failure
   within_step steps.Publish failure = of_either IsWithin (nat_lt world.stage.durable world.stage.stored) _ _
-      (λ more. within_counts _ _ _ _ _ _ _ (omega arith) (omega arith) within.stored within.sealed) (λ none. within_elsewhere _ _ _ _)
+      (λ more. within_counts _ _ _ _ _ _ _ (omega arith) (omega arith) within.stored within.sealed within.taken) (λ none. within_elsewhere _ _ _ _)
   within_step steps.Rotate failure = within_in_time (can_rotate world.stage) _ (λ now. within_full _ (within_written failure _ (within_rotated now)))
-  within_step steps.Copy failure = within_in_time (can_copy world.stage) _ (λ now. within_written failure _ (within_turned _ _ _ _ _ _ _ _ within.cleaned within.rising (let left = within.left in omega (arith, left)) (copying now)))
-  within_step steps.Map failure = within_in_time (can_map world.stage) _ (λ now. within_written failure _ (within_turned _ _ _ _ _ _ _ _ within.cleaned within.rising within.left (λ is. mapping now)))
+  within_step steps.Copy failure = within_in_time (can_copy world.stage) _ (λ now. within_written failure _ (within_turned _ _ _ _ _ _ _ _ within.cleaned within.rising within.taken (let left = within.left in omega (arith, left)) (copying now)))
+  within_step steps.Map failure = within_in_time (can_map world.stage) _ (λ now. within_written failure _ (within_turned _ _ _ _ _ _ _ _ within.cleaned within.rising within.taken within.left (λ is. mapping now)))
   within_step steps.Finish failure = within_in_time (can_finish world.stage) _ (λ now. within_full _ (within_written (without_memory failure) _ (within_finished world.stage.turned refl)))
   within_step steps.Clean failure = of_either IsWithin (can_clean world.stage) _ _
-      (λ more. within_turned _ _ _ _ _ _ _ _ (omega arith) within.rising within.left within.mapped) (λ none. within_elsewhere _ _ _ _)
+      (λ more. within_turned _ _ _ _ _ _ _ _ (omega arith) within.rising within.taken within.left within.mapped) (λ none. within_elsewhere _ _ _ _)
 
 within_fresh : (setting : Setting) → IsWithin (fresh setting)
 within_fresh setting = record {
@@ -252,6 +275,7 @@ within_fresh setting = record {
   sealed = omega arith;
   cleaned = omega arith;
   rising = omega arith;
+  taken = (λ none. refl, λ none. refl);
   left = omega arith;
   mapped = λ is. absurd (both_ways false refl is);
 }
