@@ -1,5 +1,5 @@
 -- in each world the numbers stand within one another
-use Rattle.std.proofs.Common.{◌≡◌, ℕ, ◌+◌, ◌-◌, ◌<◌, ◌≤◌, ◌==◌, ◌&&◌, Bool, true, false, if◌then◌else◌, nat_le, nat_lt, not, Result, Ok, Err, List, [], ◌∷◌, ◌++◌, length, length-append, length-drop, drop, subst, refl, arith, ◌↔◌, sym}
+use Rattle.std.proofs.Common.{◌≡◌, ℕ, ◌+◌, ◌-◌, ◌<◌, ◌≤◌, ◌==◌, ◌&&◌, Bool, true, false, if◌then◌else◌, nat_le, nat_lt, not, Result, Ok, Err, List, [], ◌∷◌, ◌++◌, length, length-append, length-drop, drop, subst, refl, arith, ◌↔◌, sym, ap}
 use Rattle.std.proofs.lemmas.Bool.{and_parts, both_ways, not-true, ltb-true, eqb-true}
 use Rattle.image_model.specs.Bodies.{body_bytes, body_limit, longest}
 use Rattle.image_model.specs.Change.{Change}
@@ -86,6 +86,7 @@ module _ (world : World) (within : IsWithin world) where
     sealed = within.sealed;
     cleaned = within.cleaned;
     rising = within.rising;
+    areas = within.areas;
     taken = within.taken;
     left = within.left;
     mapped = within.mapped;
@@ -101,7 +102,8 @@ module _ (world : World) (within : IsWithin world) where
         sealed = omega (arith, length-append world.stage.order commands, sealed);
         cleaned = within.cleaned;
         rising = within.rising;
-        taken = within.taken;
+        areas = within.areas;
+    taken = within.taken;
         left = let left = within.left in omega (arith, left, behind_same world.stage.base world.stage.turned world.stage.stored world.stage.order commands within.rising (omega (arith, stored, sealed)));
         mapped = within.mapped;
       }
@@ -116,6 +118,7 @@ module _ (world : World) (within : IsWithin world) where
     sealed = third;
     cleaned = within.cleaned;
     rising = rising_more world.stage.base world.stage.turned world.stage.stored stored more within.rising;
+    areas = within.areas;
     taken = taken;
     left = within.left;
     mapped = within.mapped;
@@ -129,15 +132,16 @@ module _ (world : World) (within : IsWithin world) where
 
   -- what a checkpoint comes to
   within_turned : (base : ℕ) (turned : List ℕ) (left : ℕ) (mapped : Bool) (cleaned at generation : ℕ) (event : Event)
-      → cleaned ≤ base → IsRising base turned world.stage.stored → ((at ≡ 0) ↔ (world.stage.stored ≡ last_turned base turned)) → left ≤ left_behind base turned world.stage.order
+      → cleaned ≤ base → IsRising base turned world.stage.stored → length turned < 2 → ((at ≡ 0) ↔ (world.stage.stored ≡ last_turned base turned)) → left ≤ left_behind base turned world.stage.order
       → (mapped ≡ true → (is_turned turned ≡ true) × (left ≡ 0))
       → IsWithin (logged (staged world (record world.stage { base = base; turned = turned; left = left; mapped = mapped; cleaned = cleaned; at = at; generation = generation })) event)
-  within_turned base turned left mapped cleaned at generation event first second taken third fourth = record {
+  within_turned base turned left mapped cleaned at generation event first second areas taken third fourth = record {
     durable = within.durable;
     stored = within.stored;
     sealed = within.sealed;
     cleaned = first;
     rising = second;
+    areas = areas;
     taken = taken;
     left = third;
     mapped = fourth;
@@ -230,6 +234,7 @@ module _ (world : World) (within : IsWithin world) where
       let tests = and_parts (nat_lt (length world.stage.turned + 1) 2) (nat_lt (last_turned world.stage.base world.stage.turned) world.stage.stored) now in
       within_turned _ _ _ _ _ _ _ _ within.cleaned
       (rising_end world.stage.base world.stage.turned world.stage.stored (ltb-true (last_turned world.stage.base world.stage.turned) world.stage.stored tests.1) within.rising)
+      (let room = ltb-true (length world.stage.turned + 1) 2 tests.0 in omega (arith, room, length-append world.stage.turned (world.stage.stored ∷ [])))
       (λ none. sym (last_of_more world.stage.base world.stage.turned world.stage.stored), λ same. refl)
       (rotated_left world.stage world.stage.turned within.left)
       (λ is. rotated_mapped world.stage world.stage.turned (within.mapped is))
@@ -240,6 +245,7 @@ module _ (world : World) (within : IsWithin world) where
       let rising = subst (λ (turned : List ℕ). IsRising world.stage.base turned world.stage.stored) is within.rising in
       let above = rising.0 in let cleaned = within.cleaned in
       within_turned _ _ _ _ _ _ _ _ (omega (arith, above, cleaned)) rising.1
+      (let areas = within.areas in let more = ap length is in omega (arith, areas, more))
       (subst (λ (turned : List ℕ). (world.stage.at ≡ 0) ↔ (world.stage.stored ≡ last_turned world.stage.base turned)) is within.taken) (omega arith) (λ mapped. absurd (both_ways false refl mapped))
 
   copying : can_copy world.stage ≡ true → world.stage.mapped ≡ true → (is_turned world.stage.turned ≡ true) × (world.stage.left - 1 ≡ 0)
@@ -262,11 +268,11 @@ module _ (world : World) (within : IsWithin world) where
   within_step steps.Publish failure = of_either IsWithin (nat_lt world.stage.durable world.stage.stored) _ _
       (λ more. within_counts _ _ _ _ _ _ _ (omega arith) (omega arith) within.stored within.sealed within.taken) (λ none. within_elsewhere _ _ _ _)
   within_step steps.Rotate failure = within_in_time (can_rotate world.stage) _ (λ now. within_full _ (within_written failure _ (within_rotated now)))
-  within_step steps.Copy failure = within_in_time (can_copy world.stage) _ (λ now. within_written failure _ (within_turned _ _ _ _ _ _ _ _ within.cleaned within.rising within.taken (let left = within.left in omega (arith, left)) (copying now)))
-  within_step steps.Map failure = within_in_time (can_map world.stage) _ (λ now. within_written failure _ (within_turned _ _ _ _ _ _ _ _ within.cleaned within.rising within.taken within.left (λ is. mapping now)))
+  within_step steps.Copy failure = within_in_time (can_copy world.stage) _ (λ now. within_written failure _ (within_turned _ _ _ _ _ _ _ _ within.cleaned within.rising within.areas within.taken (let left = within.left in omega (arith, left)) (copying now)))
+  within_step steps.Map failure = within_in_time (can_map world.stage) _ (λ now. within_written failure _ (within_turned _ _ _ _ _ _ _ _ within.cleaned within.rising within.areas within.taken within.left (λ is. mapping now)))
   within_step steps.Finish failure = within_in_time (can_finish world.stage) _ (λ now. within_full _ (within_written (without_memory failure) _ (within_finished world.stage.turned refl)))
   within_step steps.Clean failure = of_either IsWithin (can_clean world.stage) _ _
-      (λ more. within_turned _ _ _ _ _ _ _ _ (omega arith) within.rising within.taken within.left within.mapped) (λ none. within_elsewhere _ _ _ _)
+      (λ more. within_turned _ _ _ _ _ _ _ _ (omega arith) within.rising within.areas within.taken within.left within.mapped) (λ none. within_elsewhere _ _ _ _)
 
 within_fresh : (setting : Setting) → IsWithin (fresh setting)
 within_fresh setting = record {
@@ -275,6 +281,7 @@ within_fresh setting = record {
   sealed = omega arith;
   cleaned = omega arith;
   rising = omega arith;
+  areas = omega arith;
   taken = (λ none. refl, λ none. refl);
   left = omega arith;
   mapped = λ is. absurd (both_ways false refl is);

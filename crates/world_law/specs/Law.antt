@@ -7,7 +7,7 @@ use Rattle.world.specs.declared.event.Event.{Event}
 use Rattle.world.specs.declared.event.Event.TheVariants.{Sent, Answered, Numbered, Took, Held, Failed}
 use Rattle.nbd_wire.specs.declared.message.Answer.TheVariants.{Refused}
 use Rattle.world.specs.declared.event.StepFault.TheVariants as fault
-use Rattle.world.specs.Checkpoint.{is_full, is_turned, last_turned, left_behind}
+use Rattle.world.specs.Checkpoint.{area_count, is_full, is_turned, last_turned, left_behind}
 use Rattle.world.specs.Log.{StandsAt}
 use Rattle.world.specs.World.{World, Stage}
 
@@ -25,6 +25,8 @@ pub record IsWithin (world : World) : Type 0 where
   -- what was let go of the frames is in map and data, and what is there or stands in an area in front of the last is stored
   pub cleaned : world.stage.cleaned ≤ world.stage.base
   pub rising : IsRising world.stage.base world.stage.turned world.stage.stored
+  -- no more areas are in use than there are
+  pub areas : length world.stage.turned < area_count
   -- the last area is empty exactly where its first gate is the next
   pub taken : (world.stage.at ≡ 0) ↔ (world.stage.stored ≡ last_turned world.stage.base world.stage.turned)
   -- no more is left to copy than goes into data, and nothing once the map behind it is written
