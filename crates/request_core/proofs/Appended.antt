@@ -1,5 +1,5 @@
 -- what the keeper's answer to a group makes of the world and of its device
-use Rattle.std.proofs.Common.{◌≡◌, ◌≢◌, ◌⊎◌, inl, inr, ℕ, ◌+◌, ◌<◌, ◌≤◌, ◌↔◌, true, false, IsTrue, Option, Some, None, List, length, map, sym, ◌∙◌, subst, refl, arith}
+use Rattle.std.proofs.Common.{◌≡◌, ◌≢◌, ◌⊎◌, inl, inr, ℕ, ◌+◌, ◌<◌, ◌≤◌, ◌↔◌, true, false, IsTrue, Option, Some, None, List, length, map, sym, ◌∙◌, subst, refl, arith, ◌++◌}
 use Rattle.std.proofs.lemmas.Bool.{cases_lt}
 use Rattle.device_image.specs.Keeper.{KeeperState}
 use Rattle.checkpoint.specs.Keeper.{end_after, grown_by, refused_by, faults_by, IsAppendFault}
@@ -10,14 +10,14 @@ use Rattle.checkpoint.specs.declared.fault.KeeperFault.TheVariants as fault
 use Rattle.disk_model.specs.Disk.{State, LeavesOnly, IsSound, MayLeave}
 use Rattle.disk_model.specs.Faults.{counted}
 use Rattle.disk_model.proofs.Moments.{begins, ends, weakens}
-use Rattle.image_model.specs.Change.{AreChanges, change_of}
+use Rattle.image_model.specs.Change.{AreChanges, change_of, Change}
 use Rattle.image_model.specs.Image.{Image, apply_all}
 use Rattle.journal.specs.Group.{Numbered}
 use Rattle.order_book.specs.Order.{OrderState, with_group}
 use Rattle.request_core.specs.Steps.{IsAppended}
-use Rattle.request_core.specs.Parts.{IsDiskOf, IsKeeperOf, IsOrderOf, StandsAfter, image_after}
+use Rattle.request_core.specs.Parts.{IsDiskOf, IsKeeperOf, IsOrderOf, StandsAfter, image_after, first_commands, last_commands, turned_at}
 use Rattle.request_core.specs.Storing.{IsKept, event_of, hand_after, order_after}
-use Rattle.request_core.proofs.Lives.{either_stands, group_takes, image_grows, number_grows}
+use Rattle.request_core.proofs.Lives.{either_stands, group_takes, image_grows, number_grows, IsOrdered, keeps_of, last_grows, ordered}
 use Rattle.request_core.proofs.Stored.{goes_failed, goes_full, goes_none, goes_on_to, kept_back, kept_faulted, kept_held, kept_out_of_memory, kept_stored, not_true_is}
 use Rattle.world.specs.declared.event.Event.{Event}
 use Rattle.world.specs.declared.event.Event.TheVariants.{Took, Held, Failed}
@@ -26,6 +26,8 @@ use Rattle.world.specs.Serve.{Failure, Nothing, OutOfMemory, DeviceFailure, held
 use Rattle.world.specs.Step.{append, faulted, put_back, out_of_memory, stored_more}
 use Rattle.world.specs.World.{World}
 use Rattle.world_law.specs.Law.{IsWithin}
+use Rattle.device_image.specs.Holds.{Holds}
+use Rattle.device_image.specs.Remembers.{Remembers}
 
 module _ {D : Type 0} (state : D → State) (faults extent : D → ℕ) (honest : D → Type 0) (sound : (disk : D) → honest disk → IsSound (extent disk) (state disk)) where
   -- nothing was asked of the device
@@ -46,7 +48,7 @@ module _ {D : Type 0} (state : D → State) (faults extent : D → ℕ) (honest 
   module _ (world : World) (order : OrderState) (group : Numbered) (old : KeeperState D) (within : IsWithin world)
       (of : IsOrderOf world.stage order (Some group)) (kept : IsKeeperOf world.stage old (faults old.disk)) where
     put_back_here : (event : Event) → IsDiskOf world.stage old (state old.disk) → IsDiskOf (logged (put_back world) event).stage old (state old.disk)
-    put_back_here event disk = record { keeps = disk.keeps; leaves = disk.leaves }
+    put_back_here event disk = record { holds = disk.holds; leaves = disk.leaves }
 
     pub appended_failed : (new : KeeperState D) → old.failed ≡ true → new ≡ old
         → IsAppended world (append Nothing world) (Failed FailedBefore) (with_group order group) None old new (faults new.disk) (honest old.disk) (state old.disk) (state new.disk)
@@ -80,7 +82,7 @@ module _ {D : Type 0} (state : D → State) (faults extent : D → ℕ) (honest 
         → old.failed ≡ false → IsDiskOf world.stage old (state old.disk)
         → LeavesOnly (state old.disk) (state new.disk) (StandsAfter world.stage.order world.stage.setting.image world.stage.setting.opening world.stage.stored)
     chain new of any failed disk =
-        weakens (any (image_after world.stage.order world.stage.stored world.stage.setting.image) (world.stage.setting.opening + world.stage.stored) (disk.keeps (sym kept.failed ∙ failed)) (group_takes world.stage order group of within.sealed old (faults old.disk) kept))
+        weakens (any (image_after world.stage.order world.stage.stored world.stage.setting.image) (world.stage.setting.opening + world.stage.stored) (keeps_of world.stage (ordered world within) old (faults old.disk) (state old.disk) kept (disk.holds (sym kept.failed ∙ failed))) (group_takes world.stage order group of within.sealed old (faults old.disk) kept))
         (either_stands world.stage order group of within.sealed)
 
     pub appended_faulted : (new : KeeperState D) → old.failed ≡ false → end_after old group ≤ old.geometry.area → new ≡ record old { disk = new.disk; failed = true }
@@ -98,7 +100,7 @@ module _ {D : Type 0} (state : D → State) (faults extent : D → ℕ) (honest 
               (kept_faulted world old (faults old.disk) kept order group of new.disk));
           disk = λ is_honest disk.
               let leaves = chain new of (any is_honest) failed disk in
-              (record { keeps = λ works. absurd (works_unlike works); leaves = λ content left. ends leaves (sound new.disk (stays_honest is_honest)) content left }, leaves);
+              (record { holds = λ works. absurd (works_unlike works); leaves = λ content left. ends leaves (sound new.disk (stays_honest is_honest)) content left }, leaves);
         })
       where
         works_unlike : true ≡ false → ⊥
@@ -108,27 +110,25 @@ module _ {D : Type 0} (state : D → State) (faults extent : D → ℕ) (honest 
         → ((keeper : KeeperState D) (image : Image) (number : ℕ) (content : List ℕ) → Keeps keeper (state keeper.disk) image number → MayLeave (state keeper.disk) content → StandsFor content image number)
         → old.failed ≡ false → end_after old group ≤ old.geometry.area → new ≡ grown_by old group new.disk new.memory
         → faults new.disk ≡ faults old.disk → (honest old.disk → honest new.disk)
-        → (honest old.disk → (image : Image) (number : ℕ) → Keeps old (state old.disk) image number → AreChanges old.geometry.blocks (map change_of group.commands)
-        → Keeps new (state new.disk) (apply_all (map change_of group.commands) image) (number + length group.commands))
+        → ((commands : List Change) → Remembers old commands → AreChanges old.geometry.blocks (map change_of group.commands) → Remembers new (commands ++ map change_of group.commands))
+        → (honest old.disk → (base : Image) (first last : List Change) → Holds old (state old.disk) base first last → AreChanges old.geometry.blocks (map change_of group.commands)
+        → Holds new (state new.disk) base first (last ++ map change_of group.commands))
         → (honest old.disk → (image : Image) (number : ℕ) → Keeps old (state old.disk) image number → AreChanges old.geometry.blocks (map change_of group.commands)
         → LeavesOnly (state old.disk) (state new.disk) (λ content. StandsFor content image number
         ⊎ StandsFor content (apply_all (map change_of group.commands) image) (number + length group.commands)))
         → IsAppended world (append Nothing world) Took order None old new (faults new.disk) (honest old.disk) (state old.disk) (state new.disk)
-    appended new crash failed fit same level stays_honest stored any =
+    appended new crash failed fit same level stays_honest remembered held any =
         goes_on_to world old (faults old.disk) kept order group of Nothing
         (λ next. IsAppended world next Took order None old new (faults new.disk) (honest old.disk) (state old.disk) (state new.disk)) failed fit
         (record {
-          kept = subst (λ (k : KeeperState D). IsKept world (stored_more Nothing world) Took order None k (faults new.disk)) (sym same)
-              (subst (λ (n : ℕ). IsKept world (stored_more Nothing world) Took order None (grown_by old group new.disk new.memory) n) (sym level)
-              (kept_stored world old (faults old.disk) kept order group of new.disk new.memory));
+          kept = kept_next;
           disk = λ is_honest disk.
-              let works = disk.keeps (sym kept.failed ∙ failed) in
-              let takes = group_takes world.stage order group of within.sealed old (faults old.disk) kept in
-              let keeps = subst (λ (n : ℕ). Keeps new (state new.disk) (image_after world.stage.order world.stage.sealed world.stage.setting.image) n) (number_grows world.stage order group of within.sealed)
-              (subst (λ (i : Image). Keeps new (state new.disk) i ((world.stage.setting.opening + world.stage.stored) + length group.commands)) (image_grows world.stage order group of within.sealed world.stage.setting.image)
-              (stored is_honest (image_after world.stage.order world.stage.stored world.stage.setting.image) (world.stage.setting.opening + world.stage.stored) works takes)) in (
+              let holds = subst (λ (l : List Change). Holds new (state new.disk) (image_after world.stage.order world.stage.base world.stage.setting.image) (first_commands world.stage) l)
+              (sym (last_grows world.stage order group of within.sealed behind))
+              (held is_honest (image_after world.stage.order world.stage.base world.stage.setting.image) (first_commands world.stage) (last_commands world.stage) (disk.holds (sym kept.failed ∙ failed)) takes) in
+              let keeps = keeps_of (stored_more Nothing world).stage next_ordered new (faults new.disk) (state new.disk) kept_next.of_keeper holds in (
                 record {
-                  keeps = λ still. keeps;
+                  holds = λ still. holds;
                   leaves = λ content left. record {
                     count = world.stage.sealed;
                     reaches = omega arith;
@@ -139,6 +139,25 @@ module _ {D : Type 0} (state : D → State) (faults extent : D → ℕ) (honest 
                 chain new of (any is_honest) failed disk,
               );
         })
+      where
+        takes : AreChanges old.geometry.blocks (map change_of group.commands)
+        takes = group_takes world.stage order group of within.sealed old (faults old.disk) kept
+
+        behind : turned_at world.stage ≤ world.stage.stored
+        behind = (ordered world within).turned
+
+        next_ordered : IsOrdered (stored_more Nothing world).stage
+        next_ordered =
+            let hand = of.hand in
+            record { base = (ordered world within).base; turned = omega (arith, behind, hand); stored = within.sealed }
+
+        kept_next : IsKept world (stored_more Nothing world) Took order None new (faults new.disk)
+        kept_next =
+            subst (λ (k : KeeperState D). IsKept world (stored_more Nothing world) Took order None k (faults new.disk)) (sym same)
+            (subst (λ (n : ℕ). IsKept world (stored_more Nothing world) Took order None (grown_by old group new.disk new.memory) n) (sym level)
+            (kept_stored world old (faults old.disk) kept order group of new.disk new.memory behind within.sealed
+            (subst (λ (k : KeeperState D). Remembers k (last_commands world.stage ++ map change_of group.commands)) same
+            (remembered (last_commands world.stage) kept.remembers takes))))
 
     -- any refusal
     pub appended_refused : (refusal : KeeperFault) (new : KeeperState D) → IsAppendFault refusal

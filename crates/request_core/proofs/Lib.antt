@@ -1,5 +1,6 @@
 pub mod Appended
 pub mod Fresh
+pub mod Lifted
 pub mod Lives
 pub mod Orders
 pub mod Performed
@@ -7,4 +8,5 @@ pub mod Runs
 pub mod Serves
 pub mod Stored
 pub mod Talks
-pub mod Lifted
+pub mod Times
+pub mod Turns

@@ -10,7 +10,7 @@ use Rattle.request_core.specs.Steps.{IsAppended, IsPerformed}
 use Rattle.request_core.specs.Parts.{AreConnectionsOf, IsDiskOf, IsKeeperOf, IsOrderOf}
 use Rattle.request_core.specs.Serving.{IsTalked, with_commands}
 use Rattle.request_core.specs.Storing.{IsKept}
-use Rattle.request_core.proofs.Lives.{all_both, disk_grows}
+use Rattle.request_core.proofs.Lives.{all_both, disk_grows, IsOrdered, last_stay, ordered}
 use Rattle.world.specs.declared.connection.Connection.{Connection}
 use Rattle.world.specs.declared.event.Event.{Event}
 use Rattle.world.specs.Serve.{Failure, Nothing, OutOfMemory, DeviceFailure}
@@ -18,22 +18,27 @@ use Rattle.world.specs.Step.{after_step, publish, seal, sealed_more}
 use Rattle.world.specs.declared.step.Step.{Step}
 use Rattle.world.specs.World.{World, Stage}
 use Rattle.world_law.specs.Law.{IsWithin}
+use Rattle.device_image.specs.Remembers.{Remembers}
 
 -- what holds of both sides of a choice holds of the choice
 of_either : {X : Type 0} (P : X → Type 0) (test : Bool) (x y : X) → P x → P y → P (if test then x else y)
 of_either P true x y here there = here
 of_either P false x y here there = there
 
-keeper_grows : {D : Type 0} (stage : Stage) (commands : List Change) (keeper : KeeperState D) (failures : ℕ) → AreChanges stage.setting.geometry.blocks commands
+keeper_grows : {D : Type 0} (stage : Stage) (commands : List Change) (keeper : KeeperState D) (failures : ℕ) → IsOrdered stage → AreChanges stage.setting.geometry.blocks commands
     → IsKeeperOf stage keeper failures → IsKeeperOf (with_commands stage commands) keeper failures
-keeper_grows stage commands keeper failures takes of = record {
+keeper_grows stage commands keeper failures is takes of = record {
   geometry = of.geometry;
   count = of.count;
   base = of.base;
+  turned = of.turned;
+  generation = of.generation;
+  phase = of.phase;
   used = of.used;
   failed = of.failed;
   faults = of.faults;
   takes = all_both _ stage.order commands of.takes takes;
+  remembers = subst (Remembers keeper) (sym (last_stay stage is commands)) of.remembers;
 }
 
 module _ {D : Type 0} (extent : ℕ) (honest : Type 0) (state : State) (sound : honest → IsSound extent state) (world : World) (keeper : KeeperState D) (failures : ℕ) (within : IsWithin world) where
@@ -55,10 +60,9 @@ module _ {D : Type 0} (extent : ℕ) (honest : Type 0) (state : State) (sound : 
   performed_talked next event order connections of_keeper talked =
       let grown = talked.grown in
       without_device next event order connections talked.of_connections talked.log talked.of_order
-      (subst (λ (s : Stage). IsKeeperOf s keeper failures) (sym grown.is) (keeper_grows world.stage grown.commands keeper failures grown.takes of_keeper))
+      (subst (λ (s : Stage). IsKeeperOf s keeper failures) (sym grown.is) (keeper_grows world.stage grown.commands keeper failures (ordered world within) grown.takes of_keeper))
       (λ disk. subst (λ (s : Stage). IsDiskOf s keeper state) (sym grown.is)
-      (let stored = within.stored in let sealed = within.sealed in
-      disk_grows world.stage grown.commands world.stage.sealed world.stage.durable keeper state (omega (arith, stored, sealed)) disk))
+      (disk_grows world.stage (ordered world within) grown.commands world.stage.sealed world.stage.durable keeper state disk))
 
   kept_connections : (next : World) (connections : List Connection) → next.connections ≡ world.connections → AreConnectionsOf world connections → AreConnectionsOf next connections
   kept_connections next connections same are = λ c. are c ∙ sym (ap (λ (f : ℕ → Connection). f c) same)
@@ -71,7 +75,7 @@ module _ {D : Type 0} (extent : ℕ) (honest : Type 0) (state : State) (sound : 
 
   numbers_here : (sealed durable : ℕ) → IsDiskOf world.stage keeper state
       → IsDiskOf (record world.stage { sealed = sealed; durable = durable }) keeper state
-  numbers_here sealed durable disk = record { keeps = disk.keeps; leaves = disk.leaves }
+  numbers_here sealed durable disk = record { holds = disk.holds; leaves = disk.leaves }
 
   pub disk_seals : (failure : Failure) → IsDiskOf world.stage keeper state → IsDiskOf (seal failure world).stage keeper state
   disk_seals failure disk = of_either (λ (next : World). IsDiskOf next.stage keeper state) (nat_lt world.stage.sealed (length world.stage.order) && (world.stage.sealed == world.stage.durable)) _ _ (by_failure failure) disk

@@ -98,7 +98,7 @@ leads_sent world c request order keeper failures connections extent honest state
     flags = of.flags;
     mode = of.mode;
     reached = subst IsReached (sym run_is) (After (Send c request) Nothing of.reached);
-    disk = λ is_honest. let disk = of.disk is_honest in record { keeps = disk.keeps; leaves = disk.leaves };
+    disk = λ is_honest. let disk = of.disk is_honest in record { holds = disk.holds; leaves = disk.leaves };
   };
   crash = λ is_honest. let disk = of.disk is_honest in
       begins (sound is_honest) (λ content left. stands_less world.stage.order world.stage.setting.image world.stage.setting.opening world.stage.stored world.stage.durable content within.durable (disk.leaves content left));

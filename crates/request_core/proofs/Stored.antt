@@ -1,5 +1,5 @@
 -- what sealing, storing and publishing make of the world
-use Rattle.std.proofs.Common.{◌≡◌, ◌⊎◌, inl, inr, ℕ, ◌+◌, ◌-◌, ◌<◌, ◌≤◌, ◌&&◌, ◌==◌, Bool, true, false, IsTrue, nat_lt, Option, Some, None, List, [], ◌∷◌, length, length-drop, sym, ◌∙◌, ap, subst, refl, arith}
+use Rattle.std.proofs.Common.{◌≡◌, ◌⊎◌, inl, inr, ℕ, ◌+◌, ◌-◌, ◌<◌, ◌≤◌, ◌&&◌, ◌==◌, Bool, true, false, IsTrue, nat_lt, Option, Some, None, List, [], ◌∷◌, length, length-drop, sym, ◌∙◌, ap, subst, refl, arith, map, ◌++◌}
 use Rattle.std.proofs.lemmas.Bool.{and_from, and_left, and_right, cases_lt, eq-eqb, le-leb, le-ltb, lt-leb, lt-ltb, ne_eqb}
 use Rattle.std.proofs.lemmas.List.{length-map}
 use Rattle.device_image.specs.Keeper.{KeeperState, Memory}
@@ -10,7 +10,7 @@ use Rattle.image_model.specs.Command.{bodies_of}
 use Rattle.image_model.specs.declared.geometry.Geometry.{Geometry}
 use Rattle.journal.specs.Group.{Numbered}
 use Rattle.order_book.specs.Order.{OrderState, Seals, with_durable, with_group}
-use Rattle.request_core.specs.Parts.{IsKeeperOf, IsOrderOf}
+use Rattle.request_core.specs.Parts.{IsKeeperOf, IsOrderOf, last_commands, turned_at}
 use Rattle.request_core.specs.Storing.{IsKept, PublishesBy, SealsBy}
 use Rattle.request_core.proofs.Orders.{bodies_same, commands_length, hand_is, order_publishes, order_puts_back, order_seals, order_stops, order_stores}
 use Rattle.request_core.proofs.Serves.{if_false, if_true}
@@ -22,6 +22,9 @@ use Rattle.world.specs.Serve.{Failure, Nothing, OutOfMemory, held, logged}
 use Rattle.world.specs.Step.{append, faulted, publish, put_back, seal, out_of_memory, stored_more}
 use Rattle.world.specs.World.{World, fits, in_hand, Stage}
 use Rattle.world_law.specs.Law.{IsWithin}
+use Rattle.request_core.proofs.Lives.{last_grows}
+use Rattle.device_image.specs.Remembers.{Remembers}
+use Rattle.device_image.proofs.Counted.{remembers_still}
 
 pub not_true_is : (b : Bool) → (IsTrue b → ⊥) → b ≡ false
 not_true_is true no_true = absurd (no_true refl)
@@ -42,10 +45,14 @@ keeper_same stage keeper failures sealed durable of = record {
   geometry = of.geometry;
   count = of.count;
   base = of.base;
+  turned = of.turned;
+  generation = of.generation;
+  phase = of.phase;
   used = of.used;
   failed = of.failed;
   faults = of.faults;
   takes = of.takes;
+  remembers = of.remembers;
 }
 
 empty_is : {X : Type 0} (xs : List X) → length xs ≡ 0 → xs ≡ []
@@ -189,16 +196,22 @@ module _ {D : Type 0} (world : World) (keeper : KeeperState D) (failures : ℕ) 
         geometry = of_keeper.geometry;
         count = of_keeper.count;
         base = of_keeper.base;
+        turned = of_keeper.turned;
+        generation = of_keeper.generation;
+        phase = of_keeper.phase;
         used = of_keeper.used;
         failed = refl;
         faults = ap counted of_keeper.faults;
         takes = of_keeper.takes;
+        remembers = remembers_still keeper (record keeper { disk = disk; failed = true }) _ refl refl of_keeper.remembers;
       };
     }
 
     -- the group is stored
-    pub kept_stored : (disk : D) (memory : Memory) → IsKept world (stored_more Nothing world) Took order None (grown_by keeper group disk memory) failures
-    kept_stored disk memory = record {
+    pub kept_stored : (disk : D) (memory : Memory) → turned_at world.stage ≤ world.stage.stored → world.stage.sealed ≤ length world.stage.order
+        → Remembers (grown_by keeper group disk memory) (last_commands world.stage ++ map change_of group.commands)
+        → IsKept world (stored_more Nothing world) Took order None (grown_by keeper group disk memory) failures
+    kept_stored disk memory behind within remembers = record {
       connections = refl;
       log = refl;
       of_order = order_stores world.stage order group of (world.stage.at + 17 + bodies_bytes (in_hand world));
@@ -206,10 +219,14 @@ module _ {D : Type 0} (world : World) (keeper : KeeperState D) (failures : ℕ) 
         geometry = of_keeper.geometry;
         count = let count = of_keeper.count in let hand = of.hand in omega (arith, count, hand, commands_length group);
         base = of_keeper.base;
+        turned = of_keeper.turned;
+        generation = of_keeper.generation;
+        phase = of_keeper.phase;
         used = let used = of_keeper.used in omega (arith, used, hand_bodies);
         failed = of_keeper.failed;
         faults = of_keeper.faults;
         takes = of_keeper.takes;
+        remembers = subst (Remembers (grown_by keeper group disk memory)) (sym (last_grows world.stage order group of within behind)) remembers;
       };
     }
 

@@ -8,7 +8,7 @@ use Rattle.order_book.specs.Order.{OrderState, Seals, with_durable, with_group}
 use Rattle.request_core.specs.Parts.{IsKeeperOf, IsOrderOf}
 use Rattle.world.specs.declared.event.Event.{Event}
 use Rattle.world.specs.declared.event.Event.TheVariants.{Took, Held, Failed}
-use Rattle.world.specs.declared.event.StepFault.TheVariants.{NoMemory, DeviceFault, FailedBefore}
+use Rattle.world.specs.declared.event.StepFault.TheVariants.{NoMemory, DeviceFault, NumbersFull, FailedBefore}
 use Rattle.world.specs.World.{World}
 
 -- the event of a group that the keeper refuses
@@ -78,3 +78,49 @@ pub record IsKept {D : Type 0} (world next : World) (event : Event) (order : Ord
   pub log : next.log ≡ world.log ++ event ∷ []
   pub of_order : IsOrderOf next.stage order group
   pub of_keeper : IsKeeperOf next.stage keeper failures
+
+-- the event of a step of a checkpoint that the keeper refuses
+abbrev pub step_event : KeeperFault → Event
+step_event fault.NoMemory = Failed NoMemory
+step_event fault.DeviceFault = Failed DeviceFault
+step_event fault.BadMap = Held
+step_event fault.NoHeader = Held
+step_event fault.BadHeader = Held
+step_event fault.NumbersFull = Failed NumbersFull
+step_event fault.AreaFull = Held
+step_event fault.OutOfOrder = Held
+step_event fault.DamagedGroup = Held
+step_event fault.NotNow = Held
+step_event fault.Failed = Failed FailedBefore
+
+-- the order once the device has failed: it is stopped, and a group in hand is pending again
+abbrev pub stopped_with : Option Numbered → OrderState → OrderState
+stopped_with None order = record order { stopped = true }
+stopped_with (Some group) order = record (with_group order group) { stopped = true }
+
+-- order and hand after such a refusal
+abbrev pub order_refused : KeeperFault → Option Numbered → OrderState → OrderState
+order_refused fault.NoMemory hand order = order
+order_refused fault.DeviceFault hand order = stopped_with hand order
+order_refused fault.BadMap hand order = order
+order_refused fault.NoHeader hand order = order
+order_refused fault.BadHeader hand order = order
+order_refused fault.NumbersFull hand order = order
+order_refused fault.AreaFull hand order = order
+order_refused fault.OutOfOrder hand order = order
+order_refused fault.DamagedGroup hand order = order
+order_refused fault.NotNow hand order = order
+order_refused fault.Failed hand order = order
+
+abbrev pub hand_refused : KeeperFault → Option Numbered → Option Numbered
+hand_refused fault.NoMemory hand = hand
+hand_refused fault.DeviceFault hand = None
+hand_refused fault.BadMap hand = hand
+hand_refused fault.NoHeader hand = hand
+hand_refused fault.BadHeader hand = hand
+hand_refused fault.NumbersFull hand = hand
+hand_refused fault.AreaFull hand = hand
+hand_refused fault.OutOfOrder hand = hand
+hand_refused fault.DamagedGroup hand = hand
+hand_refused fault.NotNow hand = hand
+hand_refused fault.Failed hand = hand

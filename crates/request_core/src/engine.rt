@@ -13,6 +13,7 @@ ghost use Rattle.world_law.specs.Law.{IsWithin};
 use crate::bench::Connections;
 use crate::serving::{Terms, answer, send, send_owned, serve};
 use crate::storing::{append, publish, seal};
+use crate::turning::{clean, copy, finish, rotate, write_map};
 use checkpoint::Keeper;
 use disk_model::Disk;
 use nbd_wire::Request;
@@ -91,5 +92,10 @@ fn perform<D: Disk>(
         Step::Seal => seal(&mut connections.group, order),
         Step::Append => append(&mut connections.group, order, keeper),
         Step::Publish => publish(order, keeper),
+        Step::Rotate => rotate(&mut connections.group, order, keeper),
+        Step::Copy => copy(&mut connections.group, order, keeper),
+        Step::Map => write_map(&mut connections.group, order, keeper),
+        Step::Finish => finish(&mut connections.group, order, keeper),
+        Step::Clean => clean(order, keeper),
     }
 }

@@ -8,6 +8,7 @@ mod laws;
 mod rehearsal;
 mod serving;
 mod storing;
+mod turning;
 
 pub use bench::{Bench, Connections};
 pub use engine::take_step;

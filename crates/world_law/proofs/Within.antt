@@ -52,7 +52,7 @@ pub turned_through : (base : ℕ) (turned : List ℕ) (stored : ℕ) → IsRisin
 turned_through base [] stored is = is
 turned_through base (first ∷ rest) stored is = turned_through first rest stored is.1
 
-last_of_more : (base : ℕ) (turned : List ℕ) (stored : ℕ) → last_turned base (turned ++ stored ∷ []) ≡ stored
+pub last_of_more : (base : ℕ) (turned : List ℕ) (stored : ℕ) → last_turned base (turned ++ stored ∷ []) ≡ stored
 last_of_more base [] stored = refl
 last_of_more base (first ∷ rest) stored = last_of_more first rest stored
 

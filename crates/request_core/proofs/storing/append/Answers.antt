@@ -52,7 +52,7 @@ returns-in-Ok-clause-world g c = λ world within of kept.
           (sym c.take.ensures.after)
           (appended g.D.Disk.state g.D.Disk.faults g.D.Disk.extent g.D.Disk.honest g.met.D.Disk.sound world order group old within
           (subst (λ (hand : Option Numbered). IsOrderOf world.stage order hand) has of) kept new c.keeper_laws.ensures.left works fit c.in-Ok.ensures.ok c.in-Ok.ensures.faults_ok c.append.ensures.honest.1
-          c.in-Ok.ensures.stored c.in-Ok.ensures.any_moment),
+          c.in-Ok.ensures.remembered c.in-Ok.ensures.held c.in-Ok.ensures.any_moment),
     )
 
 pub returns-in-Err-clause-world : goal.returns-in-Err-clause-world
