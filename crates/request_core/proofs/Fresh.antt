@@ -1,13 +1,16 @@
 -- the parts that a life begins with
-use Rattle.std.proofs.Common.{◌≡◌, ◌⊎◌, inl, inr, ℕ, ◌+◌, ◌<◌, ◌≤◌, Bool, false, List, if◌then◌else◌, nat_lt, get_or, replicate, sym, ◌∙◌, ap, subst, refl, arith}
+use Rattle.std.proofs.Common.{◌≡◌, ◌⊎◌, inl, inr, ℕ, ◌+◌, ◌<◌, ◌≤◌, Bool, false, List, [], length, if◌then◌else◌, nat_lt, get_or, replicate, sym, ◌∙◌, ap, subst, refl, arith}
 use Rattle.std.proofs.lemmas.Bool.{cases_lt, le-ltb, lt-ltb}
 use Rattle.std.proofs.lemmas.List.{get_or-replicate, length-replicate}
 use Rattle.std.proofs.Math.ListN.{get_or-eq_default}
-use Rattle.device_image.specs.Keeper.{KeeperState}
+use Rattle.device_image.specs.Keeper.{KeeperState, One}
+use Rattle.device_image.specs.Holds.{Holds}
 use Rattle.device_image.specs.Keeps.{Keeps}
+use Rattle.device_image.specs.Remembers.{Remembers}
 use Rattle.device_image.specs.Stands.{StandsFor}
 use Rattle.disk_model.specs.Disk.{State, MayLeave}
 use Rattle.image_model.specs.Image.{Image}
+use Rattle.image_model.specs.declared.command.Kind.{Kind}
 use Rattle.nbd_wire.specs.declared.message.SessionFlags.{SessionFlags}
 use Rattle.order_book.specs.Order.{new_order}
 use Rattle.request_core.specs.Bench.{new_connections}
@@ -27,11 +30,12 @@ idle_here count connection = by_case (cases_lt connection count)
         let long = length-replicate count Idle in
         get_or-eq_default (replicate count Idle) Closed (omega (arith, long, outside)) ∙ sym (ap (λ (b : Bool). if b then Idle else Closed) (le-ltb connection count outside))
 
-pub fresh_parts : {D : Type 0} (keeper : KeeperState D) (found : Image) (failures frames connections : ℕ) (flags : SessionFlags) (mode : Mode) (honest : Type 0) (state : State)
+pub fresh_parts : {D : Type 0} (keeper : KeeperState D) (found : Image) (states : List Kind) (failures frames connections : ℕ) (flags : SessionFlags) (mode : Mode) (honest : Type 0) (state : State)
     → ((number : ℕ) (content : List ℕ) → Keeps keeper state found number → MayLeave state content → StandsFor content found number)
-    → keeper.failed ≡ false → keeper.count < 18446744073709551616 → (honest → Keeps keeper state found keeper.count)
-    → IsExportOf (first_world keeper found failures frames connections flags mode) (new_order keeper.count frames keeper.geometry.area) keeper failures (new_connections connections flags mode) honest state
-fresh_parts keeper found failures frames connections flags mode honest state crash works fits keeps = record {
+    → length states ≡ keeper.geometry.blocks → keeper.failed ≡ false → keeper.phase ≡ One → keeper.used ≡ 0 → keeper.base ≡ keeper.count → keeper.turned ≡ keeper.base → Remembers keeper []
+    → keeper.count < 18446744073709551616 → (honest → Holds keeper state found [] [])
+    → IsExportOf (first_world keeper found failures frames connections flags mode) (new_order states keeper.count frames keeper.geometry.area) keeper failures (new_connections connections flags mode) honest state
+fresh_parts keeper found states failures frames connections flags mode honest state crash blocks works one unused based turned remembers fits holds = record {
   of_order = record {
     opening = refl;
     durable = omega arith;
@@ -44,6 +48,7 @@ fresh_parts keeper found failures frames connections flags mode honest state cra
     bodies = refl;
     dirty = refl;
     frames = refl;
+    blocks = blocks;
     area = refl;
     stopped = refl;
     fits = fits;
@@ -51,26 +56,27 @@ fresh_parts keeper found failures frames connections flags mode honest state cra
   of_keeper = record {
     geometry = refl;
     count = omega arith;
-    base = refl;
-    used = refl;
+    base = omega (arith, based);
+    turned = omega (arith, based, turned);
+    generation = refl;
+    phase = one;
+    used = unused;
     failed = works;
     faults = refl;
     takes = tt;
+    remembers = remembers;
   };
   of_states = idle_here connections;
   flags = refl;
   mode = refl;
-  reached = Fresh _ _;
+  reached = Fresh _;
   disk = λ is_honest. record {
-    keeps = λ going. here (keeps is_honest);
+    holds = λ going. holds is_honest;
     leaves = λ content left. record {
       count = 0;
       reaches = omega arith;
       within = omega arith;
-      stands = crash (keeper.count + 0) content (here (keeps is_honest)) left;
+      stands = subst (λ (n : ℕ). StandsFor content found n) (omega (arith, based)) (crash (keeper.base + 0 + 0) content (holds is_honest).keeps left);
     };
   };
 }
-  where
-    here : Keeps keeper state found keeper.count → Keeps keeper state found (keeper.count + 0)
-    here keeps = subst (λ (n : ℕ). Keeps keeper state found n) (omega arith) keeps

@@ -1,5 +1,5 @@
 -- what a request that is served makes of an order, lifted to the world that the order is of
-use Rattle.std.proofs.Common.{◌≡◌, inl, inr, ℕ, ◌+◌, ◌<◌, Option, Result, Ok, Err, sym, ◌∙◌, ap, subst, refl}
+use Rattle.std.proofs.Common.{◌≡◌, inl, inr, ℕ, ◌+◌, ◌<◌, Option, Result, Ok, Err, length, sym, ◌∙◌, ap, subst, refl}
 use Rattle.image_model.specs.Change.{IsChange, change_of}
 use Rattle.image_model.specs.declared.command.Command.{Command}
 use Rattle.image_model.specs.declared.geometry.Geometry.{Geometry}
@@ -43,7 +43,7 @@ module _ (request : Message) (geometry : Geometry) (mode : Mode) (old new : Orde
   same_hand (Ok Action.Serve) (inr (inr (works, other, inr (command, own, change, left, inr (inr by))))) = hand_more old new command by.1
 
 module _ (world : World) (c : ℕ) (request : Message) (old : OrderState) (group : Option Numbered) (within : IsWithin world) (of : IsOrderOf world.stage old group)
-    (here : world.connections c ≡ Requested request) (new : OrderState) (result : Served) where
+    (here : world.connections c ≡ Requested request) (new : OrderState) (kept : length new.cache.states ≡ length old.cache.states) (result : Served) where
   -- the next world is the one in which the connection comes to what the request came to
   abbrev Comes : World → Type 0
   Comes next = IsServed world next c (state_of result) (event_for c old.mark new.mark result) new group
@@ -72,7 +72,7 @@ module _ (world : World) (c : ℕ) (request : Message) (old : OrderState) (group
     Nothing,
     write_accepted world c request old group of Nothing Comes command left own room
         (served_numbered world c request old group of (accepted Nothing world c request) result (waits_for_store world.stage.setting.mode request) request.head.cookie (old.mark + 1) command new same refl is
-        (served_accepted world c request old group of command (old.mark + 1) within left own change refl)),
+        (served_accepted world c request old group of command (old.mark + 1) within left own change refl (ap (λ (o : OrderState). length o.cache.states) (sym same) ∙ kept))),
   )
 
   written : IsWriteServed request world.stage.setting.geometry world.stage.setting.mode old new result → (failure : Failure) × Comes (write_served failure world c request)

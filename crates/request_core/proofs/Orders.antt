@@ -1,20 +1,23 @@
 -- what the calls of an order make of the world that it is of
-use Rattle.std.proofs.Common.{◌≡◌, ℕ, zero, suc, ◌+◌, ◌-◌, ◌<◌, ◌≤◌, ◌&&◌, Bool, true, if◌then◌else◌, nat_le, Option, Some, None, List, [], ◌∷◌, ◌++◌, append_assoc, length, length-append, map, take, drop, sym, ◌∙◌, ap, subst, refl, arith}
-use Rattle.std.proofs.lemmas.Bool.{and_from, le-leb, lt-leb}
-use Rattle.std.proofs.lemmas.List.{length-map, map-append, drop-append-le, drop-drop, drop-map, drop_at, take_at, take-map}
+use Rattle.std.proofs.Common.{◌≡◌, ℕ, zero, suc, ◌+◌, ◌-◌, ◌<◌, ◌≤◌, ◌&&◌, ◌↔◌, Bool, true, if◌then◌else◌, nat_le, nat_lt, Option, Some, None, List, [], ◌∷◌, ◌++◌, append_assoc, length, length-append, length-drop, map, take, drop, sym, ◌∙◌, ap, subst, refl, arith}
+use Rattle.std.proofs.lemmas.Bool.{and_from, le-leb, lt-leb, lt-ltb, ltb-true}
+use Rattle.std.proofs.lemmas.List.{length-map, length-take, map-append, drop-append-le, drop-drop, drop-map, drop_at, take_at, take-append-drop, take-map}
 use Rattle.std.proofs.lemmas.List.Sums.{sum_by-cons}
+use Rattle.std.specs.FinMap.{len}
 use Rattle.std.specs.List.{sum, sum_by}
 use Rattle.image_model.specs.declared.command.Command.{Command}
 use Rattle.image_model.specs.Change.{Change, change_of}
 use Rattle.image_model.specs.Command.{body_of, bodies_of}
 use Rattle.journal.specs.Group.{Numbered}
-use Rattle.image_model.proofs.DirtyMaps.{dirty_blocks-push}
-use Rattle.order_book.specs.Order.{OrderState, Seals, with_command, with_durable, with_group}
+use Rattle.image_model.proofs.CleanedMaps.{cleaned-blocks}
+use Rattle.image_model.proofs.DirtyTails.{dirty_behind_push}
+use Rattle.order_book.specs.Order.{OrderState, Seals, with_clean, with_command, with_durable, with_group}
 use Rattle.order_book.specs.Order as book
-use Rattle.world.specs.World.{Stage}
+use Rattle.world.specs.Checkpoint.{can_clean}
+use Rattle.world.specs.World.{Stage, dirty_behind}
 use Rattle.request_core.specs.Parts.{IsOrderOf, commands_in}
 use Rattle.image_model.specs.Bodies.{body_bytes, bodies_bytes, body_limit, longest}
-use Rattle.image_model.specs.Dirty.{Dirty, dirty_after, dirty_blocks, frames_suffice}
+use Rattle.image_model.specs.Dirty.{Dirty, clean_through, dirty_after, dirty_blocks, frames_suffice}
 
 pub sum_map : {X : Type 0} (f : X → ℕ) (xs : List X) → sum (map f xs) ≡ sum_by f xs
 sum_map f [] = refl
@@ -28,9 +31,9 @@ bodies_same (command ∷ commands) =
 module _ (stage : Stage) (order : OrderState) (group : Option Numbered) (of : IsOrderOf stage order group) where
   -- one command more
   pub order_accepts : (command : Command) (change : Change) → change_of command ≡ change → stage.stored ≤ length stage.order → stage.durable ≤ length stage.order
-      → order.mark < 18446744073709551615
+      → stage.cleaned ≤ length stage.order → order.mark < 18446744073709551615 → length (with_command order command).cache.states ≡ length order.cache.states
       → IsOrderOf (record stage { order = stage.order ++ change ∷ [] }) (with_command order command) group
-  order_accepts command change own stored durable left = record {
+  order_accepts command change own stored durable cleaned left kept = record {
     opening = of.opening;
     durable = of.durable;
     sealed = of.sealed;
@@ -49,9 +52,10 @@ module _ (stage : Stage) (order : OrderState) (group : Option Numbered) (of : Is
         ∙ ap (map body_bytes) (sym (drop-append-le stage.durable stage.order (change ∷ []) durable))));
     dirty = ap (λ (c : Change). dirty_after order.dirty (order.mark + 1) c) own
         ∙ (ap (λ (d : Dirty). dirty_after d (order.mark + 1) change) of.dirty
-        ∙ (ap (λ (n : ℕ). dirty_after (dirty_blocks stage.setting.opening stage.order) (n + 1) change) of.mark
-        ∙ sym (dirty_blocks-push stage.setting.opening stage.order change)));
+        ∙ (ap (λ (n : ℕ). dirty_after (dirty_behind stage.cleaned stage) (n + 1) change) of.mark
+        ∙ sym (dirty_behind_push stage.setting.opening stage.order stage.cleaned change cleaned)));
     frames = of.frames;
+    blocks = kept ∙ of.blocks;
     area = of.area;
     stopped = of.stopped;
     fits = let mark = of.mark in omega (arith, mark, left, length-append stage.order (change ∷ []));
@@ -59,10 +63,10 @@ module _ (stage : Stage) (order : OrderState) (group : Option Numbered) (of : Is
 
   -- the room that a command needs
   pub room_of : (command : Command) → book.has_room order command
-      ≡ (frames_suffice stage.setting.frames (dirty_blocks stage.setting.opening stage.order) (stage.setting.opening + length stage.order + 1) (change_of command)
+      ≡ (frames_suffice stage.setting.frames (dirty_behind stage.cleaned stage) (stage.setting.opening + length stage.order + 1) (change_of command)
       && nat_le (bodies_bytes (drop stage.durable stage.order) + body_bytes (change_of command)) 67108864)
   room_of command =
-      let dirty = dirty_blocks stage.setting.opening stage.order in
+      let dirty = dirty_behind stage.cleaned stage in
       ap (λ (b : Bool). b && nat_le (sum order.bodies + body_of command) 67108864)
       (ap (λ (n : ℕ). frames_suffice n order.dirty (order.mark + 1) (change_of command)) of.frames
       ∙ (ap (λ (d : Dirty). frames_suffice stage.setting.frames d (order.mark + 1) (change_of command)) of.dirty
@@ -111,6 +115,7 @@ order_seals stage old new group of stored seals =
       bodies = of.bodies;
       dirty = of.dirty;
       frames = of.frames;
+      blocks = of.blocks;
       area = of.area;
       stopped = of.stopped;
       fits = of.fits;
@@ -154,6 +159,7 @@ module _ (stage : Stage) (order : OrderState) (group : Numbered) (of : IsOrderOf
     bodies = of.bodies;
     dirty = of.dirty;
     frames = of.frames;
+    blocks = of.blocks;
     area = of.area;
     stopped = of.stopped;
     fits = of.fits;
@@ -185,6 +191,7 @@ module _ (stage : Stage) (order : OrderState) (group : Numbered) (of : IsOrderOf
     bodies = of.bodies;
     dirty = of.dirty;
     frames = of.frames;
+    blocks = of.blocks;
     area = of.area;
     stopped = of.stopped;
     fits = of.fits;
@@ -205,6 +212,7 @@ order_stops stage order group failures of = record {
   bodies = of.bodies;
   dirty = of.dirty;
   frames = of.frames;
+  blocks = of.blocks;
   area = of.area;
   stopped = refl;
   fits = of.fits;
@@ -232,6 +240,7 @@ order_publishes stage order group count of durable stored count_is =
           ∙ ap (λ (n : ℕ). drop n stage.order) (let from = of.durable in omega (arith, from, count_is, durable))));
       dirty = of.dirty;
       frames = of.frames;
+      blocks = of.blocks;
       area = of.area;
       stopped = of.stopped;
       fits = of.fits;
@@ -240,3 +249,63 @@ order_publishes stage order group count of durable stored count_is =
     between : (nat_le order.durable count && nat_le count order.mark) ≡ true
     between = let from = of.durable in let mark = of.mark in
         and_from (nat_le order.durable count) (nat_le count order.mark) (le-leb order.durable count (omega (arith, from, count_is, durable))) (le-leb count order.mark (omega (arith, mark, count_is, stored)))
+
+module _ (last : ℕ) (changes : List Change) (few many : ℕ) (further : few ≤ many) (within : many ≤ length changes) where
+  -- the commands between the first so many and the first more of them
+  abbrev between : List Change
+  between = take (many - few) (drop few changes)
+
+  parts : between ++ drop many changes ≡ drop few changes
+  parts = ap (λ (rest : List Change). between ++ rest)
+      (ap (λ (n : ℕ). drop n changes) (let same : many ≡ few + (many - few) = omega (arith, further) in same) ∙ sym (drop-drop (many - few) few changes))
+      ∙ take-append-drop (many - few) (drop few changes)
+
+  number_at : last + few + length between ≡ last + many
+  number_at = omega (arith, length-take (many - few) (drop few changes), length-drop few changes, further, within)
+
+  -- cleaned through the last of these, the dirty blocks are those of the commands behind it
+  cleaned_behind : clean_through (dirty_blocks (last + few) (drop few changes)) (last + many) ≡ dirty_blocks (last + many) (drop many changes)
+  cleaned_behind =
+      ap (clean_through (dirty_blocks (last + few) (drop few changes))) (sym number_at)
+      ∙ (ap (λ (rest : List Change). clean_through (dirty_blocks (last + few) rest) (last + few + length between)) (sym parts)
+      ∙ (cleaned-blocks (last + few) between (drop many changes)
+      ∙ ap (λ (n : ℕ). dirty_blocks n (drop many changes)) number_at))
+
+module _ (stage : Stage) (order : OrderState) (group : Option Numbered) (number : ℕ) (of : IsOrderOf stage order group) (cleaned : stage.cleaned ≤ stage.base)
+    (base : stage.base ≤ length stage.order) (number_is : number ≡ stage.setting.opening + stage.base) where
+  -- what stays dirty once the blocks up to the base are clean
+  still_dirty : (with_clean order number).dirty ≡ dirty_behind stage.base stage
+  still_dirty =
+      ap (λ (d : Dirty). clean_through d number) of.dirty
+      ∙ (ap (clean_through (dirty_behind stage.cleaned stage)) number_is
+      ∙ cleaned_behind stage.setting.opening stage.order stage.cleaned stage.base cleaned base)
+
+  -- the blocks up to the base are clean
+  pub order_cleans : IsOrderOf (record stage { cleaned = stage.base }) (with_clean order number) group
+  order_cleans = record {
+    opening = of.opening;
+    durable = of.durable;
+    sealed = of.sealed;
+    mark = of.mark;
+    behind = of.behind;
+    hand = of.hand;
+    first = of.first;
+    some = of.some;
+    bodies = of.bodies;
+    dirty = still_dirty;
+    frames = of.frames;
+    blocks = of.blocks;
+    area = of.area;
+    stopped = of.stopped;
+    fits = of.fits;
+  }
+
+  -- they are to be let go exactly where some of them are dirty
+  clean_test : can_clean stage ≡ nat_lt (len (with_clean order number).dirty) (len order.dirty)
+  clean_test = λ i. nat_lt (len (sym still_dirty i)) (len (sym of.dirty i))
+
+  pub clean_due : (can_clean stage ≡ true) ↔ (len (with_clean order number).dirty < len order.dirty)
+  clean_due = (
+    λ can. ltb-true (len (with_clean order number).dirty) (len order.dirty) (sym clean_test ∙ can),
+    λ fewer. clean_test ∙ lt-ltb (len (with_clean order number).dirty) (len order.dirty) fewer,
+  )

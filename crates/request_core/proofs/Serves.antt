@@ -26,6 +26,7 @@ use Rattle.world.specs.Log.{command_of, waits_for_store}
 use Rattle.world.specs.Serve.{Failure, Nothing, logged, held, moved, ready, accepted, write_served, state_after}
 use Rattle.world.specs.World.{World, put, last_number, has_room, Stage}
 use Rattle.world_law.specs.Law.{IsWithin}
+use Rattle.world_law.proofs.Within.{rising_through}
 
 -- a choice whose test is known
 pub if_true : {X : Type 0} (P : X → Type 0) (test : Bool) (x y : X) → test ≡ true → P x → P (if test then x else y)
@@ -55,16 +56,19 @@ module _ (world : World) (c : ℕ) (request : Message) (order : OrderState) (gro
   -- a command that got its number
   pub served_accepted : (command : Command) (number : ℕ) → IsWithin world → order.mark < 18446744073709551615 → change_of command ≡ command_of request
       → IsChange world.stage.setting.geometry.blocks (command_of request) → number ≡ order.mark + 1
+      → length (with_command order command).cache.states ≡ length order.cache.states
       → IsServed world (accepted Nothing world c request) c (state_after (waits_for_store world.stage.setting.mode request) number) (numbered c number) (with_command order command) group
-  served_accepted command number within left own change is = subst
+  served_accepted command number within left own change is kept = subst
       (λ (n : ℕ). IsServed world (accepted Nothing world c request) c (state_after (waits_for_store world.stage.setting.mode request) n) (numbered c n) (with_command order command) group)
       (sym (is ∙ ap (λ (n : ℕ). n + 1) of.mark))
       (record {
         connections = λ d. refl;
         log = refl;
         grown = record { commands = command_of request ∷ []; is = refl; takes = (change, tt) };
-        of_order = let durable = within.durable in let stored = within.stored in let sealed = within.sealed in
-            order_accepts world.stage order group of command (command_of request) own (omega (arith, stored, sealed)) (omega (arith, durable, stored, sealed)) left;
+        of_order = let durable = within.durable in let stored = within.stored in let sealed = within.sealed in let cleaned = within.cleaned in
+            let base = rising_through world.stage.base world.stage.turned world.stage.stored within.rising in
+            order_accepts world.stage order group of command (command_of request) own (omega (arith, stored, sealed)) (omega (arith, durable, stored, sealed))
+            (omega (arith, cleaned, base, stored, sealed)) left kept;
       })
 
   -- the event of a request whose command got its number, and of one after which the order is as it was

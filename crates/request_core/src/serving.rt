@@ -1,4 +1,4 @@
-ghost use Rattle.std.specs.Prelude.{◌≡◌, ◌≢◌, ◌<◌, ℕ, false, [], Some, IfSome, MatchOption, IfNone, Option, Result, slice_index_or, slice_set, vec_len};
+ghost use Rattle.std.specs.Prelude.{◌≡◌, ◌≢◌, ◌<◌, ℕ, false, [], Some, IfSome, MatchOption, IfNone, Option, Result, length, slice_index_or, slice_set, vec_len};
 ghost use Rattle.journal.specs.Group.{Numbered};
 ghost use Rattle.nbd_wire.specs.Request.{Message};
 ghost use Rattle.nbd_wire.specs.declared.error.Errno.{Errno};
@@ -97,6 +97,8 @@ pub(crate) fn serve(
     order: &mut Order,
     terms: Terms,
 ) -> Event
+    requires blocks { length order.old.cache.states ≡ terms.geometry.blocks }
+    ensures blocks { length order.new.cache.states ≡ length order.old.cache.states }
     ensures hand { IsSameHand order.old order.new }
     ensures world { (world : World) (group : Option Numbered) → IsWithin world → IsOrderOf world.stage order.old group
         → AreTermsOf world terms.geometry terms.flags terms.mode → AreConnectionsOf world states.old.items
@@ -136,6 +138,8 @@ fn serve_request(
     order: &mut Order,
     terms: Terms,
 ) -> (Connection, Event)
+    requires blocks { length order.old.cache.states ≡ terms.geometry.blocks }
+    ensures blocks { length order.new.cache.states ≡ length order.old.cache.states }
     ensures hand { IsSameHand order.old order.new }
     ensures world { (world : World) (group : Option Numbered) → IsWithin world → IsOrderOf world.stage order.old group
         → AreTermsOf world terms.geometry terms.flags terms.mode → world.connections connection ≡ Connection.Requested request
@@ -178,7 +182,9 @@ fn state_of(served: Served) -> Connection
 ///
 /// A WRITE for which there is no room comes back. No request needs the device so far.
 pub fn serve_held(request: Request, order: &mut Order, terms: Terms) -> Served
-    requires { request.head.kind ≢ 2 }
+    requires kind { request.head.kind ≢ 2 }
+    requires blocks { length order.old.cache.states ≡ terms.geometry.blocks }
+    ensures blocks { length order.new.cache.states ≡ length order.old.cache.states }
     ensures serves { (given : Result Action Errno) × (given ≡ verdict request.head terms.geometry terms.flags)
         × IsServedBy given request terms.geometry terms.mode order.old order.new result }
 {
@@ -207,7 +213,9 @@ fn serve_write(request: Request, order: &mut Order, terms: Terms) -> Served
     requires write { IsServedWrite request.head terms.geometry }
     requires works { order.old.stopped ≡ false }
     requires fits { order.old.mark < 18446744073709551616 }
-    ensures { IsWriteServed request terms.geometry terms.mode order.old order.new result }
+    requires blocks { length order.old.cache.states ≡ terms.geometry.blocks }
+    ensures blocks { length order.new.cache.states ≡ length order.old.cache.states }
+    ensures served { IsWriteServed request terms.geometry terms.mode order.old order.new result }
 {
     let (head, bytes) = request.into_parts();
     let command = Command::Put {

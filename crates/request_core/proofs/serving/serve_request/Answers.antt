@@ -23,7 +23,7 @@ returns-clause-world c = λ world group within of terms here.
     let (given, given_is, by) = c.serve_held-served.ensures.serves in
     let by_world = subst (λ (mode : Mode). IsServedBy given request setting.geometry mode old new result) terms.mode_is
     (subst (λ (geometry : Geometry). IsServedBy given request geometry c.args.terms.mode old new result) terms.geometry_is by) in
-    let served = lifted world place request old group within of here new result given by_world in
+    let served = lifted world place request old group within of here new c.serve_held-served.ensures.blocks result given by_world in
     let verdict_is = given_is ∙ ap (λ (geometry : Geometry). verdict request.head geometry c.args.terms.flags) terms.geometry_is
     ∙ ap (λ (flags : SessionFlags). verdict request.head setting.geometry flags) terms.flags_is in
     let event_is : c.event_of-event.result ≡ event_for place old.mark new.mark result =

@@ -22,11 +22,7 @@ accept-requires c =
     let served = c.requires.write in
     let offset = ap (λ (head : RequestHead). head.offset) c.into_parts-bytes.ensures.head in
     let whole : vec_len c.into_parts-bytes.result.1 ≡ c.args.request.head.length = grind (arith, common_steps) in
-    record {
-      image = c.args.terms.geometry.blocks;
-      numbers = omega arith;
-      is = (c.args.request.head.length / 4096, omega arith, omega arith, omega arith, omega arith);
-    }
+    (c.args.request.head.length / 4096, omega arith, omega arith, omega arith, omega arith)
 
 -- the command is that of the request, and one that the image takes
 module _ (request : Message) (head : RequestHead) (bytes : Vec ℕ) (head_is : head ≡ request.head) (bytes_is : bytes.items ≡ request.bytes) where
@@ -36,8 +32,8 @@ module _ (request : Message) (head : RequestHead) (bytes : Vec ℕ) (head_is : h
   own_change : (geometry : Geometry) → IsServedWrite request.head geometry → vec_len bytes ≡ request.head.length → IsChange geometry.blocks (command_of request)
   own_change geometry served whole = write_change request geometry served (sym (ap length bytes_is) ∙ (sym bytes.ok.0 ∙ whole))
 
-pub returns-in-Ok : goal.returns-in-Ok
-returns-in-Ok c =
+pub returns-in-Ok-clause-served : goal.returns-in-Ok-clause-served
+returns-in-Ok-clause-served c =
     let order = c.args.order.now in
     let request = c.args.request in
     let head = c.into_parts-bytes.result.0 in
@@ -72,8 +68,8 @@ again : (request : Message) (head : RequestHead) (first : ℕ) (bytes : Vec ℕ)
     → request_again head (Put first bytes) ≡ NoRoom request
 again request head first bytes head_is bytes_is = λ i. NoRoom (record { head = head_is i; bytes = bytes_is i })
 
-pub returns-in-Err-NoRoom-default : goal.returns-in-Err-NoRoom-default
-returns-in-Err-NoRoom-default c =
+pub returns-in-Err-NoRoom-default-clause-served : goal.returns-in-Err-NoRoom-default-clause-served
+returns-in-Err-NoRoom-default-clause-served c =
     let request = c.args.request in
     let head = c.into_parts-bytes.result.0 in
     let bytes = c.into_parts-bytes.result.1 in
@@ -93,8 +89,8 @@ returns-in-Err-NoRoom-default c =
       ),
     )
 
-pub returns-in-Err-NoMemory-default : goal.returns-in-Err-NoMemory-default
-returns-in-Err-NoMemory-default c =
+pub returns-in-Err-NoMemory-default-clause-served : goal.returns-in-Err-NoMemory-default-clause-served
+returns-in-Err-NoMemory-default-clause-served c =
     let order = c.args.order.now in
     let request = c.args.request in
     let head = c.into_parts-bytes.result.0 in
