@@ -78,12 +78,14 @@ module _ {D : Type 0} where
   count_ended (Ok done) old new is = ap (λ (k : KeeperState D). k.count) is
 
   -- what an opening leaves once a checkpoint has ended
-  pub recovered_by : {T : Type 0} (result : Result T KeeperFault) (old new : KeeperState D) → OnOk result (new ≡ finished_by old new.disk new.memory) → old.failed ≡ false → old.used ≡ 0
+  pub recovered_by : {T : Type 0} (result : Result T KeeperFault) (old new : KeeperState D) → OnOk result (new ≡ finished_by old new.disk new.memory) → old.failed ≡ false → old.used ≡ 0 → old.turned ≡ old.count
       → OnOk result (Remembers new []) → OnOk result (IsRecovered new)
-  recovered_by (Err fault) old new is works used remembers = tt
-  recovered_by (Ok done) old new is works used remembers = record {
+  recovered_by (Err fault) old new is works used counted remembers = tt
+  recovered_by (Ok done) old new is works used counted remembers = record {
     works = ap (λ (k : KeeperState D). k.failed) is ∙ works;
     phase = ap (λ (k : KeeperState D). k.phase) is;
     used = ap (λ (k : KeeperState D). k.used) is ∙ used;
+    turned = ap (λ (k : KeeperState D). k.turned) is ∙ sym (ap (λ (k : KeeperState D). k.base) is);
+    base = ap (λ (k : KeeperState D). k.base) is ∙ counted ∙ sym (ap (λ (k : KeeperState D). k.count) is);
     remembers = remembers;
   }

@@ -16,6 +16,8 @@ pub record IsRecovered {D : Type 0} (keeper : KeeperState D) : Type 0 where
   pub works : keeper.failed ≡ false
   pub phase : keeper.phase ≡ One
   pub used : keeper.used ≡ 0
+  pub turned : keeper.turned ≡ keeper.base
+  pub base : keeper.base ≡ keeper.count
   pub remembers : Remembers keeper []
 
 -- the refusals that the steps of a checkpoint give in their times

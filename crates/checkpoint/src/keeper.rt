@@ -64,7 +64,7 @@ impl<D: Disk> Model for Keeper<D> {
         × IfSome keeper.plan (λ plan. IsSized plan.first keeper.header.geometry (D.extent keeper.disk))
         × IsSized keeper.area keeper.header.geometry (D.extent keeper.disk)
         × (keeper.area.next ≡ next_number keeper.count)
-        × (keeper.area.gate ≡ 0 → keeper.area.touched ≡ []) };
+        × (keeper.area.gate ≡ 0 → (keeper.area.touched ≡ []) × (keeper.count ≡ turned_of keeper.plan keeper.header.base)) };
 }
 
 impl<D: Disk> Keeper<D> {

@@ -5,7 +5,7 @@ ghost use Rattle.device_image.specs.Damage.{IsAreaDamaged};
 ghost use Rattle.checkpoint.specs.Opening.{IsGroupsRefused, IsOpened, IsRefused, IsUncopied, disk_after, faults_after_opening};
 ghost use Rattle.checkpoint.specs.Recovery.{IsBegun};
 ghost use Rattle.checkpoint.specs.declared.fault.KeeperFault.TheVariants as KeeperFault;
-ghost use Rattle.device_image.specs.Keeper.{earlier_of};
+ghost use Rattle.device_image.specs.Keeper.{earlier_of, turned_of};
 ghost use Rattle.journal.specs.GroupList.{HoldsList, IsDamaged};
 ghost use Rattle.device_image.specs.Stands.{area_of, next_number};
 ghost use Rattle.disk_model.specs.Disk.{IsAllSynced, LeavesOnly, MayLeave};
@@ -87,7 +87,7 @@ fn read_device<D: Disk>(alloc: Global, disk: &mut D) -> Result<Opened, KeeperFau
     ensures whole { IfOk result (λ opened. D.extent disk.old ≡ device_bytes_of opened.header.geometry.blocks opened.header.geometry.area) }
     ensures placed { IfOk result (λ opened.
         IsPlaced opened.area opened.header.geometry (behind (mode_of opened.header.areas) opened.header.first_area)) }
-    ensures none { IfOk result (λ opened. opened.area.gate ≡ 0 → opened.area.touched ≡ []) }
+    ensures none { IfOk result (λ opened. opened.area.gate ≡ 0 → (opened.area.touched ≡ []) × (opened.area.next ≡ next_number (turned_of opened.plan opened.header.base))) }
 
     ensures sized { IfOk result (λ opened. IfSome opened.plan (λ plan. IsSized plan.first opened.header.geometry (D.extent disk.old))) }
     ensures blocks { IfOk result (λ opened. length opened.map ≡ opened.header.geometry.blocks) }
@@ -113,7 +113,7 @@ pub fn read_parts<D: Disk>(alloc: Global, disk: &mut D) -> Result<Opened, Keeper
     ensures whole { IfOk result (λ opened. D.extent disk.old ≡ device_bytes_of opened.header.geometry.blocks opened.header.geometry.area) }
     ensures placed { IfOk result (λ opened.
         IsPlaced opened.area opened.header.geometry (behind (mode_of opened.header.areas) opened.header.first_area)) }
-    ensures none { IfOk result (λ opened. opened.area.gate ≡ 0 → opened.area.touched ≡ []) }
+    ensures none { IfOk result (λ opened. opened.area.gate ≡ 0 → (opened.area.touched ≡ []) × (opened.area.next ≡ next_number (turned_of opened.plan opened.header.base))) }
     ensures sized { IfOk result (λ opened. IfSome opened.plan (λ plan. IsSized plan.first opened.header.geometry (D.extent disk.old))) }
     ensures blocks { IfOk result (λ opened. length opened.map ≡ opened.header.geometry.blocks) }
     ensures uncopied { IfOk result (λ opened. IsUncopied opened.header.areas opened.plan) }
@@ -148,7 +148,7 @@ fn read_areas<D: Disk>(
     ensures honest { D.honest disk.new ↔ D.honest disk.old }
     ensures placed { IfOk result (λ areas.
         IsPlaced areas.1 header.now.geometry (behind (mode_of header.now.areas) header.now.first_area)) }
-    ensures none { IfOk result (λ areas. areas.1.gate ≡ 0 → areas.1.touched ≡ []) }
+    ensures none { IfOk result (λ areas. areas.1.gate ≡ 0 → (areas.1.touched ≡ []) × (areas.1.next ≡ next_number (turned_of areas.0 header.now.base))) }
     ensures sized { IfOk result (λ areas. IfSome areas.0 (λ plan. IsSized plan.first header.now.geometry (D.extent disk.old))) }
     ensures uncopied { IfOk result (λ areas. IsUncopied header.now.areas areas.0) }
 
@@ -189,7 +189,7 @@ fn read_area<D: Disk>(
     ensures faults_err { IfErr result (λ fault. D.faults disk.new ≡ faults_by fault (D.faults disk.old)) }
     ensures honest { D.honest disk.new ↔ D.honest disk.old }
     ensures placed { IfOk result (λ area. IsPlaced area geometry.now side) }
-    ensures none { IfOk result (λ area. area.gate ≡ 0 → area.touched ≡ []) }
+    ensures none { IfOk result (λ area. area.gate ≡ 0 → (area.touched ≡ []) × (area.next ≡ next)) }
 
     ensures only_read { D.honest disk.old → IsOnlyRead (D.state disk.old) (D.state disk.new) }
     ensures read { D.honest disk.old → IsAllSynced (D.state disk.old) → MatchResult result

@@ -99,7 +99,7 @@ impl<D: Disk> Keeper<D> {
     fn end_begun(&mut self) -> Result<(), KeeperFault>
         requires works { self.old.failed ≡ false }
         requires begun { IsBegun self.old.phase }
-        ensures ok { OnOk result ((self.new.failed ≡ false) × (self.new.phase ≡ One)) }
+        ensures ok { OnOk result ((self.new.failed ≡ false) × (self.new.phase ≡ One) × (self.new.turned ≡ self.new.base)) }
         ensures idle { self.old.phase ≡ One → (self.new ≡ self.old) × (result ≡ Ok tt) }
         ensures only { IfErr result IsRecoveryFault }
         ensures full { result ≡ Err KeeperFault.NumbersFull → self.new.generation ≡ 18446744073709551615 }
@@ -174,7 +174,8 @@ impl<D: Disk> Keeper<D> {
 
     // Whether a checkpoint is under way.
     fn is_turning(&self) -> bool
-        ensures { (IsTrue result → (self.now.phase ≡ One → ⊥)) × ((result ≡ false) → self.now.phase ≡ One) }
+        ensures turning { (IsTrue result → (self.now.phase ≡ One → ⊥)) × ((result ≡ false) → self.now.phase ≡ One) }
+        ensures turned { (result ≡ false) → self.now.turned ≡ self.now.base }
     {
         self.plan.is_some()
     }
@@ -193,6 +194,7 @@ impl<D: Disk> Keeper<D> {
     fn is_empty(&self) -> bool
         ensures empty { result ≡ (self.now.used == 0) }
         ensures untouched { self.now.used ≡ 0 → self.now.memory.area.touched ≡ [] }
+        ensures counted { self.now.used ≡ 0 → self.now.count ≡ self.now.turned }
     {
         self.area.is_empty()
     }

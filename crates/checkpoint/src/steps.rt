@@ -319,7 +319,8 @@ impl<D: Disk> Keeper<D> {
 
     // The second area is alone in use, by this header, and map and data hold what the first area did.
     fn take_over(&mut self, header: Header)
-        requires { header.geometry ≡ self.old.geometry }
+        requires geometry { header.geometry ≡ self.old.geometry }
+        requires base { header.base ≡ self.old.turned }
         ensures { self.new ≡ record self.old {
           generation = header.generation;
           base = header.base;

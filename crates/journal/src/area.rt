@@ -223,7 +223,7 @@ impl Area {
         ensures err { OnErr result (self.new ≡ self.old) }
         ensures causes { IfErr result IsScanFault }
         ensures same { (self.new.from ≡ self.old.from) × (self.new.bytes ≡ self.old.bytes) × (self.new.blocks ≡ self.old.blocks) }
-        ensures none { OnOk result (self.new.gate ≡ 0 → self.new.touched ≡ []) }
+        ensures none { OnOk result (self.new.gate ≡ 0 → (self.new.touched ≡ []) × (self.new.next ≡ self.old.next)) }
         ensures extent { D.extent disk.new ≡ D.extent disk.old }
         ensures honest { D.honest disk.new ↔ D.honest disk.old }
         ensures faults_ok { OnOk result (D.faults disk.new ≡ D.faults disk.old) }

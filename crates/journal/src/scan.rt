@@ -90,7 +90,7 @@ impl Place {
         ensures only_read { D.honest disk.old → IsOnlyRead (D.state disk.old) (D.state disk.new) }
         ensures inside { IfOk result (λ end. end.gate < self.now.bytes) }
         ensures within { OnOk result (AreWithin self.now.from (self.now.from + self.now.bytes) touched.new.items) }
-        ensures none { IfOk result (λ end. end.gate ≡ 0 → touched.new.items ≡ []) }
+        ensures none { IfOk result (λ end. end.gate ≡ 0 → (touched.new.items ≡ []) × (end.next ≡ next)) }
         ensures found { D.honest disk.old → (content : List ℕ) → IsScanned content (D.state disk.old) self.now.from self.now.bytes
             → IfOk result (λ end. FoundList self.now.blocks content self.now.from next end.gate end.next touched.new.items) }
         ensures damaged { D.honest disk.old → (content : List ℕ) → IsScanned content (D.state disk.old) self.now.from self.now.bytes

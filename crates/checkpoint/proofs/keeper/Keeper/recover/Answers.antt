@@ -42,7 +42,7 @@ pub returns-then-is_empty-clause-ok : goal.returns-then-is_empty-clause-ok
 returns-then-is_empty-clause-ok g c =
     let first = c.in_ok-end_begun.ensures in
     let none = zero_is c.end_begun.new.self.used (sym c.if-is_empty.true ∙ c.is_empty.ensures.empty) in
-    record { works = first.ok.0; phase = first.ok.1; used = none; remembers = remembers_none _ (c.is_empty.ensures.untouched none) }
+    record { works = first.ok.0; phase = first.ok.1; used = none; turned = first.ok.2; base = sym (c.is_empty.ensures.counted none ∙ first.ok.2); remembers = remembers_none _ (c.is_empty.ensures.untouched none) }
 
 pub returns-clause-ok : goal.returns-clause-ok
 returns-clause-ok g c =
@@ -50,4 +50,5 @@ returns-clause-ok g c =
     let second = c.in_ok-rotate.ensures in
     recovered_by c.end_checkpoint.result c.rotate.new.self c.end_checkpoint.new.self c.end_checkpoint.ensures.ok
     (ap (λ (k : KeeperState g.row.D.Denot). k.failed) second.ok ∙ first.ok.0) (ap (λ (k : KeeperState g.row.D.Denot). k.used) second.ok)
+    (ap (λ (k : KeeperState g.row.D.Denot). k.turned) second.ok ∙ sym (ap (λ (k : KeeperState g.row.D.Denot). k.count) second.ok))
     (c.end_checkpoint.ensures.remembered [] second.fresh)

@@ -16,7 +16,7 @@ loop-window-init g c =
       honest = (λ honest. honest, λ honest. honest);
       only_read = λ honest. none_read (g.met.D.Disk.sound c.args.disk.now honest);
       within = c.requires.some;
-      none = λ none. c.requires.none_noted;
+      none = λ none. (c.requires.none_noted, refl);
       noted = subst (AreWithin area.from (area.from + area.bytes)) (sym c.requires.none_noted) tt;
       read_as = λ honest content known. record { scanned = known; held = λ k below. absurd (omega (arith, below, c.in_ok-window.ensures)) };
       found = λ honest content known. lead_none area.blocks content area.from c.args.next c.args.touched.now.items c.requires.none_noted;
@@ -87,4 +87,5 @@ returns-in_err-behind-clause-only_read g c honest =
 pub returns-clause-none : goal.returns-clause-none
 returns-clause-none g c none =
     let same = rw c.in_default.is at c.in_ok-behind.ensures.same in
-    same ∙ c.loop-window.invariant.none none
+    let empty = c.loop-window.invariant.none none in
+    (same ∙ empty.0, empty.1)

@@ -12,7 +12,7 @@ invariant-loop-window g l = record {
   honest : g.D.Disk.honest l.disk ↔ g.D.Disk.honest l.fn.disk;
   only_read : g.D.Disk.honest l.fn.disk → IsOnlyRead (g.D.Disk.state l.fn.disk) (g.D.Disk.state l.disk);
   within : l.end.gate < l.self.bytes;
-  none : l.end.gate ≡ 0 → l.touched.items ≡ [];
+  none : l.end.gate ≡ 0 → (l.touched.items ≡ []) × (l.end.next ≡ l.next);
   noted : AreWithin l.self.from (l.self.from + l.self.bytes) l.touched.items;
   read_as : g.D.Disk.honest l.fn.disk → (content : List ℕ) → IsScanned content (g.D.Disk.state l.fn.disk) l.self.from l.self.bytes → IsReadAs content (g.D.Disk.state l.disk) l.self.from l.self.bytes l.window;
   found : g.D.Disk.honest l.fn.disk → (content : List ℕ) → IsScanned content (g.D.Disk.state l.fn.disk) l.self.from l.self.bytes
