@@ -3,7 +3,7 @@ use Rattle.image_model.specs.declared.geometry.Geometry.{Geometry}
 use Rattle.nbd_wire.specs.declared.error.Errno.{Errno}
 use Rattle.nbd_wire.specs.declared.message.SessionFlags.{SessionFlags}
 use Rattle.request_core.specs.Serving.{IsServed, IsServedBy, event_for, state_of}
-use Rattle.request_core.proofs.Lifted.{lifted}
+use Rattle.request_core.proofs.Lifted.{lifted, same_hand}
 use Rattle.request_core.proofs.serving.serve_request.Goals as goal
 use Rattle.world.specs.Serve.{Failure, judged}
 use Rattle.world.specs.Verdict.{verdict}
@@ -11,6 +11,11 @@ use Rattle.world.specs.declared.action.Action.{Action}
 use Rattle.world.specs.declared.connection.Connection.{Connection}
 use Rattle.world.specs.declared.event.Event.{Event}
 use Rattle.world.specs.declared.step.Mode.{Mode}
+
+pub returns-clause-hand : goal.returns-clause-hand
+returns-clause-hand c =
+    let (given, _, by) = c.serve_held-served.ensures.serves in
+    same_hand c.args.request c.args.terms.geometry c.args.terms.mode c.args.order.now c.serve_held-served.new.order c.serve_held-served.result given by
 
 pub returns-clause-world : goal.returns-clause-world
 returns-clause-world c = λ world group within of terms here.
