@@ -14,7 +14,8 @@ use Rattle.request_core.proofs.Lives.{all_both, disk_grows, IsOrdered, last_stay
 use Rattle.world.specs.declared.connection.Connection.{Connection}
 use Rattle.world.specs.declared.event.Event.{Event}
 use Rattle.world.specs.Serve.{Failure, Nothing, OutOfMemory, DeviceFailure}
-use Rattle.world.specs.Step.{after_step, publish, seal, sealed_more}
+use Rattle.world.specs.Checkpoint.{can_clean}
+use Rattle.world.specs.Step.{after_step, clean, publish, seal, sealed_more}
 use Rattle.world.specs.declared.step.Step.{Step}
 use Rattle.world.specs.World.{World, Stage}
 use Rattle.world_law.specs.Law.{IsWithin}
@@ -87,6 +88,9 @@ module _ {D : Type 0} (extent : ℕ) (honest : Type 0) (state : State) (sound : 
 
   pub disk_publishes : IsDiskOf world.stage keeper state → IsDiskOf (publish world).stage keeper state
   disk_publishes disk = of_either (λ (next : World). IsDiskOf next.stage keeper state) (nat_lt world.stage.durable world.stage.stored) _ _ (numbers_here _ _ disk) disk
+
+  pub disk_cleans : IsDiskOf world.stage keeper state → IsDiskOf (clean world).stage keeper state
+  disk_cleans disk = of_either (λ (next : World). IsDiskOf next.stage keeper state) (can_clean world.stage) _ _ (record { holds = disk.holds; leaves = disk.leaves }) disk
 
 -- a group that was appended, or wasn't
 pub performed_appended : {D : Type 0} (honest : Type 0) (before after : State) (world next : World) (event : Event) (order : OrderState) (connections : ConnectionsState) (old new : KeeperState D) (failures : ℕ)

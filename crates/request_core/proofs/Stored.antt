@@ -9,22 +9,24 @@ use Rattle.image_model.specs.Change.{change_of}
 use Rattle.image_model.specs.Command.{bodies_of}
 use Rattle.image_model.specs.declared.geometry.Geometry.{Geometry}
 use Rattle.journal.specs.Group.{Numbered}
-use Rattle.order_book.specs.Order.{OrderState, Seals, with_durable, with_group}
+use Rattle.order_book.specs.Order.{OrderState, Seals, with_durable, with_group, with_clean}
 use Rattle.request_core.specs.Parts.{IsKeeperOf, IsOrderOf, last_commands, turned_at}
-use Rattle.request_core.specs.Storing.{IsKept, PublishesBy, SealsBy}
-use Rattle.request_core.proofs.Orders.{bodies_same, commands_length, hand_is, order_publishes, order_puts_back, order_seals, order_stops, order_stores}
+use Rattle.request_core.specs.Storing.{IsKept, PublishesBy, SealsBy, CleansBy}
+use Rattle.request_core.proofs.Orders.{bodies_same, commands_length, hand_is, order_publishes, order_puts_back, order_seals, order_stops, order_stores, clean_due, order_cleans}
 use Rattle.request_core.proofs.Serves.{if_false, if_true}
 use Rattle.world.specs.declared.event.Event.{Event}
 use Rattle.world.specs.declared.event.Event.TheVariants.{Took, Held, Failed}
 use Rattle.world.specs.declared.event.StepFault.TheVariants.{NoMemory, DeviceFault, FailedBefore}
 use Rattle.image_model.specs.Bodies.{bodies_bytes}
 use Rattle.world.specs.Serve.{Failure, Nothing, OutOfMemory, held, logged}
-use Rattle.world.specs.Step.{append, faulted, publish, put_back, seal, out_of_memory, stored_more}
+use Rattle.world.specs.Checkpoint.{can_clean}
+use Rattle.world.specs.Step.{append, clean, faulted, publish, put_back, seal, out_of_memory, stored_more}
 use Rattle.world.specs.World.{World, fits, in_hand, Stage}
 use Rattle.world_law.specs.Law.{IsWithin}
-use Rattle.request_core.proofs.Lives.{last_grows}
+use Rattle.request_core.proofs.Lives.{last_grows, ordered}
 use Rattle.device_image.specs.Remembers.{Remembers}
 use Rattle.device_image.proofs.Counted.{remembers_still}
+use Rattle.std.specs.FinMap.{len}
 
 pub not_true_is : (b : Bool) → (IsTrue b → ⊥) → b ≡ false
 not_true_is true no_true = absurd (no_true refl)
@@ -264,3 +266,44 @@ kept_publish_by world keeper failures old new group event of_keeper within of (i
 kept_publish_by world keeper failures old new group event of_keeper within of (inr none) =
     kept_as world (publish world) keeper failures old new group group Held event (sym none.1) refl (sym none.2)
     (kept_publish_none world keeper failures of_keeper old group of none.0)
+
+-- a keeper knows nothing of which frames were let go
+keeper_cleans : {D : Type 0} (stage : Stage) (keeper : KeeperState D) (failures cleaned : ℕ) → IsKeeperOf stage keeper failures → IsKeeperOf (record stage { cleaned = cleaned }) keeper failures
+keeper_cleans stage keeper failures cleaned of = record {
+  geometry = of.geometry;
+  count = of.count;
+  base = of.base;
+  turned = of.turned;
+  generation = of.generation;
+  phase = of.phase;
+  used = of.used;
+  failed = of.failed;
+  faults = of.faults;
+  takes = of.takes;
+  remembers = of.remembers;
+}
+
+-- what an order let go of is a step of the world
+pub kept_clean_by : {D : Type 0} (world : World) (keeper : KeeperState D) (failures : ℕ) (old new : OrderState) (group : Option Numbered) (event : Event)
+    → IsKeeperOf world.stage keeper failures → IsWithin world → IsOrderOf world.stage old group → CleansBy keeper.base old new event
+    → IsKept world (clean world) event new group keeper failures
+kept_clean_by world keeper failures old new group event of_keeper within of (inl (fewer, new_is, event_is)) =
+    let is = ordered world within in let base = is.base in let turned = is.turned in let stored = is.stored in
+    let few : world.stage.base ≤ length world.stage.order = omega (arith, base, turned, stored) in
+    kept_as world (clean world) keeper failures (with_clean old keeper.base) new group group Took event (sym new_is) refl (sym event_is)
+    (if_true (λ next. IsKept world next Took (with_clean old keeper.base) group keeper failures) (can_clean world.stage) _ _
+    ((clean_due world.stage old group keeper.base of within.cleaned few of_keeper.base).1 fewer)
+    (record {
+      connections = refl;
+      log = refl;
+      of_order = order_cleans world.stage old group keeper.base of within.cleaned few of_keeper.base;
+      of_keeper = keeper_cleans world.stage keeper failures world.stage.base of_keeper;
+    }))
+kept_clean_by world keeper failures old new group event of_keeper within of (inr (none, new_is, event_is)) =
+    let is = ordered world within in let base = is.base in let turned = is.turned in let stored = is.stored in
+    let few : world.stage.base ≤ length world.stage.order = omega (arith, base, turned, stored) in
+    let as_many = ap (λ (o : OrderState). len o.dirty) none in
+    kept_as world (clean world) keeper failures old new group group Held event (sym new_is) refl (sym event_is)
+    (if_false (λ next. IsKept world next Held old group keeper failures) (can_clean world.stage) _ _
+    (not_true_is (can_clean world.stage) (λ due. let fewer = (clean_due world.stage old group keeper.base of within.cleaned few of_keeper.base).0 due in absurd (omega (arith, fewer, as_many))))
+    (kept_held world keeper failures of_keeper old group of))

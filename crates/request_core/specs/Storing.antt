@@ -4,7 +4,8 @@ use Rattle.device_image.specs.Keeper.{KeeperState}
 use Rattle.checkpoint.specs.declared.fault.KeeperFault.{KeeperFault}
 use Rattle.checkpoint.specs.declared.fault.KeeperFault.TheVariants as fault
 use Rattle.journal.specs.Group.{Numbered}
-use Rattle.order_book.specs.Order.{OrderState, Seals, with_durable, with_group}
+use Rattle.std.specs.FinMap.{len}
+use Rattle.order_book.specs.Order.{OrderState, Seals, with_clean, with_durable, with_group}
 use Rattle.request_core.specs.Parts.{IsKeeperOf, IsOrderOf}
 use Rattle.world.specs.declared.event.Event.{Event}
 use Rattle.world.specs.declared.event.Event.TheVariants.{Took, Held, Failed}
@@ -124,3 +125,9 @@ hand_refused fault.OutOfOrder hand = hand
 hand_refused fault.DamagedGroup hand = hand
 hand_refused fault.NotNow hand = hand
 hand_refused fault.Failed hand = hand
+
+-- letting go of the frames of dirty blocks up to a number: some were let go, or there was none
+abbrev pub CleansBy : ℕ → OrderState → OrderState → Event → Type 0
+CleansBy number old new event =
+    ((len (with_clean old number).dirty < len old.dirty) × (new ≡ with_clean old number) × (event ≡ Took))
+    ⊎ ((with_clean old number ≡ old) × (new ≡ old) × (event ≡ Held))

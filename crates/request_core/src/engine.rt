@@ -1,4 +1,4 @@
-ghost use Rattle.std.specs.Prelude.{◌≡◌, ◌↔◌, Bool, IfSome, slice_index_or};
+ghost use Rattle.std.specs.Prelude.{◌≡◌, ◌↔◌, Bool, IfSome, length, slice_index_or};
 ghost use Rattle.order_book.specs.Order.{IsInHand};
 ghost use Rattle.request_core.specs.Life.{IsStepped, Trusts};
 ghost use Rattle.request_core.specs.Parts.{AreConnectionsOf, IsExportOf, IsKeeperOf, IsOrderOf};
@@ -34,7 +34,8 @@ impl Connections {
 
 /// Carries out one step, and gives its event.
 ///
-/// A step whose condition doesn't hold changes nothing, but an `Append` of a group that doesn't fit the area puts it back.
+/// A step whose condition doesn't hold changes nothing, but an `Append` of a group that doesn't fit the area puts it back. The
+/// order and the keeper have to be of images with as many blocks.
 pub fn take_step<D: Disk>(
     alloc: Global,
     step: &Step,
@@ -43,7 +44,10 @@ pub fn take_step<D: Disk>(
     connections: &mut Connections,
 ) -> Event
     requires group { IfSome connections.old.group (IsInHand order.old) }
+    requires blocks { length order.old.cache.states ≡ keeper.old.geometry.blocks }
     ensures group { IfSome connections.new.group (IsInHand order.new) }
+    ensures blocks { length order.new.cache.states ≡ length order.old.cache.states }
+    ensures geometry { keeper.new.geometry ≡ keeper.old.geometry }
     ensures extent { D.extent keeper.new.disk ≡ D.extent keeper.old.disk }
     ensures honest { D.honest keeper.new.disk ↔ D.honest keeper.old.disk }
 
@@ -65,7 +69,10 @@ fn perform<D: Disk>(
     connections: &mut Connections,
 ) -> Event
     requires group { IfSome connections.old.group (IsInHand order.old) }
+    requires blocks { length order.old.cache.states ≡ keeper.old.geometry.blocks }
     ensures group { IfSome connections.new.group (IsInHand order.new) }
+    ensures blocks { length order.new.cache.states ≡ length order.old.cache.states }
+    ensures geometry { keeper.new.geometry ≡ keeper.old.geometry }
     ensures connections { (connections.new.flags ≡ connections.old.flags) × (connections.new.mode ≡ connections.old.mode) }
     ensures extent { D.extent keeper.new.disk ≡ D.extent keeper.old.disk }
     ensures honest { D.honest keeper.new.disk ↔ D.honest keeper.old.disk }

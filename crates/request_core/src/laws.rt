@@ -1,4 +1,6 @@
-ghost use Rattle.std.specs.Prelude.{◌≡◌, ◌<◌, ℕ, Bool, false, List};
+ghost use Rattle.std.specs.Prelude.{◌≡◌, ◌<◌, ℕ, Bool, List, length};
+ghost use Rattle.checkpoint.specs.Recovery.{IsRecovered};
+ghost use Rattle.image_model.specs.declared.command.Kind.{Kind};
 ghost use Rattle.device_image.specs.Keeper.{KeeperState};
 ghost use Rattle.device_image.specs.Keeps.{Keeps};
 ghost use Rattle.device_image.specs.Stands.{StandsFor};
@@ -16,12 +18,12 @@ use device_image::{keeper_laws, stands_laws};
 use disk_model::Disk;
 use world_law::schedule_law;
 
-/// A life begins with a world: the parts that are fresh from `Keeper::open`, `Order::new` and `Connections::new` are of
-/// one, whose opening image is the one that the keeper keeps.
+/// A life begins with a world: the parts that are fresh from `Keeper::open`, `Order::new` over its map and
+/// `Connections::new` are of one, whose opening image is the one that the keeper keeps.
 pub fn fresh_parts_law<D: Disk>()
-    ensures { (trusted : Bool) (keeper : KeeperState D) (found : Image) (frames connections : ℕ) (flags : SessionFlags) (mode : Mode) → keeper.failed ≡ false → keeper.count < 18446744073709551616
-        → (Trusts trusted (D.honest keeper.disk) → Keeps keeper (D.state keeper.disk) found keeper.count)
-        → IsExportOf (first_world keeper found (D.faults keeper.disk) frames connections flags mode) (new_order keeper.count frames keeper.geometry.area)
+    ensures { (trusted : Bool) (keeper : KeeperState D) (found : Image) (states : List Kind) (frames connections : ℕ) (flags : SessionFlags) (mode : Mode) → IsRecovered keeper → length states ≡ keeper.geometry.blocks
+        → keeper.count < 18446744073709551616 → (Trusts trusted (D.honest keeper.disk) → Keeps keeper (D.state keeper.disk) found keeper.count)
+        → IsExportOf (first_world keeper found (D.faults keeper.disk) frames connections flags mode) (new_order states keeper.count frames keeper.geometry.area)
         keeper (D.faults keeper.disk) (new_connections connections flags mode) (Trusts trusted (D.honest keeper.disk)) (D.state keeper.disk) }
 {
     keeper_laws::<D>();

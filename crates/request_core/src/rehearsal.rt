@@ -20,7 +20,7 @@ use world_law::schedule_law;
 ///
 /// A step whose condition doesn't hold changes nothing, but an `Append` of a group that doesn't fit the area puts it
 /// back. The one refusal is 0, where the log can't grow: the steps before it are done and stand in the log, and the
-/// others changed nothing.
+/// others changed nothing. The order and the keeper have to be of images with as many blocks.
 pub fn rehearse<D: Disk>(
     steps: &[Step],
     order: &mut Order,
@@ -28,7 +28,10 @@ pub fn rehearse<D: Disk>(
     bench: &mut Bench,
 ) -> Result<(), AllocError>
     requires group { IfSome bench.old.connections.group (IsInHand order.old) }
+    requires blocks { length order.old.cache.states ≡ keeper.old.geometry.blocks }
     ensures group { IfSome bench.new.connections.group (IsInHand order.new) }
+    ensures blocks { length order.new.cache.states ≡ length order.old.cache.states }
+    ensures geometry { keeper.new.geometry ≡ keeper.old.geometry }
     ensures extent { D.extent keeper.new.disk ≡ D.extent keeper.old.disk }
     ensures honest { D.honest keeper.new.disk ↔ D.honest keeper.old.disk }
 
@@ -55,7 +58,10 @@ fn carry_out<D: Disk>(
     bench: &mut Bench,
 ) -> Result<(), AllocError>
     requires group { IfSome bench.old.connections.group (IsInHand order.old) }
+    requires blocks { length order.old.cache.states ≡ keeper.old.geometry.blocks }
     ensures group { IfSome bench.new.connections.group (IsInHand order.new) }
+    ensures blocks { length order.new.cache.states ≡ length order.old.cache.states }
+    ensures geometry { keeper.new.geometry ≡ keeper.old.geometry }
     ensures err { OnErr result ((order.new ≡ order.old) × (keeper.new ≡ keeper.old) × (bench.new ≡ bench.old)) }
     ensures extent { D.extent keeper.new.disk ≡ D.extent keeper.old.disk }
     ensures honest { D.honest keeper.new.disk ↔ D.honest keeper.old.disk }

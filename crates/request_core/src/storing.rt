@@ -1,4 +1,4 @@
-ghost use Rattle.std.specs.Prelude.{◌≡◌, ◌↔◌, None, Some, IfSome};
+ghost use Rattle.std.specs.Prelude.{◌≡◌, ◌↔◌, None, Some, IfSome, length};
 ghost use Rattle.request_core.specs.Steps.{IsAppended};
 ghost use Rattle.request_core.specs.Parts.{IsKeeperOf, IsOrderOf};
 ghost use Rattle.request_core.specs.Storing.{PublishesBy, SealsBy, event_of, hand_after, order_after};
@@ -30,6 +30,7 @@ fn hold(hand: &mut Option<Group>, group: Group)
 pub(crate) fn seal(hand: &mut Option<Group>, order: &mut Order) -> Event
     requires { IfSome hand.old (IsInHand order.old) }
     ensures hand { IfSome hand.new (IsInHand order.new) }
+    ensures blocks { length order.new.cache.states ≡ length order.old.cache.states }
     ensures seals { SealsBy hand.old order.old order.new hand.new result }
 {
     if hand.is_some() {
@@ -54,6 +55,8 @@ pub(crate) fn append<D: Disk>(
 ) -> Event
     requires { IfSome hand.old (IsInHand order.old) }
     ensures hand { IfSome hand.new (IsInHand order.new) }
+    ensures blocks { length order.new.cache.states ≡ length order.old.cache.states }
+    ensures geometry { keeper.new.geometry ≡ keeper.old.geometry }
     ensures extent { D.extent keeper.new.disk ≡ D.extent keeper.old.disk }
     ensures honest { D.honest keeper.new.disk ↔ D.honest keeper.old.disk }
     ensures world { (world : World) → IsWithin world → IsOrderOf world.stage order.old hand.old
@@ -111,6 +114,7 @@ fn give_back(hand: &mut Option<Group>, order: &mut Order, fault: KeeperFault, gr
 // Makes durable what is stored.
 pub(crate) fn publish<D: Disk>(order: &mut Order, keeper: &Keeper<D>) -> Event
     ensures hand { IsSameHand order.old order.new }
+    ensures blocks { length order.new.cache.states ≡ length order.old.cache.states }
     ensures publishes { PublishesBy keeper.now.count order.old order.new result }
 {
     if order.durable() >= keeper.count() {

@@ -1,10 +1,10 @@
 //! The steps of a checkpoint, and of letting frames go.
-ghost use Rattle.std.specs.Prelude.{◌≡◌, ◌↔◌, IfSome};
+ghost use Rattle.std.specs.Prelude.{◌≡◌, ◌↔◌, IfSome, None, length};
 ghost use Rattle.order_book.specs.Order.{IsInHand};
 ghost use Rattle.request_core.specs.Parts.{IsKeeperOf, IsOrderOf};
+ghost use Rattle.request_core.specs.Serving.{IsSameHand};
 ghost use Rattle.request_core.specs.Steps.{IsAppended};
-ghost use Rattle.request_core.specs.Storing.{hand_refused, order_refused, step_event, stopped_with};
-ghost use Rattle.std.specs.Prelude.{None};
+ghost use Rattle.request_core.specs.Storing.{CleansBy, hand_refused, order_refused, step_event, stopped_with};
 ghost use Rattle.world.specs.Serve.{Failure};
 ghost use Rattle.world.specs.Step.{copy_block as copy_of, finish as finish_of, rotate as rotate_of, write_map as map_of};
 ghost use Rattle.world.specs.World.{World};
@@ -25,6 +25,8 @@ pub(crate) fn rotate<D: Disk>(
 ) -> Event
     requires { IfSome hand.old (IsInHand order.old) }
     ensures hand { IfSome hand.new (IsInHand order.new) }
+    ensures blocks { length order.new.cache.states ≡ length order.old.cache.states }
+    ensures geometry { keeper.new.geometry ≡ keeper.old.geometry }
     ensures extent { D.extent keeper.new.disk ≡ D.extent keeper.old.disk }
     ensures honest { D.honest keeper.new.disk ↔ D.honest keeper.old.disk }
     ensures world { (world : World) → IsWithin world → IsOrderOf world.stage order.old hand.old
@@ -47,6 +49,8 @@ pub(crate) fn copy<D: Disk>(
 ) -> Event
     requires { IfSome hand.old (IsInHand order.old) }
     ensures hand { IfSome hand.new (IsInHand order.new) }
+    ensures blocks { length order.new.cache.states ≡ length order.old.cache.states }
+    ensures geometry { keeper.new.geometry ≡ keeper.old.geometry }
     ensures extent { D.extent keeper.new.disk ≡ D.extent keeper.old.disk }
     ensures honest { D.honest keeper.new.disk ↔ D.honest keeper.old.disk }
     ensures world { (world : World) → IsWithin world → IsOrderOf world.stage order.old hand.old
@@ -69,6 +73,8 @@ pub(crate) fn write_map<D: Disk>(
 ) -> Event
     requires { IfSome hand.old (IsInHand order.old) }
     ensures hand { IfSome hand.new (IsInHand order.new) }
+    ensures blocks { length order.new.cache.states ≡ length order.old.cache.states }
+    ensures geometry { keeper.new.geometry ≡ keeper.old.geometry }
     ensures extent { D.extent keeper.new.disk ≡ D.extent keeper.old.disk }
     ensures honest { D.honest keeper.new.disk ↔ D.honest keeper.old.disk }
     ensures world { (world : World) → IsWithin world → IsOrderOf world.stage order.old hand.old
@@ -91,6 +97,8 @@ pub(crate) fn finish<D: Disk>(
 ) -> Event
     requires { IfSome hand.old (IsInHand order.old) }
     ensures hand { IfSome hand.new (IsInHand order.new) }
+    ensures blocks { length order.new.cache.states ≡ length order.old.cache.states }
+    ensures geometry { keeper.new.geometry ≡ keeper.old.geometry }
     ensures extent { D.extent keeper.new.disk ≡ D.extent keeper.old.disk }
     ensures honest { D.honest keeper.new.disk ↔ D.honest keeper.old.disk }
     ensures world { (world : World) → IsWithin world → IsOrderOf world.stage order.old hand.old
@@ -147,6 +155,9 @@ fn stop(hand: &mut Option<Group>, order: &mut Order)
 
 // Lets go of the frames of dirty blocks that map and data hold.
 pub(crate) fn clean<D: Disk>(order: &mut Order, keeper: &Keeper<D>) -> Event
+    ensures hand { IsSameHand order.old order.new }
+    ensures blocks { length order.new.cache.states ≡ length order.old.cache.states }
+    ensures cleans { CleansBy keeper.now.base order.old order.new result }
 {
     if order.clean(keeper) {
         Event::Took

@@ -4,10 +4,10 @@ use Rattle.request_core.specs.Bench.{ConnectionsState}
 use Rattle.request_core.specs.Parts.{AreConnectionsOf, IsOrderOf}
 use Rattle.request_core.specs.Serving.{AreTermsOf}
 use Rattle.request_core.proofs.Talks.{talked_answer, talked_send}
-use Rattle.request_core.proofs.Performed.{disk_publishes, disk_seals, of_step, performed_appended, performed_kept, performed_talked}
-use Rattle.request_core.proofs.Stored.{kept_publish_by, kept_seal_by}
+use Rattle.request_core.proofs.Performed.{disk_cleans, disk_publishes, disk_seals, of_step, performed_appended, performed_kept, performed_talked}
+use Rattle.request_core.proofs.Stored.{kept_clean_by, kept_publish_by, kept_seal_by}
 use Rattle.world.specs.Serve.{Nothing, answer, serve}
-use Rattle.world.specs.Step.{append, publish, seal, send}
+use Rattle.world.specs.Step.{append, clean, copy_block, finish, publish, rotate, seal, send, write_map}
 use Rattle.world.specs.declared.step.Step.TheVariants as steps
 use Rattle.request_core.proofs.engine.perform.Goals as goal
 
@@ -119,4 +119,90 @@ returns-in-Publish-clause-world g c = λ world within of kept are flags mode.
           (performed_kept (g.D.Disk.extent keeper.disk) (g.D.Disk.honest keeper.disk) (g.D.Disk.state keeper.disk) (g.met.D.Disk.sound keeper.disk) world keeper faults within
           (publish world) c.publish.result c.publish.new.order bench are
           (disk_publishes (g.D.Disk.extent keeper.disk) (g.D.Disk.honest keeper.disk) (g.D.Disk.state keeper.disk) (g.met.D.Disk.sound keeper.disk) world keeper faults within) published),
+    )
+
+pub returns-in-Rotate-clause-world : goal.returns-in-Rotate-clause-world
+returns-in-Rotate-clause-world g c = λ world within of kept are flags mode.
+    let inside = c.connections.inside in
+    let view = c.connections.view_is in
+    let order = c.args.order.now in
+    let keeper = c.args.keeper.now in
+    let faults = g.D.Disk.faults keeper.disk in
+    let items = inside.states.items in
+    let here = subst (AreConnectionsOf world) (sym (ap (λ (b : ConnectionsState). b.states) view)) are in
+    let hand = subst (λ (group : Option Numbered). IsOrderOf world.stage order group) (sym (ap (λ (b : ConnectionsState). b.group) view)) of in
+    let bench : ConnectionsState = record { flags = inside.flags; mode = inside.mode; states = c.connections.inside.states.items; group = c.rotate.new.hand } in
+    let stored = c.rotate.ensures.world world within hand kept in (
+      stored.0,
+      of_step stored.0 c.args.step.now steps.Rotate c.in-Rotate.is
+          (performed_appended (g.D.Disk.honest keeper.disk) (g.D.Disk.state keeper.disk) (g.D.Disk.state c.rotate.new.keeper.disk) world (rotate stored.0 world) c.rotate.result c.rotate.new.order bench
+          keeper c.rotate.new.keeper (g.D.Disk.faults c.rotate.new.keeper.disk) here stored.1),
+    )
+
+pub returns-in-Copy-clause-world : goal.returns-in-Copy-clause-world
+returns-in-Copy-clause-world g c = λ world within of kept are flags mode.
+    let inside = c.connections.inside in
+    let view = c.connections.view_is in
+    let order = c.args.order.now in
+    let keeper = c.args.keeper.now in
+    let faults = g.D.Disk.faults keeper.disk in
+    let items = inside.states.items in
+    let here = subst (AreConnectionsOf world) (sym (ap (λ (b : ConnectionsState). b.states) view)) are in
+    let hand = subst (λ (group : Option Numbered). IsOrderOf world.stage order group) (sym (ap (λ (b : ConnectionsState). b.group) view)) of in
+    let bench : ConnectionsState = record { flags = inside.flags; mode = inside.mode; states = c.connections.inside.states.items; group = c.copy.new.hand } in
+    let stored = c.copy.ensures.world world within hand kept in (
+      stored.0,
+      of_step stored.0 c.args.step.now steps.Copy c.in-Copy.is
+          (performed_appended (g.D.Disk.honest keeper.disk) (g.D.Disk.state keeper.disk) (g.D.Disk.state c.copy.new.keeper.disk) world (copy_block stored.0 world) c.copy.result c.copy.new.order bench
+          keeper c.copy.new.keeper (g.D.Disk.faults c.copy.new.keeper.disk) here stored.1),
+    )
+
+pub returns-in-Map-clause-world : goal.returns-in-Map-clause-world
+returns-in-Map-clause-world g c = λ world within of kept are flags mode.
+    let inside = c.connections.inside in
+    let view = c.connections.view_is in
+    let order = c.args.order.now in
+    let keeper = c.args.keeper.now in
+    let faults = g.D.Disk.faults keeper.disk in
+    let items = inside.states.items in
+    let here = subst (AreConnectionsOf world) (sym (ap (λ (b : ConnectionsState). b.states) view)) are in
+    let hand = subst (λ (group : Option Numbered). IsOrderOf world.stage order group) (sym (ap (λ (b : ConnectionsState). b.group) view)) of in
+    let bench : ConnectionsState = record { flags = inside.flags; mode = inside.mode; states = c.connections.inside.states.items; group = c.write_map.new.hand } in
+    let stored = c.write_map.ensures.world world within hand kept in (
+      stored.0,
+      of_step stored.0 c.args.step.now steps.Map c.in-Map.is
+          (performed_appended (g.D.Disk.honest keeper.disk) (g.D.Disk.state keeper.disk) (g.D.Disk.state c.write_map.new.keeper.disk) world (write_map stored.0 world) c.write_map.result c.write_map.new.order bench
+          keeper c.write_map.new.keeper (g.D.Disk.faults c.write_map.new.keeper.disk) here stored.1),
+    )
+
+pub returns-in-Finish-clause-world : goal.returns-in-Finish-clause-world
+returns-in-Finish-clause-world g c = λ world within of kept are flags mode.
+    let inside = c.connections.inside in
+    let view = c.connections.view_is in
+    let order = c.args.order.now in
+    let keeper = c.args.keeper.now in
+    let faults = g.D.Disk.faults keeper.disk in
+    let items = inside.states.items in
+    let here = subst (AreConnectionsOf world) (sym (ap (λ (b : ConnectionsState). b.states) view)) are in
+    let hand = subst (λ (group : Option Numbered). IsOrderOf world.stage order group) (sym (ap (λ (b : ConnectionsState). b.group) view)) of in
+    let bench : ConnectionsState = record { flags = inside.flags; mode = inside.mode; states = c.connections.inside.states.items; group = c.finish.new.hand } in
+    let stored = c.finish.ensures.world world within hand kept in (
+      stored.0,
+      of_step stored.0 c.args.step.now steps.Finish c.in-Finish.is
+          (performed_appended (g.D.Disk.honest keeper.disk) (g.D.Disk.state keeper.disk) (g.D.Disk.state c.finish.new.keeper.disk) world (finish stored.0 world) c.finish.result c.finish.new.order bench
+          keeper c.finish.new.keeper (g.D.Disk.faults c.finish.new.keeper.disk) here stored.1),
+    )
+
+pub returns-in-Clean-clause-world : goal.returns-in-Clean-clause-world
+returns-in-Clean-clause-world g c = λ world within of kept are flags mode.
+    let order = c.args.order.now in
+    let keeper = c.args.keeper.now in
+    let faults = g.D.Disk.faults keeper.disk in
+    let bench = c.args.connections.now in
+    let cleaned = kept_clean_by world keeper faults order c.clean.new.order bench.group c.clean.result kept within of c.clean.ensures.cleans in (
+      Nothing,
+      of_step Nothing c.args.step.now steps.Clean c.in-Clean.is
+          (performed_kept (g.D.Disk.extent keeper.disk) (g.D.Disk.honest keeper.disk) (g.D.Disk.state keeper.disk) (g.met.D.Disk.sound keeper.disk) world keeper faults within
+          (clean world) c.clean.result c.clean.new.order bench are
+          (disk_cleans (g.D.Disk.extent keeper.disk) (g.D.Disk.honest keeper.disk) (g.D.Disk.state keeper.disk) (g.met.D.Disk.sound keeper.disk) world keeper faults within) cleaned),
     )
