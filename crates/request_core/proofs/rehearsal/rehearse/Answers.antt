@@ -8,12 +8,15 @@ use Rattle.request_core.proofs.Runs.{leads_none, leads_on, leads_step, rehearsed
 use Rattle.world.specs.declared.step.Step.{Step}
 use Rattle.world.specs.Step.{after_step}
 use Rattle.request_core.proofs.rehearsal.rehearse.Goals as goal
+use Rattle.image_model.specs.declared.geometry.Geometry.{Geometry}
 
 pub loop-step-init : goal.loop-step-init
 loop-step-init g c =
     let keeper = c.args.keeper.now in
     record {
       group = c.requires.group;
+      blocks = refl;
+      geometry = refl;
       extent = refl;
       honest = (λ is. is, λ is. is);
       world = λ world trusted of. (
@@ -35,6 +38,8 @@ loop-step-preserved g c =
     let taken = take_more steps index step c.loop-step-test.true ∙ ap (λ (s : Step). take index steps ++ s ∷ []) (sym c.step-item.is) in
     record {
       group = c.in_ok-carry_out.ensures.group;
+      blocks = c.carry_out.ensures.blocks ∙ c.loop-step.invariant.blocks;
+      geometry = c.carry_out.ensures.geometry ∙ c.loop-step.invariant.geometry;
       extent = c.carry_out.ensures.extent ∙ c.loop-step.invariant.extent;
       honest = (λ is. c.loop-step.invariant.honest.0 (c.carry_out.ensures.honest.0 is), λ is. c.carry_out.ensures.honest.1 (c.loop-step.invariant.honest.1 is));
       world = λ world trusted of.
@@ -103,3 +108,20 @@ returns-in_err-carry_out-clause-world g c = λ world trusted of.
           so_far (ap (λ (b : BenchState). b.log) same.2 ∙ here.1) (λ trusts. g.met.D.Disk.sound new.disk (trusted_honest trusted (g.D.Disk.honest new.disk) trusts)) (law.grows world next (take index steps) so_far.run) (law.within next so_far.of_export.reached)
           (law.covered world of.of_export.reached) (law.covered next so_far.of_export.reached) (law.legal next so_far.of_export.reached),
     )
+
+pub carry_out-requires-clause-blocks : goal.carry_out-requires-clause-blocks
+carry_out-requires-clause-blocks g c =
+    let loop = c.loop-step.invariant in
+    loop.blocks ∙ c.requires.blocks ∙ ap (λ (size : Geometry). size.blocks) (sym loop.geometry)
+
+pub returns-in_err-carry_out-clause-blocks : goal.returns-in_err-carry_out-clause-blocks
+returns-in_err-carry_out-clause-blocks g c = c.carry_out.ensures.blocks ∙ c.loop-step.invariant.blocks
+
+pub returns-in_err-carry_out-clause-geometry : goal.returns-in_err-carry_out-clause-geometry
+returns-in_err-carry_out-clause-geometry g c = c.carry_out.ensures.geometry ∙ c.loop-step.invariant.geometry
+
+pub returns-clause-blocks : goal.returns-clause-blocks
+returns-clause-blocks g c = c.loop-step.invariant.blocks
+
+pub returns-clause-geometry : goal.returns-clause-geometry
+returns-clause-geometry g c = c.loop-step.invariant.geometry

@@ -1,4 +1,4 @@
-use Rattle.std.proofs.Common.{◌≡◌, Bool, IfSome, ◌↔◌, take}
+use Rattle.std.proofs.Common.{◌≡◌, Bool, IfSome, ◌↔◌, length, take}
 use Rattle.order_book.specs.Order.{IsInHand}
 use Rattle.request_core.specs.Life.{Leads, Trusts}
 use Rattle.request_core.specs.Parts.{IsWorldOf}
@@ -11,6 +11,8 @@ invariant-loop-step g l =
     let disk = g.D.Disk in
     record {
       group : IfSome l.bench.connections.group (IsInHand l.order);
+      blocks : length l.order.cache.states ≡ length l.fn.order.cache.states;
+      geometry : l.keeper.geometry ≡ l.fn.keeper.geometry;
       extent : disk.extent l.keeper.disk ≡ disk.extent l.fn.keeper.disk;
       honest : disk.honest l.keeper.disk ↔ disk.honest l.fn.keeper.disk;
       world : (world : World) (trusted : Bool) → IsWorldOf world l.fn.order l.fn.keeper (disk.faults l.fn.keeper.disk) l.fn.bench (Trusts trusted (disk.honest l.fn.keeper.disk)) (disk.state l.fn.keeper.disk)
