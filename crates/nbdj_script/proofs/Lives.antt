@@ -8,6 +8,8 @@ use Rattle.device_image.specs.Stands.{StandsFor}
 use Rattle.device_image.proofs.Sole.{one_image, one_number}
 use Rattle.disk_model.specs.Disk.{IsKept, IsSound, LeavesOnly, MayLeave, State}
 use Rattle.disk_model.proofs.Moments.{ends}
+use Rattle.device_image.specs.Holds.{Holds}
+use Rattle.image_model.specs.Change.{Change}
 use Rattle.image_model.specs.Image.{Image}
 use Rattle.nbdj_script.specs.Life.{FindsNoMore}
 use Rattle.order_book.specs.Order.{OrderState}
@@ -56,6 +58,15 @@ module _ {D : Type 0} (keeper : KeeperState D) (disk : D) (state : State) where
     unsynced = keeps.unsynced;
   }
 
+  holds_with : (base : Image) (first last : List Change) → Holds keeper state base first last → Holds (record keeper { disk = disk }) state base first last
+  unfolding keeps_with
+  holds_with base first last holds = record {
+    keeps = keeps_with _ _ holds.keeps;
+    in_front = holds.in_front;
+    in_last = holds.in_last;
+    is_base = holds.is_base;
+  }
+
   -- a device in the same state takes the place of the one that there was
   pub life_with : (world : World) (order : OrderState) (failures : ℕ) (bench : BenchState) (honest : Type 0) → IsWorldOf world order keeper failures bench honest state
       → IsWorldOf world order (record keeper { disk = disk }) failures bench honest state
@@ -69,16 +80,20 @@ module _ {D : Type 0} (keeper : KeeperState D) (disk : D) (state : State) where
             geometry = kept.geometry;
             count = kept.count;
             base = kept.base;
+            turned = kept.turned;
+            generation = kept.generation;
+            phase = kept.phase;
             used = kept.used;
             failed = kept.failed;
             faults = kept.faults;
             takes = kept.takes;
+            remembers = record { takes = kept.remembers.takes; noted = kept.remembers.noted };
           };
           of_states = parts.of_states;
           flags = parts.flags;
           mode = parts.mode;
           reached = parts.reached;
-          disk = λ is. record { keeps = λ works. keeps_with _ _ ((parts.disk is).keeps works); leaves = (parts.disk is).leaves };
+          disk = λ is. record { holds = λ works. holds_with _ _ _ ((parts.disk is).holds works); leaves = (parts.disk is).leaves };
         };
         log = of.log;
       }

@@ -1,15 +1,20 @@
-ghost use Rattle.std.specs.Prelude.{◌≡◌, ◌↔◌, ◌<◌, ◌≤◌, ◌*◌, ℕ, [], ◌∷◌, false, length, take, vec_len, IfErr, IfOk, OnOk};
+ghost use Rattle.std.specs.Prelude.{◌≡◌, ◌↔◌, ◌<◌, ◌≤◌, ◌*◌, ◌^◌, ℕ, true, List, [], ◌∷◌, length, take, vec_len, IfErr, IfOk, OnOk};
 ghost use Rattle.std.specs.Option.{ForSome};
+ghost use Rattle.checkpoint.specs.Recovery.{IsRecovered};
+ghost use Rattle.device_image.specs.Holds.{Holds};
 ghost use Rattle.device_image.specs.Keeps.{Keeps};
 ghost use Rattle.image_model.specs.Image.{Image};
+ghost use Rattle.image_model.specs.declared.command.Kind.{Kind};
 ghost use Rattle.nbdj_script.specs.Life.{FindsNoMore, IsLifeOf, IsOpened, LeavesNoMore};
-ghost use Rattle.order_book.specs.Order.{IsInHand};
+ghost use Rattle.order_book.specs.Order.{IsInHand, new_order};
+ghost use Rattle.request_core.specs.Bench.{new_bench};
 ghost use Rattle.request_core.specs.Life.{IsRehearsed};
 ghost use Rattle.world.specs.World.{World};
 
 use crate::script_line::{BlockWrite, CONNECTIONS, Setup};
 use bitflags::Flags;
 use checkpoint::{Keeper, KeeperFault};
+use device_image::keeper_laws;
 use disk_model::{CallKind, Disk, SimDisk};
 use image_model::{BLOCK_BYTES, Kind};
 use nbd_wire::{
@@ -44,13 +49,14 @@ pub struct BlockRun {
     pub byte: u8,
 }
 
-/// Opens the device, and reads what its blocks hold.
+/// Opens the device, which recovers it, and reads what its blocks hold.
 pub fn open<D: Disk>(alloc: Global, disk: D) -> Result<(Keeper<D>, Vec<BlockRun>), (KeeperFault, D)>
-    ensures works { IfOk result (λ opened. opened.0.failed ≡ false) }
+    ensures recovered { IfOk result (λ opened. IsRecovered opened.0) }
     ensures honest { D.honest disk → IfOk result (λ opened. D.honest opened.0.disk) }
     ensures opened { D.honest disk → IfOk result (λ opened. IsOpened (D.state disk) opened.0 (D.state opened.0.disk)) }
     ensures refused { D.honest disk → IfErr result (λ refused. FindsNoMore (D.state disk) (D.state refused.1)) }
 {
+    keeper_laws::<D>();
     match Keeper::open(alloc, disk) {
         Ok(mut keeper) => match runs(alloc, &mut keeper) {
             Ok(runs) => Ok((keeper, runs)),
@@ -60,22 +66,40 @@ pub fn open<D: Disk>(alloc: Global, disk: D) -> Result<(Keeper<D>, Vec<BlockRun>
     }
 }
 
-// The longest runs of blocks with equal state and equal first byte.
+// The longest runs of blocks with equal state and equal first byte, of a keeper whose journal is empty: map and data are
+// then all that there is.
 fn runs<D: Disk>(alloc: Global, keeper: &mut Keeper<D>) -> Result<Vec<BlockRun>, KeeperFault>
     ensures ok { OnOk result (keeper.new ≡ record keeper.old { disk = keeper.new.disk }) }
     ensures honest { D.honest keeper.new.disk ↔ D.honest keeper.old.disk }
-    ensures kept { D.honest keeper.old.disk → (image : Image) (number : ℕ) → Keeps keeper.old (D.state keeper.old.disk) image number
-        → OnOk result (Keeps keeper.new (D.state keeper.new.disk) image number) }
+    ensures held { D.honest keeper.old.disk → (image : Image) → Holds keeper.old (D.state keeper.old.disk) image [] []
+        → OnOk result (Holds keeper.new (D.state keeper.new.disk) image [] []) }
     ensures left { D.honest keeper.old.disk → LeavesNoMore (D.state keeper.old.disk) (D.state keeper.new.disk) }
 {
-    let mut block = [0u8; BLOCK_BYTES as usize];
+    let map = keeper.map(alloc)?;
     let mut runs: Vec<BlockRun> = Vec::new(alloc);
-    let geometry = keeper.geometry();
-    for first in 0..geometry.blocks {
-        let kind = keeper.read_stored(first, &mut block)?;
-        add_block(&mut runs, first, kind, block[0])?;
+    for block in 0..keeper.geometry().blocks {
+        let kind = map.state(block);
+        let byte = first_byte(keeper, block, kind)?;
+        add_block(&mut runs, block, kind, byte)?;
     }
     Ok(runs)
+}
+
+// The first byte of a block of this state; only data are read.
+fn first_byte<D: Disk>(keeper: &mut Keeper<D>, block: u64, kind: Kind) -> Result<u8, KeeperFault>
+    requires inside { block < keeper.old.geometry.blocks }
+    ensures ok { OnOk result (keeper.new ≡ record keeper.old { disk = keeper.new.disk }) }
+    ensures honest { D.honest keeper.new.disk ↔ D.honest keeper.old.disk }
+    ensures held { D.honest keeper.old.disk → (image : Image) → Holds keeper.old (D.state keeper.old.disk) image [] []
+        → OnOk result (Holds keeper.new (D.state keeper.new.disk) image [] []) }
+    ensures left { D.honest keeper.old.disk → LeavesNoMore (D.state keeper.old.disk) (D.state keeper.new.disk) }
+{
+    if kind != Kind::Data {
+        return Ok(0);
+    }
+    let mut bytes = [0u8; BLOCK_BYTES as usize];
+    keeper.read_base(block, &mut bytes)?;
+    Ok(bytes[0])
 }
 
 /// A device from one opening to the next crash. It can't be let go, since a group may be in hand: it is spent by `end`.
@@ -86,20 +110,38 @@ pub struct Life<D: Disk> {
     pub(crate) order: Order,
     pub(crate) bench: Bench,
     ghost in_hand: { ForSome bench.connections.group (IsInHand order) },
+    ghost blocks: { length order.cache.states ≡ keeper.geometry.blocks },
     ghost of_world: { ∥ (D.honest keeper.disk → (world : World) × IsLifeOf D.state D.faults D.honest world order keeper bench) ∥₁ },
+}
+
+// The order and the bench with which the life of an opened device begins.
+fn first_parts<D: Disk>(
+    alloc: Global,
+    keeper: &Keeper<D>,
+    setup: Setup,
+) -> Result<(Order, Bench), AllocError>
+    ensures order { IfOk result (λ parts. (states : List Kind) × (length states ≡ keeper.now.geometry.blocks)
+        × (parts.0 ≡ new_order states keeper.now.count setup.frames keeper.now.geometry.area)) }
+    ensures bench { IfOk result (λ parts. parts.1 ≡ new_bench 16 (record { structured = true; context = true }) setup.mode) }
+    ensures count { IfOk result (λ parts. keeper.now.count < 2 ^ 64) }
+{
+    let geometry = keeper.geometry();
+    let map = keeper.map(alloc)?;
+    let order = Order::new(alloc, map, keeper.count(), setup.frames, geometry.area)?;
+    let bench = Bench::new(alloc, CONNECTIONS, FLAGS, setup.mode)?;
+    Ok((order, bench))
 }
 
 impl<D: Disk> Life<D> {
     /// A life of the device of a keeper that was opened. Where memory is refused the device is handed back.
     pub fn begin(alloc: Global, keeper: Keeper<D>, setup: Setup) -> Result<Life<D>, D>
-        requires works { keeper.failed ≡ false }
+        requires recovered { IsRecovered keeper }
         requires keeps { D.honest keeper.disk → (image : Image) × Keeps keeper (D.state keeper.disk) image keeper.count }
         ensures { IfOk result (λ life. life.keeper ≡ keeper) }
     {
         fresh_parts_law::<D>();
-        let order = Order::new(alloc, keeper.count(), setup.frames, keeper.geometry().area);
-        match Bench::new(alloc, CONNECTIONS, FLAGS, setup.mode) {
-            Ok(bench) => Ok(Life {
+        match first_parts(alloc, &keeper, setup) {
+            Ok((order, bench)) => Ok(Life {
                 keeper,
                 order,
                 bench,

@@ -1,4 +1,5 @@
-ghost use Rattle.std.specs.Prelude.{◌≡◌, false, IfOk};
+ghost use Rattle.std.specs.Prelude.{◌≡◌, IfOk};
+ghost use Rattle.checkpoint.specs.Recovery.{IsRecovered};
 ghost use Rattle.device_image.specs.Keeps.{Keeps};
 ghost use Rattle.image_model.specs.Image.{Image};
 ghost use Rattle.nbdj_script.specs.Life.{IsFoundFrom, IsLifeOf};
@@ -183,9 +184,12 @@ impl Rehearsal {
         output: &mut W,
     ) -> Result<Rehearsal, End> {
         self.cookie = self.cookie.wrapping_add(1);
-        let told = match step_of(alloc, line, self.cookie) {
-            Ok(step) => self.life.step(step),
-            Err(_) => Told::Failed(StepFault::NoMemory),
+        let told = match line {
+            StepLine::Copy(most) => copy(&mut self.life, most),
+            _ => match step_of(alloc, line, self.cookie) {
+                Ok(step) => self.life.step(step),
+                Err(_) => Told::Failed(StepFault::NoMemory),
+            },
         };
         if self.life.stopped() {
             let armed = self.armed;
@@ -313,7 +317,7 @@ fn tell<W: Write>(
     setup: Setup,
     output: &mut W,
 ) -> Result<Life<SimDisk>, End>
-    requires works { keeper.failed ≡ false }
+    requires recovered { IsRecovered keeper }
     requires keeps { (image : Image) × Keeps keeper (⟦<SimDisk as Disk>⟧.state keeper.disk) image keeper.count }
     ensures { IfOk result (λ life. life.keeper ≡ keeper) }
 {
@@ -357,7 +361,25 @@ fn step_of(alloc: Global, line: StepLine, cookie: u64) -> Result<Step, AllocErro
         StepLine::Seal => Step::Seal,
         StepLine::Append => Step::Append,
         StepLine::Publish => Step::Publish,
+        StepLine::Rotate => Step::Rotate,
+        StepLine::Copy(_) => Step::Copy,
+        StepLine::Map => Step::Map,
+        StepLine::Finish => Step::Finish,
+        StepLine::Clean => Step::Clean,
     })
+}
+
+// Copies up to so many blocks. It is held where there is none to copy.
+fn copy(life: &mut Life<SimDisk>, most: u64) -> Told {
+    let mut told = Told::Held;
+    for _ in 0..most {
+        match life.step(Step::Copy) {
+            Told::Done => told = Told::Done,
+            Told::Held => return told,
+            failed => return failed,
+        }
+    }
+    told
 }
 
 // How a script names a connection: from 1 on.
@@ -370,6 +392,7 @@ fn number_of(fault: StepFault) -> u8 {
     match fault {
         StepFault::NoMemory => 0,
         StepFault::DeviceFault => 1,
+        StepFault::NumbersFull => 9,
         StepFault::FailedBefore => 16,
     }
 }

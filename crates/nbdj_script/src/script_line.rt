@@ -39,6 +39,12 @@ pub enum StepLine {
     Seal,
     Append,
     Publish,
+    Rotate,
+    /// So many steps of copying, or as many as there are.
+    Copy(u64),
+    Map,
+    Finish,
+    Clean,
 }
 
 /// What a device is made with.
@@ -48,6 +54,7 @@ pub struct Setup {
     /// The most blocks that may wait for the checkpoint: 512 to 65,536.
     pub frames: u32,
     pub mode: Mode,
+    ghost frames_few: { frames ≤ 65536 },
 }
 
 /// A WRITE of blocks that all have the same bytes.
@@ -99,6 +106,12 @@ fn step_of(words: &[&str]) -> Option<StepLine> {
         ["seal"] => Some(StepLine::Seal),
         ["append"] => Some(StepLine::Append),
         ["publish"] => Some(StepLine::Publish),
+        ["rotate"] => Some(StepLine::Rotate),
+        ["copy"] => Some(StepLine::Copy(1)),
+        ["copy", count] => Some(StepLine::Copy(count_of(count)?)),
+        ["map"] => Some(StepLine::Map),
+        ["finish"] => Some(StepLine::Finish),
+        ["clean"] => Some(StepLine::Clean),
         _ => None,
     }
 }

@@ -12,13 +12,15 @@ returns-in-Ok-runs-clause-opened g c = λ honest.
     let new = c.runs.new.keeper in
     let (content, opening) = c.in-Ok.ensures.found honest in
     let (image, stands, keeps, base) = opening.outcome in
+    let rest = c.in-Ok.ensures.recovered in
     let count : old.count ≡ new.count = sym (ap (λ keeper. keeper.count) c.in-Ok-runs.ensures.ok) in
+    let held = c.in-Ok-runs.ensures.held (c.in-Ok.ensures.honest.1 honest) image (c.keeper_laws.ensures.empty old image old.count keeps rest.phase rest.used) in
     record {
       image = image;
       content = content;
       fixed = opening.fixed;
       stands = subst (λ (n : ℕ). StandsFor content image n) count stands;
-      keeps = subst (λ (n : ℕ). Keeps new (disk.state new.disk) image n) count (c.in-Ok-runs.ensures.kept (c.in-Ok.ensures.honest.1 honest) image old.count keeps);
+      keeps = subst (λ (n : ℕ). Keeps new (disk.state new.disk) image n) (sym held.keeps.counted) held.keeps;
     }
 
 pub returns-in-Err-runs-clause-refused : goal.returns-in-Err-runs-clause-refused

@@ -1,4 +1,4 @@
-use Rattle.std.proofs.Common.{sym, subst}
+use Rattle.std.proofs.Common.{◌≡◌, sym, subst, length}
 use Rattle.std.proofs.Math.Logic.{∥∥₁_map}
 use Rattle.device_image.specs.Keeper.{KeeperState}
 use Rattle.disk_model.specs.FaultPlan.{armed}
@@ -15,6 +15,7 @@ invariant_of-self c =
     let disk = with_plan life.keeper.disk (armed c.args.kind c.args.k (plan_of c.args.self.now.keeper.disk)) in
     record {
       in_hand = life.in_hand;
+      blocks = subst (λ (keeper : KeeperState SimDisk). length life.order.cache.states ≡ keeper.geometry.blocks) (sym c.fail.ensures) life.blocks;
       of_world = ∥∥₁_map life.of_world (λ is honest.
           let (world, of) = is honest in (
             world,

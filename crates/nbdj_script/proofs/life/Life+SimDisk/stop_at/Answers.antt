@@ -1,4 +1,4 @@
-use Rattle.std.proofs.Common.{sym, subst}
+use Rattle.std.proofs.Common.{◌≡◌, sym, subst, length}
 use Rattle.std.proofs.Math.Logic.{∥∥₁_map}
 use Rattle.device_image.specs.Keeper.{KeeperState}
 use Rattle.disk_model.specs.SimDisk.{plan_of, state_now, with_plan}
@@ -14,6 +14,7 @@ invariant_of-self c =
     let disk = with_plan life.keeper.disk (record (plan_of c.args.self.now.keeper.disk) { stop = c.args.k }) in
     record {
       in_hand = life.in_hand;
+      blocks = subst (λ (keeper : KeeperState SimDisk). length life.order.cache.states ≡ keeper.geometry.blocks) (sym c.stop_at.ensures) life.blocks;
       of_world = ∥∥₁_map life.of_world (λ is honest.
           let (world, of) = is honest in (
             world,

@@ -1,7 +1,6 @@
-use Rattle.std.proofs.Common.{◌≡◌, ◌∙◌, ◌<◌, ℕ, true, arith, ap, sym, subst, refl, Option, None, Some}
-use Rattle.image_model.specs.declared.geometry.Geometry.{Geometry}
+use Rattle.std.proofs.Common.{◌≡◌, ◌∙◌, true, ap, sym, subst, refl, length, Option, None, Some}
 use Rattle.nbd_wire.specs.declared.message.SessionFlags.{SessionFlags}
-use Rattle.order_book.specs.Order.{OrderState, new_order}
+use Rattle.order_book.specs.Order.{OrderState}
 use Rattle.request_core.specs.Bench.{BenchState, new_bench}
 use Rattle.request_core.specs.Life.{first_world}
 use Rattle.request_core.specs.Parts.{IsWorldOf}
@@ -13,18 +12,18 @@ invariant_of-result g c =
     let keeper = c.args.keeper in
     let setup = c.args.setup in
     let flags : SessionFlags = record { structured = true; context = true } in
-    let few : keeper.count < 18446744073709551616 = omega (arith, c.count.ensures, c.count.type_inv) in
-    let order_is : c.new-order.result ≡ new_order keeper.count setup.frames keeper.geometry.area =
-    c.new-order.ensures ∙ ap (λ (n : ℕ). new_order n setup.frames c.geometry.result.area) c.count.ensures ∙ ap (λ (geometry : Geometry). new_order keeper.count setup.frames geometry.area) c.geometry.ensures in
+    let (states, size, order_is) = c.in-Ok.ensures.order in
+    let bench_is = c.in-Ok.ensures.bench in
     record {
-      in_hand = λ x is. absurd (none (sym (ap (λ (b : BenchState). b.connections.group) c.in-Ok.ensures) ∙ is));
+      in_hand = λ x is. absurd (none (sym (ap (λ (b : BenchState). b.connections.group) bench_is) ∙ is));
+      blocks = ap (λ (o : OrderState). length o.cache.states) order_is ∙ size;
       of_world = ∣ (λ honest.
           let (found, keeps) = c.requires.keeps honest in
           let world = first_world keeper found (disk.faults keeper.disk) setup.frames 16 flags setup.mode in (
             world,
-            subst (λ (bench : BenchState). IsWorldOf world c.new-order.result keeper (disk.faults keeper.disk) bench (disk.honest keeper.disk) (disk.state keeper.disk)) (sym c.in-Ok.ensures)
+            subst (λ (bench : BenchState). IsWorldOf world c.in-Ok.order keeper (disk.faults keeper.disk) bench (disk.honest keeper.disk) (disk.state keeper.disk)) (sym bench_is)
                 (subst (λ (order : OrderState). IsWorldOf world order keeper (disk.faults keeper.disk) (new_bench 16 flags setup.mode) (disk.honest keeper.disk) (disk.state keeper.disk)) (sym order_is)
-                (record { of_export = c.fresh_parts_law.ensures true keeper found setup.frames 16 flags setup.mode c.requires.works few (λ trusts. keeps); log = refl })),
+                (record { of_export = c.fresh_parts_law.ensures true keeper found states setup.frames 16 flags setup.mode c.requires.recovered size c.in-Ok.ensures.count (λ trusts. keeps); log = refl })),
           )) ∣₁;
     }
   where

@@ -1,4 +1,5 @@
-use Rattle.std.proofs.Common.{true}
+use Rattle.std.proofs.Common.{◌∙◌, true, ap, sym}
+use Rattle.image_model.specs.declared.geometry.Geometry.{Geometry}
 use Rattle.std.proofs.Math.Logic.{∥∥₁_map}
 use Rattle.order_book.specs.Order.{IsInHand}
 use Rattle.nbdj_script.proofs.Lives.{some_has}
@@ -7,6 +8,7 @@ use Rattle.nbdj_script.proofs.life.Life.step.Goals as goal
 pub invariant_of-self : goal.invariant_of-self
 invariant_of-self g c = record {
   in_hand = some_has (IsInHand c.rehearse.new.order) c.rehearse.new.bench.connections.group c.rehearse.ensures.group;
+  blocks = c.rehearse.ensures.blocks ∙ c.args.self.now.blocks ∙ sym (ap (λ (geometry : Geometry). geometry.blocks) c.rehearse.ensures.geometry);
   of_world = ∥∥₁_map c.args.self.now.of_world (λ is honest.
       let (world, of) = is (c.rehearse.ensures.honest.0 honest) in
       let ran = c.rehearse.ensures.world world true of in
