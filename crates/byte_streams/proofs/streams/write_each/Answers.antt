@@ -1,7 +1,7 @@
 use Rattle.std.proofs.Common.{◌≡◌, ◌++◌, ◌∙◌, sym, ap, take, drop, List, ℕ, append_assoc}
 use Rattle.std.proofs.lemmas.List.{take-append-drop}
-use Rattle.nbdj_pipe.proofs.Bytes.{appends_on}
-use Rattle.nbdj_pipe.proofs.streams.write_each.Goals as goal
+use Rattle.byte_streams.proofs.Bytes.{appends_on}
+use Rattle.byte_streams.proofs.streams.write_each.Goals as goal
 
 pub loop-rest-preserved : goal.loop-rest-preserved
 loop-rest-preserved g c =

@@ -1,6 +1,6 @@
 use Rattle.std.proofs.Common.{◌≡◌, vec_len}
 use Rattle.std.specs.Io.KnownBytes.{Keeps}
-use Rattle.nbdj_pipe.proofs.streams.read_some.Given as goal
+use Rattle.byte_streams.proofs.streams.read_some.Given as goal
 
 abbrev pub invariant-loop : goal.invariant-loop
 invariant-loop g l = record {
