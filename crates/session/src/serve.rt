@@ -1,4 +1,4 @@
-ghost use Rattle.std.specs.Prelude.{◌≡◌, [], false, is_ok, IfErr, OnOk};
+ghost use Rattle.std.specs.Prelude.{◌≡◌, ◌≤◌, [], false, is_ok, vec_len, IfErr, IsTrue, OnOk};
 ghost use Rattle.nbd_reply.specs.Reply.{IsAnswerTo};
 ghost use Rattle.nbd_wire.specs.Request.{Message};
 ghost use Rattle.nbd_wire.specs.declared.message.Reply.{Reply};
@@ -72,6 +72,8 @@ pub fn answer_all<P, S: Serve<P>, W: Write>(
 
 // Writes what is due before an answer that may take its time, and where it is much.
 fn write_before<W: Write>(waits: bool, output: &mut W, due: &mut Vec<u8>) -> Result<(), StreamFault>
+    ensures waits { IsTrue waits → OnOk result (due.new.items ≡ []) }
+    ensures much { OnOk result (vec_len due.new ≤ 1048576) }
     ensures writes { Writes (W.contents output.old) (W.contents output.new) due.old.items due.new.items (is_ok result) }
 {
     if waits {

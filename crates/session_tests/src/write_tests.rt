@@ -76,25 +76,44 @@ fn replies_of_more_than_1_mib_are_written(rt: HostRuntime) -> Result<(), Fail> {
     )
 }
 
-#[test]
-fn a_write_that_is_thrown_away_is_not_handed_over(rt: HostRuntime) -> Result<(), Fail> {
-    let alloc = rt.alloc();
+// A client that sends a WRITE of 1,052,672 bytes, and then this.
+fn writes_too_much(alloc: Global, then: &str) -> Result<Vec<u8>, AllocError> {
     let mut input = begins(
         alloc,
-        "25609513 0000 0001 0000000000000003 0000000000000000 00100001",
+        "25609513 0000 0001 0000000000000008 0000000000000000 00101000",
     )?;
-    input.extend_from_slice(&vec![in alloc; 0x25; 1_048_577]?)?;
-    input.extend_from_slice(&bytes_of(alloc, DISC)?)?;
-    let served = serve(
-        alloc,
-        FakeReader::new(&input, MANY, true),
-        FakeWriter::new(alloc, MANY, MANY),
-    )?;
+    input.extend_from_slice(&vec![in alloc; 0x25; 1_052_672]?)?;
+    input.extend_from_slice(&bytes_of(alloc, then)?)?;
+    Ok(input)
+}
+
+// It is answered EINVAL, and what comes behind it ends the session so.
+fn is_thrown_away(
+    rt: &impl Abort,
+    alloc: Global,
+    then: &str,
+    end: Result<(), End>,
+) -> Result<(), Fail> {
+    let input = writes_too_much(alloc, then)?;
+    let reader = FakeReader::new(&input, MANY, true);
+    let served = serve(alloc, reader, FakeWriter::new(alloc, MANY, MANY))?;
     let mut wanted = bytes_of(alloc, HANDSHAKE)?;
-    wanted.extend_from_slice(&bytes_of(alloc, "67446698 00000016 0000000000000003")?)?;
-    assert!(rt; served.end == Ok(()) && served.answered == 0);
+    wanted.extend_from_slice(&bytes_of(alloc, "67446698 00000016 0000000000000008")?)?;
+    assert!(rt; served.end == end && served.answered == 0);
     assert!(rt; served.output.taken() == wanted.as_slice());
     Ok(())
+}
+
+#[test]
+fn a_write_that_is_thrown_away_is_not_handed_over(rt: HostRuntime) -> Result<(), Fail> {
+    is_thrown_away(&rt, rt.alloc(), DISC, Ok(()))?;
+    // A WRITE that is too long to be read, of 33,554,433 bytes.
+    is_thrown_away(
+        &rt,
+        rt.alloc(),
+        "25609513 0000 0001 0000000000000009 0000000000000000 02000001",
+        Err(End::ProtocolEnd),
+    )
 }
 
 // Where memory is refused in the session, it ends so, and what is written begins the dialog.
