@@ -1,10 +1,11 @@
 ghost use Rattle.std.specs.Prelude.{◌≡◌, ◌↔◌, ◌⊎◌, ◌<◌, [], Bool, List, false, length, vec_len, IfErr, IfOk, IfSome, IsErrOf, Ok, Err, OnErr, OnOk};
+ghost use Rattle.byte_streams.specs.Streams.{WritesPart};
 ghost use Rattle.disk_model.specs.Faults.{HasRisen};
 ghost use Rattle.nbdj_pipe.specs.Export.{Settles};
 ghost use Rattle.nbdj_pipe.specs.Life.{IsLived};
 ghost use Rattle.nbdj_pipe.specs.Pipe.{IsOrderly, IsPiped, IsUnopened};
 ghost use Rattle.nbdj_pipe.specs.Refusals.{IsEarly};
-ghost use Rattle.nbdj_pipe.specs.Session.{IsEndOr, IsEndShown, IsFed, Runs, Serves, StaysOpen, Takes, WritesPart};
+ghost use Rattle.nbdj_pipe.specs.Session.{IsEndOr, IsEndShown, IsFed, Runs, Serves, StaysOpen, Takes};
 ghost use Rattle.nbdj_pipe.specs.Talk.{error_of, plain, reply_to};
 ghost use Rattle.nbdj_pipe.specs.declared.refusal.Refusal.TheVariants as Refusal;
 ghost use Rattle.image_model.specs.declared.command.Kind.{Kind};
@@ -17,7 +18,7 @@ ghost use Rattle.world.specs.World.{World};
 use crate::export::Export;
 use crate::options::PipeOptions;
 use crate::refusal::Refusal;
-use crate::streams::{read_some, write_whole};
+use byte_streams::{StreamFault, read_some, write_whole};
 use checkpoint::Keeper;
 use disk_model::Disk;
 use nbd_wire::{Answer, Request, SessionFlags, StreamReader, encode_simple, one_reading};
@@ -221,11 +222,10 @@ impl<D: Disk> Session<D> {
     }
 
     // Writes the replies that are due. After a fault some of them may be written, and none is written twice.
-    fn write_replies<W: Write>(&mut self, output: &mut W) -> Result<(), Refusal>
+    fn write_replies<W: Write>(&mut self, output: &mut W) -> Result<(), StreamFault>
         ensures none { self.new.replies.items ≡ [] }
         ensures same { self.new.export ≡ self.old.export }
         ensures written { WritesPart (W.contents output.old) (W.contents output.new) self.old.replies.items result }
-        ensures refusal { IfErr result (λ refusal. refusal ≡ Refusal.StreamFault) }
     {
         let written = write_whole(output, &self.replies);
         self.replies.clear();
