@@ -111,6 +111,13 @@ impl Order {
         })
     }
 
+    /// How many blocks the image has.
+    pub fn blocks(&self) -> u64
+        ensures { result ≡ length self.now.cache.states }
+    {
+        self.cache.map().blocks()
+    }
+
     /// The last number before the first command.
     pub fn opening(&self) -> u64
         ensures { result ≡ self.now.opening }
