@@ -94,6 +94,13 @@ impl AllocMap {
         })
     }
 
+    /// How many blocks there are.
+    pub fn blocks(&self) -> u64
+        ensures { result ≡ length self.now }
+    {
+        self.blocks
+    }
+
     /// The state of a block.
     pub fn state(&self, block: u64) -> Kind
         requires { block < length self.now }

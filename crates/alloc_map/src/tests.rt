@@ -22,6 +22,7 @@ fn four_blocks(rt: HostRuntime) -> Result<(), Fail> {
     let Ok(map) = AllocMap::from_bytes(4, slot(rt.alloc(), 0x06, 0)?) else {
         return Err(Fail::from(AllocError));
     };
+    assert_eq!(rt; map.blocks(), 4);
     assert_eq!(rt; map.state(0), Kind::Data);
     assert_eq!(rt; map.state(1), Kind::Zero);
     assert_eq!(rt; map.state(2), Kind::Hole);

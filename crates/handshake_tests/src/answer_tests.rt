@@ -1,4 +1,3 @@
-use crate::row::bytes_of;
 use nbd_wire::SessionFlags;
 use negotiation::{Next, answer_data, refuse_option};
 use option_wire::{
@@ -8,6 +7,7 @@ use option_wire::{
 use std::alloc::Global;
 use std::process::Abort;
 use std::test::Fail;
+use stream_fakes::bytes_of;
 
 const PLAIN: SessionFlags = SessionFlags {
     structured: false,

@@ -1,4 +1,5 @@
-//! Tests of the handshake's messages and answers against bytes written by hand. They stand beside their crates, since a crate with tests is proved twice.
+//! Tests of the handshake's messages and answers against bytes written by hand. They stand beside their
+//! crates, since a crate with tests is proved twice.
 #![tactic(auto)]
 
 #[cfg(test)]
@@ -8,8 +9,4 @@ mod option_tests;
 #[cfg(test)]
 mod reply_tests;
 #[cfg(test)]
-mod row;
-#[cfg(test)]
 mod session_tests;
-#[cfg(test)]
-mod stream_tests;

@@ -1,4 +1,3 @@
-use crate::row::bytes_of;
 use bitflags::Flags;
 use option_wire::{
     ABORT, ClientFlags, ClientOption, ContextRequest, EXPORT_NAME, GO, INFO, InfoRequest, LIST,
@@ -8,6 +7,7 @@ use option_wire::{
 use std::alloc::Global;
 use std::process::Abort;
 use std::test::Fail;
+use stream_fakes::bytes_of;
 
 #[test]
 fn greeting_is_the_one_of_the_format(rt: HostRuntime) -> Result<(), Fail> {

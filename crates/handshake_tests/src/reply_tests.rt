@@ -1,13 +1,13 @@
 ghost use Rattle.std.specs.Prelude.{◌<◌, ◌^◌, length};
 ghost use Rattle.option_wire.specs.Reply.{reply_data};
 
-use crate::row::bytes_of;
 use option_wire::{
     GO, INFO, Information, LIST, LIST_META_CONTEXT, Malformed, OptionError, OptionFault,
     OptionReply, SET_META_CONTEXT, STRUCTURED_REPLY, Text, encode_option_reply,
 };
 use std::alloc::Global;
 use std::test::Fail;
+use stream_fakes::bytes_of;
 
 // Whether the reply is appended as these bytes, behind what stands there.
 fn appends(alloc: Global, option: u32, reply: &OptionReply, row: &str) -> Result<bool, Fail>

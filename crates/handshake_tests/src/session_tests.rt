@@ -1,10 +1,10 @@
-use crate::row::bytes_of;
 use image_model::Geometry;
 use nbd_wire::SessionFlags;
 use negotiation::{End, Session};
 use std::alloc::{AllocError, Global};
 use std::process::Abort;
 use std::test::Fail;
+use stream_fakes::bytes_of;
 
 const GREETING: &str = "4e42444d41474943 49484156454f5054 0003";
 

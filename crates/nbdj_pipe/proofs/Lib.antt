@@ -1,4 +1,3 @@
-pub mod Bytes
 pub mod Dialogs
 pub mod Steps
 pub mod Causes

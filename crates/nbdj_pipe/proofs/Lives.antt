@@ -37,6 +37,8 @@ use Rattle.nbdj_pipe.specs.declared.refusal.Refusal.TheVariants.{DeviceFault}
 use Rattle.nbdj_pipe.proofs.Causes.{caused_before, caused_behind}
 use Rattle.nbdj_pipe.proofs.Sessions.{not_device}
 use Rattle.nbdj_pipe.proofs.Steps.{follows_on}
+use Rattle.checkpoint.specs.Recovery.{IsRecovered}
+use Rattle.image_model.specs.declared.command.Kind.{Kind}
 
 -- what holds of each event of a log, by its place, holds of all that was said
 module _ (P : Event → Type 0) where
@@ -76,16 +78,16 @@ starved_opening state keeper before found opening =
     }
 
 module _ {D : Type 0} (state : D → State) (faults : D → ℕ) (honest : D → Type 0) (law : LeadsLaw state faults honest) (truth : (world : World) → IsReached world → TellsTruth world) (within : (world : World) → IsReached world → IsWithin world)
-    (fresh_law : (trusted : Bool) (keeper : KeeperState D) (found : Image) (frames connections : ℕ) (flags : SessionFlags) (mode : Mode) → keeper.failed ≡ false → keeper.count < 18446744073709551616
+    (fresh_law : (trusted : Bool) (keeper : KeeperState D) (found : Image) (states : List Kind) (frames connections : ℕ) (flags : SessionFlags) (mode : Mode) → IsRecovered keeper → length states ≡ keeper.geometry.blocks → keeper.count < 18446744073709551616
     → (Trusts trusted (honest keeper.disk) → Keeps keeper (state keeper.disk) found keeper.count)
-    → IsExportOf (first_world keeper found (faults keeper.disk) frames connections flags mode) (new_order keeper.count frames keeper.geometry.area)
+    → IsExportOf (first_world keeper found (faults keeper.disk) frames connections flags mode) (new_order states keeper.count frames keeper.geometry.area)
     keeper (faults keeper.disk) (new_connections connections flags mode) (Trusts trusted (honest keeper.disk)) (state keeper.disk))
     (start : D) (keeper keeper' keeper'' : KeeperState D) (order' order'' : OrderState) (connections' connections'' : ConnectionsState) (frames : ℕ) (mode : Mode)
-    (works : keeper.failed ≡ false) (few : keeper.count < 18446744073709551616) (count_same : faults keeper.disk ≡ faults start)
+    (states : List Kind) (recovered : IsRecovered keeper) (blocks : length states ≡ keeper.geometry.blocks) (few : keeper.count < 18446744073709551616) (count_same : faults keeper.disk ≡ faults start)
     (found : honest start → (content : List ℕ) × IsOpening (state start) state (Ok keeper) content)
     (back : honest keeper''.disk → honest keeper'.disk) (on : honest start → honest keeper''.disk)
     (end outcome : Result (Unit {0}) Refusal) (exchanges : List Exchange) (last : Option Message)
-    (runs : Runs state faults honest (new_order keeper.count frames keeper.geometry.area) keeper (new_connections 1 plain mode) order' keeper' connections' exchanges last end)
+    (runs : Runs state faults honest (new_order states keeper.count frames keeper.geometry.area) keeper (new_connections 1 plain mode) order' keeper' connections' exchanges last end)
     (settles : (world : World) (trusted : Bool) → IsExportOf world order' keeper' (faults keeper'.disk) connections' (Trusts trusted (honest keeper'.disk)) (state keeper'.disk)
     → (next : World) × Settles world next order'' keeper'' (faults keeper''.disk) connections'' (Trusts trusted (honest keeper''.disk)) (state keeper'.disk) (state keeper''.disk)
     × IsEndShown end outcome world next) where
@@ -107,7 +109,7 @@ module _ {D : Type 0} (state : D → State) (faults : D → ℕ) (honest : D →
   found_of true given is =
       let (content, opening) = found (given refl) in
       let (image, stands, keeps, base) = opening.outcome in
-      record { content = content; fixed = opening.fixed; stands = stands; seen = keeps.stands; geometry = keeps.sizes; base = keeps.from_base; any_moment = opening.crash }
+      record { content = content; fixed = opening.fixed; stands = stands; seen = keeps.stands; geometry = keeps.sizes; generation = keeps.generation; base = sym base ∙ keeps.from_base; any_moment = opening.crash }
   found_of false given is = cc
 
   -- the device has failed since the life began
@@ -124,7 +126,7 @@ module _ {D : Type 0} (state : D → State) (faults : D → ℕ) (honest : D →
     begun : (next : World) × HasTalked first next exchanges last × Follows first next (talk_to exchanges last) order' keeper' (faults keeper'.disk) connections' (Trusts trusted (honest keeper'.disk)) (state keeper.disk) (state keeper'.disk)
         × IfErr end (λ refusal. HasCause refusal first next)
     begun =
-        runs first trusted (fresh_law trusted keeper image frames 1 plain mode works few (keeps_of trusted given)) (record { idle = refl; flags = refl })
+        runs first trusted (fresh_law trusted keeper image states frames 1 plain mode recovered blocks few (keeps_of trusted given)) (record { idle = refl; flags = refl })
 
     abbrev mid : World
     mid = begun.0
@@ -188,7 +190,6 @@ module _ {D : Type 0} (state : D → State) (faults : D → ℕ) (honest : D →
     life stored works_on = record {
       opened = keeper.disk;
       setting = first.stage.setting;
-      used = keeper.used;
       next = next;
       steps = whole.steps;
       run = whole.leads.run;
@@ -204,7 +205,7 @@ module _ {D : Type 0} (state : D → State) (faults : D → ℕ) (honest : D →
       cause = shown settled.2;
       found = found_of trusted given;
       leaves = all_reached;
-      durable = λ is. law.durable first next trusted whole.steps order'' keeper'' connections'' keeper.disk (Fresh first.stage.setting keeper.used) whole.leads (trusts_of trusted is given);
+      durable = λ is. law.durable first next trusted whole.steps order'' keeper'' connections'' keeper.disk (Fresh first.stage.setting) whole.leads (trusts_of trusted is given);
     }
 
     -- the order is stopped only where the device has failed

@@ -12,12 +12,14 @@ use Rattle.nbd_wire.specs.declared.error.WireFault.TheVariants.{NoMemory, Malfor
 use Rattle.nbdj_pipe.specs.Refusals.{IsEarly, IsOfSession, of_wire}
 use Rattle.nbdj_pipe.specs.Talk.{Exchange, asked, dialog}
 use Rattle.nbdj_pipe.specs.Pipe.{Conversation, ReadsTo, IsEnd, IsFaulty, IsOpen, IsOrderly, IsPiped, IsServed, IsToDisc, IsWhole}
-use Rattle.nbdj_pipe.specs.Session.{IsFed, IsTaken, StaysOpen, Takes, TakesOn, IsEndOr, WritesPart, ended_by}
+use Rattle.byte_streams.specs.Streams.{WritesPart}
+use Rattle.byte_streams.specs.declared.streams.StreamFault.{StreamFault}
+use Rattle.nbdj_pipe.specs.Session.{IsFed, IsTaken, StaysOpen, Takes, TakesOn, IsEndOr, ended_by}
 use Rattle.nbdj_pipe.specs.declared.session.Flow.{Flow}
 use Rattle.nbdj_pipe.specs.declared.refusal.Refusal.{Refusal}
 use Rattle.nbdj_pipe.specs.declared.refusal.Refusal.TheVariants.{DeviceFault, PeerClosed, ProtocolEnd}
 use Rattle.nbdj_pipe.proofs.Causes.{IsBare}
-use Rattle.nbdj_pipe.proofs.Bytes.{appends_none, appends_on, consumes_kept, consumes_none, consumes_on}
+use Rattle.byte_streams.proofs.Bytes.{appends_none, appends_on, consumes_kept, consumes_none, consumes_on}
 use Rattle.nbdj_pipe.proofs.Dialogs.{HaveNoDisc, all_of, asked-append, asked_whole, behind, dialog-append, disc_behind, each_append, nothing, served_all, served_behind, served_cut, served_nothing, whole_all, whole_behind, whole_nothing}
 
 -- what a session does of requests and answers
@@ -402,9 +404,9 @@ module _ (run : Run) (bare : EndsBare run) (input mid output made : Option (List
       ran = join exchanges takes.told.exchanges takes.told.last (ended_by outcome) going.runs takes.runs
 
       -- not all of the answers could be written
-      pub cut : (refusal : Refusal) (end : Result (Unit {0}) Refusal) → WritesPart made made_on due (Err refusal) → IsErrAnd end IsUnshown → IsPiped input left output made_on end all_run
-      cut refusal (Ok done) part no_end = elim no_end [ ]
-      cut refusal (Err other) (first, rest, parts, writes) no_end =
+      pub cut : (fault : StreamFault) (end : Result (Unit {0}) Refusal) → WritesPart made made_on due (Err fault) → IsErrAnd end IsUnshown → IsPiped input left output made_on end all_run
+      cut fault (Ok done) part no_end = elim no_end [ ]
+      cut fault (Err other) (first, rest, parts, writes) no_end =
           let text = dialog exchanges ++ first in
           record {
             stream = going.stream ++ piece;

@@ -24,14 +24,15 @@ use Rattle.world.specs.declared.event.Event.{Event}
 use Rattle.world.specs.declared.event.Event.TheVariants.{Sent, Answered, Numbered, Took, Held, Failed}
 use Rattle.world.specs.declared.step.Step.{Step}
 use Rattle.world.specs.declared.step.Step.TheVariants as steps
-use Rattle.world.specs.declared.step.Step.TheVariants.{Send, Serve, Seal, Append, Publish}
+use Rattle.world.specs.declared.step.Step.TheVariants.{Send, Serve, Seal, Append, Publish, Rotate, Copy, Map, Finish, Clean}
 use Rattle.world.specs.Log.{command_of, is_flush}
 use Rattle.world.specs.Serve.{Failure, Nothing, OutOfMemory, DeviceFailure, accepted, answer, answered, held, judged, logged, moved, ordered, passed, ready, state_after}
-use Rattle.world.specs.Step.{after_step, append, publish, seal, sealed_more, stored_more}
-use Rattle.world.specs.World.{World, fits, has_room, last_number, put}
+use Rattle.world.specs.Step.{after_step, append, publish, seal, sealed_more, stored_more, clean, in_time, with_generation, without_memory, written}
+use Rattle.world.specs.World.{World, fits, has_room, last_number, put, Stage}
 use Rattle.nbdj_pipe.specs.Export.{AwaitsAnswer, Follows, IsGiven, IsJudged, IsStoring, HasAnswer, Settles, said_of, told_by}
 use Rattle.nbdj_pipe.specs.declared.refusal.Refusal.{Refusal}
 use Rattle.nbdj_pipe.specs.Talk.{plain, spoken, verdict_on}
+use Rattle.world.specs.Checkpoint.{can_clean, can_copy, can_finish, can_map, can_rotate, is_full}
 
 pub spoken_on : (log more : List Event) → spoken (log ++ more) ≡ spoken log ++ spoken more
 spoken_on [] more = refl
@@ -120,6 +121,20 @@ module _ (world : World) where
   still_publish : IsStill (publish world)
   still_publish = of_test IsStill (nat_lt world.stage.durable world.stage.stored) _ _ (λ more. (refl, (Took, refl, refl))) (λ none. still_held)
 
+  still_written : (failure : Failure) (stage : Stage) → IsStill (written failure world stage)
+  still_written OutOfMemory stage = (refl, (_, refl, refl))
+  still_written Nothing stage = (refl, (Took, refl, refl))
+  still_written DeviceFailure stage = (refl, (_, refl, refl))
+
+  still_in_time : (is_time : Bool) (next : World) → IsStill next → IsStill (in_time is_time world next)
+  still_in_time is_time next is = of_test IsStill world.stage.stopped _ _ (λ stopped. (refl, (_, refl, refl))) (λ works. of_test IsStill is_time _ _ (λ now. is) (λ late. still_held))
+
+  still_header : (next : World) → IsStill next → IsStill (with_generation world next)
+  still_header next is = of_test IsStill (is_full world.stage) _ _ (λ full. (refl, (_, refl, refl))) (λ left. is)
+
+  still_clean : IsStill (clean world)
+  still_clean = of_test IsStill (can_clean world.stage) _ _ (λ some. (refl, (Took, refl, refl))) (λ none. still_held)
+
   pub still_step : (step : Step) (failure : Failure) → IsStoring step → IsStill (after_step world step failure)
   still_step (Send c request) failure is = absurd is
   still_step (Serve c) failure is = absurd is
@@ -127,6 +142,11 @@ module _ (world : World) where
   still_step Seal failure is = still_seal failure
   still_step Append failure is = still_append failure
   still_step Publish failure is = still_publish
+  still_step Rotate failure is = still_in_time (can_rotate world.stage) _ (still_header _ (still_written failure _))
+  still_step Copy failure is = still_in_time (can_copy world.stage) _ (still_written failure _)
+  still_step Map failure is = still_in_time (can_map world.stage) _ (still_written failure _)
+  still_step Finish failure is = still_in_time (can_finish world.stage) _ (still_header _ (still_written (without_memory failure) _))
+  still_step Clean failure is = still_clean
 
   -- what serving a request comes to: nothing, where there is no room for its command, or what the verdict on it says
   abbrev pub IsServedAs : Message → Result Action Errno → World → Type 0

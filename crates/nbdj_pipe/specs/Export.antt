@@ -16,7 +16,7 @@ use Rattle.world.specs.declared.connection.Connection.TheVariants.{Idle, Request
 use Rattle.world.specs.declared.event.Event.{Event}
 use Rattle.world.specs.declared.step.Step.{Step}
 use Rattle.world.specs.declared.step.Step.TheVariants as steps
-use Rattle.world.specs.declared.step.Step.TheVariants.{Send, Serve, Seal, Append, Publish}
+use Rattle.world.specs.declared.step.Step.TheVariants.{Send, Serve, Seal, Append, Publish, Rotate, Copy, Map, Finish, Clean}
 use Rattle.world.specs.World.{World}
 use Rattle.world.specs.declared.event.Event.TheVariants.{Answered}
 use Rattle.world.specs.declared.event.StepFault.{StepFault}
@@ -70,6 +70,11 @@ IsStoring (steps.Answer connection) = ⊥
 IsStoring Seal = Unit {0}
 IsStoring Append = Unit {0}
 IsStoring Publish = Unit {0}
+IsStoring Rotate = Unit {0}
+IsStoring Copy = Unit {0}
+IsStoring Map = Unit {0}
+IsStoring Finish = Unit {0}
+IsStoring Clean = Unit {0}
 
 -- a state in which an answer is due, or may come to be due
 abbrev pub AwaitsAnswer : Connection → Type 0

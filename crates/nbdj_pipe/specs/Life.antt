@@ -20,15 +20,17 @@ use Rattle.nbdj_pipe.specs.Talk.{AreAnswered, Exchange, plain, spoken, talk_to}
 use Rattle.nbdj_pipe.specs.declared.refusal.Refusal.{Refusal}
 
 -- What an opening found on an honest device: a content that a crash at its start may leave stands for the image and the
--- number with which the life begins, and so does what the device gives from then on, whose sizes and base are the life's.
--- A crash in the opening leaves what it could leave before, or what stands for the same.
+-- number with which the life begins, and so does what the device gives from then on, whose sizes and generation are the
+-- life's, and which has all of the image in map and data. A crash in the opening leaves what it could leave before, or what
+-- stands for the same.
 pub record IsFound (setting : Setting) (start opened : State) : Type 0 where
   pub content : List ℕ
   pub fixed : MayLeave start content
   pub stands : StandsFor content setting.image setting.opening
   pub seen : StandsFor opened.seen setting.image setting.opening
   pub geometry : setting.geometry ≡ seen.header.geometry
-  pub base : setting.base ≡ seen.header.base
+  pub generation : setting.generation ≡ seen.header.generation
+  pub base : setting.opening ≡ seen.header.base
   pub any_moment : LeavesOnly start opened (λ left. MayLeave start left ⊎ StandsAs content left)
 
 -- The run of a pipe is one of a world, from the opening of its device to the end, in which the requests were sent and
@@ -38,10 +40,9 @@ pub record IsLife {D : Type 0} (state : D → State) (faults : D → ℕ) (frame
   pub opened : D
   -- the world at the begin and at the end, and the steps between them
   pub setting : Setting
-  pub used : ℕ
   pub next : World
   pub steps : List Step
-  pub run : IsRun (fresh setting used) steps next
+  pub run : IsRun (fresh setting) steps next
   pub said : spoken next.log ≡ talk_to exchanges last
   -- what was agreed on, and how much may wait for the checkpoint
   pub flags : setting.flags ≡ plain
@@ -55,10 +56,10 @@ pub record IsLife {D : Type 0} (state : D → State) (faults : D → ℕ) (frame
   pub stored : IsOrderly outcome → next.stage.durable ≡ length next.stage.order
   pub quiet : IsOrderly outcome → faults end ≡ faults start
   -- the run shows why the session ended before its input did
-  pub cause : IfErr outcome (λ refusal. HasCause refusal (fresh setting used) next)
+  pub cause : IfErr outcome (λ refusal. HasCause refusal (fresh setting) next)
   -- on an honest device
   pub found : trusted ≡ true → IsFound setting (state start) (state opened)
-  pub durable : trusted ≡ true → IsDurable (fresh setting used) next (state opened) (state end)
+  pub durable : trusted ≡ true → IsDurable (fresh setting) next (state opened) (state end)
   -- whatever a crash at the end may leave reaches all that is durable by then, covered or not
   pub leaves : trusted ≡ true → (content : List ℕ) → MayLeave (state end) content → StandsAfter next.stage.order setting.image setting.opening next.stage.durable content
 

@@ -1,6 +1,5 @@
 -- What the steps of a pipe's session do to its replies, its streams, and the world of its export.
 use Rattle.std.specs.Prelude.{ℕ, ◌≡◌, ◌≢◌, ◌⊎◌, Bool, true, List, [], ◌∷◌, ◌++◌, Option, Some, None, Result, Ok, Err, IfErr}
-use Rattle.std.specs.Io.KnownBytes.{Appends}
 use Rattle.device_image.specs.Keeper.{KeeperState}
 use Rattle.disk_model.specs.Disk.{State}
 use Rattle.nbd_wire.specs.Request.{Message}
@@ -98,8 +97,3 @@ pub record Takes (old : Reader) (piece : List ℕ) (new : Reader) (before after 
   pub served : IsServed requests told
   pub taken : IsTaken told new outcome
   pub runs : run told.exchanges told.last (ended_by outcome)
-
--- bytes were written, all or after a fault the first of them
-abbrev pub WritesPart : Option (List ℕ) → Option (List ℕ) → List ℕ → Result (Unit {0}) Refusal → Type 0
-WritesPart old new bytes (Ok done) = Appends old new bytes
-WritesPart old new bytes (Err refusal) = (first rest : List ℕ) × (bytes ≡ first ++ rest) × Appends old new first

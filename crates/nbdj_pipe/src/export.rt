@@ -1,4 +1,4 @@
-ghost use Rattle.std.specs.Prelude.{◌≡◌, ◌↔◌, ◌++◌, Bool, [], ◌∷◌, IfErr, IfOk, IfSome, IsTrue, MatchBool, MatchOption, MatchResult, OnOk};
+ghost use Rattle.std.specs.Prelude.{◌≡◌, ◌↔◌, ◌++◌, Bool, [], ◌∷◌, length, IfErr, IfOk, IfSome, IsTrue, MatchBool, MatchOption, MatchResult, OnOk};
 ghost use Rattle.nbd_wire.specs.Request.{Message};
 ghost use Rattle.nbdj_pipe.specs.Causes.{HasCause, LacksRoom};
 ghost use Rattle.nbdj_pipe.specs.Export.{AwaitsAnswer, Follows, GetsOn, HasAnswer, IsGiven, IsJudged, IsOfKind, IsSettled, IsStoring, IsWaiting, Settles, StoredBy, said_of, told, told_by};
@@ -34,7 +34,7 @@ fn stored(sealed: &Event, appended: &Event, published: &Event) -> Result<(), Ref
     match appended {
         Event::Failed(fault) => match fault {
             StepFault::NoMemory => Err(Refusal::NoMemory),
-            StepFault::DeviceFault | StepFault::FailedBefore => Ok(()),
+            StepFault::DeviceFault | StepFault::NumbersFull | StepFault::FailedBefore => Ok(()),
         },
         // Nothing was stored now, and nothing earlier that wasn't published: the group doesn't fit.
         Event::Held => match published {
@@ -52,6 +52,7 @@ pub(crate) struct Export<D: Disk> {
     pub(crate) order: Order,
     pub(crate) keeper: Keeper<D>,
     pub(crate) connections: Connections,
+    ghost blocks: { length order.cache.states ≡ keeper.geometry.blocks },
 }
 
 impl<D: Disk> Export<D> {

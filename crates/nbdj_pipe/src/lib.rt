@@ -6,7 +6,6 @@ mod export;
 mod options;
 mod refusal;
 mod session;
-mod streams;
 
 pub use options::{LEAST_FRAMES, MOST_FRAMES, PipeOptions};
 pub use refusal::Refusal;

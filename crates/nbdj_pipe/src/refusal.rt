@@ -2,6 +2,7 @@ ghost use Rattle.std.specs.Prelude.{◌≡◌};
 ghost use Rattle.nbdj_pipe.specs.Refusals.{number_of, of_keeper, of_wire};
 ghost use Rattle.nbdj_pipe.specs.declared.refusal.Refusal.TheVariants as Refusal;
 
+use byte_streams::StreamFault;
 use checkpoint::KeeperFault;
 use disk_model::DeviceFault;
 use nbd_wire::WireFault;
@@ -81,6 +82,14 @@ impl From<DeviceFault> for Refusal {
 
     fn from(_fault: DeviceFault) -> Refusal {
         Refusal::DeviceFault
+    }
+}
+
+impl From<StreamFault> for Refusal {
+    ghost from_gives = { λ _ refusal. refusal ≡ Refusal.StreamFault };
+
+    fn from(_fault: StreamFault) -> Refusal {
+        Refusal::StreamFault
     }
 }
 

@@ -1,13 +1,16 @@
-ghost use Rattle.std.specs.Prelude.{◌≡◌, ◌↔◌, ◌⊎◌, ◌<◌, [], Bool, false, vec_len, IfErr, IfOk, IfSome, IsErrOf, Ok, Err, OnErr};
+ghost use Rattle.std.specs.Prelude.{◌≡◌, ◌↔◌, ◌⊎◌, ◌<◌, [], Bool, List, false, length, vec_len, IfErr, IfOk, IfSome, IsErrOf, Ok, Err, OnErr, OnOk};
+ghost use Rattle.byte_streams.specs.Streams.{WritesPart};
 ghost use Rattle.disk_model.specs.Faults.{HasRisen};
 ghost use Rattle.nbdj_pipe.specs.Export.{Settles};
 ghost use Rattle.nbdj_pipe.specs.Life.{IsLived};
 ghost use Rattle.nbdj_pipe.specs.Pipe.{IsOrderly, IsPiped, IsUnopened};
 ghost use Rattle.nbdj_pipe.specs.Refusals.{IsEarly};
-ghost use Rattle.nbdj_pipe.specs.Session.{IsEndOr, IsEndShown, IsFed, Runs, Serves, StaysOpen, Takes, WritesPart};
-ghost use Rattle.nbdj_pipe.specs.Talk.{error_of, reply_to};
+ghost use Rattle.nbdj_pipe.specs.Session.{IsEndOr, IsEndShown, IsFed, Runs, Serves, StaysOpen, Takes};
+ghost use Rattle.nbdj_pipe.specs.Talk.{error_of, plain, reply_to};
 ghost use Rattle.nbdj_pipe.specs.declared.refusal.Refusal.TheVariants as Refusal;
-ghost use Rattle.order_book.specs.Order.{IsInHand};
+ghost use Rattle.image_model.specs.declared.command.Kind.{Kind};
+ghost use Rattle.order_book.specs.Order.{IsInHand, new_order};
+ghost use Rattle.request_core.specs.Bench.{new_connections};
 ghost use Rattle.request_core.specs.Life.{Trusts};
 ghost use Rattle.request_core.specs.Parts.{IsExportOf};
 ghost use Rattle.world.specs.World.{World};
@@ -15,7 +18,7 @@ ghost use Rattle.world.specs.World.{World};
 use crate::export::Export;
 use crate::options::PipeOptions;
 use crate::refusal::Refusal;
-use crate::streams::{read_some, write_whole};
+use byte_streams::{StreamFault, read_some, write_whole};
 use checkpoint::Keeper;
 use disk_model::Disk;
 use nbd_wire::{Answer, Request, SessionFlags, StreamReader, encode_simple, one_reading};
@@ -63,16 +66,10 @@ pub fn pipe<D: Disk, R: Read, W: Write>(
         Ok(keeper) => keeper,
         Err((fault, disk)) => return (Err(Refusal::from(fault)), disk),
     };
-    let connections = match Connections::new(alloc, 1, PLAIN, options.mode) {
-        Ok(connections) => connections,
+    let (order, connections) = match fresh_parts(alloc, &keeper, options) {
+        Ok(parts) => parts,
         Err(_) => return (Err(Refusal::NoMemory), keeper.into_disk()),
     };
-    let order = Order::new(
-        alloc,
-        keeper.count(),
-        options.frames,
-        keeper.geometry().area,
-    );
     let mut session = Session {
         export: Export {
             alloc,
@@ -86,6 +83,29 @@ pub fn pipe<D: Disk, R: Read, W: Write>(
     let outcome = session.finish(end);
     let Session { export, replies: _ } = session;
     (outcome, export.into_disk())
+}
+
+// An order and a connection, over what the opening left.
+fn fresh_parts<D: Disk>(
+    alloc: Global,
+    keeper: &Keeper<D>,
+    options: PipeOptions,
+) -> Result<(Order, Connections), AllocError>
+    ensures order { IfOk result (λ parts. (states : List Kind) × (length states ≡ keeper.now.geometry.blocks)
+        × (parts.0 ≡ new_order states keeper.now.count options.frames keeper.now.geometry.area)) }
+    ensures connections { IfOk result (λ parts. parts.1 ≡ new_connections 1 plain options.mode) }
+    ensures few { OnOk result (keeper.now.count < 18446744073709551616) }
+{
+    let map = keeper.map(alloc)?;
+    let order = Order::new(
+        alloc,
+        map,
+        keeper.count(),
+        options.frames,
+        keeper.geometry().area,
+    )?;
+    let connections = Connections::new(alloc, 1, PLAIN, options.mode)?;
+    Ok((order, connections))
 }
 
 // Whether requests of a session may follow.
@@ -202,11 +222,10 @@ impl<D: Disk> Session<D> {
     }
 
     // Writes the replies that are due. After a fault some of them may be written, and none is written twice.
-    fn write_replies<W: Write>(&mut self, output: &mut W) -> Result<(), Refusal>
+    fn write_replies<W: Write>(&mut self, output: &mut W) -> Result<(), StreamFault>
         ensures none { self.new.replies.items ≡ [] }
         ensures same { self.new.export ≡ self.old.export }
         ensures written { WritesPart (W.contents output.old) (W.contents output.new) self.old.replies.items result }
-        ensures refusal { IfErr result (λ refusal. refusal ≡ Refusal.StreamFault) }
     {
         let written = write_whole(output, &self.replies);
         self.replies.clear();

@@ -122,7 +122,8 @@ pub fn run(
         return Err("not opened".into());
     };
     let opened = keeper.count();
-    let mut order = Order::new(alloc, opened, 512, keeper.geometry().area);
+    let map = keeper.map(alloc)?;
+    let mut order = Order::new(alloc, map, opened, 512, keeper.geometry().area)?;
     let mut bench = Bench::new(alloc, 3, PLAIN, mode)?;
     let ran = rehearse(steps, &mut order, &mut keeper, &mut bench);
     let log = bench.close(&mut order);

@@ -1,8 +1,8 @@
 use nbdj_script::script;
 use std::alloc::Global;
-use std::io::{self, ErrorKind, Read, Write};
 use std::process::Abort;
 use std::test::Fail;
+use stream_fakes::{FakeReader, FakeWriter};
 
 // A script with a crash in the write of a gate, and what it prints; tests/scripts has more of them, which run on the program.
 const SCRIPT: &str =
@@ -11,65 +11,14 @@ const SCRIPT: &str =
 const PRINTED: &str =
     "done\ndone\ndone\nanswer 1 ok\ndone\narmed\nstopped\nopened 1\nrun 0 1 d 41\nrun 1 15 h 00\n";
 
-// A reader that gives one byte at a time, and then its end or an error.
-#[derive(Drop)]
-struct Slow<'a> {
-    rest: &'a [u8],
-    fails: bool,
-}
-
-impl<'a> Read for Slow<'a> {
-    fn read(&mut self, buf: &mut [u8]) -> io::Result<usize> {
-        match (self.rest.split_first(), buf.first_mut()) {
-            (Some((byte, rest)), Some(place)) => {
-                *place = *byte;
-                self.rest = rest;
-                Ok(1)
-            }
-            (None, _) if self.fails => Err(io::Error::from(ErrorKind::Other)),
-            _ => Ok(0),
-        }
-    }
-}
-
-// A writer that takes one byte at a time, and after so many no more.
-#[derive(Drop)]
-struct Narrow {
-    taken: Vec<u8>,
-    room: usize,
-}
-
-impl Write for Narrow {
-    fn write(&mut self, buf: &[u8]) -> io::Result<usize> {
-        if self.taken.len() >= self.room {
-            return Err(io::Error::from(ErrorKind::Other));
-        }
-        match buf.first() {
-            Some(byte) if self.taken.push(*byte).is_ok() => Ok(1),
-            Some(_) => Err(io::Error::from(ErrorKind::OutOfMemory)),
-            None => Ok(0),
-        }
-    }
-
-    fn flush(&mut self) -> io::Result<()> {
-        Ok(())
-    }
-}
-
 #[test]
 fn one_byte_at_a_time(rt: HostRuntime) -> Result<(), Fail> {
     let alloc = rt.alloc();
-    let mut input = Slow {
-        rest: SCRIPT.as_bytes(),
-        fails: false,
-    };
-    let mut output = Narrow {
-        taken: Vec::new(alloc),
-        room: 1_000_000,
-    };
+    let mut input = FakeReader::new(SCRIPT.as_bytes(), 1, false);
+    let mut output = FakeWriter::new(alloc, 1, 1_000_000);
     let mut errors = Vec::new(alloc);
     assert_eq!(rt; script(alloc, &mut input, &mut output, &mut errors), 0);
-    assert_eq!(rt; output.taken.as_slice(), PRINTED.as_bytes());
+    assert_eq!(rt; output.taken(), PRINTED.as_bytes());
     assert!(rt; errors.is_empty());
     Ok(())
 }
@@ -77,15 +26,12 @@ fn one_byte_at_a_time(rt: HostRuntime) -> Result<(), Fail> {
 // The output takes so many bytes and no more: the lines before ran, and what they printed was written.
 fn check_narrow(rt: &impl Abort, alloc: Global, room: usize) {
     let mut input = SCRIPT.as_bytes();
-    let mut output = Narrow {
-        taken: Vec::new(alloc),
-        room,
-    };
+    let mut output = FakeWriter::new(alloc, 1, room);
     let mut errors = Vec::new(alloc);
     let status = script(alloc, &mut input, &mut output, &mut errors);
     assert!(rt; status == 1);
     let (written, _) = PRINTED.as_bytes().split_at(room.min(PRINTED.len()));
-    assert!(rt; output.taken.as_slice() == written);
+    assert!(rt; output.taken() == written);
     assert!(rt; errors.as_slice() == b"nbdj: stream fault (21)\n".as_slice());
 }
 
@@ -100,10 +46,7 @@ fn the_output_fails(rt: HostRuntime) -> Result<(), Fail> {
 #[test]
 fn the_input_fails(rt: HostRuntime) -> Result<(), Fail> {
     let alloc = rt.alloc();
-    let mut input = Slow {
-        rest: b"format 16 2097152 512\nsend 1 flush\nserve",
-        fails: true,
-    };
+    let mut input = FakeReader::new(b"format 16 2097152 512\nsend 1 flush\nserve", 1, true);
     let mut output = Vec::new(alloc);
     let mut errors = Vec::new(alloc);
     let status = script(alloc, &mut input, &mut output, &mut errors);

@@ -1,3 +1,4 @@
 pub mod Dialogs
+pub mod OneHearing
 pub mod Requests
 pub mod Sessions

@@ -1,6 +1,6 @@
 -- What a reader of requests hands out, up to a DISC.
-use Rattle.std.proofs.Common.{◌≡◌, ◌<◌, ◌+◌, inl, inr, ℕ, Bool, true, false, cond, suc, List, [], ◌∷◌, ◌++◌, length, take, refl, sym, ap, subst, ◌∙◌, append_assoc, arith}
-use Rattle.std.specs.Prelude.{Option, Some, None, not, ◌||◌, nat_lt}
+use Rattle.std.proofs.Common.{◌≡◌, ◌+◌, inl, inr, ℕ, Bool, true, false, cond, suc, List, [], ◌∷◌, ◌++◌, length, take, refl, sym, ap, subst, ◌∙◌, append_assoc, arith}
+use Rattle.std.specs.Prelude.{Some, None, not, ◌||◌, nat_lt}
 use Rattle.std.specs.List.{before_first, list_any, position, position_or_len}
 use Rattle.std.proofs.lemmas.Bool.{lt-ltb}
 use Rattle.std.proofs.lemmas.Bool.Decides.{nat_tests}
@@ -9,8 +9,7 @@ use Rattle.std.proofs.lemmas.List.{append-nil}
 use Rattle.std.proofs.lemmas.List.Folds.{list_any-append}
 use Rattle.nbd_wire.specs.Request.{Message}
 use Rattle.nbd_wire.specs.Stream.{Begins, Feeds, Kept, Reader, Reads, reading, starved}
-use Rattle.nbd_wire.specs.declared.message.SessionFlags.{SessionFlags}
-use Rattle.negotiation.specs.Dialog.{Standing, before_disc, ended, in_requests, is_disc}
+use Rattle.negotiation.specs.Dialog.{before_disc, ended, in_requests, is_disc}
 use Rattle.negotiation.specs.Session.{Hands}
 use Rattle.negotiation.proofs.Dialogs.{hears_on}
 
@@ -42,6 +41,15 @@ before_first-append p (x ∷ xs) ys none =
     let both = or_false (p x) (list_any p xs) none in
     subst (λ (b : Bool). take (cond (not b) (1 + position_or_len p (xs ++ ys)) 0) (x ∷ (xs ++ ys)) ≡ x ∷ (xs ++ before_first p ys)) (sym both.0)
     (take_step (position_or_len p (xs ++ ys)) x (xs ++ ys) ∙ ap (λ t. x ∷ t) (before_first-append p xs ys both.1))
+
+-- what stands behind the first that passes makes no difference
+pub before_first-found : {X : Type 0} (p : X → Bool) (xs ys : List X) → list_any p xs ≡ true → before_first p (xs ++ ys) ≡ before_first p xs
+before_first-found p [] ys some = absurd (cc some)
+before_first-found p (x ∷ xs) ys some =
+    elim (p x) as (λ b. (b || list_any p xs) ≡ true → take (cond (not b) (1 + position_or_len p (xs ++ ys)) 0) (x ∷ (xs ++ ys)) ≡ take (cond (not b) (1 + position_or_len p xs) 0) (x ∷ xs)) [
+      | true ↦ λ is. refl
+      | false ↦ λ is. take_step (position_or_len p (xs ++ ys)) x (xs ++ ys) ∙ ap (λ t. x ∷ t) (before_first-found p xs ys is) ∙ sym (take_step (position_or_len p xs) x xs)
+    ] some
 
 pub found_place : {X : Type 0} (p : X → Bool) (xs : List X) (place : ℕ) → position p xs ≡ Some place → (list_any p xs ≡ true) × (take place xs ≡ before_first p xs)
 found_place p xs place is =

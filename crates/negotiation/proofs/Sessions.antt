@@ -1,8 +1,7 @@
 -- What a session does with a piece, by the stage that it is at.
-use Rattle.std.proofs.Common.{◌≡◌, ◌≢◌, ◌⊎◌, inl, inr, ℕ, ◌+◌, ◌<◌, ◌≤◌, ◌^◌, true, false, eqb, List, [], ◌∷◌, ◌++◌, length, take, refl, sym, ap, subst, ◌∙◌, append_assoc, length-append, arith}
-use Rattle.std.specs.Prelude.{Some, None, Result, Ok, Err, IsErr, cond}
+use Rattle.std.proofs.Common.{◌≡◌, ◌⊎◌, inl, inr, ℕ, ◌+◌, ◌<◌, ◌≤◌, ◌^◌, true, false, eqb, List, [], ◌∷◌, ◌++◌, length, take, refl, sym, ap, subst, ◌∙◌, append_assoc, length-append, arith}
+use Rattle.std.specs.Prelude.{Some, Result, Ok, Err, IsErr, cond}
 use Rattle.std.specs.Global.{Vec}
-use Rattle.std.proofs.lemmas.Bool.{cond-false, cond-true, eq-eqb, ne_eqb}
 use Rattle.std.proofs.lemmas.List.{append-nil, take-append-le}
 use Rattle.nbd_wire.specs.Request.{Message}
 use Rattle.nbd_wire.specs.Stream.{Reader, end_of as end_of_requests, failed, in_data as keeps_data, in_discard as keeps_count, in_head as keeps_head, reading, starved}
@@ -18,7 +17,7 @@ use Rattle.negotiation.specs.declared.end.End.{End}
 use Rattle.negotiation.specs.declared.end.End.TheVariants.{NoMemory}
 use Rattle.negotiation.specs.declared.stage.Stage.{Stage}
 use Rattle.negotiation.specs.declared.stage.Stage.TheVariants as stages
-use Rattle.negotiation.specs.Dialog.{IsNoOption, IsTooLong, Leaves, Standing, Turn, broken, ended, exhausted, in_discard, in_flags, in_head, in_option, in_requests, kept_limit, most_bytes, read_limit, replies_text, silent}
+use Rattle.negotiation.specs.Dialog.{IsNoOption, IsTooLong, Leaves, Standing, Turn, broken, ended, exhausted, in_discard, in_flags, in_head, in_option, in_requests, kept_limit, most_bytes, replies_text, silent}
 use Rattle.negotiation.specs.Ends.{end_for}
 use Rattle.negotiation.specs.Session.{Advances, Feeds, Greets, Hands, HearsOn, IsBehind, IsData, IsGreeted, IsLongPart, IsSaid, Runs, SessionState, Settles, Step, end_of, greeting_due, handed, held_by, standing_of, state_of, wanted_of}
 use Rattle.negotiation.specs.declared.stage.Talk.{Talk}

@@ -184,3 +184,12 @@ replies_text turns = flat_map (λ turn. replies_bytes turn.code turn.answer.repl
 -- the text of a handshake: the greeting, and the replies to options
 abbrev pub handshake_text : List Turn → List ℕ
 handshake_text turns = greeting_bytes ++ replies_text turns
+
+-- Two hearings of one stream are one: the same options were answered, the same requests handed out, and the same is left. Only of
+-- an empty stream it is open whether anything was said yet.
+abbrev pub OneHearing : Type 0
+OneHearing =
+    (size : ℕ) (stream : List ℕ) (turns others : List Turn) (outcome other : Outcome) → Hears size stream turns outcome
+    → Hears size stream others other
+    → (turns ≡ others) × (outcome.requests ≡ other.requests) × (outcome.flags ≡ other.flags)
+    × (stream ≢ [] → outcome.standing ≡ other.standing)

@@ -1,7 +1,8 @@
 ghost use Rattle.std.specs.Prelude.{◌≡◌};
-ghost use Rattle.negotiation.specs.declared.end.End.TheVariants.{NoMemory};
+ghost use Rattle.negotiation.specs.declared.end.End.TheVariants.{IoFault, NoMemory};
 ghost use Rattle.negotiation.specs.Ends.{end_for};
 
+use byte_streams::StreamFault;
 use nbd_wire::WireFault;
 use std::alloc::AllocError;
 use thiserror::Error;
@@ -28,6 +29,14 @@ impl From<AllocError> for End {
 
     fn from(_error: AllocError) -> End {
         End::NoMemory
+    }
+}
+
+impl From<StreamFault> for End {
+    ghost from_gives = { λ _ end. end ≡ IoFault };
+
+    fn from(_fault: StreamFault) -> End {
+        End::IoFault
     }
 }
 

@@ -3,12 +3,14 @@
 
 mod answer;
 mod end;
+mod laws;
 mod option;
 mod session;
 mod stage;
 
 pub use answer::{Next, OptionAnswer};
 pub use end::End;
+pub use laws::one_hearing;
 pub use option::{answer_data, answer_option, refuse_option};
 pub use session::Session;
 pub use stage::{MAX_OPTION_DATA, MAX_OPTION_THROWN_AWAY};

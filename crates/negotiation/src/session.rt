@@ -91,7 +91,7 @@ impl Session {
 
     /// Whether the handshake is over.
     pub fn is_behind(&self) -> bool
-        ensures { IsTrue result → IsBehind self.now.standing }
+        ensures { IsTrue result ↔ IsBehind self.now.standing }
     {
         match self.stage {
             Stage::Requests(_) | Stage::Ended | Stage::Broken | Stage::Exhausted => true,

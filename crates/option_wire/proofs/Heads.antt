@@ -6,7 +6,7 @@ use Rattle.std.proofs.lemmas.Bool.{cases_lt}
 use Rattle.std.proofs.lemmas.List.{take-append-drop, get_or-drop, get_or-take, get_or_past}
 use Rattle.std.proofs.lemmas.Nat.{be_bytes_4, be_bytes_8}
 use Rattle.byteorder.specs.Endian.{big_number}
-use Rattle.option_wire.specs.Head.{option_head}
+use Rattle.option_wire.specs.Head.{option_head, option_magic}
 use Rattle.option_wire.specs.Reply.{reply_head}
 use Rattle.option_wire.proofs.Texts.{number_32}
 
@@ -50,6 +50,14 @@ head_of content front numbers first second option size len fits front_is numbers
     let numbers_parts : numbers ≡ first ++ second = sym (take-append-drop 4 numbers) ∙ (λ i. sym first_is i ++ sym second_is i) in
     let parts : content ≡ front ++ numbers = sym (take-append-drop 8 content) ∙ (λ i. sym front_is i ++ sym numbers_is i) in
     parts ∙ (λ i. a i ++ (numbers_parts ∙ (λ j. b j ++ d j)) i)
+
+pub length-option_head : (option size : ℕ) → length (option_head option size) ≡ 16
+unfolding option_head
+length-option_head option size = refl
+
+pub take-option_head : (option size : ℕ) (rest : List ℕ) → take 8 (option_head option size ++ rest) ≡ option_magic
+unfolding option_head
+take-option_head option size rest = refl
 
 -- no head begins another
 pub one_head : (option other size other_size : ℕ) (x y : List ℕ) → option < 2 ^ 32 → other < 2 ^ 32 → size < 2 ^ 32 → other_size < 2 ^ 32

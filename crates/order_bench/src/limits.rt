@@ -1,6 +1,6 @@
 ghost use Rattle.std.specs.Prelude.{◌<◌, ◌^◌};
 
-use crate::load::{accept, clear, keeper, put, store};
+use crate::load::{accept, clear, keeper, offer, order, put, store};
 use anyhow::{Result, bail};
 use image_model::Command;
 use order_book::{Order, OrderFault};
@@ -47,7 +47,7 @@ fn next_group(order: &mut Order) -> Result<Shape> {
 
 /// 40 puts and one more, put back once and sealed again.
 pub fn long_group(alloc: Global) -> Result<Shape> {
-    let mut order = Order::new(alloc, 7, 4_096, LEAST_AREA_BYTES);
+    let mut order = order(alloc, 7, 4_096, LEAST_AREA_BYTES)?;
     for block in 0..41 {
         let _number = accept(&mut order, put(alloc, block, 1)?)?;
     }
@@ -59,7 +59,7 @@ pub fn long_group(alloc: Global) -> Result<Shape> {
 
 /// Commands with bodies of one command more than the least area takes in a group.
 pub fn cut_group(alloc: Global) -> Result<Shape> {
-    let mut order = Order::new(alloc, 0, 4_096, LEAST_AREA_BYTES);
+    let mut order = order(alloc, 0, 4_096, LEAST_AREA_BYTES)?;
     let _first = accept(&mut order, put(alloc, 0, 256)?)?;
     let _second = accept(&mut order, put(alloc, 256, 251)?)?;
     for _ in 0..1_573 {
@@ -70,7 +70,7 @@ pub fn cut_group(alloc: Global) -> Result<Shape> {
 
 // An order whose 512 frames all hold a dirty block.
 fn full_order(alloc: Global) -> Result<Order> {
-    let mut order = Order::new(alloc, 0, 512, LEAST_AREA_BYTES);
+    let mut order = order(alloc, 0, 512, LEAST_AREA_BYTES)?;
     let _first = accept(&mut order, put(alloc, 0, 256)?)?;
     let _second = accept(&mut order, put(alloc, 256, 256)?)?;
     Ok(order)
@@ -78,7 +78,7 @@ fn full_order(alloc: Global) -> Result<Order> {
 
 // A put of a block that isn't dirty, where no frame is left.
 fn refused_put(alloc: Global, order: &mut Order) -> Result<(OrderFault, Command)> {
-    match order.accept(put(alloc, 512, 1)?) {
+    match offer(order, put(alloc, 512, 1)?)? {
         Ok(_) => bail!("accepted"),
         Err(refused) => Ok(refused),
     }
@@ -101,10 +101,10 @@ fn free_frames(alloc: Global, order: &mut Order, first: u64) -> Result<u64>
     requires { first < 2 ^ 16 }
 {
     for block in 0..1_000 {
-        match accept(order, put(alloc, first + block, 1)?) {
+        match offer(order, put(alloc, first + block, 1)?)? {
             Ok(_) => {}
-            Err(OrderFault::NoRoom) => return Ok(block),
-            Err(fault) => return Err(fault.into()),
+            Err((OrderFault::NoRoom, _)) => return Ok(block),
+            Err((fault, _)) => return Err(fault.into()),
         }
     }
     bail!("always room")
@@ -137,9 +137,9 @@ fn clear_often(order: &mut Order, times: u32) -> Result<()> {
 
 // Why a clear is refused.
 fn refused_clear(order: &mut Order) -> Result<OrderFault> {
-    match accept(order, clear(9, 1)) {
+    match offer(order, clear(9, 1))? {
         Ok(_) => bail!("accepted"),
-        Err(fault) => Ok(fault),
+        Err((fault, _)) => Ok(fault),
     }
 }
 
@@ -147,12 +147,12 @@ fn refused_clear(order: &mut Order) -> Result<OrderFault> {
 fn number_after_store(alloc: Global, order: &mut Order) -> Result<u64> {
     let mut keeper = keeper(alloc, 256, ROOMY_AREA_BYTES)?;
     store(order, &mut keeper)?;
-    Ok(accept(order, clear(9, 1))?)
+    accept(order, clear(9, 1))
 }
 
 /// The last number that 67,108,864 bytes take, why the next command is refused, and its number once a group is durable.
 pub fn full_backlog(alloc: Global) -> Result<(u64, OrderFault, u64)> {
-    let mut order = Order::new(alloc, 0, 4_096, ROOMY_AREA_BYTES);
+    let mut order = order(alloc, 0, 4_096, ROOMY_AREA_BYTES)?;
     fill_backlog(alloc, &mut order)?;
     let full = order.mark();
     let fault = refused_clear(&mut order)?;
@@ -161,7 +161,7 @@ pub fn full_backlog(alloc: Global) -> Result<(u64, OrderFault, u64)> {
 
 /// The last number of an order that was stopped before its first command, and why it refuses that command.
 pub fn stopped_order(alloc: Global) -> Result<(u64, OrderFault)> {
-    let mut order = Order::new(alloc, 7, 4_096, LEAST_AREA_BYTES);
+    let mut order = order(alloc, 7, 4_096, LEAST_AREA_BYTES)?;
     order.stop();
     if !order.stopped() {
         bail!("not stopped");

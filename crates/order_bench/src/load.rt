@@ -1,33 +1,44 @@
-ghost use Rattle.std.specs.Prelude.{◌≡◌, ◌+◌, ◌≤◌, ◌<◌, ◌^◌, All, IfOk};
-ghost use Rattle.order_book.specs.Order.{IsWrite};
+ghost use Rattle.std.specs.Prelude.{◌≡◌, ◌+◌, ◌*◌, ◌≤◌, ◌<◌, ◌^◌, length, true, IfOk, IfSome};
+ghost use Rattle.image_model.specs.Command.{IsCommand};
 
+use alloc_map::AllocMap;
 use anyhow::{Result, bail};
-use checkpoint::Keeper;
+use checkpoint::{Keeper, KeeperFault};
 use disk_model::SimDisk;
-use image_model::{BLOCK_BYTES, Command, Geometry, Kind};
+use image_model::{BLOCK_BYTES, Command, Geometry, Kind, MOST_BLOCKS};
 use order_book::{Order, OrderFault};
 use std::alloc::{AllocError, Global};
 
 /// The commands of a batch, which fit one group.
 pub const BATCH: u64 = 256;
 
+// The map of so many holes.
+fn holes(alloc: Global, blocks: u64) -> Result<AllocMap, AllocError>
+    requires { blocks ≤ 16777216 }
+    ensures { IfOk result (λ map. length map ≤ 16777216) }
+{
+    AllocMap::new(alloc, blocks)
+}
+
+/// An order over the largest image, which is holes.
+pub fn order(alloc: Global, opening: u64, frames: u32, area: u32) -> Result<Order>
+    requires area { 2097152 ≤ area }
+    requires frames { frames + 3 < 2 ^ 31 }
+{
+    let map = holes(alloc, MOST_BLOCKS)?;
+    Ok(Order::new(alloc, map, opening, frames, area)?)
+}
+
 /// Writes the blocks.
 pub fn put(alloc: Global, first: u64, blocks: u64) -> Result<Command, AllocError>
-    requires some { 1 ≤ blocks }
-    requires few { blocks ≤ 256 }
-    requires range { first < 2 ^ 32 }
-    ensures { IfOk result IsWrite }
+    requires { blocks ≤ 256 }
 {
     let bytes = vec![in alloc; 0x41; (BLOCK_BYTES * blocks) as usize]?;
     Ok(Command::Put { first, bytes })
 }
 
 /// Makes a hole of the blocks.
-pub fn clear(first: u64, blocks: u32) -> Command
-    requires some { 1 ≤ blocks }
-    requires range { first < 2 ^ 32 }
-    ensures { IsWrite result }
-{
+pub fn clear(first: u64, blocks: u32) -> Command {
     Command::Clear {
         first,
         blocks,
@@ -39,8 +50,6 @@ pub fn clear(first: u64, blocks: u32) -> Command
 pub fn batch(alloc: Global, start: u64, dirty: u64) -> Result<Vec<Command>, AllocError>
     requires start { start < 2 ^ 32 }
     requires some { 0 < dirty }
-    requires few { dirty < 2 ^ 32 }
-    ensures { IfOk result (λ commands. All IsWrite commands.items) }
 {
     let mut commands = Vec::new(alloc);
     for place in start * BATCH..(start + 1) * BATCH {
@@ -49,20 +58,64 @@ pub fn batch(alloc: Global, start: u64, dirty: u64) -> Result<Vec<Command>, Allo
     Ok(commands)
 }
 
-/// Accepts the command, and lets it go where it is refused.
-pub fn accept(order: &mut Order, command: Command) -> Result<u64, OrderFault>
-    requires { IsWrite command }
+// Whether so many blocks from the first one on are some, and lie in an image.
+fn is_range(image: u64, first: u64, blocks: u64) -> bool
+    ensures some { result ≡ true → 1 ≤ blocks }
+    ensures inside { result ≡ true → first + blocks ≤ image }
 {
-    match order.accept(command) {
+    1 <= blocks && blocks <= image && first <= image - blocks
+}
+
+// How many blocks the bytes fill, where these are whole and no more than a command has.
+fn whole_blocks(bytes: &[u8]) -> Option<u64>
+    ensures whole { IfSome result (λ blocks. length bytes.now ≡ 4096 * blocks) }
+    ensures few { IfSome result (λ blocks. blocks ≤ 256) }
+{
+    let blocks = bytes.len() as u64 / BLOCK_BYTES;
+    if bytes.len() as u64 != BLOCK_BYTES * blocks {
+        return None;
+    }
+    if blocks > 256 {
+        return None;
+    }
+    Some(blocks)
+}
+
+// Whether an image of so many blocks takes the command.
+fn is_inside(image: u64, command: &Command) -> bool
+    ensures { result ≡ true → IsCommand image command.now }
+{
+    match command {
+        Command::Put { first, bytes } => match whole_blocks(bytes) {
+            Some(blocks) => is_range(image, *first, blocks),
+            None => false,
+        },
+        Command::Clear {
+            first,
+            blocks,
+            kind,
+        } => *kind != Kind::Data && is_range(image, *first, *blocks as u64),
+    }
+}
+
+/// What the order says to the command, which has to lie in the image.
+pub fn offer(order: &mut Order, command: Command) -> Result<Result<u64, (OrderFault, Command)>> {
+    if !is_inside(order.blocks(), &command) {
+        bail!("outside the image")
+    }
+    Ok(order.accept(command))
+}
+
+/// Accepts the command, and lets it go where it is refused.
+pub fn accept(order: &mut Order, command: Command) -> Result<u64> {
+    match offer(order, command)? {
         Ok(number) => Ok(number),
-        Err((fault, _)) => Err(fault),
+        Err((fault, _)) => Err(fault.into()),
     }
 }
 
 /// Accepts the commands, the last one first.
-pub fn accept_all(order: &mut Order, mut commands: Vec<Command>) -> Result<(), OrderFault>
-    requires { All IsWrite commands.items }
-{
+pub fn accept_all(order: &mut Order, mut commands: Vec<Command>) -> Result<()> {
     while let Some(command) = commands.pop() {
         let _number = accept(order, command)?;
     }
@@ -92,4 +145,18 @@ pub fn store(order: &mut Order, keeper: &mut Keeper<SimDisk>) -> Result<()> {
         order.publish(keeper);
     }
     Ok(())
+}
+
+/// Moves all that is stored into map and data.
+pub fn checkpoint(keeper: &mut Keeper<SimDisk>) -> Result<()> {
+    keeper.rotate()?;
+    for _ in 0..MOST_BLOCKS {
+        match keeper.copy_some(256) {
+            Ok(_) => {}
+            Err(KeeperFault::NotNow) => break,
+            Err(fault) => return Err(fault.into()),
+        }
+    }
+    keeper.write_map()?;
+    Ok(keeper.finish()?)
 }

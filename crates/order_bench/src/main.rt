@@ -1,10 +1,12 @@
-//! What the order of commands costs: accepts of 4 KiB puts a second, by the number of dirty blocks.
+//! What the order of commands costs: accepts of 4 KiB puts a second, by the number of dirty blocks, reads from memory,
+//! and letting go of frames.
 #![tactic(auto)]
 
-ghost use Rattle.std.specs.Prelude.{◌<◌, ◌^◌};
+ghost use Rattle.std.specs.Prelude.{◌<◌, ◌≤◌, ◌^◌};
 
 mod limits;
 mod load;
+mod reads;
 
 use anyhow::Result;
 use checkpoint::Keeper;
@@ -19,6 +21,9 @@ const FRAMES: u32 = 65_536;
 /// The bytes of an area that takes all that is accepted.
 const AREA_BYTES: u32 = 536_870_912;
 
+/// How many blocks are dirty where reads and a clean are measured.
+const DIRTY: u64 = 60_000;
+
 /// How many batches are accepted at each number of dirty blocks.
 const BATCHES: u64 = 200;
 
@@ -27,7 +32,7 @@ fn order_with(alloc: Global, dirty: u64, keeper: &mut Keeper<SimDisk>) -> Result
     requires some { 0 < dirty }
     requires few { dirty < 2 ^ 32 }
 {
-    let mut order = Order::new(alloc, keeper.count(), FRAMES, keeper.geometry().area);
+    let mut order = load::order(alloc, keeper.count(), FRAMES, keeper.geometry().area)?;
     for start in 0..dirty.div_ceil(load::BATCH) {
         let commands = load::batch(alloc, start, dirty)?;
         load::accept_all(&mut order, commands)?;
@@ -83,16 +88,59 @@ fn accepts(rt: &HostRuntime, alloc: Global, dirty: u64) -> Result<Duration>
     timed_batches(rt, alloc, dirty, &mut order, &mut keeper)
 }
 
-fn measure(rt: &HostRuntime, alloc: Global) -> Result<()> {
-    let mut first = None;
+// How many of these a second.
+fn rate(times: u64, time: Duration) -> u128 {
+    u128::from(times).saturating_mul(1_000_000_000) / time.as_nanos().max(1)
+}
+
+fn measure_accepts(rt: &HostRuntime, alloc: Global) -> Result<()> {
     for dirty in [100, 10_000, 60_000] {
-        let nanos = accepts(rt, alloc, dirty)?.as_nanos().max(1);
-        let rate = (BATCHES * load::BATCH) as u128 * 1_000_000_000 / nanos;
-        let base = *first.get_or_insert(rate);
-        let percent = rate * 100 / base.max(1);
-        println!(rt; "{dirty} dirty blocks: {rate} accepts a second, {percent}% of the first")?;
+        let rate = rate(BATCHES * load::BATCH, accepts(rt, alloc, dirty)?);
+        println!(rt; "{dirty} dirty blocks: {rate} accepts a second")?;
     }
     Ok(())
+}
+
+// Reads of blocks that are all dirty, so many in each.
+fn measure_read(rt: &HostRuntime, alloc: Global, order: &Order, blocks: u64) -> Result<()>
+    requires some { 0 < blocks }
+    requires few { blocks ≤ 256 }
+{
+    let read = reads::reads(rt, alloc, order, DIRTY, blocks)?.as_micros();
+    let plain = reads::plain_reads(rt, alloc, DIRTY, blocks)?.as_micros();
+    println!(rt; "reads of {blocks} blocks: {read} us, plain copies {plain} us")?;
+    Ok(())
+}
+
+// A clean of blocks that are all dirty.
+fn measure_clean(rt: &HostRuntime, order: &mut Order, keeper: &Keeper<SimDisk>) -> Result<()> {
+    let begin = Instant::now(rt)?;
+    let some = order.clean(keeper);
+    let time = begin.elapsed(rt)?.as_micros();
+    println!(rt; "a clean of {DIRTY} frames: {time} us, {some}")?;
+    Ok(())
+}
+
+// Reads from an order, and a clean of it.
+fn measure_order(
+    rt: &HostRuntime,
+    alloc: Global,
+    order: &mut Order,
+    keeper: &mut Keeper<SimDisk>,
+) -> Result<()> {
+    measure_read(rt, alloc, order, 1)?;
+    measure_read(rt, alloc, order, 256)?;
+    load::checkpoint(keeper)?;
+    measure_clean(rt, order, keeper)
+}
+
+fn measure_reads(rt: &HostRuntime, alloc: Global, dirty: u64) -> Result<()>
+    requires some { 0 < dirty }
+    requires few { dirty < 2 ^ 32 }
+{
+    let mut keeper = load::keeper(alloc, FRAMES as u64, AREA_BYTES)?;
+    let mut order = order_with(alloc, dirty, &mut keeper)?;
+    measure_order(rt, alloc, &mut order, &mut keeper)
 }
 
 // What stands at the limits: groups, dirty blocks, and what isn't durable.
@@ -125,7 +173,8 @@ fn print_stored(rt: &impl Print, alloc: Global) -> Result<()> {
 fn main(rt: HostRuntime) -> Result<()> {
     let alloc = rt.alloc();
     if env::args(&rt)?.any(|word| word.as_str() == "--measure") {
-        return measure(&rt, alloc);
+        measure_accepts(&rt, alloc)?;
+        return measure_reads(&rt, alloc, DIRTY);
     }
     print_stored(&rt, alloc)?;
     print_limits(&rt, alloc)

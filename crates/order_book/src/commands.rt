@@ -3,7 +3,9 @@ ghost use Rattle.std.specs.FinMap.{len};
 ghost use Rattle.image_model.specs.Change.{change_of};
 ghost use Rattle.image_model.specs.Command.{IsCommand};
 ghost use Rattle.image_model.specs.Dirty.{dirty_after, clean_through, frames_suffice};
+ghost use Rattle.image_model.specs.Image.{Image, apply as image_after};
 ghost use Rattle.order_book.specs.Cached.{ShowsCommand, cache_after, cache_cleaned, dirty_of, frames_of};
+ghost use Rattle.order_book.specs.Shown.{ShowsImage};
 ghost use Rattle.shared_cache.specs.Blocks.{DirtyBlock};
 ghost use Rattle.shared_cache.specs.View.{ShowsClean};
 
@@ -36,6 +38,7 @@ pub(crate) fn apply(cache: &mut Cache, command: &Command, number: u64) -> Result
     requires order { All (λ (held : DirtyBlock). held.number ≤ number) cache.old.blocks.dirty }
     ensures after { OnOk result (cache.new ≡ cache_after cache.old number (change_of command.now)) }
     ensures view { OnOk result (ShowsCommand (change_of command.now) cache.old cache.new) }
+    ensures image { OnOk result ((image : Image) → ShowsImage image cache.old → ShowsImage (image_after (change_of command.now) image) cache.new) }
     ensures dirty { OnOk result (dirty_of cache.new ≡ dirty_after (dirty_of cache.old) number (change_of command.now)) }
     ensures kept { frames_of cache.new ≡ frames_of cache.old }
     ensures blocks { length cache.new.states ≡ length cache.old.states }
@@ -66,6 +69,7 @@ pub(crate) fn apply(cache: &mut Cache, command: &Command, number: u64) -> Result
 pub(crate) fn clean_through(cache: &mut Cache, number: u64) -> bool
     ensures after { cache.new ≡ cache_cleaned cache.old number }
     ensures view { ShowsClean number cache.old cache.new }
+    ensures image { (image : Image) → ShowsImage image cache.old → ShowsImage image cache.new }
     ensures dirty { dirty_of cache.new ≡ clean_through (dirty_of cache.old) number }
     ensures kept { frames_of cache.new ≡ frames_of cache.old }
     ensures any { IsTrue result ↔ (len (dirty_of cache.new) < len (dirty_of cache.old)) }

@@ -1,10 +1,13 @@
-ghost use Rattle.std.specs.Prelude.{◌≡◌, ◌+◌, ◌<◌, ◌≤◌, ◌↔◌, ◌^◌, [], ℕ, List, length, slice_index_or, true, false, ◌⊎◌, Some, IsErr, IsErrAnd, IfErr, IfOk, IfSome, IfNone, IsTrue, OnErr, OnOk};
+ghost use Rattle.std.specs.Prelude.{◌≡◌, ◌+◌, ◌*◌, ◌<◌, ◌≤◌, ◌↔◌, ◌^◌, [], ℕ, List, length, slice_index, slice_index_or, true, false, ◌⊎◌, Some, IsErr, IsErrAnd, IfErr, IfOk, IfSome, IfNone, IsTrue, OnErr, OnOk};
 ghost use Rattle.std.specs.FinMap.{len};
+ghost use Rattle.alloc_map.specs.Codes.{state_at};
 ghost use Rattle.alloc_map.specs.Runs.{AreRuns};
 ghost use Rattle.image_model.specs.Bodies.{body_limit};
 ghost use Rattle.image_model.specs.Change.{change_of};
 ghost use Rattle.image_model.specs.Command.{IsCommand};
+ghost use Rattle.image_model.specs.Image.{Image, apply as image_after};
 ghost use Rattle.order_book.specs.Cached.{ShowsCommand};
+ghost use Rattle.order_book.specs.Shown.{ShowsImage, IsZeroOutsideData};
 ghost use Rattle.order_book.specs.Order.{OrderState, new_order, IsNumbered, has_room, refusal_of, with_command, with_clean, Seals, IsInHand, with_group, with_durable};
 ghost use Rattle.shared_cache.specs.Cache.{LacksBytes, bytes_seen};
 ghost use Rattle.shared_cache.specs.View.{ShowsClean};
@@ -89,7 +92,9 @@ impl Order {
         requires area { 2097152 ≤ area }
         requires frames { frames + 3 < 2 ^ 31 }
         requires few { length map ≤ 16777216 }
-        ensures { IfOk result (λ order. order ≡ new_order map opening frames area) }
+        ensures made { IfOk result (λ order. order ≡ new_order map opening frames area) }
+        ensures image { (image : Image) → ((block : ℕ) → state_at map block ≡ image.kind block) → IsZeroOutsideData image
+            → IfOk result (λ order. ShowsImage image order.cache) }
     {
         let cache = Cache::new(alloc, map, frames)?;
         Ok(Order {
@@ -104,6 +109,13 @@ impl Order {
             area,
             stopped: false,
         })
+    }
+
+    /// How many blocks the image has.
+    pub fn blocks(&self) -> u64
+        ensures { result ≡ length self.now.cache.states }
+    {
+        self.cache.map().blocks()
     }
 
     /// The last number before the first command.
@@ -157,6 +169,7 @@ impl Order {
         ensures number { IfOk result (λ number. number ≡ self.old.mark + 1) }
         ensures accepted { OnOk result (self.new ≡ with_command self.old command) }
         ensures view { OnOk result (ShowsCommand (change_of command) self.old.cache self.new.cache) }
+        ensures image { OnOk result ((image : Image) → ShowsImage image self.old.cache → ShowsImage (image_after (change_of command) image) self.new.cache) }
         ensures blocks { length self.new.cache.states ≡ length self.old.cache.states }
         ensures handed_back { IfErr result (λ refused. refused.1 ≡ command) }
         ensures unchanged { OnErr result (self.new ≡ self.old) }
@@ -268,6 +281,7 @@ impl Order {
     pub fn clean<D: Disk>(&mut self, keeper: &Keeper<D>) -> bool
         ensures new { self.new ≡ with_clean self.old keeper.now.base }
         ensures view { ShowsClean keeper.now.base self.old.cache self.new.cache }
+        ensures image { (image : Image) → ShowsImage image self.old.cache → ShowsImage image self.new.cache }
         ensures any { IsTrue result ↔ (len self.new.dirty < len self.old.dirty) }
         ensures none { (result ≡ false) ↔ (self.new ≡ self.old) }
     {
@@ -279,6 +293,8 @@ impl Order {
     pub fn read_cached(&self, first: u64, into: &mut [[u8; 4096]]) -> Result<(), Missing>
         requires range { first + length into.old ≤ length self.now.cache.states }
         ensures ok { OnOk result ((k : ℕ) (d : List ℕ) → k < length into.new → bytes_seen self.now.cache (first + k) ≡ Some (slice_index_or into.new k d)) }
+        ensures image { (image : Image) → ShowsImage image self.now.cache → OnOk result ((j k : ℕ) → j < length into.new → k < 4096
+            → slice_index (slice_index_or into.new j []) k ≡ image.byte (4096 * (first + j) + k)) }
         ensures missing { IsErr result ↔ LacksBytes self.now.cache first (length into.old) }
     {
         self.cache.read_cached(first, into)

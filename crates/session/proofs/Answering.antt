@@ -1,5 +1,5 @@
 -- How requests are answered one after another.
-use Rattle.std.proofs.Common.{◌≡◌, ℕ, Bool, true, List, [], ◌∷◌, ◌++◌, Option, Some, None, Result, Ok, Err, refl, sym, ap, subst, ◌∙◌, append_assoc}
+use Rattle.std.proofs.Common.{◌≡◌, ℕ, Bool, true, List, [], ◌∷◌, ◌++◌, Option, Result, Ok, Err, refl, sym, ap, subst, ◌∙◌, append_assoc}
 use Rattle.std.proofs.lemmas.List.{append-nil, reverse-append, reverse-reverse}
 use Rattle.std.specs.Prelude.{IsErr, is_ok, reverse}
 use Rattle.std.specs.Io.KnownBytes.{Appends}
@@ -7,18 +7,20 @@ use Rattle.nbd_wire.specs.Request.{Message}
 use Rattle.nbd_wire.specs.declared.message.Reply.{Reply}
 use Rattle.nbd_wire.specs.declared.message.SessionFlags.{SessionFlags}
 use Rattle.negotiation.specs.declared.end.End.{End}
-use Rattle.session.specs.Streams.{Writes, WritesPart}
-use Rattle.session.specs.Talk.{Answers, AreSteps, Exchange, IsStep, Serves, asked, exchange_text, talk_text}
-use Rattle.session.proofs.Bytes.{appends_none, appends_on}
+use Rattle.byte_streams.specs.Streams.{WritesPart}
+use Rattle.byte_streams.specs.declared.streams.StreamFault.{StreamFault}
+use Rattle.session.specs.Streams.{Writes}
+use Rattle.session.specs.Talk.{Answers, AreSteps, Exchange, Serves, asked, exchange_text, talk_text}
+use Rattle.byte_streams.proofs.Bytes.{appends_none, appends_on}
 
 -- ---- writing
 
 pub writes_nothing : (output : Option (List ℕ)) (due : List ℕ) → Writes output output due due true
 writes_nothing output due = record { text = []; unsent = due; begins = refl; written = appends_none output; left = λ e. refl }
 
-pub writes_part : (old new : Option (List ℕ)) (before after : List ℕ) (result : Result (Unit {0}) End) → WritesPart old new before result → after ≡ [] → Writes old new before after (is_ok result)
+pub writes_part : (old new : Option (List ℕ)) (before after : List ℕ) (result : Result (Unit {0}) StreamFault) → WritesPart old new before result → after ≡ [] → Writes old new before after (is_ok result)
 writes_part old new before after (Ok done) part none = record { text = before; unsent = []; begins = sym (append-nil before); written = part; left = λ e. none }
-writes_part old new before after (Err end) part none = record { text = part.0; unsent = part.1; begins = part.2; written = part.3; left = λ e. cc }
+writes_part old new before after (Err fault) part none = record { text = part.0; unsent = part.1; begins = part.2; written = part.3; left = λ e. cc }
 
 pub err_not_ok : (result : Result (Unit {0}) End) → IsErr result → is_ok result ≡ true → ⊥
 err_not_ok (Ok done) is ok = cc

@@ -1,11 +1,11 @@
 -- How what a session heard goes on.
-use Rattle.std.proofs.Common.{◌≡◌, ℕ, ◌<◌, Bool, true, false, List, [], ◌∷◌, ◌++◌, Option, Some, None, Result, Ok, Err, ◌⊎◌, inl, inr, refl, sym, ap, subst, ◌∙◌, append_assoc, length, vec_len, arith}
+use Rattle.std.proofs.Common.{◌≡◌, ℕ, ◌<◌, true, false, List, [], ◌∷◌, ◌++◌, Option, Some, None, Result, Ok, Err, ◌⊎◌, inl, inr, refl, sym, ap, subst, ◌∙◌, append_assoc, length, vec_len, arith}
 use Rattle.std.proofs.lemmas.List.{append-nil}
 use Rattle.std.specs.Global.{Vec}
 use Rattle.std.specs.Prelude.{IfErr, IfOk, IsErrAnd}
 use Rattle.std.specs.Io.KnownBytes.{Appends, Consumes, Keeps}
 use Rattle.nbd_wire.specs.Request.{Message}
-use Rattle.nbd_wire.specs.Stream.{Reader, failed, in_data as keeps_data, in_discard as keeps_count, in_head as keeps_head, reading, starved}
+use Rattle.nbd_wire.specs.Stream.{failed, in_data as keeps_data, in_discard as keeps_count, in_head as keeps_head, reading, starved}
 use Rattle.negotiation.specs.Dialog.{Standing, Turn, broken, ended, exhausted, in_discard, in_flags, in_head, in_option, in_requests, replies_text, silent}
 use Rattle.negotiation.specs.Session.{Feeds, HearsOn, IsBehind, IsSaid, SessionState, end_of, greeting_due, handed}
 use Rattle.negotiation.specs.declared.end.End.{End}
@@ -15,7 +15,7 @@ use Rattle.session.specs.Hearing.{Hearing, Tells}
 use Rattle.session.specs.Streams.{Writes}
 use Rattle.option_wire.specs.Handshake.{greeting_bytes}
 use Rattle.negotiation.specs.Answered.{replies_bytes}
-use Rattle.session.proofs.Bytes.{appends_none, appends_on, consumes_kept, consumes_none, consumes_on}
+use Rattle.byte_streams.proofs.Bytes.{appends_none, appends_on, consumes_kept, consumes_none, consumes_on}
 
 pub no_greeting : (old new : Standing) → IsSaid old → greeting_due old new ≡ []
 no_greeting silent new said = absurd said

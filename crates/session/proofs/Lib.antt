@@ -1,5 +1,5 @@
 pub mod Answering
-pub mod Bytes
 pub mod Hearing
+pub mod OneDialog
 pub mod Serving
 pub mod Transmitting

@@ -1,24 +1,23 @@
 -- A whole session, from its handshake and what came behind it.
-use Rattle.std.proofs.Common.{◌≡◌, ℕ, ◌<◌, List, [], ◌∷◌, ◌++◌, Option, Some, None, Result, Ok, Err, ◌⊎◌, inl, inr, refl, sym, ap, subst, ◌∙◌, append_assoc, arith}
+use Rattle.std.proofs.Common.{◌≡◌, ℕ, List, [], ◌∷◌, ◌++◌, Option, Result, Ok, Err, inl, inr, refl, sym, ap, subst, ◌∙◌, append_assoc}
 use Rattle.std.proofs.lemmas.List.{append-nil}
 use Rattle.std.specs.Global.{Vec}
 use Rattle.std.specs.Prelude.{IsErrAnd}
-use Rattle.std.specs.Io.KnownBytes.{Appends, Consumes, IsAtEnd}
+use Rattle.std.specs.Io.KnownBytes.{Consumes, IsAtEnd}
 use Rattle.nbd_wire.specs.Request.{Message}
 use Rattle.nbd_wire.specs.declared.message.Reply.{Reply}
 use Rattle.nbd_wire.specs.declared.message.SessionFlags.{SessionFlags}
-use Rattle.negotiation.specs.Dialog.{Asks, Follows, Hears, IsOver, Leaves, Negotiates, Outcome, Standing, Turn, broken, ended, exhausted, in_discard, in_flags, in_head, in_option, in_requests, handshake_text, plain, replies_text, silent}
-use Rattle.negotiation.specs.Session.{HearsOn, IsBehind, IsSaid, SessionState, end_of, greeting_due, outcome_of}
+use Rattle.negotiation.specs.Dialog.{Asks, Follows, Hears, Leaves, Negotiates, Outcome, Standing, Turn, broken, ended, exhausted, in_discard, in_flags, in_head, in_option, in_requests, handshake_text, plain, replies_text, silent}
+use Rattle.negotiation.specs.Session.{IsBehind, IsSaid, SessionState, end_of, greeting_due, outcome_of}
 use Rattle.negotiation.specs.declared.answer.Next.{Next}
 use Rattle.negotiation.specs.declared.answer.Next.TheVariants as behind
 use Rattle.negotiation.specs.declared.end.End.{End}
 use Rattle.negotiation.specs.declared.end.End.TheVariants.{IoFault, NoMemory, PeerClosed, ProtocolEnd}
-use Rattle.option_wire.specs.Handshake.{greeting_bytes}
 use Rattle.session.specs.Hearing.{Hearing}
-use Rattle.session.specs.Serving.{Ends, IsAll, IsServed, Stands, Transmits, dialog}
+use Rattle.session.specs.Serving.{Ends, IsServed, Stands, Transmits, dialog}
 use Rattle.session.specs.Streams.{IsEarly}
-use Rattle.session.specs.Talk.{AreSteps, Exchange, asked, talk_text}
-use Rattle.session.proofs.Bytes.{appends_none, appends_on, consumes_none, consumes_on}
+use Rattle.session.specs.Talk.{AreSteps, talk_text}
+use Rattle.byte_streams.proofs.Bytes.{appends_none, appends_on, consumes_none, consumes_on}
 use Rattle.session.proofs.Hearing.{due_said}
 use Rattle.session.proofs.Transmitting.{behind_said, early_ends, front_none}
 
@@ -75,17 +74,14 @@ module _ {P : Type 0} (allows : P → Message → SessionFlags → P → Reply �
   served_nothing end early = record {
     stream = [];
     unheard = [];
-    turns = [];
     outcome = outcome_of [] (begun size);
     exchanges = [];
     unanswered = [];
     text = [];
     unsent = dialog [] plain [];
     read = consumes_none input;
-    hears = hears_silent size;
-    requests = refl;
+    owed = record { turns = []; hears = hears_silent size; requests = refl; whole = refl };
     steps = refl;
-    begins = refl;
     written = appends_none output;
     ends = early_ends end early silent [] (dialog [] plain []) [] input;
   }
@@ -112,17 +108,14 @@ module _ {P : Type 0} (allows : P → Message → SessionFlags → P → Reply �
         record {
           stream = h.stream;
           unheard = h.unheard;
-          turns = h.turns;
           outcome = outcome_of h.requests h.between;
           exchanges = [];
           unanswered = h.requests;
           text = h.text;
           unsent = said_so.left;
           read = h.read;
-          hears = heard;
-          requests = refl;
+          owed = record { turns = h.turns; hears = heard; requests = refl; whole = sym (append-nil (handshake_text h.turns) ∙ said_so.begins) };
           steps = refl;
-          begins = append-nil (handshake_text h.turns) ∙ said_so.begins;
           written = h.written;
           ends = ends_with end h said_so.left said_so.all said closed;
         }
@@ -158,17 +151,19 @@ module _ {P : Type 0} (allows : P → Message → SessionFlags → P → Reply �
           record {
             stream = h.stream ++ t.stream;
             unheard = t.unheard;
-            turns = h.turns;
             outcome = outcome_of (h.requests ++ t.more) t.between;
             exchanges = t.exchanges;
             unanswered = t.unanswered;
             text = h.text ++ t.text;
             unsent = t.unsent;
             read = subst (Consumes input left) read (consumes_on input mid left (h.stream ++ h.unheard) t.taken h.read t.read);
-            hears = subst (λ (turns : List Turn). Hears size (h.stream ++ t.stream) turns (outcome_of (h.requests ++ t.more) t.between)) (append-nil h.turns) (t.hears h.stream h.turns h.requests heard);
-            requests = ap (λ (r : List Message). r ++ t.more) h.tells.0 ∙ t.requests;
+            owed = record {
+              turns = h.turns;
+              hears = subst (λ (turns : List Turn). Hears size (h.stream ++ t.stream) turns (outcome_of (h.requests ++ t.more) t.between)) (append-nil h.turns) (t.hears h.stream h.turns h.requests heard);
+              requests = ap (λ (r : List Message). r ++ t.more) h.tells.0 ∙ t.requests;
+              whole = sym (ap (λ (x : List ℕ). x ++ talk_text t.between.flags t.exchanges) said ∙ ap (λ (x : List ℕ). h.text ++ x) (ap (λ (f : SessionFlags). talk_text f t.exchanges) (sym flags) ∙ t.begins) ∙ sym (append_assoc h.text t.text t.unsent));
+            };
             steps = subst (λ (f : SessionFlags). AreSteps allows f pass t.exchanges later) flags t.steps;
-            begins = ap (λ (x : List ℕ). x ++ talk_text t.between.flags t.exchanges) said ∙ ap (λ (x : List ℕ). h.text ++ x) (ap (λ (f : SessionFlags). talk_text f t.exchanges) (sym flags) ∙ t.begins) ∙ sym (append_assoc h.text t.text t.unsent);
             written = appends_on output made told h.text t.text h.written t.written;
             ends = t.ends;
           }

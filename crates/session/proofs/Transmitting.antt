@@ -1,11 +1,10 @@
 -- How a session goes on behind its handshake.
-use Rattle.std.proofs.Common.{◌≡◌, ℕ, ◌<◌, Bool, true, false, List, [], ◌∷◌, ◌++◌, Option, Some, None, Result, Ok, Err, ◌⊎◌, inl, inr, refl, sym, ap, subst, ◌∙◌, append_assoc, vec_len}
+use Rattle.std.proofs.Common.{◌≡◌, ℕ, Bool, true, List, [], ◌∷◌, ◌++◌, Option, Some, Result, Ok, Err, inl, inr, refl, sym, ap, subst, ◌∙◌, append_assoc}
 use Rattle.std.proofs.lemmas.List.{append-nil}
 use Rattle.std.specs.Global.{Vec}
 use Rattle.std.specs.Prelude.{IsErrAnd}
 use Rattle.std.specs.Io.KnownBytes.{Appends, Consumes, IsAtEnd}
 use Rattle.nbd_wire.specs.Request.{Message}
-use Rattle.nbd_wire.specs.Stream.{Reader}
 use Rattle.nbd_wire.specs.declared.message.Reply.{Reply}
 use Rattle.nbd_wire.specs.declared.message.SessionFlags.{SessionFlags}
 use Rattle.negotiation.specs.Dialog.{Standing, Turn, broken, ended, exhausted, in_discard, in_flags, in_head, in_option, in_requests, replies_text, silent}
@@ -14,11 +13,11 @@ use Rattle.negotiation.specs.declared.end.End.{End}
 use Rattle.negotiation.specs.declared.end.End.TheVariants.{IoFault, NoMemory, PeerClosed, ProtocolEnd}
 use Rattle.negotiation.proofs.Dialogs.{hears_none, hears_then}
 use Rattle.session.specs.Hearing.{Hearing}
-use Rattle.session.specs.Serving.{Ends, IsAll, Stands, Transmits}
+use Rattle.session.specs.Serving.{Ends, Stands, Transmits}
 use Rattle.session.specs.Streams.{IsEarly}
 use Rattle.session.specs.Talk.{Answers, AreSteps, Exchange, asked, talk_text}
 use Rattle.session.proofs.Answering.{asked-append, steps_on, talk_text-append}
-use Rattle.session.proofs.Bytes.{appends_none, appends_on, consumes_none, consumes_on}
+use Rattle.byte_streams.proofs.Bytes.{appends_none, appends_on, consumes_none, consumes_on}
 use Rattle.session.proofs.Hearing.{no_greeting}
 
 pub early_ends : (end : Result (Unit {0}) End) → IsErrAnd end IsEarly → (standing : Standing) (unheard unsent : List ℕ) (unanswered : List Message) (left : Option (List ℕ)) → Ends standing unheard unsent unanswered left end

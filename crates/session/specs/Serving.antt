@@ -1,5 +1,5 @@
 -- What a session over streams reads, whom it asks for answers, and what it writes.
-use Rattle.std.specs.Prelude.{ℕ, ◌≡◌, ◌⊎◌, ◌*◌, List, [], ◌++◌, Option, Some, None, Result, Ok, Err}
+use Rattle.std.specs.Prelude.{ℕ, ◌≡◌, ◌⊎◌, List, [], ◌++◌, Option, Some, None, Result, Ok, Err}
 use Rattle.std.specs.Io.KnownBytes.{Appends, Consumes, IsAtEnd}
 use Rattle.nbd_wire.specs.Request.{Message}
 use Rattle.nbd_wire.specs.declared.message.Reply.{Reply}
@@ -8,11 +8,25 @@ use Rattle.negotiation.specs.Dialog.{Hears, Outcome, Standing, Turn, ended, hand
 use Rattle.negotiation.specs.Session.{HearsOn, IsBehind, SessionState, end_of}
 use Rattle.negotiation.specs.declared.end.End.{End}
 use Rattle.negotiation.specs.declared.end.End.TheVariants.{IoFault, NoMemory, PeerClosed, ProtocolEnd}
-use Rattle.session.specs.Talk.{AreSteps, Exchange, asked, talk_text}
+use Rattle.session.specs.Talk.{AreSteps, Exchange, answered, asked, talk_text}
 
 -- The text that a session owes for what it heard: the handshake's, and the reply to each request.
 abbrev pub dialog : List Turn → SessionFlags → List Exchange → List ℕ
 dialog turns flags exchanges = handshake_text turns ++ talk_text flags exchanges
+
+-- This text is the dialog of a stream: the options in it have their answers, and the first of its requests these replies.
+pub record IsDialog (size : ℕ) (stream : List ℕ) (outcome : Outcome) (exchanges : List Exchange) (unanswered : List Message) (text : List ℕ) : Type 0 where
+  pub turns : List Turn
+  pub hears : Hears size stream turns outcome
+  pub requests : outcome.requests ≡ asked exchanges ++ unanswered
+  pub whole : text ≡ dialog turns outcome.flags exchanges
+
+-- the dialog is a function of the stream and of the replies
+abbrev pub OneDialog : Type 0
+OneDialog =
+    (size : ℕ) (stream : List ℕ) (outcome other : Outcome) (exchanges others : List Exchange) (unanswered left : List Message)
+    (text same : List ℕ) → IsDialog size stream outcome exchanges unanswered text → IsDialog size stream other others left same
+    → answered exchanges ≡ answered others → (exchanges ≡ others) × (unanswered ≡ left) × (text ≡ same)
 
 -- Everything that was read was heard, each request has its reply, and all of the text is written.
 pub record IsAll (unheard unsent : List ℕ) (unanswered : List Message) : Type 0 where
@@ -32,21 +46,18 @@ Ends standing unheard unsent unanswered left (Err ProtocolEnd) =
 Ends standing unheard unsent unanswered left (Err IoFault) = Unit {0}
 
 -- Of what was read a first part was heard. The first of its requests had their steps, each allowed from where the one before it
--- left the pass, and what is written is a beginning of the text of the handshake and of the replies to these.
+-- left the pass, and what is written is a beginning of the dialog with these replies.
 pub record IsServed {P : Type 0} (allows : P → Message → SessionFlags → P → Reply → Type 0) (size : ℕ) (old new : P) (input left output made : Option (List ℕ)) (end : Result (Unit {0}) End) : Type 0 where
   pub stream : List ℕ
   pub unheard : List ℕ
-  pub turns : List Turn
   pub outcome : Outcome
   pub exchanges : List Exchange
   pub unanswered : List Message
   pub text : List ℕ
   pub unsent : List ℕ
   pub read : Consumes input left (stream ++ unheard)
-  pub hears : Hears size stream turns outcome
-  pub requests : outcome.requests ≡ asked exchanges ++ unanswered
+  pub owed : IsDialog size stream outcome exchanges unanswered (text ++ unsent)
   pub steps : AreSteps allows outcome.flags old exchanges new
-  pub begins : dialog turns outcome.flags exchanges ≡ text ++ unsent
   pub written : Appends output made text
   pub ends : Ends outcome.standing unheard unsent unanswered left end
 

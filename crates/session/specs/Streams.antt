@@ -1,13 +1,8 @@
 -- What writing to a stream comes to.
-use Rattle.std.specs.Prelude.{ℕ, ◌≡◌, Bool, true, List, ◌++◌, Option, Result, Ok, Err}
+use Rattle.std.specs.Prelude.{ℕ, ◌≡◌, Bool, true, List, ◌++◌, Option}
 use Rattle.std.specs.Io.KnownBytes.{Appends}
 use Rattle.negotiation.specs.declared.end.End.{End}
 use Rattle.negotiation.specs.declared.end.End.TheVariants.{IoFault, NoMemory, PeerClosed, ProtocolEnd}
-
--- bytes were written, all or after a fault the first of them
-abbrev pub WritesPart : Option (List ℕ) → Option (List ℕ) → List ℕ → Result (Unit {0}) End → Type 0
-WritesPart old new bytes (Ok done) = Appends old new bytes
-WritesPart old new bytes (Err end) = (first rest : List ℕ) × (bytes ≡ first ++ rest) × Appends old new first
 
 -- an end that says nothing of the input
 abbrev pub IsEarly : End → Type 0

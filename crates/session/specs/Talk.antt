@@ -1,5 +1,5 @@
 -- What an export answers the requests of a session, and the text of its replies ("Transmission" of NBD's proto.md).
-use Rattle.std.specs.Prelude.{ℕ, ◌≡◌, ◌⊎◌, Bool, true, false, not, ◌&&◌, ◌==◌, nat_lt, bit_and, List, [], ◌∷◌, ◌++◌, Option, Result, Ok, Err, map}
+use Rattle.std.specs.Prelude.{ℕ, ◌≡◌, ◌⊎◌, Bool, true, false, not, ◌&&◌, ◌==◌, nat_lt, bit_and, List, [], ◌∷◌, ◌++◌, Option, map}
 use Rattle.std.specs.Io.KnownBytes.{Appends}
 use Rattle.std.specs.List.{flat_map}
 use Rattle.nbd_reply.specs.Reply.{reply_text}
@@ -9,7 +9,6 @@ use Rattle.nbd_wire.specs.declared.head.RequestHead.{RequestHead}
 use Rattle.nbd_wire.specs.declared.message.Answer.TheVariants as answers
 use Rattle.nbd_wire.specs.declared.message.Reply.{Reply}
 use Rattle.nbd_wire.specs.declared.message.SessionFlags.{SessionFlags}
-use Rattle.negotiation.specs.declared.end.End.{End}
 
 -- a request and its reply
 pub record Exchange : Type 0 where
@@ -18,6 +17,9 @@ pub record Exchange : Type 0 where
 
 abbrev pub asked : List Exchange → List Message
 asked exchanges = map (λ exchange. exchange.request) exchanges
+
+abbrev pub answered : List Exchange → List Reply
+answered exchanges = map (λ exchange. exchange.reply) exchanges
 
 -- whether a READ asks for its bytes in one chunk
 abbrev pub is_whole : RequestHead → Bool

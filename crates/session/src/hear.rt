@@ -6,7 +6,7 @@ ghost use Rattle.session.specs.Hearing.{Hearing};
 ghost use Rattle.session.specs.Streams.{IsEarly};
 
 use crate::serve::write_due;
-use crate::streams::read_some;
+use byte_streams::read_some;
 use nbd_wire::Request;
 use negotiation::{End, Session};
 use std::io::{Read, Write};

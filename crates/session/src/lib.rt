@@ -2,10 +2,11 @@
 #![tactic(auto)]
 
 mod hear;
+mod laws;
 mod serve;
 mod session;
-mod streams;
 
 pub use hear::negotiate;
+pub use laws::one_dialog;
 pub use serve::{Serve, answer_all};
 pub use session::{serve_session, transmit};

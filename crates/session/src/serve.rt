@@ -1,15 +1,14 @@
-ghost use Rattle.std.specs.Prelude.{◌≡◌, [], false, is_ok, IfErr, OnOk};
+ghost use Rattle.std.specs.Prelude.{◌≡◌, ◌≤◌, [], false, is_ok, vec_len, IfErr, IsTrue, OnOk};
 ghost use Rattle.nbd_reply.specs.Reply.{IsAnswerTo};
 ghost use Rattle.nbd_wire.specs.Request.{Message};
 ghost use Rattle.nbd_wire.specs.declared.message.Reply.{Reply};
 ghost use Rattle.nbd_wire.specs.declared.message.SessionFlags.{SessionFlags};
 ghost use Rattle.image_model.specs.declared.geometry.Geometry.{Geometry};
-ghost use Rattle.negotiation.specs.declared.end.End.TheVariants.{IoFault};
 ghost use Rattle.session.specs.Streams.{IsEarly, Writes};
 ghost use Rattle.session.specs.Talk.{Answers, IsStep, Serves, is_thrown_away, is_whole};
 
-use crate::streams::write_whole;
 use bitflags::Flags;
+use byte_streams::{StreamFault, write_whole};
 use image_model::Geometry;
 use nbd_reply::encode_reply;
 use nbd_wire::{
@@ -67,13 +66,15 @@ pub fn answer_all<P, S: Serve<P>, W: Write>(
         write_before(waits, output, due)?;
         answer(export, pass, flags, request, due)?;
     }
-    write_due(output, due)
+    write_due(output, due)?;
+    Ok(())
 }
 
 // Writes what is due before an answer that may take its time, and where it is much.
-fn write_before<W: Write>(waits: bool, output: &mut W, due: &mut Vec<u8>) -> Result<(), End>
+fn write_before<W: Write>(waits: bool, output: &mut W, due: &mut Vec<u8>) -> Result<(), StreamFault>
+    ensures waits { IsTrue waits → OnOk result (due.new.items ≡ []) }
+    ensures much { OnOk result (vec_len due.new ≤ 1048576) }
     ensures writes { Writes (W.contents output.old) (W.contents output.new) due.old.items due.new.items (is_ok result) }
-    ensures fault { IfErr result (λ end. end ≡ IoFault) }
 {
     if waits {
         return write_due(output, due);
@@ -85,10 +86,9 @@ fn write_before<W: Write>(waits: bool, output: &mut W, due: &mut Vec<u8>) -> Res
 }
 
 // Writes what is due.
-pub fn write_due<W: Write>(output: &mut W, due: &mut Vec<u8>) -> Result<(), End>
+pub fn write_due<W: Write>(output: &mut W, due: &mut Vec<u8>) -> Result<(), StreamFault>
     ensures none { due.new.items ≡ [] }
     ensures writes { Writes (W.contents output.old) (W.contents output.new) due.old.items due.new.items (is_ok result) }
-    ensures fault { IfErr result (λ end. end ≡ IoFault) }
 {
     if due.is_empty() {
         return Ok(());

@@ -1,9 +1,12 @@
-//! How fast the stream reader takes requests from a stream, and how fast replies to READs are written. With no
-//! argument it reads a short stream, writes some replies and prints a line on each; with `--measure` it
-//! measures, beside a plain copy of the same bytes.
+//! How fast the stream reader takes requests from a stream, how fast replies to READs are written, and how fast a
+//! session serves requests that are answered at once. With no argument it reads a short stream, writes some
+//! replies, serves a short session and prints a line on each; with `--measure` it measures, beside a plain copy
+//! of the same bytes.
 #![tactic(auto)]
 
 ghost use Rattle.std.specs.Prelude.{◌<◌, ◌≤◌};
+
+mod sessions;
 
 use anyhow::Result;
 use nbd_reply::encode_reply;
@@ -192,6 +195,10 @@ fn main(rt: HostRuntime) -> Result<()> {
         measure_replies(&rt, 1, 65536, 4096)?;
         measure_replies(&rt, 1, 256, 1_048_576)?;
         measure_replies(&rt, 16384, 4, 4096)?;
+        sessions::measure(&rt, "WRITE", WRITE, 65536, 4096)?;
+        sessions::measure(&rt, "READ", READ, 65536, 4096)?;
+        sessions::measure(&rt, "WRITE", WRITE, 256, 1_048_576)?;
+        sessions::measure(&rt, "READ", READ, 256, 1_048_576)?;
         return Ok(());
     }
     let stream = writes(rt.alloc(), 64, 4096)?;
@@ -201,5 +208,7 @@ fn main(rt: HostRuntime) -> Result<()> {
     println!(rt; "{requests} requests, {bytes} bytes of data")?;
     let written = write_replies(rt.alloc(), read_replies(rt.alloc(), 64, 4096)?.as_slice())?;
     println!(rt; "64 replies, {written} bytes")?;
+    let (sent, written) = sessions::serve(rt.alloc(), WRITE, 64, 4096)?;
+    println!(rt; "64 WRITEs in a session, {sent} bytes of data, {written} bytes written")?;
     Ok(())
 }

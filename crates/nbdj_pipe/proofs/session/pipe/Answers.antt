@@ -10,13 +10,13 @@ use Rattle.nbdj_pipe.specs.Life.{IsLived}
 use Rattle.nbdj_pipe.specs.Pipe.{IsPiped}
 use Rattle.nbdj_pipe.specs.Session.{Runs}
 use Rattle.nbdj_pipe.specs.Talk.{Exchange}
-use Rattle.nbdj_pipe.proofs.Bytes.{keeps_same}
+use Rattle.byte_streams.proofs.Bytes.{keeps_same}
 use Rattle.nbdj_pipe.proofs.Lives.{lived, starved_opening, told_fault}
 use Rattle.nbdj_pipe.proofs.Sessions.{piped_or}
 use Rattle.nbdj_pipe.proofs.session.pipe.Goals as goal
 
-pub returns-in-Err-new-clause-dialog : goal.returns-in-Err-new-clause-dialog
-returns-in-Err-new-clause-dialog g c = inl (record {
+pub returns-in-Err-fresh_parts-clause-dialog : goal.returns-in-Err-fresh_parts-clause-dialog
+returns-in-Err-fresh_parts-clause-dialog g c = inl (record {
   unread = keeps_same (g.R.Read.remaining c.args.input.now);
   unwritten = keeps_same (g.W.Write.contents c.args.output.now);
   fault = fault.NoMemory;
@@ -39,20 +39,20 @@ returns-clause-dialog g c =
     let done = c.finish-outcome.new.self.export in
     let frames = c.args.options.frames in
     let piped = c.run-end.ensures.dialog in
-    let few : keeper.count < 18446744073709551616 = omega (arith, c.count.ensures, c.count.type_inv) in
-    let order_is : c.new-order.result ≡ new_order keeper.count frames keeper.geometry.area =
-    c.new-order.ensures ∙ ap (λ (n : ℕ). new_order n frames c.geometry.result.area) c.count.ensures ∙ ap (λ (geometry : Geometry). new_order keeper.count frames geometry.area) c.geometry.ensures in
-    let fresh_runs = λ (exchanges : List Exchange) (last : Option Message) (runs : Runs disk.state disk.faults disk.honest c.new-order.result keeper c.in-Ok-new.connections ran.order ran.keeper ran.connections exchanges last c.run-end.result).
-    subst (λ (connections : ConnectionsState). Runs disk.state disk.faults disk.honest (new_order keeper.count frames keeper.geometry.area) keeper connections ran.order ran.keeper ran.connections exchanges last c.run-end.result)
-    c.in-Ok-new.ensures
-    (subst (λ (order : OrderState). Runs disk.state disk.faults disk.honest order keeper c.in-Ok-new.connections ran.order ran.keeper ran.connections exchanges last c.run-end.result) order_is runs) in
+    let few = c.in-Ok-fresh_parts.ensures.few in
+    let parts = c.in-Ok-fresh_parts in
+    let states = parts.ensures.order.0 in
+    let fresh_runs = λ (exchanges : List Exchange) (last : Option Message) (runs : Runs disk.state disk.faults disk.honest parts.parts.0 keeper parts.parts.1 ran.order ran.keeper ran.connections exchanges last c.run-end.result).
+    subst (λ (connections : ConnectionsState). Runs disk.state disk.faults disk.honest (new_order states keeper.count frames keeper.geometry.area) keeper connections ran.order ran.keeper ran.connections exchanges last c.run-end.result)
+    parts.ensures.connections
+    (subst (λ (order : OrderState). Runs disk.state disk.faults disk.honest order keeper parts.parts.1 ran.order ran.keeper ran.connections exchanges last c.run-end.result) parts.ensures.order.2 runs) in
     inr (subst (λ end. IsPiped (g.R.Read.remaining c.args.input.now) (g.R.Read.remaining c.run-end.new.input) (g.W.Write.contents c.args.output.now) (g.W.Write.contents c.run-end.new.output) c.finish-outcome.result
     (IsLived disk.state disk.faults disk.honest frames c.args.options.mode start end)) (sym c.into_disk-2.ensures)
     (piped_or (g.R.Read.remaining c.args.input.now) (g.R.Read.remaining c.run-end.new.input) (g.W.Write.contents c.args.output.now) (g.W.Write.contents c.run-end.new.output)
-    (Runs disk.state disk.faults disk.honest c.new-order.result keeper c.in-Ok-new.connections ran.order ran.keeper ran.connections)
+    (Runs disk.state disk.faults disk.honest parts.parts.0 keeper parts.parts.1 ran.order ran.keeper ran.connections)
     (IsLived disk.state disk.faults disk.honest frames c.args.options.mode start done.keeper.disk) c.run-end.result c.finish-outcome.result
     (λ exchanges last runs. lived disk.state disk.faults disk.honest c.leads_law.ensures c.schedule_law.ensures.truth c.schedule_law.ensures.within c.fresh_parts_law.ensures start keeper ran.keeper done.keeper ran.order done.order ran.connections done.connections
-    frames c.args.options.mode c.in-Ok.ensures.recovered.works few c.in-Ok.ensures.faults c.in-Ok.ensures.found
+    frames c.args.options.mode states c.in-Ok.ensures.recovered parts.ensures.order.1 few c.in-Ok.ensures.faults c.in-Ok.ensures.found
     c.finish-outcome.ensures.honest.0 (λ is. c.finish-outcome.ensures.honest.1 (c.run-end.ensures.honest.1 (c.in-Ok.ensures.honest.1 is))) c.run-end.result c.finish-outcome.result exchanges last
     (fresh_runs exchanges last runs) c.finish-outcome.ensures.world c.finish-outcome.ensures.stored c.finish-outcome.ensures.works)
     done.order.stopped piped c.finish-outcome.ensures.end))
@@ -66,15 +66,15 @@ returns-clause-device g c = λ is.
     let done = c.finish-outcome.new.self.export in
     let frames = c.args.options.frames in
     let piped = c.run-end.ensures.dialog in
-    let few : keeper.count < 18446744073709551616 = omega (arith, c.count.ensures, c.count.type_inv) in
-    let order_is : c.new-order.result ≡ new_order keeper.count frames keeper.geometry.area =
-    c.new-order.ensures ∙ ap (λ (n : ℕ). new_order n frames c.geometry.result.area) c.count.ensures ∙ ap (λ (geometry : Geometry). new_order keeper.count frames geometry.area) c.geometry.ensures in
-    let fresh_runs = λ (exchanges : List Exchange) (last : Option Message) (runs : Runs disk.state disk.faults disk.honest c.new-order.result keeper c.in-Ok-new.connections ran.order ran.keeper ran.connections exchanges last c.run-end.result).
-    subst (λ (connections : ConnectionsState). Runs disk.state disk.faults disk.honest (new_order keeper.count frames keeper.geometry.area) keeper connections ran.order ran.keeper ran.connections exchanges last c.run-end.result)
-    c.in-Ok-new.ensures
-    (subst (λ (order : OrderState). Runs disk.state disk.faults disk.honest order keeper c.in-Ok-new.connections ran.order ran.keeper ran.connections exchanges last c.run-end.result) order_is runs) in
+    let few = c.in-Ok-fresh_parts.ensures.few in
+    let parts = c.in-Ok-fresh_parts in
+    let states = parts.ensures.order.0 in
+    let fresh_runs = λ (exchanges : List Exchange) (last : Option Message) (runs : Runs disk.state disk.faults disk.honest parts.parts.0 keeper parts.parts.1 ran.order ran.keeper ran.connections exchanges last c.run-end.result).
+    subst (λ (connections : ConnectionsState). Runs disk.state disk.faults disk.honest (new_order states keeper.count frames keeper.geometry.area) keeper connections ran.order ran.keeper ran.connections exchanges last c.run-end.result)
+    parts.ensures.connections
+    (subst (λ (order : OrderState). Runs disk.state disk.faults disk.honest order keeper parts.parts.1 ran.order ran.keeper ran.connections exchanges last c.run-end.result) parts.ensures.order.2 runs) in
     subst (λ end. HasRisen (disk.faults start) (disk.faults end)) (sym c.into_disk-2.ensures)
     (told_fault disk.state disk.faults disk.honest c.leads_law.ensures c.schedule_law.ensures.truth c.schedule_law.ensures.within c.fresh_parts_law.ensures start keeper ran.keeper done.keeper ran.order done.order ran.connections done.connections
-    frames c.args.options.mode c.in-Ok.ensures.recovered.works few c.in-Ok.ensures.faults c.in-Ok.ensures.found
+    frames c.args.options.mode states c.in-Ok.ensures.recovered parts.ensures.order.1 few c.in-Ok.ensures.faults c.in-Ok.ensures.found
     c.finish-outcome.ensures.honest.0 (λ is. c.finish-outcome.ensures.honest.1 (c.run-end.ensures.honest.1 (c.in-Ok.ensures.honest.1 is))) c.run-end.result c.finish-outcome.result piped.told.exchanges piped.told.last
     (fresh_runs piped.told.exchanges piped.told.last piped.runs) c.finish-outcome.ensures.world c.run-end.ensures.early c.finish-outcome.ensures.end is)

@@ -1,5 +1,6 @@
 use Rattle.std.proofs.Common.{◌≡◌, ℕ, ◌+◌, ◌*◌, ◌/◌, ◌≤◌, ◌<◌, List, length, replicate, Err, ap, subst, sym, ◌∙◌, arith, inl, inr, not}
 use Rattle.std.specs.List.{All}
+use Rattle.std.specs.Simd.{first_chunks}
 use Rattle.std.proofs.lemmas.Bool.{cases_lt}
 use Rattle.std.proofs.lemmas.List.{length-replicate}
 use Rattle.std.proofs.lemmas.List.Elements.{All-filter}
@@ -9,14 +10,24 @@ use Rattle.image_model.specs.declared.command.Kind.TheVariants.{Data}
 use Rattle.image_model.proofs.Positions.{length-patched}
 use Rattle.shared_cache.specs.Blocks.{DirtyBlock, IsOnce, count_missing}
 use Rattle.shared_cache.specs.Cache.{CacheState}
-use Rattle.order_book.specs.Cached.{dirty_of, frames_of}
+use Rattle.shared_cache.specs.View.{ShowsPut}
+use Rattle.order_book.specs.Cached.{blocks_in, dirty_of, frames_of}
 use Rattle.order_book.proofs.Frames.{frames_enough, frames-puts, frames-without, map-puts, map-without, order-puts}
+use Rattle.order_book.proofs.Shown.{shows_clear, shows_put}
 use Rattle.order_book.proofs.commands.apply.Goals as goal
 
 -- the chunks of whole blocks are the blocks that the bytes fill
 whole_blocks : (chunks count bytes : ℕ) (items now : List ℕ) → chunks ≡ length now / 4096 → now ≡ items → length now ≡ bytes → bytes ≡ 4096 * count
     → chunks ≡ (length items + 4095) / 4096
 whole_blocks chunks count bytes items now is same long whole = let items_long = ap length same in omega (arith, is, items_long, long, whole)
+
+whole_bytes : (count bytes : ℕ) (items now : List ℕ) → now ≡ items → length now ≡ bytes → bytes ≡ 4096 * count → length items ≡ 4096 * count
+whole_bytes count bytes items now same long whole = let items_long = ap length same in omega (arith, items_long, long, whole)
+
+filled_blocks : (count : ℕ) (items now : List ℕ) → now ≡ items → length items ≡ 4096 * count → first_chunks 4096 (length now / 4096) now ≡ blocks_in items
+filled_blocks count items now same whole =
+    let as_many : length items / 4096 ≡ (length items + 4095) / 4096 = omega (arith, whole) in
+    ap (λ (l : List ℕ). first_chunks 4096 (length l / 4096) l) same ∙ ap (λ (n : ℕ). first_chunks 4096 n items) as_many
 
 enough : (missing hand : ℕ) → (hand < missing → ⊥) → missing ≤ hand
 enough missing hand never = elim (cases_lt hand missing) [ inl less ↦ absurd (never less) | inr le ↦ le ]
@@ -84,3 +95,15 @@ returns-in-Clear-clause-order c =
     let Below = λ (held : DirtyBlock). held.number ≤ c.args.number in
     subst (λ (cache : CacheState). All Below cache.blocks.dirty) (sym c.clear.ensures.new)
     (All-filter (λ (held : DirtyBlock). not (covers c.in-Clear.first c.in-Clear.blocks held.block)) Below c.args.cache.now.blocks.dirty c.requires.order)
+
+pub returns-in-Ok-clause-image : goal.returns-in-Ok-clause-image
+returns-in-Ok-clause-image c =
+    let inside = rw c.in-Put.is at c.requires.inside in
+    let whole = whole_bytes inside.0 _ c.in-Put.bytes.items c.deref.result.now c.deref.ensures.value c.deref.ensures.len inside.1 in
+    let blocks = c.as_chunks.ensures.front ∙ filled_blocks inside.0 c.in-Put.bytes.items c.deref.result.now c.deref.ensures.value whole in
+    let shows = subst (λ (blocks : List (List ℕ)). ShowsPut c.in-Put.first blocks c.args.cache.now c.put.new.self) blocks c.in-Ok.ensures.view in
+    rw c.in-Put.is (λ image known. shows_put image c.in-Put.first c.in-Put.bytes.items c.args.cache.now c.put.new.self inside.0 whole known shows)
+
+pub returns-in-Clear-clause-image : goal.returns-in-Clear-clause-image
+returns-in-Clear-clause-image c =
+    rw c.in-Clear.is (λ image known. shows_clear image c.in-Clear.first c.in-Clear.blocks c.in-Clear.kind c.args.cache.now c.clear.new.self known c.clear.ensures.view)

@@ -5,6 +5,7 @@ use Rattle.std.proofs.lemmas.Bool.Decides.{nat_tests}
 use Rattle.shared_cache.specs.Cache.{CacheState}
 use Rattle.order_book.specs.Cached.{cache_cleaned, dirty_of, frames_of}
 use Rattle.order_book.proofs.Frames.{frames-cleaned, len-dirty, map-cleaned, none_cleaned}
+use Rattle.order_book.proofs.Shown.{shows_clean}
 use Rattle.order_book.proofs.commands.clean_through.Goals as goal
 
 not_less : (a b : ℕ) → nat_lt a b ≡ false → b ≤ a
@@ -50,3 +51,6 @@ returns-clause-any c =
     fewer _ _ c.dirty_blocks-before.result c.dirty_blocks.result
     (c.dirty_blocks-before.ensures.count ∙ sym (len-dirty c.args.cache.now.blocks c.dirty_blocks-before.ensures.once))
     (c.dirty_blocks.ensures.count ∙ sym (len-dirty c.clean_through.new.self.blocks c.dirty_blocks.ensures.once))
+
+pub returns-clause-image : goal.returns-clause-image
+returns-clause-image c = λ image known. shows_clean image c.args.number c.args.cache.now c.clean_through.new.self known c.clean_through.ensures.view

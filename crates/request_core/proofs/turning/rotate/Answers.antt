@@ -25,7 +25,7 @@ returns-in-Err-clause-world g c = λ world within of kept.
     let new = c.rotate.new.self in
     let call = c.in-Err.ensures in
     let step = rotate_refused g.D.Disk.state g.D.Disk.faults g.D.Disk.extent g.D.Disk.honest g.met.D.Disk.sound world c.args.order.now c.args.hand.now old within of kept
-        c.in-Err.fault new call.only call.failed call.err call.faults_err call.honest.1 call.any_moment call.not_now call.full in (
+    c.in-Err.fault new call.only call.failed call.err call.faults_err call.honest.1 call.any_moment call.not_now call.full in (
       step.0,
       as_told g.D.Disk.state g.D.Disk.faults g.D.Disk.extent g.D.Disk.honest g.met.D.Disk.sound world c.args.order.now c.args.hand.now old within of kept
           c.in-Err.fault new (rotate step.0 world) c.refused.result c.refused.new.order c.refused.new.hand c.refused.ensures.event c.refused.ensures.order c.refused.ensures.hand step.1,

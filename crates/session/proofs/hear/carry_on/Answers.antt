@@ -1,11 +1,11 @@
-use Rattle.std.proofs.Common.{◌≡◌, ◌<◌, List, ℕ, [], Ok, Err, Option, Result, arith, refl, rules, vec_len}
+use Rattle.std.proofs.Common.{◌≡◌, Ok, Err, Result, arith, rules, vec_len}
 use Rattle.std.specs.Global.{Vec}
 use Rattle.std.specs.Io.KnownBytes.{Consumes}
 use Rattle.nbd_wire.specs.Request.{Message}
 use Rattle.negotiation.specs.declared.end.End.{End}
 use Rattle.negotiation.specs.declared.end.End.TheVariants.{IoFault}
 use Rattle.session.specs.Hearing.{Hearing}
-use Rattle.session.proofs.Bytes.{consumes_none}
+use Rattle.byte_streams.proofs.Bytes.{consumes_none}
 use Rattle.session.proofs.Hearing.{as_error, heard_last, heard_none, heard_then, items_none, went_on}
 use Rattle.session.proofs.hear.carry_on.Goals as goal
 

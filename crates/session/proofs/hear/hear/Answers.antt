@@ -1,11 +1,11 @@
-use Rattle.std.proofs.Common.{◌≡◌, ◌<◌, List, ℕ, [], Ok, Err, Result, arith, refl, rules, subst, sym, take, vec_len}
+use Rattle.std.proofs.Common.{◌≡◌, List, ℕ, [], Ok, Err, Result, arith, refl, rules, subst, sym, take, vec_len}
 use Rattle.std.specs.Global.{Vec}
 use Rattle.std.specs.Io.KnownBytes.{Consumes}
 use Rattle.nbd_wire.specs.Request.{Message}
 use Rattle.negotiation.specs.declared.end.End.{End}
 use Rattle.session.specs.Hearing.{Hearing}
 use Rattle.negotiation.specs.Session.{end_of}
-use Rattle.negotiation.specs.declared.end.End.TheVariants.{PeerClosed}
+use Rattle.negotiation.specs.declared.end.End.TheVariants.{IoFault, PeerClosed}
 use Rattle.session.proofs.Hearing.{as_error, consumes_failed, consumes_nothing, fault_tells, heard_last, heard_none, heard_then, items_none, none_of, went_on}
 use Rattle.session.proofs.hear.hear.Goals as goal
 
@@ -40,7 +40,7 @@ returns-in_err-count-clause-hearing g c =
     let heard = went_on old now (λ bytes. bytes ≡ []) input input output made given c.in_ok-requests.ensures.hearing (consumes_nothing input) none (λ some. omega (arith, zero, some)) c.in_ok-requests.ensures.said in
     let outcome = c.from_residual-in_err-count.result in
     heard_last old now input input output made heard left outcome (consumes_failed input left c.in_err-count.ensures.bytes)
-    (fault_tells outcome c.in_err-count.field-0.0 c.from_residual-in_err-count.ensures.1 c.in_err-count.ensures.fault now [] [] [] now)
+    (fault_tells outcome IoFault c.from_residual-in_err-count.ensures.1 refl now [] [] [] now)
 
 pub returns-then-count-eq0-clause-hearing : goal.returns-then-count-eq0-clause-hearing
 returns-then-count-eq0-clause-hearing g c =

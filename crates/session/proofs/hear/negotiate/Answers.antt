@@ -1,4 +1,4 @@
-use Rattle.std.proofs.Common.{◌≡◌, List, ℕ, [], Ok, Err, Result, arith, refl, rules, vec_len}
+use Rattle.std.proofs.Common.{◌≡◌, [], Ok, Err, Result, arith, rules, vec_len}
 use Rattle.std.specs.Global.{Vec}
 use Rattle.std.specs.Io.KnownBytes.{Consumes}
 use Rattle.nbd_wire.specs.Request.{Message}

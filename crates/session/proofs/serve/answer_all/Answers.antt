@@ -55,11 +55,19 @@ returns-in_err-answer-clause-answers g c =
     answers_unwritten allows c.args.flags.now c.args.pass.now c.loop-request.pass output made due i.exchanges going request c.answer.new.pass c.answer.new.due.items false c.in_err-answer.ensures all (reverse c.pop.new.self.items) next
     (is_ok c.from_residual-in_err-answer.result) (err_not_ok c.from_residual-in_err-answer.result c.from_residual-in_err-answer.ensures.0)
 
+pub returns-in_err-write_due-clause-answers : goal.returns-in_err-write_due-clause-answers
+returns-in_err-write_due-clause-answers g c =
+    let i = c.loop-request.invariant in
+    let all = all_left c.args.requests.items c.reverse.new.self.items c.loop-request.requests.items (asked i.exchanges) c.reverse.ensures.items i.whole in
+    answers_written (g.S.Serve.allows c.args.export.now) c.args.flags.now c.args.pass.now c.loop-request.pass (g.W.Write.contents c.args.output.now) (g.W.Write.contents c.loop-request.output) c.loop-request.due.items i.exchanges i.going
+    (g.W.Write.contents c.write_due.new.output) c.write_due.new.due.items false c.in_err-write_due.ensures.writes c.args.requests.items (reverse c.loop-request.requests.items) all
+    (is_ok c.from_residual-in_err-write_due.result) (λ ok. absurd (err_not_ok c.from_residual-in_err-write_due.result c.from_residual-in_err-write_due.ensures.0 ok))
+
 pub returns-clause-answers : goal.returns-clause-answers
 returns-clause-answers g c =
     let i = c.loop-request.invariant in
     let none : c.loop-request.requests.items ≡ [] = search rules in
     let all = all_left c.args.requests.items c.reverse.new.self.items c.loop-request.requests.items (asked i.exchanges) c.reverse.ensures.items i.whole in
     answers_written (g.S.Serve.allows c.args.export.now) c.args.flags.now c.args.pass.now c.loop-request.pass (g.W.Write.contents c.args.output.now) (g.W.Write.contents c.loop-request.output) c.loop-request.due.items i.exchanges i.going
-    (g.W.Write.contents c.write_due.new.output) c.write_due.new.due.items (is_ok c.write_due.result) c.write_due.ensures.writes c.args.requests.items (reverse c.loop-request.requests.items) all
-    (is_ok c.write_due.result) (λ ok. (ap reverse none, c.write_due.ensures.none, ok))
+    (g.W.Write.contents c.write_due.new.output) c.write_due.new.due.items true c.in_ok-write_due.ensures.writes c.args.requests.items (reverse c.loop-request.requests.items) all
+    true (λ ok. (ap reverse none, c.write_due.ensures.none, refl))

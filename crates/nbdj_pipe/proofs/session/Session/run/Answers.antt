@@ -9,7 +9,7 @@ use Rattle.nbdj_pipe.specs.Session.{Runs, Takes}
 use Rattle.nbdj_pipe.specs.declared.refusal.Refusal.{Refusal}
 use Rattle.nbdj_pipe.specs.declared.refusal.Refusal.TheVariants.{DeviceFault, NoMemory, StreamFault}
 use Rattle.nbdj_pipe.specs.declared.session.Flow.{Flow}
-use Rattle.nbdj_pipe.proofs.Bytes.{keeps_same}
+use Rattle.byte_streams.proofs.Bytes.{keeps_same}
 use Rattle.nbdj_pipe.proofs.Runs.{runs_bare, runs_none, runs_on}
 use Rattle.nbdj_pipe.proofs.Sessions.{IsGoing, going_first, goes_on, stopped, closed, cut, ended, refused, err_no_end, not_device, IsUnshown, unshown_memory, unshown_stream}
 use Rattle.nbdj_pipe.proofs.session.Session.run.Goals as goal
@@ -50,11 +50,11 @@ returns-in_err-count-clause-dialog g c =
     let output = g.W.Write.contents c.args.output.now in
     let b = c.loop.self.export in
     stopped (Runs disk.state disk.faults disk.honest a.order a.keeper a.connections b.order b.keeper b.connections) (runs_bare disk.state disk.faults disk.honest a.order b.order a.keeper b.keeper a.connections b.connections) input (g.R.Read.remaining c.loop.input) output (g.W.Write.contents c.loop.output) c.loop.reader c.loop.invariant.going (g.R.Read.remaining c.read_some.new.input) c.from_residual-in_err-count.result
-    c.in_err-count.ensures.bytes (err_no_end IsUnshown c.from_residual-in_err-count.result c.in_err-count.field-0.0 c.from_residual-in_err-count.ensures.1 (subst IsUnshown (sym c.in_err-count.ensures.refusal) unshown_stream))
+    c.in_err-count.ensures.bytes (err_no_end IsUnshown c.from_residual-in_err-count.result StreamFault c.from_residual-in_err-count.ensures.1 unshown_stream)
 
 pub returns-in_err-count-clause-early : goal.returns-in_err-count-clause-early
 returns-in_err-count-clause-early g c =
-    no_fault c.from_residual-in_err-count.result (err_no_end IsEarly c.from_residual-in_err-count.result c.in_err-count.field-0.0 c.from_residual-in_err-count.ensures.1 (subst IsEarly (sym c.in_err-count.ensures.refusal) unshown_stream.0))
+    no_fault c.from_residual-in_err-count.result (err_no_end IsEarly c.from_residual-in_err-count.result StreamFault c.from_residual-in_err-count.ensures.1 unshown_stream.0)
 
 pub returns-then-count-eq0-clause-dialog : goal.returns-then-count-eq0-clause-dialog
 returns-then-count-eq0-clause-dialog g c =
@@ -91,12 +91,12 @@ returns-in_err-write_replies-clause-dialog g c =
     (runs_bare disk.state disk.faults disk.honest a.order t.order a.keeper t.keeper a.connections t.connections)
     (g.R.Read.remaining c.read_some.new.input) (g.W.Write.contents c.write_replies.new.output) piece due c.take-flow.new.reader c.take-flow.result read begun
     c.in_err-write_replies.field-0.0 c.from_residual-in_err-write_replies.result c.in_err-write_replies.ensures.written
-    (err_no_end IsUnshown c.from_residual-in_err-write_replies.result c.in_err-write_replies.field-0.0 c.from_residual-in_err-write_replies.ensures.1 (subst IsUnshown (sym c.in_err-write_replies.ensures.refusal) unshown_stream)))
+    (err_no_end IsUnshown c.from_residual-in_err-write_replies.result StreamFault c.from_residual-in_err-write_replies.ensures.1 unshown_stream))
 
 pub returns-in_err-write_replies-clause-early : goal.returns-in_err-write_replies-clause-early
 returns-in_err-write_replies-clause-early g c =
     no_fault c.from_residual-in_err-write_replies.result
-    (err_no_end IsEarly c.from_residual-in_err-write_replies.result c.in_err-write_replies.field-0.0 c.from_residual-in_err-write_replies.ensures.1 (subst IsEarly (sym c.in_err-write_replies.ensures.refusal) unshown_stream.0))
+    (err_no_end IsEarly c.from_residual-in_err-write_replies.result StreamFault c.from_residual-in_err-write_replies.ensures.1 unshown_stream.0)
 
 pub returns-in_err-flow-clause-dialog : goal.returns-in_err-flow-clause-dialog
 returns-in_err-flow-clause-dialog g c =

@@ -1,0 +1,81 @@
+ghost use Rattle.std.specs.Prelude.{⊤};
+
+use image_model::Geometry;
+use nbd_wire::{
+    Answer, BLOCK_STATUS, Errno, READ, ReadBytes, Reply, Request, RequestHead, SessionFlags,
+};
+use negotiation::End;
+use session::{Serve, serve_session};
+use std::alloc::{AllocError, Global};
+use std::test::Fail;
+use stream_fakes::{FakeReader, FakeWriter};
+
+/// An export of 16 blocks, which answers a READ with bytes 41, BLOCK_STATUS with EINVAL and all else with success. Requests with even
+/// cookies may keep their caller waiting. Of a connection it keeps how many requests it answered.
+#[derive(Drop)]
+pub struct Counted {
+    alloc: Global,
+    geometry: Geometry,
+}
+
+impl Serve<u64> for Counted {
+    ghost allows = { λ _ _ _ _ _ _. ⊤ };
+
+    ghost extent = { λ export. export.geometry };
+
+    fn geometry(&self) -> Geometry {
+        self.geometry
+    }
+
+    fn may_wait(&self, head: &RequestHead) -> bool {
+        head.cookie % 2 == 0
+    }
+
+    fn serve(&self, pass: &mut u64, request: Request, _flags: &SessionFlags) -> Reply {
+        *pass = pass.wrapping_add(1);
+        let head = request.head();
+        let answer = match head.kind {
+            READ => match read(self.alloc, head.length) {
+                Ok(read) => Answer::Bytes(read),
+                Err(_) => Answer::Refused(Errno::NoMemory),
+            },
+            BLOCK_STATUS => Answer::Refused(Errno::Invalid),
+            _ => Answer::Done,
+        };
+        Reply {
+            cookie: head.cookie,
+            answer,
+        }
+    }
+}
+
+// What a READ of so many bytes is answered, 1 MiB at most.
+fn read(alloc: Global, length: u32) -> Result<ReadBytes, AllocError> {
+    let length = length.clamp(1, 1_048_576);
+    ReadBytes::data(alloc, 0, vec![in alloc; 0x41; length as usize]?)
+}
+
+/// How a session over such an export ended.
+#[derive(Drop)]
+pub struct Served {
+    pub end: Result<(), End>,
+    pub answered: u64,
+    pub output: FakeWriter,
+}
+
+/// Serves what this reader gives.
+pub fn serve(
+    alloc: Global,
+    mut input: FakeReader<'_>,
+    mut output: FakeWriter,
+) -> Result<Served, Fail> {
+    let geometry = Geometry::new(16, 2_097_152).ok_or("no geometry")?;
+    let export = Counted { alloc, geometry };
+    let mut answered = 0;
+    let end = serve_session(alloc, &mut input, &mut output, &export, &mut answered);
+    Ok(Served {
+        end,
+        answered,
+        output,
+    })
+}

@@ -1,0 +1,10 @@
+//! Tests of whole sessions over streams, against bytes written by hand. They stand beside their crate, since a crate with tests is proved
+//! twice.
+#![tactic(auto)]
+
+#[cfg(test)]
+mod export;
+#[cfg(test)]
+mod stream_tests;
+#[cfg(test)]
+mod write_tests;

@@ -1,0 +1,143 @@
+use crate::export::serve;
+use negotiation::End;
+use std::alloc::{AllocError, Global};
+use std::process::Abort;
+use std::test::Fail;
+use stream_fakes::{FakeReader, FakeWriter, bytes_of};
+
+const MANY: usize = 100_000_000;
+
+// A client that goes to transmission at once, and then sends this.
+fn begins(alloc: Global, requests: &str) -> Result<Vec<u8>, AllocError> {
+    let mut input = bytes_of(
+        alloc,
+        "00000003 49484156454f5054 00000007 00000008 00000000 0001 0003",
+    )?;
+    input.extend_from_slice(&bytes_of(alloc, requests)?)?;
+    Ok(input)
+}
+
+const DISC: &str = "25609513 0000 0002 0000000000000001 0000000000000000 00000000";
+
+const HANDSHAKE: &str = "4e42444d41474943 49484156454f5054 0003
+     0003e889045565a9 00000007 00000003 0000000c 0000 0000000000010000 016d
+     0003e889045565a9 00000007 00000003 0000000e 0003 00001000 00001000 00100000
+     0003e889045565a9 00000007 00000001 00000000";
+
+// A session whose requests come together makes so many writes, the first two for the greeting and for the options.
+fn has_writes(rt: &impl Abort, alloc: Global, requests: &str, writes: usize) -> Result<(), Fail> {
+    let mut input = begins(alloc, requests)?;
+    input.extend_from_slice(&bytes_of(alloc, DISC)?)?;
+    let served = serve(
+        alloc,
+        FakeReader::new(&input, MANY, true),
+        FakeWriter::new(alloc, MANY, MANY),
+    )?;
+    let count = served.output.writes();
+    assert!(rt; served.end == Ok(()) && count == writes, "{count}");
+    Ok(())
+}
+
+#[test]
+fn replies_go_out_together(rt: HostRuntime) -> Result<(), Fail> {
+    let alloc = rt.alloc();
+    has_writes(&rt, alloc, "", 2)?;
+    // FLUSHes whose answers don't wait.
+    has_writes(
+        &rt,
+        alloc,
+        "25609513 0000 0003 0000000000000003 0000000000000000 00000000
+         25609513 0000 0003 0000000000000005 0000000000000000 00000000
+         25609513 0000 0003 0000000000000007 0000000000000000 00000000",
+        3,
+    )?;
+    // The second and the fourth may wait: what is due is written before each of them.
+    has_writes(
+        &rt,
+        alloc,
+        "25609513 0000 0003 0000000000000003 0000000000000000 00000000
+         25609513 0000 0003 0000000000000004 0000000000000000 00000000
+         25609513 0000 0003 0000000000000005 0000000000000000 00000000
+         25609513 0000 0003 0000000000000006 0000000000000000 00000000",
+        5,
+    )
+}
+
+#[test]
+fn replies_of_more_than_1_mib_are_written(rt: HostRuntime) -> Result<(), Fail> {
+    has_writes(
+        &rt,
+        rt.alloc(),
+        "25609513 0000 0000 0000000000000003 0000000000000000 00100000
+         25609513 0000 0000 0000000000000005 0000000000000000 00080000
+         25609513 0000 0000 0000000000000007 0000000000000000 00080000
+         25609513 0000 0000 0000000000000009 0000000000000000 00000001",
+        5,
+    )
+}
+
+// A client that sends a WRITE of 1,052,672 bytes, and then this.
+fn writes_too_much(alloc: Global, then: &str) -> Result<Vec<u8>, AllocError> {
+    let mut input = begins(
+        alloc,
+        "25609513 0000 0001 0000000000000008 0000000000000000 00101000",
+    )?;
+    input.extend_from_slice(&vec![in alloc; 0x25; 1_052_672]?)?;
+    input.extend_from_slice(&bytes_of(alloc, then)?)?;
+    Ok(input)
+}
+
+// It is answered EINVAL, and what comes behind it ends the session so.
+fn is_thrown_away(
+    rt: &impl Abort,
+    alloc: Global,
+    then: &str,
+    end: Result<(), End>,
+) -> Result<(), Fail> {
+    let input = writes_too_much(alloc, then)?;
+    let reader = FakeReader::new(&input, MANY, true);
+    let served = serve(alloc, reader, FakeWriter::new(alloc, MANY, MANY))?;
+    let mut wanted = bytes_of(alloc, HANDSHAKE)?;
+    wanted.extend_from_slice(&bytes_of(alloc, "67446698 00000016 0000000000000008")?)?;
+    assert!(rt; served.end == end && served.answered == 0);
+    assert!(rt; served.output.taken() == wanted.as_slice());
+    Ok(())
+}
+
+#[test]
+fn a_write_that_is_thrown_away_is_not_handed_over(rt: HostRuntime) -> Result<(), Fail> {
+    is_thrown_away(&rt, rt.alloc(), DISC, Ok(()))?;
+    // A WRITE that is too long to be read, of 33,554,433 bytes.
+    is_thrown_away(
+        &rt,
+        rt.alloc(),
+        "25609513 0000 0001 0000000000000009 0000000000000000 02000001",
+        Err(End::ProtocolEnd),
+    )
+}
+
+// Where memory is refused in the session, it ends so, and what is written begins the dialog.
+#[test]
+fn refused_memory_ends_a_session(rt: HostRuntime) -> Result<(), Fail> {
+    let alloc = rt.alloc();
+    let mut wanted = bytes_of(alloc, HANDSHAKE)?;
+    wanted.extend_from_slice(&bytes_of(
+        alloc,
+        "67446698 00000000 0000000000000003 67446698 00000000 0000000000000005",
+    )?)?;
+    let mut input = begins(
+        alloc,
+        "25609513 0000 0001 0000000000000003 0000000000000000 00000004 01020304
+         25609513 0000 0003 0000000000000005 0000000000000000 00000000",
+    )?;
+    input.extend_from_slice(&bytes_of(alloc, DISC)?)?;
+    let output = FakeWriter::reserved(alloc, MANY, wanted.len())?;
+    let served = serve(alloc, FakeReader::new(&input, 5, true), output)?;
+    let taken = served.output.taken();
+    assert!(rt; wanted.starts_with(taken));
+    match served.end {
+        Ok(()) => assert!(rt; taken.len() == wanted.len()),
+        Err(end) => assert!(rt; end == End::NoMemory, "{end}"),
+    }
+    Ok(())
+}
