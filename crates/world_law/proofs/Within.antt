@@ -103,7 +103,7 @@ module _ (world : World) (within : IsWithin world) where
         cleaned = within.cleaned;
         rising = within.rising;
         areas = within.areas;
-    taken = within.taken;
+        taken = within.taken;
         left = let left = within.left in omega (arith, left, behind_same world.stage.base world.stage.turned world.stage.stored world.stage.order commands within.rising (omega (arith, stored, sealed)));
         mapped = within.mapped;
       }
