@@ -245,7 +245,7 @@ fi
 
 # The scripts that docs/SCRIPTS.md teaches, and what it says that they print.
 block() { awk -v kind="$1" -v k="$2" '$0 == "```" kind { n++; on = n == k; next } /^```/ { on = 0 } on' "$here/docs/SCRIPTS.md"; }
-for k in 1 2 3; do
+for k in 1 2 3 4; do
     block script "$k" >input
     ends "script $k of the page" 0 "$(block prints "$k" | hex)" '' rehearse
 done
