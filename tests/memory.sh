@@ -123,9 +123,10 @@ judge() {
     if [ "$status" -eq 1 ] && [ "$printed" -lt "$at" ] && [ "$(cat errors)" = 'nbdj: no memory (0)' ]; then
         return
     fi
-    # A format or an opening is refused, for want of memory, or since the device's record of its call can't grow.
+    # A format or an opening is refused, for want of memory, or since the device's record of its call can't grow; so
+    # is an opening into whose calls a crash would have fallen.
     if [ "$status" -eq 1 ] && [ "$printed" -eq "$at" ] && [ ! -s errors ]; then
-        case $at/$due/$got in 1/*/'failed '[01] | */opened*/'failed '[01]) return ;; esac
+        case $at/$due/$got in 1/*/'failed '[01] | */opened*/'failed '[01] | */stopped/'failed '[01]) return ;; esac
     fi
     step=$(step_of "$at")
     case $got in
