@@ -1,6 +1,6 @@
 ghost use Rattle.std.specs.Prelude.{◌≡◌, ◌≢◌, ◌⊎◌, ℕ, ◌≤◌, ◌↔◌, List, [], false, IfErr, IfNone, IfOk, IfSome, IsTrue, Err, None, OnOk};
 ghost use Rattle.checkpoint.specs.Keeper.{faults_by, refused_by};
-ghost use Rattle.checkpoint.specs.Steps.{IsCopyTime, IsFinishTime, IsMapTime, IsRotateTime, IsStepFault, copied_by, finished_by, map_after, mapped_by, rotated_by};
+ghost use Rattle.checkpoint.specs.Steps.{IsCopyTime, IsFinishTime, IsMapTime, IsRotateTime, IsStepFault, copied_by, finished_by, left_in, map_after, mapped_by, rotated_by};
 ghost use Rattle.checkpoint.specs.declared.fault.KeeperFault.TheVariants as KeeperFault;
 ghost use Rattle.device_image.specs.Holds.{Holds};
 ghost use Rattle.device_image.specs.Keeps.{Keeps};
@@ -36,6 +36,7 @@ impl<D: Disk> Keeper<D> {
     pub fn copy_some(&mut self, most: u32) -> Result<u32, KeeperFault>
         requires { 1 ≤ most }
         ensures ok { IfOk result (λ blocks. (1 ≤ blocks) × (blocks ≤ most) × (self.new ≡ copied_by self.old blocks self.new.disk self.new.memory)) }
+        ensures left { IfOk result (λ blocks. blocks ≤ left_in self.old.phase) }
         ensures err { IfErr result (λ fault. self.new ≡ refused_by fault self.old self.new.disk) }
         ensures failed { (result ≡ Err KeeperFault.Failed) ↔ IsTrue self.old.failed }
         ensures not_now { (result ≡ Err KeeperFault.NotNow) ↔ ((self.old.failed ≡ false) × (IsCopyTime self.old.phase → ⊥)) }

@@ -1,4 +1,5 @@
 pub mod Appended
+pub mod Copied
 pub mod Fresh
 pub mod Lifted
 pub mod Lives

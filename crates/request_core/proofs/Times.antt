@@ -63,10 +63,17 @@ copy_whole [] mapped left now = absurd now
 copy_whole (first ∷ rest) true left now = absurd now
 copy_whole (first ∷ rest) false left now = lt-ltb 0 left now
 
-pub copy_phase : (turned : List ℕ) (mapped : Bool) (left : ℕ) → IsCopyTime (phase_by turned mapped left) → Copying (left_in (phase_by turned mapped left) - 1) ≡ phase_by turned mapped (left - 1)
-copy_phase [] mapped left now = absurd now
-copy_phase (first ∷ rest) true left now = absurd now
-copy_phase (first ∷ rest) false left now = refl
+pub copy_phase : (turned : List ℕ) (mapped : Bool) (left blocks : ℕ) → IsCopyTime (phase_by turned mapped left) → Copying (left_in (phase_by turned mapped left) - blocks) ≡ phase_by turned mapped (left - blocks)
+copy_phase [] mapped left blocks now = absurd now
+copy_phase (first ∷ rest) true left blocks now = absurd now
+copy_phase (first ∷ rest) false left blocks now = refl
+
+-- where some are left to copy it is the time
+pub copying_is : (turned : List ℕ) (mapped : Bool) (left blocks : ℕ) → 0 < blocks → blocks ≤ left_in (phase_by turned mapped left)
+    → IsCopyTime (phase_by turned mapped left) × (is_turned turned ≡ true) × (mapped ≡ false) × (blocks ≤ left)
+copying_is [] mapped left blocks some fits = absurd (omega (arith, some, fits))
+copying_is (first ∷ rest) true left blocks some fits = absurd (omega (arith, some, fits))
+copying_is (first ∷ rest) false left blocks some fits = (omega (arith, some, fits), refl, refl, fits)
 
 -- the time of the map
 pub map_sound : (turned : List ℕ) (mapped : Bool) (left : ℕ) → (is_turned turned && not mapped && (left == 0)) ≡ true → IsMapTime (phase_by turned mapped left)

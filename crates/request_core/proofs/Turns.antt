@@ -384,20 +384,20 @@ module _ {D : Type 0} (state : D → State) (faults extent : D → ℕ) (honest 
           step_done (can_rotate world.stage) (is_full world.stage) (λ failure. written failure world (rotated world.stage)) (IsRotateTime old.phase old.used) rotate_here rotate_there
           new now (λ here full. room here (full_generation full)) works rotated_leaves
 
-    -- one block more is copied
-    module _ (same : new ≡ copied_by old 1 new.disk new.memory) (remembered : (commands : List Change) → Remembers old commands → Remembers new commands)
+    -- blocks more are copied
+    module _ (blocks : ℕ) (same : new ≡ copied_by old blocks new.disk new.memory) (remembered : (commands : List Change) → Remembers old commands → Remembers new commands)
         (holding : honest old.disk → (base : Image) (first last : List Change) → Holds old (state old.disk) base first last → Holds new (state new.disk) base first last) where
-      copied_leaves : IsCopyTime old.phase → Leaves (logged (staged world (record world.stage { left = world.stage.left - 1 })) Took) Took order hand new
+      pub copied_leaves : IsCopyTime old.phase → Leaves (logged (staged world (record world.stage { left = world.stage.left - blocks })) Took) Took order hand new
       copied_leaves now =
           let here = of_keeper_phase CopyTime now in
-          moved_on world.stage.base world.stage.turned (world.stage.left - 1) world.stage.mapped world.stage.at world.stage.generation new crash works (let is = ordered world within in record { base = is.base; turned = is.turned; stored = is.stored })
+          moved_on world.stage.base world.stage.turned (world.stage.left - blocks) world.stage.mapped world.stage.at world.stage.generation new crash works (let is = ordered world within in record { base = is.base; turned = is.turned; stored = is.stored })
           (record {
             geometry = ap (λ (k : KeeperState D). k.geometry) same ∙ kept.geometry;
             count = ap (λ (k : KeeperState D). k.count) same ∙ kept.count;
             base = ap (λ (k : KeeperState D). k.base) same ∙ kept.base;
             turned = ap (λ (k : KeeperState D). k.turned) same ∙ kept.turned;
             generation = ap (λ (k : KeeperState D). k.generation) same ∙ kept.generation;
-            phase = ap (λ (k : KeeperState D). k.phase) same ∙ ap (λ (p : Phase). Copying (left_in p - 1)) kept.phase ∙ copy_phase world.stage.turned world.stage.mapped world.stage.left here;
+            phase = ap (λ (k : KeeperState D). k.phase) same ∙ ap (λ (p : Phase). Copying (left_in p - blocks)) kept.phase ∙ copy_phase world.stage.turned world.stage.mapped world.stage.left blocks here;
             used = ap (λ (k : KeeperState D). k.used) same ∙ kept.used;
             failed = ap (λ (k : KeeperState D). k.failed) same ∙ kept.failed;
             faults = level ∙ kept.faults;
@@ -406,10 +406,13 @@ module _ {D : Type 0} (state : D → State) (faults extent : D → ℕ) (honest 
           })
           stays (λ is_honest. holding is_honest (image_after world.stage.order world.stage.base world.stage.setting.image) (first_commands world.stage) (last_commands world.stage))
 
+    -- one block more is copied
+    module _ (same : new ≡ copied_by old 1 new.disk new.memory) (remembered : (commands : List Change) → Remembers old commands → Remembers new commands)
+        (holding : honest old.disk → (base : Image) (first last : List Change) → Holds old (state old.disk) base first last → Holds new (state new.disk) base first last) where
       pub copy_done : ((IsCopyTime old.phase → ⊥) → ⊥) → (failure : Failure) × Leaves (copy_block failure world) Took order hand new
       copy_done now =
           step_done (can_copy world.stage) false (λ failure. written failure world (record world.stage { left = world.stage.left - 1 })) (IsCopyTime old.phase) copy_here copy_there
-          new now (λ here. never_full) works copied_leaves
+          new now (λ here. never_full) works (copied_leaves 1 same remembered holding)
 
     -- the map is written
     module _ (same : new ≡ mapped_by old new.disk new.memory) (remembered : (commands : List Change) → Remembers old commands → Remembers new commands)
@@ -537,3 +540,6 @@ module _ {D : Type 0} (state : D → State) (faults extent : D → ℕ) (honest 
 
 pub ok_unlike : (done : Unit {0}) (refusal : KeeperFault) → let said : Result (Unit {0}) KeeperFault = Ok done in said ≡ Err refusal → ⊥
 ok_unlike done refusal is = cc
+
+pub count_unlike : (count : ℕ) (refusal : KeeperFault) → let said : Result ℕ KeeperFault = Ok count in said ≡ Err refusal → ⊥
+count_unlike count refusal is = cc

@@ -1,4 +1,5 @@
 pub mod Bench
+pub mod Copies
 pub mod Life
 pub mod Parts
 pub mod Serving

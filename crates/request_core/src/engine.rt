@@ -1,6 +1,7 @@
-ghost use Rattle.std.specs.Prelude.{◌≡◌, ◌↔◌, Bool, IfSome, length, slice_index_or};
+ghost use Rattle.std.specs.Prelude.{◌≡◌, ◌≤◌, ◌↔◌, Bool, IfOk, IfSome, MatchResult, length, replicate, slice_index_or};
 ghost use Rattle.order_book.specs.Order.{IsInHand};
-ghost use Rattle.request_core.specs.Life.{IsStepped, Trusts};
+ghost use Rattle.request_core.specs.Copies.{copied};
+ghost use Rattle.request_core.specs.Life.{IsStepped, Leads, Trusts};
 ghost use Rattle.request_core.specs.Parts.{AreConnectionsOf, IsExportOf, IsKeeperOf, IsOrderOf};
 ghost use Rattle.request_core.specs.Serving.{is_idle, sent_state};
 ghost use Rattle.request_core.specs.Steps.{IsPerformed};
@@ -8,13 +9,15 @@ ghost use Rattle.world.specs.Serve.{Failure};
 ghost use Rattle.world.specs.Step.{after_step};
 ghost use Rattle.world.specs.World.{World};
 ghost use Rattle.world.specs.declared.connection.Connection.TheVariants as Connection;
+ghost use Rattle.world.specs.declared.step.Step.TheVariants as Step;
 ghost use Rattle.world_law.specs.Law.{IsWithin};
 
 use crate::bench::Connections;
 use crate::serving::{Terms, answer, send, send_owned, serve};
 use crate::storing::{append, publish, seal};
-use crate::turning::{clean, copy, finish, rotate, write_map};
+use crate::turning::{clean, copy, finish, refused, rotate, write_map};
 use checkpoint::Keeper;
+use device_image::keeper_laws;
 use disk_model::Disk;
 use nbd_wire::Request;
 use order_book::Order;
@@ -58,6 +61,40 @@ pub fn take_step<D: Disk>(
 {
     schedule_law();
     perform(alloc, step, order, keeper, connections)
+}
+
+/// Copies the next blocks of the first of several areas into data, at most `most`, that follow one another in both, in one
+/// read and one write of the device.
+///
+/// Where it answers how many, these are as many steps `Copy`, in none of which anything fails; else it is one step `Copy`,
+/// whose event it gives.
+pub fn copy_some<D: Disk>(
+    most: u32,
+    order: &mut Order,
+    keeper: &mut Keeper<D>,
+    connections: &mut Connections,
+) -> Result<u32, Event>
+    requires most { 1 ≤ most }
+    requires group { IfSome connections.old.group (IsInHand order.old) }
+    ensures some { IfOk result (λ blocks. 1 ≤ blocks) }
+    ensures group { IfSome connections.new.group (IsInHand order.new) }
+    ensures blocks { length order.new.cache.states ≡ length order.old.cache.states }
+    ensures geometry { keeper.new.geometry ≡ keeper.old.geometry }
+    ensures extent { D.extent keeper.new.disk ≡ D.extent keeper.old.disk }
+    ensures honest { D.honest keeper.new.disk ↔ D.honest keeper.old.disk }
+    ensures world { (world : World) (trusted : Bool) → IsExportOf world order.old keeper.old (D.faults keeper.old.disk) connections.old (Trusts trusted (D.honest keeper.old.disk)) (D.state keeper.old.disk)
+        → MatchResult result
+        (λ blocks. Leads world (copied world blocks) (replicate blocks Step.Copy) order.new keeper.new (D.faults keeper.new.disk) connections.new
+        (Trusts trusted (D.honest keeper.new.disk)) (D.state keeper.old.disk) (D.state keeper.new.disk))
+        (λ event. (failure : Failure) × IsStepped world (after_step world Step.Copy failure) event order.new keeper.new (D.faults keeper.new.disk) connections.new
+        (Trusts trusted (D.honest keeper.new.disk)) (D.state keeper.old.disk) (D.state keeper.new.disk)) }
+{
+    schedule_law();
+    keeper_laws::<D>();
+    match keeper.copy_some(most) {
+        Ok(blocks) => Ok(blocks),
+        Err(fault) => Err(refused(&mut connections.group, order, fault)),
+    }
 }
 
 // Carries out one step, and gives its event.

@@ -11,7 +11,7 @@ mod storing;
 mod turning;
 
 pub use bench::{Bench, Connections};
-pub use engine::take_step;
+pub use engine::{copy_some, take_step};
 pub use judgement::judge;
 pub use laws::{fresh_parts_law, leads_law, next_life_law};
 pub use rehearsal::rehearse;

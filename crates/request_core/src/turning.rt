@@ -114,7 +114,7 @@ pub(crate) fn finish<D: Disk>(
 }
 
 // The event of a step that the keeper refused. A fault of the device stops the order, and a group in hand is pending again.
-fn refused(hand: &mut Option<Group>, order: &mut Order, fault: KeeperFault) -> Event
+pub(crate) fn refused(hand: &mut Option<Group>, order: &mut Order, fault: KeeperFault) -> Event
     requires { IfSome hand.old (IsInHand order.old) }
     ensures event { result ≡ step_event fault }
     ensures order { order.new ≡ order_refused fault hand.old order.old }

@@ -1,0 +1,11 @@
+-- several blocks copied at once, as steps of the world
+use Rattle.std.specs.Prelude.{ℕ, zero, suc}
+use Rattle.world.specs.declared.step.Step.TheVariants.{Copy}
+use Rattle.world.specs.Serve.{Nothing}
+use Rattle.world.specs.Step.{after_step}
+use Rattle.world.specs.World.{World}
+
+-- the world after so many steps that copy a block each, in which nothing fails
+abbrev pub copied : World → ℕ → World
+copied world zero = world
+copied world (suc count) = copied (after_step world Copy Nothing) count
