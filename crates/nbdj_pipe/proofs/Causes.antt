@@ -1,5 +1,5 @@
 -- what shows why a session ended early
-use Rattle.std.proofs.Common.{◌≡◌, ◌≢◌, ◌⊎◌, inl, inr, ℕ, ◌+◌, ◌<◌, ◌≤◌, ◌==◌, ◌&&◌, Bool, true, false, nat_le, nat_lt, List, [], ◌∷◌, ◌++◌, length, length-drop, take, drop, Result, Ok, Err, IfErr, IsErrAnd, MatchResult, refl, sym, ap, subst, ◌∙◌, arith}
+use Rattle.std.proofs.Common.{◌≡◌, ◌≢◌, ◌⊎◌, inl, inr, ℕ, ◌+◌, ◌<◌, ◌≤◌, ◌==◌, ◌&&◌, Bool, true, false, nat_le, nat_lt, List, [], ◌∷◌, ◌++◌, length, length-append, length-drop, take, drop, Result, Ok, Err, IfErr, IsErrAnd, MatchResult, refl, sym, ap, subst, ◌∙◌, arith}
 use Rattle.std.proofs.lemmas.Bool.{and_parts, both_ways, cases_lt, eqb-false, eqb-true, false_from_ne_true, leb-false, ltb-false, ltb-true}
 use Rattle.std.proofs.lemmas.List.{take-append-drop}
 use Rattle.image_model.specs.Bodies.{body_bytes, body_limit, longest}
@@ -18,9 +18,10 @@ use Rattle.world.specs.Run.{IsRun}
 use Rattle.world.specs.Serve.{Failure, Nothing, OutOfMemory, DeviceFailure}
 use Rattle.world.specs.Step.{after_step, append, publish, seal, sealed_more, stored_more}
 use Rattle.world.specs.World.{World, fits, last_number}
-use Rattle.world_law.specs.Law.{IsWithin}
-use Rattle.nbdj_pipe.specs.Causes.{HasCause, HasFullArea, Passes}
-use Rattle.nbdj_pipe.specs.Export.{GetsOn, IsSettled, IsWaiting, StoredBy}
+use Rattle.world_law.specs.Law.{Grows, IsWithin}
+use Rattle.nbdj_pipe.specs.Causes.{HasCause, HasNoGeneration, Passes}
+use Rattle.nbdj_pipe.specs.Checkpoint.{HasFullArea, IsUnfit}
+use Rattle.nbdj_pipe.specs.Export.{CameTo, GetsOn, IsSettled, IsWaiting, StoredBy}
 use Rattle.nbdj_pipe.specs.Session.{IsEndShown}
 use Rattle.nbdj_pipe.specs.declared.refusal.Refusal.{Refusal}
 use Rattle.nbdj_pipe.specs.declared.refusal.Refusal.TheVariants.{NoMemory, DeviceFault, BadMap, NoHeader, BadHeader, NumbersFull, AreaFull, OutOfOrder, DamagedGroup, NotNow, Failed as NeverEnds, NoRoom, PeerClosed, ProtocolEnd, StreamFault}
@@ -48,8 +49,8 @@ cause_between DeviceFault first second third last before behind to on is = tt
 cause_between BadMap first second third last before behind to on is = tt
 cause_between NoHeader first second third last before behind to on is = tt
 cause_between BadHeader first second third last before behind to on is = tt
-cause_between NumbersFull first second third last before behind to on is = tt
-cause_between AreaFull first second third last before behind to on is = passes_between HasFullArea first second third last before behind to on is
+cause_between NumbersFull first second third last before behind to on is = passes_between HasNoGeneration first second third last before behind to on is
+cause_between AreaFull first second third last before behind to on is = is
 cause_between OutOfOrder first second third last before behind to on is = tt
 cause_between DamagedGroup first second third last before behind to on is = tt
 cause_between NotNow first second third last before behind to on is = tt
@@ -75,6 +76,11 @@ caused_before (Err refusal) first mid last behind on is = cause_between refusal 
 pub if_error : {T : Type 0} (P : Refusal → Type 0) (refusal : Refusal) (outcome : Result T Refusal) → IsErrAnd outcome (λ r. r ≡ refusal) → P refusal → IfErr outcome P
 if_error P refusal (Ok value) is holds = tt
 if_error P refusal (Err other) is holds = subst P (sym is) holds
+
+-- the same of an outcome of which something else is said where it is Ok
+pub if_matched : {T : Type 0} (Q : T → Type 0) (P : Refusal → Type 0) (refusal : Refusal) (outcome : Result T Refusal) → IsErrAnd outcome (λ r. r ≡ refusal) → P refusal → MatchResult outcome Q P
+if_matched Q P refusal (Ok value) is holds = absurd is
+if_matched Q P refusal (Err other) is holds = subst P (sym is) holds
 
 -- a session ends as its input did, as its storing did, or for a fault of the device
 pub end_shown : (end stored outcome : Result (Unit {0}) Refusal) (first last : World) → (outcome ≡ end) ⊎ (outcome ≡ stored) ⊎ (outcome ≡ Err DeviceFault)
@@ -113,6 +119,18 @@ pub all_durable : (world : World) (order : OrderState) (connections : Connection
     → world.stage.durable ≡ length world.stage.order
 all_durable world order connections of works (inl is) = absurd (both_ways world.stage.stopped works (sym of.stopped ∙ is))
 all_durable world order connections of works (inr is) = omega (arith, of.durable, of.mark, is)
+
+-- where an order has come to be settled that wasn't, storing got on
+pub settled_gets_on : (old new : World) (order : OrderState) (connections : ConnectionsState) → IsOrderOf new.stage order connections.group → IsSettled order → old.stage.durable < length old.stage.order → Grows old new → GetsOn old new
+settled_gets_on old new order connections of (inl stopped) pending grows = inl (sym of.stopped ∙ stopped)
+settled_gets_on old new order connections of (inr level) pending grows =
+    let (commands, same) = grows.order in
+    let long : length new.stage.order ≡ length old.stage.order + length commands = ap length same ∙ length-append old.stage.order commands in
+    inr (omega (arith, of.durable, of.mark, level, pending, long))
+
+pub gets_on_behind : (old mid new : World) → Grows old mid → GetsOn mid new → GetsOn old new
+gets_on_behind old mid new grows (inl stopped) = inl stopped
+gets_on_behind old mid new grows (inr more) = inr (omega (arith, grows.durable, more))
 
 -- Storing one group after another got on so often: a call of the device has failed, or as many commands more are durable.
 abbrev pub HasStored : World → World → ℕ → Type 0
@@ -183,7 +201,7 @@ module _ (world : World) (within : IsWithin world) (takes : AreChanges world.sta
         ((event : Event) → next.log ≡ sealed.log ++ event ∷ [] → event ≡ Failed fault.NoMemory)
         ⊎ (((next.stage.stopped ≡ true) × ((event : Event) → next.log ≡ sealed.log ++ event ∷ [] → event ≡ Failed fault.DeviceFault))
         ⊎ (IsStored next
-        ⊎ ((next.stage.durable ≡ world.stage.durable) × ((event : Event) → next.log ≡ sealed.log ++ event ∷ [] → event ≡ Held) × HasFullArea sealed)))
+        ⊎ ((next.stage.durable ≡ world.stage.durable) × ((event : Event) → next.log ≡ sealed.log ++ event ∷ [] → event ≡ Held) × HasFullArea sealed × (next.stage.sealed ≡ next.stage.stored))))
 
     stored_as : (failure : Failure) → IsAppendedAs (stored_more failure sealed)
     stored_as OutOfMemory = inl (λ event log. sym (last_same sealed.log (Failed fault.NoMemory) event log))
@@ -198,6 +216,7 @@ module _ (world : World) (within : IsWithin world) (takes : AreChanges world.sta
           is_sealed.durable,
           λ event log. sym (last_same sealed.log Held event log),
           record { works = is_sealed.works_on; hand = ltb-true sealed.stage.stored sealed.stage.sealed hand; full = full },
+          refl,
         ))))))
         (λ none. inr (inr (inl (record { durable = is_sealed.durable; stored = omega (arith, ltb-false sealed.stage.stored sealed.stage.sealed none, is_sealed.above) }))))
       where
@@ -223,34 +242,23 @@ module _ (world : World) (within : IsWithin world) (takes : AreChanges world.sta
     stays_stopped : (next : World) → next.stage.stopped ≡ true → GetsOn world (publish next)
     stays_stopped next is = of_test (GetsOn world) (nat_lt next.stage.durable next.stage.stored) _ _ (λ more. inl is) (λ none. inl is)
 
+    -- publishing puts nothing into a group, and stores nothing
+    publish_level : (next : World) → next.stage.sealed ≡ next.stage.stored → (publish next).stage.sealed ≡ (publish next).stage.stored
+    publish_level next is = of_test (λ (w : World). w.stage.sealed ≡ w.stage.stored) (nat_lt next.stage.durable next.stage.stored) _ _ (λ more. is) (λ none. is)
+
     -- what the three events tell
-    module _ (appended : World) (sealed_event appended_event published_event : Event) (to : Failure) (on : Failure)
-        (sealed_is : sealed ≡ seal to world) (appended_is : appended ≡ append on sealed)
+    module _ (appended : World) (sealed_event appended_event published_event : Event) (to : Failure) (sealed_is : sealed ≡ seal to world)
         (appended_log : appended.log ≡ sealed.log ++ appended_event ∷ []) (published_log : (publish appended).log ≡ appended.log ++ published_event ∷ []) where
-      abbrev IsShown : Result (Unit {0}) Refusal → Type 0
-      IsShown outcome = MatchResult outcome (λ done. GetsOn world (publish appended)) (λ refusal. HasCause refusal world (publish appended))
-
-      passes : HasFullArea sealed → Passes HasFullArea world (publish appended)
-      passes full = record {
-        passed = sealed;
-        before = steps.Seal ∷ [];
-        behind = steps.Append ∷ steps.Publish ∷ [];
-        to = (to, sealed_is);
-        on = (on, (Nothing, ap publish appended_is));
-        holds = full;
-      }
-
-      shown_as : (outcome : Result (Unit {0}) Refusal) → StoredBy sealed_event appended_event published_event outcome → IsAppendedAs appended → IsShown outcome
-      shown_as (Ok done) told (inl memory) = absurd (told.1 (memory appended_event appended_log))
-      shown_as (Ok done) told (inr (inl (stopped, event))) = stays_stopped appended stopped
-      shown_as (Ok done) told (inr (inr (inl stored))) = gets_on appended stored
-      shown_as (Ok done) told (inr (inr (inr (level, event, full)))) = either (held_or_on appended published_event level published_log)
+      shown_as : (outcome : Result Bool Refusal) → StoredBy sealed_event appended_event published_event outcome → IsAppendedAs appended → CameTo world (publish appended) outcome
+      shown_as (Ok true) told (inl memory) = absurd (told.1 (memory appended_event appended_log))
+      shown_as (Ok true) told (inr (inl (stopped, event))) = stays_stopped appended stopped
+      shown_as (Ok true) told (inr (inr (inl stored))) = gets_on appended stored
+      shown_as (Ok true) told (inr (inr (inr (level, event, full, back)))) = either (held_or_on appended published_event level published_log)
         where
           either : (published_event ≡ Held) ⊎ GetsOn world (publish appended) → GetsOn world (publish appended)
           either (inl held) = absurd (told.2 (event appended_event appended_log) held)
           either (inr on) = on
-      shown_as (Err refusal) (inl memory) came = subst (λ (r : Refusal). HasCause r world (publish appended)) (sym memory) tt
-      shown_as (Err refusal) (inr (is, sealing, appending, publishing)) came = subst (λ (r : Refusal). HasCause r world (publish appended)) (sym is) (passes (full came))
+      shown_as (Ok false) (sealing, appending, publishing) came = unfit came
         where
           memory_unlike : Held ≡ Failed fault.NoMemory → ⊥
           memory_unlike is = cc
@@ -261,23 +269,23 @@ module _ (world : World) (within : IsWithin world) (takes : AreChanges world.sta
           took_unlike : Held ≡ Took → ⊥
           took_unlike is = cc
 
-          full : IsAppendedAs appended → HasFullArea sealed
-          full (inl memory) = absurd (memory_unlike (sym appending ∙ memory appended_event appended_log))
-          full (inr (inl (stopped, event))) = absurd (device_unlike (sym appending ∙ event appended_event appended_log))
-          full (inr (inr (inl stored))) = absurd (took_unlike (sym publishing ∙ took appended published_event stored published_log))
-          full (inr (inr (inr (level, event, here)))) = here
+          unfit : IsAppendedAs appended → IsUnfit world (publish appended)
+          unfit (inl memory) = absurd (memory_unlike (sym appending ∙ memory appended_event appended_log))
+          unfit (inr (inl (stopped, event))) = absurd (device_unlike (sym appending ∙ event appended_event appended_log))
+          unfit (inr (inr (inl stored))) = absurd (took_unlike (sym publishing ∙ took appended published_event stored published_log))
+          unfit (inr (inr (inr (level, event, here, back)))) = record { failure = to; full = subst HasFullArea sealed_is here; back = publish_level appended back }
+      shown_as (Err refusal) told came = told
 
   -- what storing the next group comes to
-  pub shown : (to on : Failure) (sealed_event appended_event published_event : Event) (outcome : Result (Unit {0}) Refusal)
+  pub shown : (to on : Failure) (sealed_event appended_event published_event : Event) (outcome : Result Bool Refusal)
       → (seal to world).log ≡ world.log ++ sealed_event ∷ [] → (append on (seal to world)).log ≡ (seal to world).log ++ appended_event ∷ []
       → (publish (append on (seal to world))).log ≡ (append on (seal to world)).log ++ published_event ∷ [] → StoredBy sealed_event appended_event published_event outcome
-      → MatchResult outcome (λ done. GetsOn world (publish (append on (seal to world)))) (λ refusal. HasCause refusal world (publish (append on (seal to world))))
+      → CameTo world (publish (append on (seal to world))) outcome
   shown to on sealed_event appended_event published_event outcome sealed_log appended_log published_log told = as_sealed outcome told (sealed_as to)
     where
-      as_sealed : (outcome : Result (Unit {0}) Refusal) → StoredBy sealed_event appended_event published_event outcome → IsSealedAs (seal to world)
-          → MatchResult outcome (λ done. GetsOn world (publish (append on (seal to world)))) (λ refusal. HasCause refusal world (publish (append on (seal to world))))
+      as_sealed : (outcome : Result Bool Refusal) → StoredBy sealed_event appended_event published_event outcome → IsSealedAs (seal to world) → CameTo world (publish (append on (seal to world))) outcome
       as_sealed outcome told (inr sealed) =
-          shown_as (seal to world) sealed (append on (seal to world)) sealed_event appended_event published_event to on refl refl appended_log published_log outcome told (appended_as (seal to world) sealed on)
-      as_sealed (Ok done) told (inl memory) = absurd (told.0 fault.NoMemory (memory sealed_event sealed_log))
-      as_sealed (Err refusal) (inl memory) (inl refused) = subst (λ (r : Refusal). HasCause r world (publish (append on (seal to world)))) (sym memory) tt
-      as_sealed (Err refusal) (inr (is, sealing, appending, publishing)) (inl memory) = absurd (sealing fault.NoMemory (memory sealed_event sealed_log))
+          shown_as (seal to world) sealed (append on (seal to world)) sealed_event appended_event published_event to refl appended_log published_log outcome told (appended_as (seal to world) sealed on)
+      as_sealed (Ok true) told (inl memory) = absurd (told.0 fault.NoMemory (memory sealed_event sealed_log))
+      as_sealed (Ok false) told (inl memory) = absurd (told.0 fault.NoMemory (memory sealed_event sealed_log))
+      as_sealed (Err refusal) told (inl memory) = told

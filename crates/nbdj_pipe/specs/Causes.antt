@@ -1,12 +1,13 @@
 -- Why a session ends before its input does, by a world that its run passes (docs/FORMATS.md, "Refusals").
-use Rattle.std.specs.Prelude.{◌≡◌, ◌<◌, false, List, length, Ok}
+use Rattle.std.specs.Prelude.{◌≡◌, true, false, List, length, Ok}
 use Rattle.nbd_wire.specs.Request.{Message}
 use Rattle.world.specs.declared.action.Action.TheVariants.{Serve}
 use Rattle.world.specs.declared.connection.Connection.TheVariants.{Requested}
 use Rattle.world.specs.declared.step.Step.{Step}
 use Rattle.world.specs.Log.{command_of, is_flush}
 use Rattle.world.specs.Run.{IsRun}
-use Rattle.world.specs.World.{World, fits, has_room}
+use Rattle.world.specs.Checkpoint.{is_full}
+use Rattle.world.specs.World.{World, has_room}
 use Rattle.nbdj_pipe.specs.Talk.{verdict_on}
 use Rattle.nbdj_pipe.specs.declared.refusal.Refusal.{Refusal}
 use Rattle.nbdj_pipe.specs.declared.refusal.Refusal.TheVariants.{NoMemory, DeviceFault, BadMap, NoHeader, BadHeader, NumbersFull, AreaFull, OutOfOrder, DamagedGroup, NotNow, Failed, NoRoom, PeerClosed, ProtocolEnd, StreamFault}
@@ -20,11 +21,9 @@ pub record Passes (P : World → Type 0) (first last : World) : Type 0 where
   pub on : IsRun passed behind last
   pub holds : P passed
 
--- The device works, and the group in hand, with the gate behind it, doesn't fit the rest of the area.
-pub record HasFullArea (world : World) : Type 0 where
-  pub works : world.stage.stopped ≡ false
-  pub hand : world.stage.stored < world.stage.sealed
-  pub full : fits world ≡ false
+-- No generation is left for another header.
+abbrev pub HasNoGeneration : World → Type 0
+HasNoGeneration world = is_full world.stage ≡ true
 
 -- The device works, and there is no room for the command of this request, which passes judgement and isn't a FLUSH.
 pub record LacksRoom (world : World) (request : Message) : Type 0 where
@@ -40,16 +39,16 @@ pub record HasNoRoom (world : World) : Type 0 where
   pub lacks : LacksRoom world request
   pub stored : world.stage.durable ≡ length world.stage.order
 
--- What a run says of a refusal that ends its session: an area that is full, a command for which there is no room, and that
--- storing never fails to come to an end. Of the others it says nothing.
+-- What a run says of a refusal that ends its session: that no generation is left, or no room for a command, and that no area
+-- stays full and storing never fails to come to an end. Of the others it says nothing.
 abbrev pub HasCause : Refusal → World → World → Type 0
 HasCause NoMemory first last = Unit {0}
 HasCause DeviceFault first last = Unit {0}
 HasCause BadMap first last = Unit {0}
 HasCause NoHeader first last = Unit {0}
 HasCause BadHeader first last = Unit {0}
-HasCause NumbersFull first last = Unit {0}
-HasCause AreaFull first last = Passes HasFullArea first last
+HasCause NumbersFull first last = Passes HasNoGeneration first last
+HasCause AreaFull first last = ⊥
 HasCause OutOfOrder first last = Unit {0}
 HasCause DamagedGroup first last = Unit {0}
 HasCause NotNow first last = Unit {0}

@@ -1,5 +1,5 @@
 -- what the calls of an export make of the world that it is of
-use Rattle.std.specs.Prelude.{ℕ, ◌≡◌, ◌≢◌, ◌<◌, ◌+◌, ◌⊎◌, true, false, List, [], ◌∷◌, ◌++◌, Option, Some, None, Result, Ok, Err}
+use Rattle.std.specs.Prelude.{ℕ, ◌≡◌, ◌≢◌, ◌<◌, ◌+◌, ◌⊎◌, Bool, true, false, List, [], ◌∷◌, ◌++◌, Option, Some, None, Result, Ok, Err}
 use Rattle.device_image.specs.Keeper.{KeeperState}
 use Rattle.disk_model.specs.Disk.{State}
 use Rattle.nbd_wire.specs.Request.{Message}
@@ -21,7 +21,8 @@ use Rattle.world.specs.World.{World}
 use Rattle.world.specs.declared.event.Event.TheVariants.{Answered}
 use Rattle.world.specs.declared.event.StepFault.{StepFault}
 use Rattle.nbdj_pipe.specs.declared.refusal.Refusal.{Refusal}
-use Rattle.nbdj_pipe.specs.declared.refusal.Refusal.TheVariants.{AreaFull, NoMemory}
+use Rattle.nbdj_pipe.specs.declared.refusal.Refusal.TheVariants.{NoMemory}
+use Rattle.nbdj_pipe.specs.Checkpoint.{IsUnfit}
 use Rattle.nbdj_pipe.specs.Talk.{IsAnswered, spoken}
 
 -- Steps lead from one world to another, and this was said on the way.
@@ -42,18 +43,23 @@ pub record Settles {D : Type 0} (world next : World) (order : OrderState) (keepe
 abbrev pub IsSettled : OrderState → Type 0
 IsSettled order = (order.stopped ≡ true) ⊎ (order.durable ≡ order.mark)
 
--- What became of a group, by the events of sealing it, appending it and publishing it: memory was refused, it doesn't fit
--- the area where neither of the last two had anything to do, or it is stored or the device has failed.
-abbrev pub StoredBy : Event → Event → Event → Result (Unit {0}) Refusal → Type 0
-StoredBy sealed appended published (Ok done) =
+-- Whether a group fits the area, by the events of sealing it, appending it and publishing it: it doesn't where neither of the
+-- last two had anything to do, and else it is stored or the device has failed; or memory was refused.
+abbrev pub StoredBy : Event → Event → Event → Result Bool Refusal → Type 0
+StoredBy sealed appended published (Ok true) =
     ((fault : StepFault) → sealed ≢ Event.Failed fault) × (appended ≢ Event.Failed StepFault.NoMemory) × (appended ≡ Event.Held → published ≢ Event.Held)
-StoredBy sealed appended published (Err refusal) =
-    (refusal ≡ NoMemory)
-    ⊎ ((refusal ≡ AreaFull) × ((fault : StepFault) → sealed ≢ Event.Failed fault) × (appended ≡ Event.Held) × (published ≡ Event.Held))
+StoredBy sealed appended published (Ok false) = ((fault : StepFault) → sealed ≢ Event.Failed fault) × (appended ≡ Event.Held) × (published ≡ Event.Held)
+StoredBy sealed appended published (Err refusal) = refusal ≡ NoMemory
 
 -- Storing got on: a call of the device has failed, or more is durable.
 abbrev pub GetsOn : World → World → Type 0
 GetsOn old new = (new.stage.stopped ≡ true) ⊎ (old.stage.durable < new.stage.durable)
+
+-- what storing a group came to: it got on, or the group doesn't fit the area, or memory was refused
+abbrev pub CameTo : World → World → Result Bool Refusal → Type 0
+CameTo old new (Ok true) = GetsOn old new
+CameTo old new (Ok false) = IsUnfit old new
+CameTo old new (Err refusal) = refusal ≡ NoMemory
 
 -- The connection waits for more than is durable, and the device works.
 pub record IsWaiting (world : World) : Type 0 where

@@ -1,6 +1,7 @@
 pub mod Refusals
 pub mod Talk
 pub mod Causes
+pub mod Checkpoint
 pub mod Export
 pub mod Session
 pub mod Pipe

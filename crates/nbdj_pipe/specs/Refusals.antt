@@ -41,15 +41,15 @@ abbrev pub of_wire : WireFault → Refusal
 of_wire wire.NoMemory = NoMemory
 of_wire (wire.Malformed fault) = ProtocolEnd
 
--- a refusal that ends a session before its input does: memory, room, and what the streams refuse
+-- a refusal that ends a session before its input does: memory, generations, room, and what the streams refuse
 abbrev pub IsEarly : Refusal → Type 0
 IsEarly NoMemory = Unit {0}
 IsEarly DeviceFault = ⊥
 IsEarly BadMap = ⊥
 IsEarly NoHeader = ⊥
 IsEarly BadHeader = ⊥
-IsEarly NumbersFull = ⊥
-IsEarly AreaFull = Unit {0}
+IsEarly NumbersFull = Unit {0}
+IsEarly AreaFull = ⊥
 IsEarly OutOfOrder = ⊥
 IsEarly DamagedGroup = ⊥
 IsEarly NotNow = ⊥
@@ -66,8 +66,8 @@ IsOfSession DeviceFault = Unit {0}
 IsOfSession BadMap = ⊥
 IsOfSession NoHeader = ⊥
 IsOfSession BadHeader = ⊥
-IsOfSession NumbersFull = ⊥
-IsOfSession AreaFull = Unit {0}
+IsOfSession NumbersFull = Unit {0}
+IsOfSession AreaFull = ⊥
 IsOfSession OutOfOrder = ⊥
 IsOfSession DamagedGroup = ⊥
 IsOfSession NotNow = ⊥

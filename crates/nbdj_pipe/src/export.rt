@@ -1,7 +1,9 @@
-ghost use Rattle.std.specs.Prelude.{◌≡◌, ◌↔◌, ◌++◌, Bool, [], ◌∷◌, length, IfErr, IfOk, IfSome, IsTrue, MatchBool, MatchOption, MatchResult, OnOk};
+ghost use Rattle.std.specs.Prelude.{◌≡◌, ◌≤◌, ◌+◌, ◌↔◌, ◌++◌, Bool, [], ◌∷◌, length, IfErr, IfOk, IfSome, IsTrue, MatchBool, MatchOption, MatchResult, OnOk};
+ghost use Rattle.checkpoint.specs.Steps.{left_in};
 ghost use Rattle.nbd_wire.specs.Request.{Message};
 ghost use Rattle.nbdj_pipe.specs.Causes.{HasCause, LacksRoom};
-ghost use Rattle.nbdj_pipe.specs.Export.{AwaitsAnswer, Follows, GetsOn, HasAnswer, IsGiven, IsJudged, IsOfKind, IsSettled, IsStoring, IsWaiting, Settles, StoredBy, said_of, told, told_by};
+ghost use Rattle.nbdj_pipe.specs.Checkpoint.{EndsBy, HasCopiedAll, IsCopied, IsDone, IsEmptied, IsFinished, OrStopped};
+ghost use Rattle.nbdj_pipe.specs.Export.{AwaitsAnswer, CameTo, Follows, GetsOn, HasAnswer, IsGiven, IsJudged, IsOfKind, IsSettled, IsStoring, IsWaiting, Settles, StoredBy, said_of, told, told_by};
 ghost use Rattle.nbdj_pipe.specs.Refusals.{IsEarly};
 ghost use Rattle.nbdj_pipe.specs.Talk.{plain, spoken, verdict_on};
 ghost use Rattle.order_book.specs.Order.{IsInHand};
@@ -18,13 +20,16 @@ use checkpoint::Keeper;
 use disk_model::Disk;
 use nbd_wire::{Answer, DISCONNECT, Request};
 use order_book::Order;
-use request_core::{Connections, Event, Step, StepFault, leads_law, take_step};
+use request_core::{Connections, Event, Step, StepFault, copy_some, leads_law, take_step};
 use std::alloc::Global;
 use world_law::schedule_law;
 
-// What became of a group, by the events of sealing it, appending it and publishing it. After a fault of the device nothing
-// is refused: the order is stopped, and answers tell of it.
-fn stored(sealed: &Event, appended: &Event, published: &Event) -> Result<(), Refusal>
+// The most blocks that are copied at once: 1 MiB.
+const MOST_COPIED: u32 = 256;
+
+// Whether a group fits the area, by the events of sealing it, appending it and publishing it. After a fault of the device
+// nothing is refused: the order is stopped, and answers tell of it.
+fn stored(sealed: &Event, appended: &Event, published: &Event) -> Result<bool, Refusal>
     ensures early { IfErr result IsEarly }
     ensures events { StoredBy sealed.now appended.now published.now result }
 {
@@ -34,12 +39,26 @@ fn stored(sealed: &Event, appended: &Event, published: &Event) -> Result<(), Ref
     match appended {
         Event::Failed(fault) => match fault {
             StepFault::NoMemory => Err(Refusal::NoMemory),
-            StepFault::DeviceFault | StepFault::NumbersFull | StepFault::FailedBefore => Ok(()),
+            StepFault::DeviceFault | StepFault::NumbersFull | StepFault::FailedBefore => Ok(true),
         },
         // Nothing was stored now, and nothing earlier that wasn't published: the group doesn't fit.
         Event::Held => match published {
-            Event::Held => Err(Refusal::AreaFull),
-            _ => Ok(()),
+            Event::Held => Ok(false),
+            _ => Ok(true),
+        },
+        _ => Ok(true),
+    }
+}
+
+// Whether a checkpoint goes on behind a step with this event.
+fn turned(event: &Event) -> Result<(), Refusal>
+    ensures { EndsBy event.now result }
+{
+    match event {
+        Event::Failed(fault) => match fault {
+            StepFault::NoMemory => Err(Refusal::NoMemory),
+            StepFault::NumbersFull => Err(Refusal::NumbersFull),
+            StepFault::DeviceFault | StepFault::FailedBefore => Ok(()),
         },
         _ => Ok(()),
     }
@@ -93,9 +112,114 @@ impl<D: Disk> Export<D> {
         self.step(step)
     }
 
-    // Stores the next group: the one in hand, or the longest beginning of what is pending. Where the device fails the order is
-    // stopped.
-    fn store_some(&mut self) -> Result<(), Refusal>
+    // Carries out a step of a checkpoint.
+    fn turn(&mut self, step: Step) -> Result<(), Refusal>
+        requires storing { IsStoring step }
+        requires group { IfSome self.old.connections.group (IsInHand self.old.order) }
+        ensures group { IfSome self.new.connections.group (IsInHand self.new.order) }
+        ensures extent { D.extent self.new.keeper.disk ≡ D.extent self.old.keeper.disk }
+        ensures honest { D.honest self.new.keeper.disk ↔ D.honest self.old.keeper.disk }
+        ensures early { IfErr result IsEarly }
+        ensures world { (world : World) (trusted : Bool) → IsExportOf world self.old.order self.old.keeper (D.faults self.old.keeper.disk) self.old.connections (Trusts trusted (D.honest self.old.keeper.disk)) (D.state self.old.keeper.disk)
+            → (failure : Failure) × Settles world (after_step world step failure) self.new.order self.new.keeper (D.faults self.new.keeper.disk) self.new.connections
+            (Trusts trusted (D.honest self.new.keeper.disk)) (D.state self.old.keeper.disk) (D.state self.new.keeper.disk)
+            × MatchResult result (λ done. IsDone world (after_step world step failure)) (λ refusal. HasCause refusal world (after_step world step failure)) }
+    {
+        schedule_law();
+        let event = self.store_step(step);
+        turned(&event)
+    }
+
+    // Copies the next blocks of the first of several areas in use into data, or gives the event of the step that didn't.
+    fn copy_some(&mut self) -> Result<u32, Event>
+        requires group { IfSome self.old.connections.group (IsInHand self.old.order) }
+        ensures group { IfSome self.new.connections.group (IsInHand self.new.order) }
+        ensures extent { D.extent self.new.keeper.disk ≡ D.extent self.old.keeper.disk }
+        ensures honest { D.honest self.new.keeper.disk ↔ D.honest self.old.keeper.disk }
+        ensures some { IfOk result (λ blocks. 1 ≤ blocks) }
+        ensures fewer { IfOk result (λ blocks. left_in self.new.keeper.phase + blocks ≡ left_in self.old.keeper.phase) }
+        ensures refused { IfErr result (λ event. event ≡ Event.Took → ⊥) }
+        ensures world { (world : World) (trusted : Bool) → IsExportOf world self.old.order self.old.keeper (D.faults self.old.keeper.disk) self.old.connections (Trusts trusted (D.honest self.old.keeper.disk)) (D.state self.old.keeper.disk)
+            → (next : World) × Settles world next self.new.order self.new.keeper (D.faults self.new.keeper.disk) self.new.connections
+            (Trusts trusted (D.honest self.new.keeper.disk)) (D.state self.old.keeper.disk) (D.state self.new.keeper.disk)
+            × IsCopied world next result }
+    {
+        leads_law::<D>();
+        schedule_law();
+        copy_some(
+            MOST_COPIED,
+            &mut self.order,
+            &mut self.keeper,
+            &mut self.connections,
+        )
+    }
+
+    // Copies all that is left to copy of the first of several areas in use.
+    fn copy_all(&mut self) -> Result<(), Refusal>
+        requires group { IfSome self.old.connections.group (IsInHand self.old.order) }
+        ensures group { IfSome self.new.connections.group (IsInHand self.new.order) }
+        ensures extent { D.extent self.new.keeper.disk ≡ D.extent self.old.keeper.disk }
+        ensures honest { D.honest self.new.keeper.disk ↔ D.honest self.old.keeper.disk }
+        ensures early { IfErr result IsEarly }
+        ensures world { (world : World) (trusted : Bool) → IsExportOf world self.old.order self.old.keeper (D.faults self.old.keeper.disk) self.old.connections (Trusts trusted (D.honest self.old.keeper.disk)) (D.state self.old.keeper.disk)
+            → (next : World) × Settles world next self.new.order self.new.keeper (D.faults self.new.keeper.disk) self.new.connections
+            (Trusts trusted (D.honest self.new.keeper.disk)) (D.state self.old.keeper.disk) (D.state self.new.keeper.disk)
+            × MatchResult result (λ done. OrStopped HasCopiedAll world next) (λ refusal. HasCause refusal world next) }
+    {
+        leads_law::<D>();
+        schedule_law();
+        loop {
+            match self.copy_some() {
+                Ok(_) => {}
+                Err(event) => return turned(&event),
+            }
+        }
+    }
+
+    // Carries a checkpoint that has begun to its end.
+    fn finish_checkpoint(&mut self) -> Result<(), Refusal>
+        requires group { IfSome self.old.connections.group (IsInHand self.old.order) }
+        ensures group { IfSome self.new.connections.group (IsInHand self.new.order) }
+        ensures extent { D.extent self.new.keeper.disk ≡ D.extent self.old.keeper.disk }
+        ensures honest { D.honest self.new.keeper.disk ↔ D.honest self.old.keeper.disk }
+        ensures early { IfErr result IsEarly }
+        ensures world { (world : World) (trusted : Bool) → IsExportOf world self.old.order self.old.keeper (D.faults self.old.keeper.disk) self.old.connections (Trusts trusted (D.honest self.old.keeper.disk)) (D.state self.old.keeper.disk)
+            → (next : World) × Settles world next self.new.order self.new.keeper (D.faults self.new.keeper.disk) self.new.connections
+            (Trusts trusted (D.honest self.new.keeper.disk)) (D.state self.old.keeper.disk) (D.state self.new.keeper.disk)
+            × MatchResult result (λ done. OrStopped IsFinished world next) (λ refusal. HasCause refusal world next) }
+    {
+        leads_law::<D>();
+        schedule_law();
+        self.copy_all()?;
+        self.turn(Step::Map)?;
+        self.turn(Step::Finish)
+    }
+
+    // Moves all that is stored into map and data, and lets the frames of it go. A checkpoint that was begun earlier, and for
+    // which memory was refused, comes to its end first.
+    fn checkpoint(&mut self) -> Result<(), Refusal>
+        requires group { IfSome self.old.connections.group (IsInHand self.old.order) }
+        ensures group { IfSome self.new.connections.group (IsInHand self.new.order) }
+        ensures extent { D.extent self.new.keeper.disk ≡ D.extent self.old.keeper.disk }
+        ensures honest { D.honest self.new.keeper.disk ↔ D.honest self.old.keeper.disk }
+        ensures early { IfErr result IsEarly }
+        ensures world { (world : World) (trusted : Bool) → IsExportOf world self.old.order self.old.keeper (D.faults self.old.keeper.disk) self.old.connections (Trusts trusted (D.honest self.old.keeper.disk)) (D.state self.old.keeper.disk)
+            → (next : World) × Settles world next self.new.order self.new.keeper (D.faults self.new.keeper.disk) self.new.connections
+            (Trusts trusted (D.honest self.new.keeper.disk)) (D.state self.old.keeper.disk) (D.state self.new.keeper.disk)
+            × MatchResult result (λ done. OrStopped IsEmptied world next) (λ refusal. HasCause refusal world next) }
+    {
+        leads_law::<D>();
+        schedule_law();
+        self.finish_checkpoint()?;
+        self.turn(Step::Rotate)?;
+        self.finish_checkpoint()?;
+        self.store_step(Step::Clean);
+        Ok(())
+    }
+
+    // Stores the next group, the one in hand or the longest beginning of what is pending, where it fits the area; whether it
+    // does. Where the device fails the order is stopped.
+    fn store_group(&mut self) -> Result<bool, Refusal>
         requires group { IfSome self.old.connections.group (IsInHand self.old.order) }
         requires pending { IsSettled self.old.order → ⊥ }
         ensures group { IfSome self.new.connections.group (IsInHand self.new.order) }
@@ -105,7 +229,7 @@ impl<D: Disk> Export<D> {
         ensures world { (world : World) (trusted : Bool) → IsExportOf world self.old.order self.old.keeper (D.faults self.old.keeper.disk) self.old.connections (Trusts trusted (D.honest self.old.keeper.disk)) (D.state self.old.keeper.disk)
             → (next : World) × Settles world next self.new.order self.new.keeper (D.faults self.new.keeper.disk) self.new.connections
             (Trusts trusted (D.honest self.new.keeper.disk)) (D.state self.old.keeper.disk) (D.state self.new.keeper.disk)
-            × MatchResult result (λ done. GetsOn world next) (λ refusal. HasCause refusal world next) }
+            × CameTo world next result }
     {
         leads_law::<D>();
         schedule_law();
@@ -120,6 +244,35 @@ impl<D: Disk> Export<D> {
         ensures { IsTrue result ↔ IsSettled self.now.order }
     {
         self.order.stopped() || self.order.durable() == self.order.mark()
+    }
+
+    // Stores the next group, after a checkpoint where it doesn't fit the area.
+    fn store_some(&mut self) -> Result<(), Refusal>
+        requires group { IfSome self.old.connections.group (IsInHand self.old.order) }
+        requires pending { IsSettled self.old.order → ⊥ }
+        ensures group { IfSome self.new.connections.group (IsInHand self.new.order) }
+        ensures extent { D.extent self.new.keeper.disk ≡ D.extent self.old.keeper.disk }
+        ensures honest { D.honest self.new.keeper.disk ↔ D.honest self.old.keeper.disk }
+        ensures early { IfErr result IsEarly }
+        ensures world { (world : World) (trusted : Bool) → IsExportOf world self.old.order self.old.keeper (D.faults self.old.keeper.disk) self.old.connections (Trusts trusted (D.honest self.old.keeper.disk)) (D.state self.old.keeper.disk)
+            → (next : World) × Settles world next self.new.order self.new.keeper (D.faults self.new.keeper.disk) self.new.connections
+            (Trusts trusted (D.honest self.new.keeper.disk)) (D.state self.old.keeper.disk) (D.state self.new.keeper.disk)
+            × MatchResult result (λ done. GetsOn world next) (λ refusal. HasCause refusal world next) }
+    {
+        leads_law::<D>();
+        schedule_law();
+        if self.store_group()? {
+            return Ok(());
+        }
+        self.checkpoint()?;
+        if self.is_settled() {
+            return Ok(());
+        }
+        if self.store_group()? {
+            return Ok(());
+        }
+        // An empty area takes any group.
+        Err(Refusal::Failed)
     }
 
     /// Stores all that is pending, or what can be stored before the device fails.
@@ -170,7 +323,8 @@ impl<D: Disk> Export<D> {
         true
     }
 
-    // Serves the request that was sent, once more after all that is pending was stored where there is no room for its command.
+    // Serves the request that was sent. Where there is no room for its command it is served once more after all that is pending
+    // was stored, and once more after a checkpoint.
     fn serve_sent(&mut self) -> Result<(), Refusal>
         requires group { IfSome self.old.connections.group (IsInHand self.old.order) }
         ensures group { IfSome self.new.connections.group (IsInHand self.new.order) }
@@ -190,6 +344,10 @@ impl<D: Disk> Export<D> {
             return Ok(());
         }
         self.store_all()?;
+        if self.try_serve() {
+            return Ok(());
+        }
+        self.checkpoint()?;
         if self.try_serve() {
             return Ok(());
         }

@@ -1,0 +1,30 @@
+use Rattle.std.proofs.Common.{◌≡◌, ◌↔◌, Bool}
+use Rattle.std.specs.Prelude.{IfSome}
+use Rattle.checkpoint.specs.Steps.{left_in}
+use Rattle.order_book.specs.Order.{IsInHand}
+use Rattle.request_core.specs.Life.{Trusts}
+use Rattle.request_core.specs.Parts.{IsExportOf}
+use Rattle.world.specs.World.{World}
+use Rattle.nbdj_pipe.specs.Checkpoint.{HasCopied}
+use Rattle.nbdj_pipe.specs.Export.{Settles}
+use Rattle.nbdj_pipe.proofs.export.Export.copy_all.Given as goal
+
+-- blocks were copied
+abbrev pub invariant-loop-event : goal.invariant-loop-event
+invariant-loop-event g l =
+    let disk = g.D.Disk in
+    let old = l.fn.self in
+    let new = l.self in
+    record {
+      group : IfSome new.connections.group (IsInHand new.order);
+      extent : disk.extent new.keeper.disk ≡ disk.extent old.keeper.disk;
+      honest : disk.honest new.keeper.disk ↔ disk.honest old.keeper.disk;
+      world : (world : World) (trusted : Bool) → IsExportOf world old.order old.keeper (disk.faults old.keeper.disk) old.connections (Trusts trusted (disk.honest old.keeper.disk)) (disk.state old.keeper.disk)
+          → (next : World) × Settles world next new.order new.keeper (disk.faults new.keeper.disk) new.connections
+          (Trusts trusted (disk.honest new.keeper.disk)) (disk.state old.keeper.disk) (disk.state new.keeper.disk)
+          × HasCopied world.stage next.stage;
+    }
+
+-- fewer blocks are left
+abbrev pub decreases-loop-event : goal.decreases-loop-event
+decreases-loop-event g l = left_in l.self.keeper.phase
