@@ -186,25 +186,52 @@ tail -c "+$((data + 1))" d.img >found
 same 'the blocks after the recovery' wanted found
 ends 'a recovered device again' 0 "$(text 'commands 41')" '' recover d.img
 
-# A full journal, and no frames left: what was stored is found.
+# A journal that fills is emptied: the first write is copied into the image, and the second one stored.
 fresh 256 2097152
+{
+    request 0001 1 1 0 1048576; filled 1048576 D
+    request 0001 1 2 524288 524288; filled 524288 E
+    request 0001 1 3 0 524288; filled 524288 F
+    request 0000 2 4 0 0
+} >input
+ends 'a full journal' 0 "$(reply 1 0)$(reply 2 0)$(reply 3 0)" '' pipe d.img
+: >input
+checks 'check of the journal that was full' 256 0 2 3 256 0 0
+ends 'after the full journal' 0 "$(text 'commands 3')" '' recover d.img
+data=$((8192 + 2 * 2097152 + 2 * 4096))
+{ filled 524288 F; filled 524288 E; } >wanted
+tail -c "+$((data + 1))" d.img >found
+same 'the blocks after the full journal' wanted found
+
+# No frames left: what is stored is copied into the image, and its frames are free.
+fresh 1024 4194304
+{
+    request 0000 1 1 0 1048576; filled 1048576 F
+    request 0000 1 2 1048576 1048576; filled 1048576 G
+    request 0000 1 3 0 4096; filled 4096 H
+    request 0000 1 4 2097152 4096; filled 4096 I
+    request 0000 2 5 0 0
+} >input
+ends 'no frames left' 0 "$(reply 1 0)$(reply 2 0)$(reply 3 0)$(reply 4 0)" '' pipe d.img --frames 512
+: >input
+checks 'check after no frames left' 1024 0 3 4 513 0 511
+ends 'after no frames left' 0 "$(text 'commands 4')" '' recover d.img
+data=$((8192 + 2 * 4194304 + 2 * 4096))
+{ filled 4096 H; filled 1044480 F; filled 1048576 G; filled 4096 I; filled 2093056 '\000'; } >wanted
+tail -c "+$((data + 1))" d.img >found
+same 'the blocks after no frames left' wanted found
+
+# A journal that fills where no generation is left for another header: the write that was answered is found.
+fresh 256 2097152
+patch d.img 9 ffffffffffffffff
 {
     request 0001 1 1 0 1048576; filled 1048576 D
     request 0001 1 2 0 1048576; filled 1048576 E
 } >input
-ends 'a full journal' 1 "$(reply 1 0)" 'nbdj: area full (10)' pipe d.img
+ends 'no generation left' 1 "$(reply 1 0)" 'nbdj: numbers full (9)' pipe d.img
 : >input
-ends 'after the full journal' 0 "$(text 'commands 1')" '' recover d.img
-fresh 1024 4194304
-{
-    request 0000 1 1 0 1048576; filled 1048576 F
-    request 0000 1 2 1048576 1048576; filled 1048576 F
-    request 0000 1 3 0 4096; filled 4096 F
-    request 0000 1 4 2097152 4096; filled 4096 F
-} >input
-ends 'no frames left' 1 "$(reply 1 0)$(reply 2 0)$(reply 3 0)" 'nbdj: no room (17)' pipe d.img --frames 512
-: >input
-ends 'after no frames left' 0 "$(text 'commands 3')" '' recover d.img
+checks 'check after no generation left' 256 0 0 1 256 0 0
+ends 'after no generation left' 1 '' 'nbdj: numbers full (9)' recover d.img
 
 # A reply comes before the next request is waited for.
 fresh 16 2097152

@@ -13,7 +13,6 @@ use Rattle.world.specs.declared.event.Event.{Event}
 use Rattle.world.specs.declared.event.Event.TheVariants.{Took, Held, Failed}
 use Rattle.world.specs.declared.event.StepFault.TheVariants as fault
 use Rattle.world.specs.declared.step.Step.{Step}
-use Rattle.world.specs.declared.step.Step.TheVariants as steps
 use Rattle.world.specs.Run.{IsRun}
 use Rattle.world.specs.Serve.{Failure, Nothing, OutOfMemory, DeviceFailure}
 use Rattle.world.specs.Step.{after_step, append, publish, seal, sealed_more, stored_more}
@@ -55,7 +54,7 @@ cause_between OutOfOrder first second third last before behind to on is = tt
 cause_between DamagedGroup first second third last before behind to on is = tt
 cause_between NotNow first second third last before behind to on is = tt
 cause_between NeverEnds first second third last before behind to on is = is
-cause_between NoRoom first second third last before behind to on is = passes_between _ first second third last before behind to on is
+cause_between NoRoom first second third last before behind to on is = is
 cause_between PeerClosed first second third last before behind to on is = tt
 cause_between ProtocolEnd first second third last before behind to on is = tt
 cause_between StreamFault first second third last before behind to on is = tt

@@ -1,35 +1,40 @@
 -- what a checkpoint, step by step, makes of the world of an export
-use Rattle.std.proofs.Common.{◌≡◌, ◌⊎◌, inl, inr, ℕ, zero, suc, ◌+◌, ◌-◌, ◌<◌, ◌≤◌, ◌==◌, ◌&&◌, not, Bool, true, false, nat_le, nat_lt, List, [], ◌∷◌, ◌++◌, length, drop, take, sum_by, replicate, Some, Result, Ok, Err, MatchResult, append-nil, refl, sym, ap, subst, ◌∙◌, arith}
-use Rattle.std.specs.FinMap.{len}
+use Rattle.std.proofs.Common.{◌≡◌, ◌⊎◌, inl, inr, ℕ, zero, suc, ◌+◌, ◌-◌, ◌<◌, ◌≤◌, ◌==◌, ◌&&◌, ◌/◌, not, Bool, cond, true, false, nat_le, nat_lt, List, [], ◌∷◌, ◌++◌, length, drop, take, replicate, Some, Result, Ok, Err, MatchResult, OnOk, append-nil, refl, sym, ap, subst, ◌∙◌, arith}
+use Rattle.std.specs.Cmp.{nat_cmp_total}
+use Rattle.std.specs.FinMap.{contains_key, insert, len, len-empty, len-insert}
+use Rattle.std.specs.Ordering.{nat_cmp}
+use Rattle.std.proofs.lemmas.List.{drop_all}
 use Rattle.std.specs.Prelude.{slice_get}
 use Rattle.std.proofs.lemmas.List.Sums.{sum_by-append}
-use Rattle.std.proofs.lemmas.Bool.{eqb-false, leb-false, leb-true, ltb-false, ltb-true}
+use Rattle.std.proofs.lemmas.Bool.{and_from, both_ways, le-leb, eqb-false, leb-false, leb-true, ltb-false}
 use Rattle.image_model.specs.Bodies.{bodies_bytes, body_bytes, body_limit, longest}
 use Rattle.image_model.specs.Change.{Change}
+use Rattle.image_model.specs.Dirty.{Dirty, dirty_after, dirty_blocks, frames_suffice, with_blocks}
+use Rattle.nbd_wire.specs.Request.{Message}
 use Rattle.device_image.specs.Keeper.{KeeperState}
 use Rattle.disk_model.specs.Disk.{State}
 use Rattle.order_book.specs.Order.{OrderState}
 use Rattle.request_core.specs.Bench.{ConnectionsState}
 use Rattle.request_core.specs.Copies.{copied}
 use Rattle.request_core.specs.Life.{IsStepped, Leads, LeadsLaw, Trusts}
+use Rattle.world.specs.declared.connection.Connection.{Connection}
 use Rattle.world.specs.declared.event.Event.{Event}
-use Rattle.world.specs.declared.event.Event.TheVariants.{Took, Held, Failed}
+use Rattle.world.specs.declared.event.Event.TheVariants.{Took, Failed}
 use Rattle.world.specs.declared.event.StepFault.TheVariants as fault
 use Rattle.world.specs.declared.step.Step.{Step}
 use Rattle.world.specs.declared.step.Step.TheVariants as steps
 use Rattle.world.specs.Checkpoint.{can_clean, can_copy, can_finish, can_map, can_rotate, finished, is_full, is_turned, last_turned, rotated}
-use Rattle.world.specs.Log.{StandsAt}
+use Rattle.world.specs.Log.{StandsAt, command_of}
 use Rattle.world.specs.Run.{IsReached, IsRun}
 use Rattle.world.specs.Serve.{Failure, Nothing, OutOfMemory, DeviceFailure}
 use Rattle.world.specs.Step.{after_step, clean, copy_block, finish, in_time, rotate, seal, sealed_more, with_generation, without_memory, write_map, written}
-use Rattle.world.specs.World.{Stage, World, dirty_behind, fits, in_hand}
+use Rattle.world.specs.World.{Setting, Stage, World, dirty_behind, has_room, last_number}
 use Rattle.world_law.specs.Law.{Grows, IsRising, IsWithin, TellsTruth}
-use Rattle.nbdj_pipe.specs.Causes.{HasCause, HasNoGeneration, Passes}
-use Rattle.nbdj_pipe.specs.Checkpoint.{EndsBy, HasCopied, HasCopiedAll, HasFullArea, IsCopied, IsDone, IsEmptied, IsFine, IsFinished, IsUnfit, KeepsOrder, OrStopped}
-use Rattle.nbdj_pipe.specs.Export.{Settles}
-use Rattle.nbdj_pipe.specs.Talk.{spoken}
+use Rattle.nbdj_pipe.specs.Causes.{HasCause, LacksRoom}
+use Rattle.nbdj_pipe.specs.Checkpoint.{EndsBy, HasCopied, HasCopiedAll, HasFullArea, IsCopied, IsDone, IsEmptied, IsFine, IsFinished, KeepsOrder, OrStopped}
+use Rattle.nbdj_pipe.specs.Export.{IsJudged, Settles}
+use Rattle.nbdj_pipe.specs.Talk.{spoken, verdict_on}
 use Rattle.nbdj_pipe.specs.declared.refusal.Refusal.{Refusal}
-use Rattle.nbdj_pipe.specs.declared.refusal.Refusal.TheVariants.{NumbersFull}
 use Rattle.nbdj_pipe.proofs.Causes.{cause_behind}
 use Rattle.nbdj_pipe.proofs.Steps.{last_same, of_test, spoken_on, still_step}
 
@@ -154,6 +159,7 @@ copied_on first mid last to on = record {
   mapped = on.mapped ∙ to.mapped;
   works = on.works ∙ to.works;
 }
+
 pub copies_keep : (count : ℕ) (world : World) → HasCopied world.stage (copied world count).stage
 copies_keep zero world = none_copied world.stage
 copies_keep (suc count) world = copied_on world.stage _ _ (one_copied world) (copies_keep count (after_step world steps.Copy Nothing))
@@ -309,8 +315,8 @@ module _ (first done : World) (to : Failure) (within : IsWithin done) (was : OrS
         let at = ended.at ∙ has.at in
         let base = ended.base ∙ has.last ∙ begun.keeps.stored in
         of_test (λ (w : World). IsEmptied first.stage w.stage) (can_clean last.stage) _ _
-            (λ some. record { keeps = record { order = keeps.order; sealed = keeps.sealed; stored = keeps.stored; durable = keeps.durable }; at = at; base = base; clean = omega arith })
-            (λ none. record { keeps = keeps; at = at; base = base; clean = ltb-false (len (dirty_behind last.stage.base last.stage)) (len (dirty_behind last.stage.cleaned last.stage)) none })
+        (λ some. record { keeps = record { order = keeps.order; sealed = keeps.sealed; stored = keeps.stored; durable = keeps.durable }; at = at; base = base; clean = omega arith })
+        (λ none. record { keeps = keeps; at = at; base = base; clean = ltb-false (len (dirty_behind last.stage.base last.stage)) (len (dirty_behind last.stage.cleaned last.stage)) none })
 
     rotated_as : IsFinished first.stage done.stage → HasRotated done.stage turned.stage → OrStopped IsEmptied first (clean last)
     rotated_as begun has = by is
@@ -374,3 +380,52 @@ empty_takes world failure empty level = of_test (λ (w : World). HasFullArea w �
     more OutOfMemory full = none full.hand
     more Nothing full = too_large full.full
     more DeviceFailure full = too_large full.full
+
+-- a write of so many blocks makes so many dirty at most
+len_with : (dirty : Dirty) (number first count : ℕ) → len (with_blocks dirty number first count) ≤ len dirty + count
+unfolding with_blocks
+len_with dirty number first zero = omega arith
+len_with dirty number first (suc count) =
+    let before = with_blocks dirty number first count in
+    let more = len-insert nat_cmp_total before (first + count) number in
+    one_more (contains_key before (first + count)) (len before) (len (insert before (first + count) number)) (len_with dirty number first count) more
+  where
+    one_more : (known : Bool) (old new : ℕ) → old ≤ len dirty + count → new ≡ cond known old (old + 1) → new ≤ len dirty + suc count
+    one_more true old new fits is = omega (arith, fits, is)
+    one_more false old new fits is = omega (arith, fits, is)
+
+-- behind a checkpoint of all that was ordered there is room for any command of at most 256 blocks
+pub emptied_has_room : (first world : World) (request : Message) → IsWithin first → IsEmptied first.stage world.stage → first.stage.durable ≡ length first.stage.order → length request.bytes ≤ 1048576 → 512 ≤ world.stage.setting.frames
+    → LacksRoom world request → ⊥
+emptied_has_room first world request within emptied durable few frames lacks = both_ways (has_room world (command_of request)) lacks.full
+    (and_from (frames_suffice world.stage.setting.frames (dirty_behind world.stage.cleaned world.stage) (last_number world + 1) (command_of request)) (nat_le (bodies_bytes (drop world.stage.durable world.stage.order) + body_bytes (command_of request)) 67108864)
+    (le-leb (len (dirty_after (dirty_behind world.stage.cleaned world.stage) (last_number world + 1) (command_of request))) world.stage.setting.frames enough)
+    (le-leb (bodies_bytes (drop world.stage.durable world.stage.order) + body_bytes (command_of request)) 67108864 short))
+  where
+    bytes : List ℕ
+    bytes = request.bytes
+
+    all : world.stage.base ≡ length world.stage.order
+    all = let order = ap length emptied.keeps.order in omega (arith, emptied.base, order, durable, within.durable, within.stored, within.sealed)
+
+    all_durable : world.stage.durable ≡ length world.stage.order
+    all_durable = let order = ap length emptied.keeps.order in omega (arith, emptied.keeps.durable, order, durable)
+
+    none_dirty : len (dirty_behind world.stage.base world.stage) ≡ 0
+    none_dirty = ap (λ (commands : List Change). len (dirty_blocks (world.stage.setting.opening + world.stage.base) commands)) (drop_all world.stage.base world.stage.order (omega (arith, all))) ∙ len-empty nat_cmp ℕ
+
+    enough : len (dirty_after (dirty_behind world.stage.cleaned world.stage) (last_number world + 1) (command_of request)) ≤ world.stage.setting.frames
+    enough =
+        let own = len_with (dirty_behind world.stage.cleaned world.stage) (last_number world + 1) (request.head.offset / 4096) ((length request.bytes + 4095) / 4096) in
+        let blocks : (length request.bytes + 4095) / 4096 ≤ 256 = omega (arith, few) in
+        omega (arith, own, blocks, none_dirty, emptied.clean, frames)
+
+    short : bodies_bytes (drop world.stage.durable world.stage.order) + body_bytes (command_of request) ≤ 67108864
+    short =
+        let none : bodies_bytes (drop world.stage.durable world.stage.order) ≡ 0 = ap bodies_bytes (drop_all world.stage.durable world.stage.order (omega (arith, all_durable))) in
+        omega (arith, none, few)
+
+-- what a request is judged to be stays so as long as the device isn't opened again
+pub judged_as : (request : Message) (outcome : Result (Unit {0}) Refusal) (old new : Setting) (state : Connection) → new ≡ old → OnOk outcome (IsJudged (verdict_on request.head new.geometry new.flags) state)
+    → OnOk outcome (IsJudged (verdict_on request.head old.geometry old.flags) state)
+judged_as request outcome old new state same = subst (λ (s : Setting). OnOk outcome (IsJudged (verdict_on request.head s.geometry s.flags) state)) same

@@ -1,5 +1,5 @@
 -- the run of a pipe, from the opening of its device to the end
-use Rattle.std.proofs.Common.{◌≡◌, inl, inr, ℕ, suc, ◌<◌, Bool, true, false, List, [], ◌∷◌, ◌++◌, length, arith, Option, Some, None, Result, Ok, Err, IfErr, refl, sym, ap, subst, ◌∙◌}
+use Rattle.std.proofs.Common.{◌≤◌, ◌≡◌, inl, inr, ℕ, suc, ◌<◌, Bool, true, false, List, [], ◌∷◌, ◌++◌, length, arith, Option, Some, None, Result, Ok, Err, IfErr, refl, sym, ap, subst, ◌∙◌}
 use Rattle.std.proofs.lemmas.List.{append-nil}
 use Rattle.std.specs.List.{AllByRecursion}
 use Rattle.checkpoint.specs.Opening.{IsOpening}
@@ -82,7 +82,7 @@ module _ {D : Type 0} (state : D → State) (faults : D → ℕ) (honest : D →
     → (Trusts trusted (honest keeper.disk) → Keeps keeper (state keeper.disk) found keeper.count)
     → IsExportOf (first_world keeper found (faults keeper.disk) frames connections flags mode) (new_order states keeper.count frames keeper.geometry.area)
     keeper (faults keeper.disk) (new_connections connections flags mode) (Trusts trusted (honest keeper.disk)) (state keeper.disk))
-    (start : D) (keeper keeper' keeper'' : KeeperState D) (order' order'' : OrderState) (connections' connections'' : ConnectionsState) (frames : ℕ) (mode : Mode)
+    (start : D) (keeper keeper' keeper'' : KeeperState D) (order' order'' : OrderState) (connections' connections'' : ConnectionsState) (frames : ℕ) (enough : 512 ≤ frames) (mode : Mode)
     (states : List Kind) (recovered : IsRecovered keeper) (blocks : length states ≡ keeper.geometry.blocks) (few : keeper.count < 18446744073709551616) (count_same : faults keeper.disk ≡ faults start)
     (found : honest start → (content : List ℕ) × IsOpening (state start) state (Ok keeper) content)
     (back : honest keeper''.disk → honest keeper'.disk) (on : honest start → honest keeper''.disk)
@@ -126,7 +126,7 @@ module _ {D : Type 0} (state : D → State) (faults : D → ℕ) (honest : D →
     begun : (next : World) × HasTalked first next exchanges last × Follows first next (talk_to exchanges last) order' keeper' (faults keeper'.disk) connections' (Trusts trusted (honest keeper'.disk)) (state keeper.disk) (state keeper'.disk)
         × IfErr end (λ refusal. HasCause refusal first next)
     begun =
-        runs first trusted (fresh_law trusted keeper image states frames 1 plain mode recovered blocks few (keeps_of trusted given)) (record { idle = refl; flags = refl })
+        runs first trusted (fresh_law trusted keeper image states frames 1 plain mode recovered blocks few (keeps_of trusted given)) (record { idle = refl; flags = refl; frames = enough })
 
     abbrev mid : World
     mid = begun.0

@@ -1,5 +1,5 @@
 -- how the runs of a session go together
-use Rattle.std.proofs.Common.{◌≡◌, ℕ, Bool, List, [], ◌∷◌, ◌++◌, Option, Some, None, Result, Ok, Err, IfErr, IfOk, refl, sym, ap, subst, ◌∙◌}
+use Rattle.std.proofs.Common.{◌≤◌, ◌≡◌, ℕ, Bool, List, [], ◌∷◌, ◌++◌, Option, Some, None, Result, Ok, Err, IfErr, IfOk, refl, sym, ap, subst, ◌∙◌}
 use Rattle.device_image.specs.Keeper.{KeeperState}
 use Rattle.disk_model.specs.Disk.{State}
 use Rattle.image_model.specs.declared.geometry.Geometry.{Geometry}
@@ -39,7 +39,7 @@ module _ {D : Type 0} (state : D → State) (faults : D → ℕ) (honest : D →
       let begun = here world trusted of awaiting in
       let mid = begun.0 in
       let setting = begun.2.setting in
-      let done = on mid trusted begun.2.leads.of_export (record { idle = begun.1.idle refl; flags = ap (λ (s : Setting). s.flags) setting ∙ awaiting.flags }) in
+      let done = on mid trusted begun.2.leads.of_export (record { idle = begun.1.idle refl; flags = ap (λ (s : Setting). s.flags) setting ∙ awaiting.flags; frames = subst (λ (s : Setting). 512 ≤ s.frames) (sym setting) awaiting.frames }) in
       let next = done.0 in (
         next,
         record {
@@ -70,7 +70,7 @@ module _ {D : Type 0} (state : D → State) (faults : D → ℕ) (honest : D →
   abbrev pub IsAsExport : Result (Option Answer) Refusal → Type 0
   IsAsExport result =
       (world : World) (trusted : Bool) → IsExportOf world order keeper (faults keeper.disk) connections (Trusts trusted (honest keeper.disk)) (state keeper.disk)
-      → world.connections 0 ≡ Idle → world.stage.setting.flags ≡ plain
+      → world.connections 0 ≡ Idle → world.stage.setting.flags ≡ plain → 512 ≤ world.stage.setting.frames
       → (next : World) × IfOk result (HasAnswer world next request)
       × Follows world next (Sent 0 request ∷ said_of result) order' keeper' (faults keeper'.disk) connections' (Trusts trusted (honest keeper'.disk)) (state keeper.disk) (state keeper'.disk)
       × IfErr result (λ refusal. HasCause refusal world next)
@@ -82,19 +82,19 @@ module _ {D : Type 0} (state : D → State) (faults : D → ℕ) (honest : D →
   answered_run answer result is served =
       let own = subst IsAsExport is served in
       λ world trusted of awaiting.
-      let done = own world trusted of awaiting.idle awaiting.flags in
+      let done = own world trusted of awaiting.idle awaiting.flags awaiting.frames in
       (done.0, record { answered = (done.1.0, tt); idle = λ e. done.1.1 }, done.2, tt)
 
   pub disc_run : (result : Result (Option Answer) Refusal) → result ≡ Ok None → IsAsExport result → RunsTo [] (Some request) (Ok tt)
   disc_run result is served =
       let own = subst IsAsExport is served in
       λ world trusted of awaiting.
-      let done = own world trusted of awaiting.idle awaiting.flags in
+      let done = own world trusted of awaiting.idle awaiting.flags awaiting.frames in
       (done.0, record { answered = tt; idle = λ e. cc }, done.2, tt)
 
   pub failed_run : (refusal : Refusal) (result : Result (Option Answer) Refusal) → result ≡ Err refusal → IsAsExport result → RunsTo [] (Some request) (Err refusal)
   failed_run refusal result is served =
       let own = subst IsAsExport is served in
       λ world trusted of awaiting.
-      let done = own world trusted of awaiting.idle awaiting.flags in
+      let done = own world trusted of awaiting.idle awaiting.flags awaiting.frames in
       (done.0, record { answered = tt; idle = λ e. cc }, done.2, done.3)

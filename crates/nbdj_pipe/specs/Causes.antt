@@ -1,8 +1,7 @@
 -- Why a session ends before its input does, by a world that its run passes (docs/FORMATS.md, "Refusals").
-use Rattle.std.specs.Prelude.{◌≡◌, true, false, List, length, Ok}
+use Rattle.std.specs.Prelude.{◌≡◌, true, false, List, Ok}
 use Rattle.nbd_wire.specs.Request.{Message}
 use Rattle.world.specs.declared.action.Action.TheVariants.{Serve}
-use Rattle.world.specs.declared.connection.Connection.TheVariants.{Requested}
 use Rattle.world.specs.declared.step.Step.{Step}
 use Rattle.world.specs.Log.{command_of, is_flush}
 use Rattle.world.specs.Run.{IsRun}
@@ -32,15 +31,8 @@ pub record LacksRoom (world : World) (request : Message) : Type 0 where
   pub other : is_flush request ≡ false
   pub full : has_room world (command_of request) ≡ false
 
--- There is no room for the command of the request that was sent, though all that is ordered is durable.
-pub record HasNoRoom (world : World) : Type 0 where
-  pub request : Message
-  pub sent : world.connections 0 ≡ Requested request
-  pub lacks : LacksRoom world request
-  pub stored : world.stage.durable ≡ length world.stage.order
-
--- What a run says of a refusal that ends its session: that no generation is left, or no room for a command, and that no area
--- stays full and storing never fails to come to an end. Of the others it says nothing.
+-- What a run says of a refusal that ends its session: that no generation is left. No area stays full, for no command is there
+-- no room in the end, and storing never fails to come to an end. Of the others it says nothing.
 abbrev pub HasCause : Refusal → World → World → Type 0
 HasCause NoMemory first last = Unit {0}
 HasCause DeviceFault first last = Unit {0}
@@ -53,7 +45,7 @@ HasCause OutOfOrder first last = Unit {0}
 HasCause DamagedGroup first last = Unit {0}
 HasCause NotNow first last = Unit {0}
 HasCause Failed first last = ⊥
-HasCause NoRoom first last = Passes HasNoRoom first last
+HasCause NoRoom first last = ⊥
 HasCause PeerClosed first last = Unit {0}
 HasCause ProtocolEnd first last = Unit {0}
 HasCause StreamFault first last = Unit {0}

@@ -3,7 +3,7 @@ use Rattle.std.specs.Prelude.{ℕ, ◌≡◌, ◌≢◌, ◌<◌, ◌≤◌, ◌
 use Rattle.std.specs.FinMap.{len}
 use Rattle.request_core.specs.Copies.{copied}
 use Rattle.world.specs.declared.event.Event.{Event}
-use Rattle.world.specs.declared.event.Event.TheVariants.{Took, Failed}
+use Rattle.world.specs.declared.event.Event.TheVariants.{Failed}
 use Rattle.world.specs.declared.event.StepFault.TheVariants as fault
 use Rattle.world.specs.declared.step.Step.TheVariants.{Copy}
 use Rattle.world.specs.Checkpoint.{can_copy, last_turned}

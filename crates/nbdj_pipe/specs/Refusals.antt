@@ -41,7 +41,7 @@ abbrev pub of_wire : WireFault → Refusal
 of_wire wire.NoMemory = NoMemory
 of_wire (wire.Malformed fault) = ProtocolEnd
 
--- a refusal that ends a session before its input does: memory, generations, room, and what the streams refuse
+-- a refusal that ends a session before its input does: memory, generations, and what the streams refuse
 abbrev pub IsEarly : Refusal → Type 0
 IsEarly NoMemory = Unit {0}
 IsEarly DeviceFault = ⊥
@@ -54,7 +54,7 @@ IsEarly OutOfOrder = ⊥
 IsEarly DamagedGroup = ⊥
 IsEarly NotNow = ⊥
 IsEarly Failed = Unit {0}
-IsEarly NoRoom = Unit {0}
+IsEarly NoRoom = ⊥
 IsEarly PeerClosed = ⊥
 IsEarly ProtocolEnd = ⊥
 IsEarly StreamFault = Unit {0}
@@ -72,7 +72,7 @@ IsOfSession OutOfOrder = ⊥
 IsOfSession DamagedGroup = ⊥
 IsOfSession NotNow = ⊥
 IsOfSession Failed = Unit {0}
-IsOfSession NoRoom = Unit {0}
+IsOfSession NoRoom = ⊥
 IsOfSession PeerClosed = Unit {0}
 IsOfSession ProtocolEnd = Unit {0}
 IsOfSession StreamFault = Unit {0}

@@ -1,5 +1,5 @@
 -- What the steps of a pipe's session do to its replies, its streams, and the world of its export.
-use Rattle.std.specs.Prelude.{ℕ, ◌≡◌, ◌≢◌, ◌⊎◌, Bool, true, List, [], ◌∷◌, ◌++◌, Option, Some, None, Result, Ok, Err, IfErr}
+use Rattle.std.specs.Prelude.{ℕ, ◌≡◌, ◌≢◌, ◌≤◌, ◌⊎◌, Bool, true, List, [], ◌∷◌, ◌++◌, Option, Some, None, Result, Ok, Err, IfErr}
 use Rattle.device_image.specs.Keeper.{KeeperState}
 use Rattle.disk_model.specs.Disk.{State}
 use Rattle.nbd_wire.specs.Request.{Message}
@@ -30,10 +30,11 @@ abbrev pub IsEndOr : Result (Unit {0}) Refusal → Result (Unit {0}) Refusal →
 IsEndOr end outcome stopped =
     (outcome ≡ end) ⊎ ((refusal : Refusal) × IsEarly refusal × (outcome ≡ Err refusal)) ⊎ (IsOrderly end × (outcome ≡ Err DeviceFault) × (stopped ≡ true))
 
--- no request is open, on the one connection, which has agreed on nothing
+-- no request is open, on the one connection, which has agreed on nothing, and the frames take any command
 pub record IsAwaiting (world : World) : Type 0 where
   pub idle : world.connections 0 ≡ Idle
   pub flags : world.stage.setting.flags ≡ plain
+  pub frames : 512 ≤ world.stage.setting.frames
 
 -- what became of the connection of a world once these requests were answered, and the last one perhaps was sent
 pub record HasTalked (world next : World) (exchanges : List Exchange) (last : Option Message) : Type 0 where

@@ -64,6 +64,13 @@ fn turned(event: &Event) -> Result<(), Refusal>
     }
 }
 
+// The data of a request are no more than 1 MiB.
+fn few_bytes(request: &Request)
+    ensures { length request.now.bytes ≤ 1048576 }
+{
+    request.bytes();
+}
+
 /// An export with one connection, which is served step by step. It is spent by `into_disk`, since a group may be in
 /// hand.
 pub(crate) struct Export<D: Disk> {
@@ -313,7 +320,7 @@ impl<D: Disk> Export<D> {
         ensures world { (world : World) (trusted : Bool) (request : Message) → IsExportOf world self.old.order self.old.keeper (D.faults self.old.keeper.disk) self.old.connections (Trusts trusted (D.honest self.old.keeper.disk)) (D.state self.old.keeper.disk)
             → world.connections 0 ≡ Connection.Requested request
             → (next : World) × MatchBool result (IsJudged (verdict_on request.head world.stage.setting.geometry world.stage.setting.flags) (next.connections 0))
-            ((next.connections ≡ world.connections) × LacksRoom world request)
+            ((next.connections ≡ world.connections) × (next.stage ≡ world.stage) × LacksRoom world request)
             × Follows world next [] self.new.order self.new.keeper (D.faults self.new.keeper.disk) self.new.connections
             (Trusts trusted (D.honest self.new.keeper.disk)) (D.state self.old.keeper.disk) (D.state self.new.keeper.disk) }
     {
@@ -323,16 +330,17 @@ impl<D: Disk> Export<D> {
         true
     }
 
-    // Serves the request that was sent. Where there is no room for its command it is served once more after all that is pending
-    // was stored, and once more after a checkpoint.
-    fn serve_sent(&mut self) -> Result<(), Refusal>
+    // Serves the request that was sent where all is stored. Where there is no room for its command it is served once more after
+    // a checkpoint.
+    fn serve_stored(&mut self) -> Result<(), Refusal>
+        requires settled { IsSettled self.old.order }
         requires group { IfSome self.old.connections.group (IsInHand self.old.order) }
         ensures group { IfSome self.new.connections.group (IsInHand self.new.order) }
         ensures extent { D.extent self.new.keeper.disk ≡ D.extent self.old.keeper.disk }
         ensures honest { D.honest self.new.keeper.disk ↔ D.honest self.old.keeper.disk }
         ensures early { IfErr result IsEarly }
         ensures world { (world : World) (trusted : Bool) (request : Message) → IsExportOf world self.old.order self.old.keeper (D.faults self.old.keeper.disk) self.old.connections (Trusts trusted (D.honest self.old.keeper.disk)) (D.state self.old.keeper.disk)
-            → world.connections 0 ≡ Connection.Requested request
+            → world.connections 0 ≡ Connection.Requested request → length request.bytes ≤ 1048576 → 512 ≤ world.stage.setting.frames
             → (next : World) × OnOk result (IsJudged (verdict_on request.head world.stage.setting.geometry world.stage.setting.flags) (next.connections 0))
             × Follows world next [] self.new.order self.new.keeper (D.faults self.new.keeper.disk) self.new.connections
             (Trusts trusted (D.honest self.new.keeper.disk)) (D.state self.old.keeper.disk) (D.state self.new.keeper.disk)
@@ -343,15 +351,34 @@ impl<D: Disk> Export<D> {
         if self.try_serve() {
             return Ok(());
         }
-        self.store_all()?;
-        if self.try_serve() {
-            return Ok(());
-        }
         self.checkpoint()?;
         if self.try_serve() {
             return Ok(());
         }
-        Err(Refusal::NoRoom)
+        // The frames and 64 MiB of data are free, and take any command.
+        Err(Refusal::Failed)
+    }
+
+    // Serves the request that was sent. Where there is no room for its command what is pending is stored first.
+    fn serve_sent(&mut self) -> Result<(), Refusal>
+        requires group { IfSome self.old.connections.group (IsInHand self.old.order) }
+        ensures group { IfSome self.new.connections.group (IsInHand self.new.order) }
+        ensures extent { D.extent self.new.keeper.disk ≡ D.extent self.old.keeper.disk }
+        ensures honest { D.honest self.new.keeper.disk ↔ D.honest self.old.keeper.disk }
+        ensures early { IfErr result IsEarly }
+        ensures world { (world : World) (trusted : Bool) (request : Message) → IsExportOf world self.old.order self.old.keeper (D.faults self.old.keeper.disk) self.old.connections (Trusts trusted (D.honest self.old.keeper.disk)) (D.state self.old.keeper.disk)
+            → world.connections 0 ≡ Connection.Requested request → length request.bytes ≤ 1048576 → 512 ≤ world.stage.setting.frames
+            → (next : World) × OnOk result (IsJudged (verdict_on request.head world.stage.setting.geometry world.stage.setting.flags) (next.connections 0))
+            × Follows world next [] self.new.order self.new.keeper (D.faults self.new.keeper.disk) self.new.connections
+            (Trusts trusted (D.honest self.new.keeper.disk)) (D.state self.old.keeper.disk) (D.state self.new.keeper.disk)
+            × IfErr result (λ refusal. HasCause refusal world next) }
+    {
+        leads_law::<D>();
+        if self.try_serve() {
+            return Ok(());
+        }
+        self.store_all()?;
+        self.serve_stored()
     }
 
     // Gives the answer to the request that was served, where it is due.
@@ -407,13 +434,14 @@ impl<D: Disk> Export<D> {
         ensures early { IfErr result IsEarly }
         ensures kind { IfOk result (IsOfKind request) }
         ensures world { (world : World) (trusted : Bool) → IsExportOf world self.old.order self.old.keeper (D.faults self.old.keeper.disk) self.old.connections (Trusts trusted (D.honest self.old.keeper.disk)) (D.state self.old.keeper.disk)
-            → world.connections 0 ≡ Connection.Idle → world.stage.setting.flags ≡ plain
+            → world.connections 0 ≡ Connection.Idle → world.stage.setting.flags ≡ plain → 512 ≤ world.stage.setting.frames
             → (next : World) × IfOk result (HasAnswer world next request)
             × Follows world next (Event.Sent 0 request ∷ said_of result) self.new.order self.new.keeper (D.faults self.new.keeper.disk) self.new.connections
             (Trusts trusted (D.honest self.new.keeper.disk)) (D.state self.old.keeper.disk) (D.state self.new.keeper.disk)
             × IfErr result (λ refusal. HasCause refusal world next) }
     {
         leads_law::<D>();
+        few_bytes(&request);
         let disconnects = request.head().kind == DISCONNECT;
         let _sent = self.connections.send(0, request);
         self.serve_sent()?;

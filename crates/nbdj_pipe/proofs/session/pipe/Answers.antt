@@ -1,8 +1,7 @@
-use Rattle.std.proofs.Common.{◌≡◌, ◌<◌, inl, inr, ℕ, List, Option, Err, arith, refl, sym, ap, subst, ◌∙◌}
+use Rattle.std.proofs.Common.{inl, inr, List, Option, Err, refl, sym, ap, subst, ◌∙◌}
 use Rattle.checkpoint.specs.Opening.{IsOpening}
 use Rattle.checkpoint.specs.declared.fault.KeeperFault.TheVariants as fault
 use Rattle.disk_model.specs.Faults.{HasRisen}
-use Rattle.image_model.specs.declared.geometry.Geometry.{Geometry}
 use Rattle.nbd_wire.specs.Request.{Message}
 use Rattle.order_book.specs.Order.{OrderState, new_order}
 use Rattle.request_core.specs.Bench.{ConnectionsState}
@@ -52,7 +51,7 @@ returns-clause-dialog g c =
     (Runs disk.state disk.faults disk.honest parts.parts.0 keeper parts.parts.1 ran.order ran.keeper ran.connections)
     (IsLived disk.state disk.faults disk.honest frames c.args.options.mode start done.keeper.disk) c.run-end.result c.finish-outcome.result
     (λ exchanges last runs. lived disk.state disk.faults disk.honest c.leads_law.ensures c.schedule_law.ensures.truth c.schedule_law.ensures.within c.fresh_parts_law.ensures start keeper ran.keeper done.keeper ran.order done.order ran.connections done.connections
-    frames c.args.options.mode states c.in-Ok.ensures.recovered parts.ensures.order.1 few c.in-Ok.ensures.faults c.in-Ok.ensures.found
+    frames c.args.options.frames_enough c.args.options.mode states c.in-Ok.ensures.recovered parts.ensures.order.1 few c.in-Ok.ensures.faults c.in-Ok.ensures.found
     c.finish-outcome.ensures.honest.0 (λ is. c.finish-outcome.ensures.honest.1 (c.run-end.ensures.honest.1 (c.in-Ok.ensures.honest.1 is))) c.run-end.result c.finish-outcome.result exchanges last
     (fresh_runs exchanges last runs) c.finish-outcome.ensures.world c.finish-outcome.ensures.stored c.finish-outcome.ensures.works)
     done.order.stopped piped c.finish-outcome.ensures.end))
@@ -75,6 +74,6 @@ returns-clause-device g c = λ is.
     (subst (λ (order : OrderState). Runs disk.state disk.faults disk.honest order keeper parts.parts.1 ran.order ran.keeper ran.connections exchanges last c.run-end.result) parts.ensures.order.2 runs) in
     subst (λ end. HasRisen (disk.faults start) (disk.faults end)) (sym c.into_disk-2.ensures)
     (told_fault disk.state disk.faults disk.honest c.leads_law.ensures c.schedule_law.ensures.truth c.schedule_law.ensures.within c.fresh_parts_law.ensures start keeper ran.keeper done.keeper ran.order done.order ran.connections done.connections
-    frames c.args.options.mode states c.in-Ok.ensures.recovered parts.ensures.order.1 few c.in-Ok.ensures.faults c.in-Ok.ensures.found
+    frames c.args.options.frames_enough c.args.options.mode states c.in-Ok.ensures.recovered parts.ensures.order.1 few c.in-Ok.ensures.faults c.in-Ok.ensures.found
     c.finish-outcome.ensures.honest.0 (λ is. c.finish-outcome.ensures.honest.1 (c.run-end.ensures.honest.1 (c.in-Ok.ensures.honest.1 is))) c.run-end.result c.finish-outcome.result piped.told.exchanges piped.told.last
     (fresh_runs piped.told.exchanges piped.told.last piped.runs) c.finish-outcome.ensures.world c.run-end.ensures.early c.finish-outcome.ensures.end is)

@@ -15,7 +15,7 @@ use Rattle.nbdj_pipe.proofs.Steps.{end_kind, follows_on, has_answer, judged_awai
 use Rattle.nbdj_pipe.proofs.export.Export.serve.Goals as goal
 
 pub returns-in_err-serve_sent-clause-world : goal.returns-in_err-serve_sent-clause-world
-returns-in_err-serve_sent-clause-world g c = λ world trusted of idle plain_flags.
+returns-in_err-serve_sent-clause-world g c = λ world trusted of idle plain_flags frames.
     let disk = g.D.Disk in
     let old = c.args.self.now in
     let request = c.args.request in
@@ -27,7 +27,7 @@ returns-in_err-serve_sent-clause-world g c = λ world trusted of idle plain_flag
     (Trusts trusted (disk.honest old.keeper.disk)) (disk.state old.keeper.disk) (disk.state old.keeper.disk)) (sym c.send-sent.ensures.connections) sends in
     let first : Follows world sent_world (Sent 0 request ∷ []) old.order old.keeper (disk.faults old.keeper.disk) asked (Trusts trusted (disk.honest old.keeper.disk)) (disk.state old.keeper.disk) (disk.state old.keeper.disk) =
     record { steps = Send 0 request ∷ []; leads = sending; said_is = spoken_on world.log (Sent 0 request ∷ []); setting = refl } in
-    let second = c.in_err-serve_sent.ensures.world sent_world trusted request sending.of_export refl in
+    let second = c.in_err-serve_sent.ensures.world sent_world trusted request sending.of_export refl c.few_bytes.ensures frames in
     let so_far = follows_on disk.state disk.faults disk.honest c.leads_law.ensures world sent_world second.0 trusted (Sent 0 request ∷ []) [] old.order one.order old.keeper one.keeper asked one.connections old.keeper.disk
     c.serve_sent.ensures.honest.0 first second.2 in (
       second.0,
@@ -39,7 +39,7 @@ returns-in_err-serve_sent-clause-world g c = λ world trusted of idle plain_flag
     )
 
 pub returns-then-disconnects-clause-world : goal.returns-then-disconnects-clause-world
-returns-then-disconnects-clause-world g c = λ world trusted of idle plain_flags.
+returns-then-disconnects-clause-world g c = λ world trusted of idle plain_flags frames.
     let disk = g.D.Disk in
     let old = c.args.self.now in
     let request = c.args.request in
@@ -51,13 +51,13 @@ returns-then-disconnects-clause-world g c = λ world trusted of idle plain_flags
     (Trusts trusted (disk.honest old.keeper.disk)) (disk.state old.keeper.disk) (disk.state old.keeper.disk)) (sym c.send-sent.ensures.connections) sends in
     let first : Follows world sent_world (Sent 0 request ∷ []) old.order old.keeper (disk.faults old.keeper.disk) asked (Trusts trusted (disk.honest old.keeper.disk)) (disk.state old.keeper.disk) (disk.state old.keeper.disk) =
     record { steps = Send 0 request ∷ []; leads = sending; said_is = spoken_on world.log (Sent 0 request ∷ []); setting = refl } in
-    let second = c.serve_sent.ensures.world sent_world trusted request sending.of_export refl in
+    let second = c.serve_sent.ensures.world sent_world trusted request sending.of_export refl c.few_bytes.ensures frames in
     let so_far = follows_on disk.state disk.faults disk.honest c.leads_law.ensures world sent_world second.0 trusted (Sent 0 request ∷ []) [] old.order one.order old.keeper one.keeper asked one.connections old.keeper.disk
     c.serve_sent.ensures.honest.0 first second.2 in
     (second.0, sym (ap (λ (h : RequestHead). h.kind) c.head.ensures) ∙ c.if-disconnects.true, so_far, tt)
 
 pub returns-in_err-answer-clause-world : goal.returns-in_err-answer-clause-world
-returns-in_err-answer-clause-world g c = λ world trusted of idle plain_flags.
+returns-in_err-answer-clause-world g c = λ world trusted of idle plain_flags frames.
     let disk = g.D.Disk in
     let old = c.args.self.now in
     let request = c.args.request in
@@ -69,7 +69,7 @@ returns-in_err-answer-clause-world g c = λ world trusted of idle plain_flags.
     (Trusts trusted (disk.honest old.keeper.disk)) (disk.state old.keeper.disk) (disk.state old.keeper.disk)) (sym c.send-sent.ensures.connections) sends in
     let first : Follows world sent_world (Sent 0 request ∷ []) old.order old.keeper (disk.faults old.keeper.disk) asked (Trusts trusted (disk.honest old.keeper.disk)) (disk.state old.keeper.disk) (disk.state old.keeper.disk) =
     record { steps = Send 0 request ∷ []; leads = sending; said_is = spoken_on world.log (Sent 0 request ∷ []); setting = refl } in
-    let second = c.in_ok-serve_sent.ensures.world sent_world trusted request sending.of_export refl in
+    let second = c.in_ok-serve_sent.ensures.world sent_world trusted request sending.of_export refl c.few_bytes.ensures frames in
     let so_far = follows_on disk.state disk.faults disk.honest c.leads_law.ensures world sent_world second.0 trusted (Sent 0 request ∷ []) [] old.order one.order old.keeper one.keeper asked one.connections old.keeper.disk
     c.serve_sent.ensures.honest.0 first second.2 in
     let two = c.answer.new.self in
@@ -88,7 +88,7 @@ returns-in_err-answer-clause-world g c = λ world trusted of idle plain_flags.
     )
 
 pub returns-clause-world : goal.returns-clause-world
-returns-clause-world g c = λ world trusted of idle plain_flags.
+returns-clause-world g c = λ world trusted of idle plain_flags frames.
     let disk = g.D.Disk in
     let old = c.args.self.now in
     let request = c.args.request in
@@ -100,7 +100,7 @@ returns-clause-world g c = λ world trusted of idle plain_flags.
     (Trusts trusted (disk.honest old.keeper.disk)) (disk.state old.keeper.disk) (disk.state old.keeper.disk)) (sym c.send-sent.ensures.connections) sends in
     let first : Follows world sent_world (Sent 0 request ∷ []) old.order old.keeper (disk.faults old.keeper.disk) asked (Trusts trusted (disk.honest old.keeper.disk)) (disk.state old.keeper.disk) (disk.state old.keeper.disk) =
     record { steps = Send 0 request ∷ []; leads = sending; said_is = spoken_on world.log (Sent 0 request ∷ []); setting = refl } in
-    let second = c.in_ok-serve_sent.ensures.world sent_world trusted request sending.of_export refl in
+    let second = c.in_ok-serve_sent.ensures.world sent_world trusted request sending.of_export refl c.few_bytes.ensures frames in
     let so_far = follows_on disk.state disk.faults disk.honest c.leads_law.ensures world sent_world second.0 trusted (Sent 0 request ∷ []) [] old.order one.order old.keeper one.keeper asked one.connections old.keeper.disk
     c.serve_sent.ensures.honest.0 first second.2 in
     let two = c.answer.new.self in

@@ -70,8 +70,7 @@ returns-in_err-store_group-2-clause-world g c = λ world trusted of.
     let three = c.store_group-2.new.self in
     let third = c.in_err-store_group-2.ensures.world second.0 trusted second.1.follows.leads.of_export in
     let all = settles_on disk.state disk.faults disk.honest law world second.0 third.0 trusted two.order three.order two.keeper three.keeper two.connections three.connections c.args.self.now.keeper.disk
-    c.store_group-2.ensures.honest.0 so_far third.1 in
-    (
+    c.store_group-2.ensures.honest.0 so_far third.1 in (
       third.0,
       all,
       if_matched _ (λ refusal. HasCause refusal world third.0) c.in_err-store_group-2.field-0.0 c.from_residual-in_err-store_group-2.result c.from_residual-in_err-store_group-2.ensures.1
@@ -91,8 +90,7 @@ returns-then-branch-2-clause-world g c = λ world trusted of.
     let three = c.store_group-2.new.self in
     let third = c.in_ok-store_group-2.ensures.world second.0 trusted second.1.follows.leads.of_export in
     let all = settles_on disk.state disk.faults disk.honest law world second.0 third.0 trusted two.order three.order two.keeper three.keeper two.connections three.connections c.args.self.now.keeper.disk
-    c.store_group-2.ensures.honest.0 so_far third.1 in
-    (
+    c.store_group-2.ensures.honest.0 so_far third.1 in (
       third.0,
       all,
       gets_on_behind world second.0 third.0 (c.schedule_law.ensures.grows world second.0 so_far.follows.steps so_far.follows.leads.run)

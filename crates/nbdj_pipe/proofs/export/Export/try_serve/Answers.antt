@@ -25,9 +25,9 @@ as_served world failure request is = subst (λ (s : Connection). IsServedAs worl
     (served_as world failure request (verdict_on request.head world.stage.setting.geometry world.stage.setting.flags))
 
 no_room : (world next : World) (request : Message) (event : Event) → IsServedAs world request (verdict_on request.head world.stage.setting.geometry world.stage.setting.flags) next
-    → next.log ≡ world.log ++ event ∷ [] → event ≡ Held → (next.connections ≡ world.connections) × LacksRoom world request × (spoken (event ∷ []) ≡ [])
+    → next.log ≡ world.log ++ event ∷ [] → event ≡ Held → (next.connections ≡ world.connections) × (next.stage ≡ world.stage) × LacksRoom world request × (spoken (event ∷ []) ≡ [])
 no_room world next request event (inl (held, judged, works, other, full)) log is =
-    (ap (λ (w : World). w.connections) held, record { works = works; judged = judged; other = other; full = full }, ap (λ (e : Event). spoken (e ∷ [])) is)
+    (ap (λ (w : World). w.connections) held, ap (λ (w : World). w.stage) held, record { works = works; judged = judged; other = other; full = full }, ap (λ (e : Event). spoken (e ∷ [])) is)
 no_room world next request event (inr (judged, (own, logged, quiet, other))) log is = absurd (other (sym (last_same world.log event own (sym log ∙ logged)) ∙ is))
 
 is_judged : (world next : World) (request : Message) (given : Result Action Errno) (event : Event) → IsServedAs world request given next → next.log ≡ world.log ++ event ∷ [] → (event ≡ Held → ⊥)
@@ -57,7 +57,7 @@ returns-in-Held-clause-world g c = λ world trusted request of sent.
     let next = after_step world (steps.Serve 0) done.0 in
     let is = no_room world next request c.step.result (as_served world done.0 request sent) done.1 c.in-Held.is in (
       next,
-      (is.0, is.1),
+      (is.0, is.1, is.2),
       subst (λ (said : List Event). Follows world next said c.step.new.self.order new (g.D.Disk.faults new.disk) c.step.new.self.connections
-          (Trusts trusted (g.D.Disk.honest new.disk)) (g.D.Disk.state old.disk) (g.D.Disk.state new.disk)) is.2 done.2,
+          (Trusts trusted (g.D.Disk.honest new.disk)) (g.D.Disk.state old.disk) (g.D.Disk.state new.disk)) is.3 done.2,
     )

@@ -1,0 +1,136 @@
+#!/usr/bin/env python3
+"""100,000 writes through `pipe` over a journal of 2 MiB, which fills every few hundred of them, by the built program NBDJ.
+
+Each life of the server is killed (SIGKILL) once it has answered a seeded number of requests, or ends with its input. Then the image is
+recovered, and is the image after some first writes of those that were sent, all that a FLUSH confirmed among them; the next life goes
+on from there. Prints a line for each check that fails, and last 'N passed, M failed'.
+"""
+import os
+import random
+import struct
+import subprocess
+import sys
+import tempfile
+import threading
+
+BLOCK, BLOCKS, AREA = 4096, 2048, 2097152
+DATA = 8192 + 2 * AREA + 2 * BLOCK
+WRITES, LIVES, SEED = 100_000, 20, 17
+WRITE, DISCONNECT, FLUSH = 1, 2, 3
+NBDJ = os.environ["NBDJ"]
+passed, failed = 0, 0
+
+
+def check(name, wanted, got):
+    global passed, failed
+    if wanted == got:
+        passed += 1
+    else:
+        failed += 1
+        print(f"FAILED {name}\n  wanted: {wanted}\n  got:    {got}")
+
+
+def run(*words):
+    done = subprocess.run([NBDJ, *words], stdin=subprocess.DEVNULL, capture_output=True, text=True, timeout=60)
+    return f"{done.returncode}|{done.stdout}|{done.stderr}"
+
+
+def block_of(number):
+    """The bytes that the write with this number puts into its block: they differ from write to write and from place to place."""
+    return b"".join(struct.pack(">II", number, place) for place in range(BLOCK // 8))
+
+
+def requests_of(writes, random_source):
+    """The requests of a life, each with the number of its last write: the writes, a FLUSH behind every hundred or so, and a DISC."""
+    requests = []
+    for number, block in writes:
+        requests.append((WRITE, number, block * BLOCK, block_of(number)))
+        if random_source.randrange(100) == 0:
+            requests.append((FLUSH, number, 0, b""))
+    requests.append((DISCONNECT, writes[-1][0], 0, b""))
+    return requests
+
+
+def text_of(requests):
+    for cookie, (kind, _, offset, data) in enumerate(requests):
+        yield struct.pack(">IHHQQI", 0x25609513, 0, kind, cookie, offset, len(data)) + data
+
+
+def feed(stream, requests):
+    try:
+        for text in text_of(requests):
+            stream.write(text)
+        stream.close()
+    except BrokenPipeError:
+        pass
+
+
+def live(image, requests, answers_wanted):
+    """Serves the requests, and kills the server once it has given so many answers; the requests that were answered Ok, and the status."""
+    with subprocess.Popen([NBDJ, "pipe", image], stdin=subprocess.PIPE, stdout=subprocess.PIPE, stderr=subprocess.PIPE) as server:
+        feeder = threading.Thread(target=feed, args=(server.stdin, requests), daemon=True)
+        feeder.start()
+        answered = 0
+        while answered < answers_wanted:
+            reply = server.stdout.read(16)
+            if len(reply) < 16:
+                break
+            magic, error, cookie = struct.unpack(">IIQ", reply)
+            if (magic, error, cookie) != (0x67446698, 0, answered):
+                check(f"reply {answered}", (0x67446698, 0, answered), (magic, error, cookie))
+            answered += 1
+        if answered == answers_wanted:
+            server.kill()
+        status = server.wait(timeout=60)
+        server.stdout.close()
+        feeder.join(timeout=60)
+    return answered, status
+
+
+def main():
+    random_source = random.Random(SEED)
+    image_blocks = [0] * BLOCKS
+    last, killed = 0, 0
+    with tempfile.TemporaryDirectory() as folder:
+        path = os.path.join(folder, "d.img")
+        check("format", f"0|formatted {DATA + BLOCKS * BLOCK}\n|", run("format", path, "--blocks", str(BLOCKS), "--area", str(AREA)))
+        for life in range(LIVES):
+            count = (WRITES - last) // (LIVES - life) + 1
+            writes = [(last + 1 + index, random_source.randrange(BLOCKS)) for index in range(count)]
+            requests = requests_of(writes, random_source)
+            # (the last life, and each fifth, comes to its end)
+            whole = life % 5 == 4 or life == LIVES - 1
+            wanted = len(requests) if whole else random_source.randrange(count // 2, len(requests) - 1)
+            answered, status = live(path, requests, wanted)
+            if whole:
+                check(f"life {life}: the end", (len(requests) - 1, 0), (answered, status))
+            else:
+                check(f"life {life}: the kill", (wanted, -9), (answered, status))
+                killed += 1
+            confirmed = max([number for kind, number, _, _ in requests[:answered] if kind == FLUSH], default=last)
+            confirmed = writes[-1][0] if whole else confirmed
+            recovered = run("recover", path)
+            found = int(recovered.split()[1]) if recovered.startswith("0|commands ") else -1
+            check(f"life {life}: {confirmed} to {writes[-1][0]} commands", True, confirmed <= found <= writes[-1][0])
+            for number, block in writes:
+                if number <= found:
+                    image_blocks[block] = number
+            with open(path, "rb") as file:
+                file.seek(DATA)
+                for block, number in enumerate(image_blocks):
+                    data = file.read(BLOCK)
+                    if data != (block_of(number) if number else bytes(BLOCK)):
+                        check(f"life {life}: block {block}", number, struct.unpack(">I", data[:4])[0])
+                check(f"life {life}: the end of the file", b"", file.read(1))
+            last = found
+        written = sum(1 for number in image_blocks if number)
+        numbers = {"blocks": BLOCKS, "mode": 0, "base": last, "commands": last, "data": written, "zero": 0, "hole": BLOCKS - written}
+        check("check", "0|" + "".join(f"{name} {number}\n" for name, number in numbers.items()) + "|", run("check", path))
+        check("lives that were killed", True, killed >= 10)
+    print(f"{last} writes in {LIVES} lives, {killed} of them killed")
+    print(f"{passed} passed, {failed} failed")
+    return failed > 0
+
+
+if __name__ == "__main__":
+    sys.exit(main())
