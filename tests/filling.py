@@ -5,6 +5,7 @@ Each life of the server is killed (SIGKILL) once it has answered a seeded number
 recovered, and is the image after some first writes of those that were sent, all that a FLUSH confirmed among them; the next life goes
 on from there. Prints a line for each check that fails, and last 'N passed, M failed'.
 """
+import contextlib
 import os
 import random
 import struct
@@ -57,17 +58,15 @@ def text_of(requests):
 
 
 def feed(stream, requests):
-    try:
+    """Writes the requests; a server that was killed reads no more of them."""
+    with contextlib.suppress(BrokenPipeError), stream:
         for text in text_of(requests):
             stream.write(text)
-        stream.close()
-    except BrokenPipeError:
-        pass
 
 
 def live(image, requests, answers_wanted):
     """Serves the requests, and kills the server once it has given so many answers; the requests that were answered Ok, and the status."""
-    with subprocess.Popen([NBDJ, "pipe", image], stdin=subprocess.PIPE, stdout=subprocess.PIPE, stderr=subprocess.PIPE) as server:
+    with subprocess.Popen([NBDJ, "pipe", image], stdin=subprocess.PIPE, stdout=subprocess.PIPE, stderr=subprocess.DEVNULL) as server:
         feeder = threading.Thread(target=feed, args=(server.stdin, requests), daemon=True)
         feeder.start()
         answered = 0
@@ -82,7 +81,6 @@ def live(image, requests, answers_wanted):
         if answered == answers_wanted:
             server.kill()
         status = server.wait(timeout=60)
-        server.stdout.close()
         feeder.join(timeout=60)
     return answered, status
 
