@@ -1,4 +1,4 @@
-ghost use Rattle.std.specs.Prelude.{◌≡◌, ◌≤◌, ◌↔◌, Bool, IfOk, IfSome, MatchResult, length, replicate, slice_index_or};
+ghost use Rattle.std.specs.Prelude.{◌≡◌, ◌≢◌, ◌≤◌, ◌↔◌, Bool, IfErr, IfOk, IfSome, MatchResult, length, replicate, slice_index_or};
 ghost use Rattle.order_book.specs.Order.{IsInHand};
 ghost use Rattle.request_core.specs.Copies.{copied};
 ghost use Rattle.request_core.specs.Life.{IsStepped, Leads, Trusts};
@@ -9,6 +9,7 @@ ghost use Rattle.world.specs.Serve.{Failure};
 ghost use Rattle.world.specs.Step.{after_step};
 ghost use Rattle.world.specs.World.{World};
 ghost use Rattle.world.specs.declared.connection.Connection.TheVariants as Connection;
+ghost use Rattle.world.specs.declared.event.Event.TheVariants as Event;
 ghost use Rattle.world.specs.declared.step.Step.TheVariants as Step;
 ghost use Rattle.world_law.specs.Law.{IsWithin};
 
@@ -76,7 +77,8 @@ pub fn copy_some<D: Disk>(
 ) -> Result<u32, Event>
     requires most { 1 ≤ most }
     requires group { IfSome connections.old.group (IsInHand order.old) }
-    ensures some { IfOk result (λ blocks. 1 ≤ blocks) }
+    ensures some { IfOk result (λ blocks. (1 ≤ blocks) × (blocks ≤ most)) }
+    ensures none { IfErr result (λ event. event ≢ Event.Took) }
     ensures group { IfSome connections.new.group (IsInHand order.new) }
     ensures blocks { length order.new.cache.states ≡ length order.old.cache.states }
     ensures geometry { keeper.new.geometry ≡ keeper.old.geometry }
