@@ -1,5 +1,5 @@
 -- What stands on a device while it is formatted.
-use Rattle.std.proofs.Common.{◌≡◌, inl, inr, ℕ, ◌+◌, ◌/◌, ◌≤◌, ◌⊎◌, ⊎_elim, if◌then◌else◌, List, [], ◌∷◌, length, slice_index, replicate, refl, sym, ◌∙◌, ap, arith}
+use Rattle.std.proofs.Common.{◌≡◌, inl, inr, ℕ, ◌+◌, ◌-◌, ◌/◌, ◌<◌, ◌≤◌, ◌⊎◌, ⊎_elim, if◌then◌else◌, List, [], ◌∷◌, length, slice_index, replicate, refl, sym, ◌∙◌, ap, arith}
 use Rattle.std.proofs.lemmas.Bool.{cases_eq, cases_lt}
 use Rattle.std.proofs.lemmas.List.{get_or-replicate, get_or_past, length-replicate}
 use Rattle.alloc_map.specs.Codes.{state_at}
@@ -70,6 +70,7 @@ fresh_formatted : (content : List ℕ) (geometry : Geometry) → length content 
     → IsFormatted content geometry
 fresh_formatted content geometry size zero_open one_closed fresh = record {
   header = fresh_holds content geometry size zero_open one_closed fresh;
+  rest = fresh.rest;
   stands = fresh_stands content geometry size zero_open one_closed fresh;
 }
 
@@ -154,6 +155,10 @@ module _ (geometry : Geometry) (before one two three : State) (steady : IsSteady
         let at : 1 + k ≡ 0 + 1 + k = omega arith in
         let k0 : 0 + k ≡ k = omega arith in
         ap (slice_index body.bytes) k0 ∙ sym (ap (slice_index three.seen) at ∙ body.written.written k (omega (arith, below, body.body.size)) (two_steady (0 + 1 + k)))) (first_header geometry) body.body.spelled;
+    rest = λ place from below.
+        let at : place ≡ 0 + 1 + (place - 1) = omega (arith, from) in
+        ap (slice_index three.seen) at ∙ body.written.written (place - 1) (omega (arith, from, below, body.body.size)) (two_steady (0 + 1 + (place - 1)))
+        ∙ body.body.rest (place - 1) (omega (arith, from));
     gate = behind_body (area_at geometry Zero) (omega arith)
         ∙ map.others (area_at geometry Zero) (λ within. omega (arith, within.0, geometry.area_not_too_small)) (one_steady (area_at geometry Zero))
         ∙ first_of (gate.written 0 (omega arith));
@@ -170,6 +175,7 @@ module _ (geometry : Geometry) (before one two three : State) (steady : IsSteady
 pub fresh_kept : (old content : List ℕ) (geometry : Geometry) → ((place : ℕ) → 1 ≤ place → slice_index content place ≡ slice_index old place) → IsFresh old geometry → IsFresh content geometry
 fresh_kept old content geometry same fresh = record {
   spelled = moved_spelling old content 1 1 (λ k below. sym (same (1 + k) (omega arith))) (first_header geometry) fresh.spelled;
+  rest = λ place from below. same place (omega (arith, from)) ∙ fresh.rest place from below;
   gate = same (area_at geometry Zero) (omega arith) ∙ fresh.gate;
   map = λ k below. same (map_at geometry Zero + k) (omega arith) ∙ fresh.map k below;
 }

@@ -101,7 +101,7 @@ refused_opening NotNow found after refused = refused
 refused_opening Failed found after refused = refused
 
 -- and one of a recovery
-pub refused_recovery : (fault : KeeperFault) (found after : List ℕ) → IsRecoveryFault fault → (fault ≡ NumbersFull → StandsAs found after × HasLastGeneration after) → IsOpeningRefused fault found after
+pub refused_recovery : (fault : KeeperFault) (found after : List ℕ) → IsRecoveryFault fault → (fault ≡ NumbersFull → StandsAs found after × HasLastGeneration after × (IsAtRest after → ⊥)) → IsOpeningRefused fault found after
 refused_recovery NoMemory found after cause full = tt
 refused_recovery DeviceFault found after cause full = tt
 refused_recovery BadMap found after cause full = absurd cause

@@ -1,5 +1,5 @@
 -- What a crash leaves of a device while it is formatted, and what stands on it between the steps.
-use Rattle.std.specs.Prelude.{ℕ, ◌≡◌, ◌≢◌, ◌+◌, ◌<◌, ◌⊎◌, List, length, slice_index}
+use Rattle.std.specs.Prelude.{ℕ, ◌≡◌, ◌≢◌, ◌+◌, ◌<◌, ◌≤◌, ◌⊎◌, List, length, slice_index}
 use Rattle.disk_model.specs.Disk.{State, IsSteady}
 use Rattle.header_slots.specs.Header.{SpellsAt}
 use Rattle.header_slots.specs.Slots.{HoldsHeader, HoldsNone}
@@ -29,9 +29,11 @@ pub record AreClosed (state : State) : Type 0 where
 abbrev pub first_header : Geometry → Header
 first_header geometry = record { generation = 1; geometry = geometry; areas = Areas.One; first_area = Zero; map_slot = Zero; base = 0 }
 
--- A device that was just formatted: its header is in force, in slot 0, and it stands for an image of holes of that size.
+-- A device that was just formatted: its header is in force, in slot 0, with zeroes behind it up to the end of the slot, and it
+-- stands for an image of holes of that size.
 pub record IsFormatted (content : List ℕ) (geometry : Geometry) : Type 0 where
   pub header : HoldsHeader content (length content) (first_header geometry) Zero
+  pub rest : (place : ℕ) → 40 ≤ place → place < 4096 → slice_index content place ≡ 0
   pub stands : StandsFor content (holes geometry.blocks) 0
 
 -- What a crash leaves while a device is formatted: at first what it might have left before, but for the gates of the
@@ -39,9 +41,10 @@ pub record IsFormatted (content : List ℕ) (geometry : Geometry) : Type 0 where
 abbrev pub LeavesFormat : State → Geometry → List ℕ → Type 0
 LeavesFormat state geometry content = LeavesButGates state content ⊎ (HoldsNone content (length content) ⊎ IsFormatted content geometry)
 
--- All that is written of a fresh device but for the gates of the headers: the header in slot 0, a closed gate that begins
--- the first area, and a map of zeroes.
+-- All that is written of a fresh device but for the gates of the headers: the header in slot 0 and zeroes behind it, a
+-- closed gate that begins the first area, and a map of zeroes.
 pub record IsFresh (content : List ℕ) (geometry : Geometry) : Type 0 where
   pub spelled : SpellsAt content 1 (first_header geometry)
+  pub rest : (place : ℕ) → 40 ≤ place → place < 4096 → slice_index content place ≡ 0
   pub gate : slice_index content (area_at geometry Zero) ≡ 0
   pub map : (k : ℕ) → k < map_bytes_of geometry.blocks → slice_index content (map_at geometry Zero + k) ≡ 0

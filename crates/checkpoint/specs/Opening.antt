@@ -99,15 +99,23 @@ pub record HasLastGeneration (content : List ℕ) : Type 0 where
   pub in_force : HoldsHeader content (length content) header slot
   pub last : header.generation ≡ 18446744073709551615
 
+-- One area is in use, and its list is empty.
+pub record IsAtRest (content : List ℕ) : Type 0 where
+  pub header : Header
+  pub slot : Side
+  pub in_force : HoldsHeader content (length content) header slot
+  pub one : header.areas ≡ Areas.One
+  pub list : IsList (area_of header.geometry header.first_area) (next_number header.base) [] content
+
 -- What a refusal of an opening says of the content that it found, and of what is read after it: where the numbers are full
--- it stands for the same.
+-- it stands for the same, and the recovery wants another header.
 abbrev pub IsOpeningRefused : KeeperFault → List ℕ → List ℕ → Type 0
 IsOpeningRefused NoMemory found after = Unit {0}
 IsOpeningRefused DeviceFault found after = Unit {0}
 IsOpeningRefused BadMap found after = HasBadMap found
 IsOpeningRefused NoHeader found after = HoldsNone found (length found)
 IsOpeningRefused BadHeader found after = HoldsBad found (length found)
-IsOpeningRefused NumbersFull found after = StandsAs found after × HasLastGeneration after
+IsOpeningRefused NumbersFull found after = StandsAs found after × HasLastGeneration after × (IsAtRest after → ⊥)
 IsOpeningRefused AreaFull found after = ⊥
 IsOpeningRefused OutOfOrder found after = ⊥
 IsOpeningRefused DamagedGroup found after = HasDamagedGroup found
@@ -127,11 +135,3 @@ pub record IsOpening {D : Type 0} (before : State) (state : D → State) (result
   pub crash : LeavesOnly before (state (disk_after result)) (λ content. MayLeave before content ⊎ StandsAs found content)
   -- and after a refusal that no fault of the device is the cause of
   pub settled : IfErr result (λ refused. refused.0 ≢ DeviceFault → (content : List ℕ) → MayLeave (state refused.1) content → (content ≡ found) ⊎ StandsAs found content)
-
--- One area is in use, and its list is empty.
-pub record IsAtRest (content : List ℕ) : Type 0 where
-  pub header : Header
-  pub slot : Side
-  pub in_force : HoldsHeader content (length content) header slot
-  pub one : header.areas ≡ Areas.One
-  pub list : IsList (area_of header.geometry header.first_area) (next_number header.base) [] content

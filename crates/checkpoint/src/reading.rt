@@ -53,9 +53,10 @@ impl<D: Disk> Keeper<D> {
         }
     }
 
-    /// A copy of the map: the states of the blocks at the base.
+    /// A copy of the map: the states of the blocks at the base. After a device fault it is that of before.
     pub fn map(&self, alloc: Global) -> Result<AllocMap, AllocError>
         ensures blocks { IfOk result (λ map. length map ≡ self.now.geometry.blocks) }
+        ensures remembered { IfOk result (λ map. map ≡ self.now.memory.map) }
         ensures kinds { (base : Image) (front last : List Change) → Holds self.now (D.state self.now.disk) base front last
             → IfOk result (λ map. (block : ℕ) → state_at map block ≡ base.kind block) }
     {

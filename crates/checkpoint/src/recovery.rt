@@ -75,6 +75,7 @@ impl<D: Disk> Keeper<D> {
         ensures idle { self.old.phase ≡ One → self.old.used ≡ 0 → (self.new ≡ self.old) × (result ≡ Ok tt) }
         ensures only { IfErr result IsRecoveryFault }
         ensures full { result ≡ Err KeeperFault.NumbersFull → self.new.generation ≡ 18446744073709551615 }
+        ensures wanted { result ≡ Err KeeperFault.NumbersFull → self.new.phase ≡ One → self.new.used ≡ 0 → ⊥ }
         ensures extent { D.extent self.new.disk ≡ D.extent self.old.disk }
         ensures faults_ok { OnOk result (D.faults self.new.disk ≡ D.faults self.old.disk) }
         ensures faults_err { IfErr result (λ fault. D.faults self.new.disk ≡ faults_by fault (D.faults self.old.disk)) }
@@ -103,6 +104,7 @@ impl<D: Disk> Keeper<D> {
         ensures idle { self.old.phase ≡ One → (self.new ≡ self.old) × (result ≡ Ok tt) }
         ensures only { IfErr result IsRecoveryFault }
         ensures full { result ≡ Err KeeperFault.NumbersFull → self.new.generation ≡ 18446744073709551615 }
+        ensures wanted { result ≡ Err KeeperFault.NumbersFull → self.new.phase ≡ One → ⊥ }
         ensures extent { D.extent self.new.disk ≡ D.extent self.old.disk }
         ensures faults_ok { OnOk result (D.faults self.new.disk ≡ D.faults self.old.disk) }
         ensures faults_err { IfErr result (λ fault. D.faults self.new.disk ≡ faults_by fault (D.faults self.old.disk)) }
@@ -128,6 +130,7 @@ impl<D: Disk> Keeper<D> {
         ensures ok { OnOk result (self.new ≡ finished_by self.old self.new.disk self.new.memory) }
         ensures only { IfErr result IsRecoveryFault }
         ensures full { result ≡ Err KeeperFault.NumbersFull → self.new.generation ≡ 18446744073709551615 }
+        ensures wanted { result ≡ Err KeeperFault.NumbersFull → self.new.phase ≡ One → ⊥ }
         ensures extent { D.extent self.new.disk ≡ D.extent self.old.disk }
         ensures faults_ok { OnOk result (D.faults self.new.disk ≡ D.faults self.old.disk) }
         ensures faults_err { IfErr result (λ fault. D.faults self.new.disk ≡ faults_by fault (D.faults self.old.disk)) }

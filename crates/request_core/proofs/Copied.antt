@@ -3,7 +3,6 @@ use Rattle.std.proofs.Common.{◌≡◌, ℕ, zero, suc, ◌+◌, ◌-◌, ◌<�
 use Rattle.std.proofs.lemmas.Bool.{lt-ltb}
 use Rattle.std.proofs.lemmas.List.{append-nil}
 use Rattle.checkpoint.specs.declared.fault.KeeperFault.{KeeperFault}
-use Rattle.checkpoint.specs.declared.fault.KeeperFault.TheVariants as fault
 use Rattle.device_image.specs.Keeper.{KeeperState}
 use Rattle.disk_model.specs.Disk.{State}
 use Rattle.disk_model.proofs.Moments.{weakens}
@@ -13,7 +12,6 @@ use Rattle.request_core.specs.Copies.{copied}
 use Rattle.request_core.specs.Life.{Leads}
 use Rattle.request_core.specs.Parts.{IsExportOf}
 use Rattle.request_core.specs.Steps.{IsAppended}
-use Rattle.request_core.specs.Storing.{step_event}
 use Rattle.request_core.proofs.Lives.{stands_less}
 use Rattle.world.specs.declared.event.Event.{Event}
 use Rattle.world.specs.declared.event.Event.TheVariants.{Took, Held, Failed}
@@ -95,17 +93,3 @@ told_never {T} refusal other never is = (told_same refusal other ⊥ (never, λ 
 
 pub copied_fewer : (old new blocks : ℕ) → blocks ≤ old → new ≡ old - blocks → new + blocks ≡ old
 copied_fewer old new blocks fits is = omega (arith, fits, is)
-
--- no refusal is told as a step that took place
-pub never_took : (refusal : KeeperFault) → step_event refusal ≡ Took → ⊥
-never_took fault.NoMemory is = cc
-never_took fault.DeviceFault is = cc
-never_took fault.BadMap is = cc
-never_took fault.NoHeader is = cc
-never_took fault.BadHeader is = cc
-never_took fault.NumbersFull is = cc
-never_took fault.AreaFull is = cc
-never_took fault.OutOfOrder is = cc
-never_took fault.DamagedGroup is = cc
-never_took fault.NotNow is = cc
-never_took fault.Failed is = cc

@@ -1,4 +1,4 @@
-ghost use Rattle.std.specs.Prelude.{◌≡◌, ◌≤◌, ◌+◌, ◌↔◌, Bool, IfErr, IfOk, IfSome, MatchResult, length, replicate, slice_index_or};
+ghost use Rattle.std.specs.Prelude.{◌≡◌, ◌≢◌, ◌≤◌, ◌+◌, ◌↔◌, Bool, IfErr, IfOk, IfSome, MatchResult, length, replicate, slice_index_or};
 ghost use Rattle.checkpoint.specs.Steps.{left_in};
 ghost use Rattle.order_book.specs.Order.{IsInHand};
 ghost use Rattle.request_core.specs.Copies.{copied};
@@ -78,9 +78,9 @@ pub fn copy_some<D: Disk>(
 ) -> Result<u32, Event>
     requires most { 1 ≤ most }
     requires group { IfSome connections.old.group (IsInHand order.old) }
-    ensures some { IfOk result (λ blocks. 1 ≤ blocks) }
+    ensures some { IfOk result (λ blocks. (1 ≤ blocks) × (blocks ≤ most)) }
     ensures fewer { IfOk result (λ blocks. left_in keeper.new.phase + blocks ≡ left_in keeper.old.phase) }
-    ensures refused { IfErr result (λ event. event ≡ Event.Took → ⊥) }
+    ensures none { IfErr result (λ event. event ≢ Event.Took) }
     ensures group { IfSome connections.new.group (IsInHand order.new) }
     ensures blocks { length order.new.cache.states ≡ length order.old.cache.states }
     ensures geometry { keeper.new.geometry ≡ keeper.old.geometry }

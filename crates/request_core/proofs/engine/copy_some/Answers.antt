@@ -9,7 +9,7 @@ use Rattle.request_core.specs.Bench.{ConnectionsState}
 use Rattle.request_core.specs.Life.{Trusts}
 use Rattle.request_core.specs.Parts.{AreConnectionsOf}
 use Rattle.request_core.specs.Storing.{hand_refused, order_refused}
-use Rattle.request_core.proofs.Copied.{copied_fewer, leads_copied, never_took, told_never, told_same}
+use Rattle.request_core.proofs.Copied.{copied_fewer, leads_copied, told_never, told_same}
 use Rattle.request_core.proofs.Performed.{performed_appended}
 use Rattle.request_core.proofs.Runs.{stepped, trusted_honest, trusts_as}
 use Rattle.request_core.proofs.Stored.{not_true_is}
@@ -68,6 +68,3 @@ pub returns-in-Ok-clause-fewer : goal.returns-in-Ok-clause-fewer
 returns-in-Ok-clause-fewer g c =
     let call = c.in-Ok.ensures in
     copied_fewer (left_in c.args.keeper.now.phase) (left_in c.copy_some.new.self.phase) c.in-Ok.blocks call.left (ap (λ k. left_in k.phase) call.ok.2)
-
-pub returns-in-Err-clause-refused : goal.returns-in-Err-clause-refused
-returns-in-Err-clause-refused g c = λ took. never_took c.in-Err.fault (sym c.refused.ensures.event ∙ took)

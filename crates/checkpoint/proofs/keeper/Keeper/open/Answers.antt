@@ -84,8 +84,11 @@ returns-in-Err-recover-clause-found g c honest =
         fixed = read.fixed honest;
         outcome = subst (λ (disk : g.row.D.Denot). IsOpeningRefused c.in-Err-recover.fault mid.seen (g.D.Disk.state disk).seen) (sym c.into_disk.ensures)
             (refused_recovery c.in-Err-recover.fault mid.seen (g.D.Disk.state left.disk).seen call.only (λ is.
-            let still = kept (λ device. numbers_not_device (sym is ∙ device)) in
-            ((found.0, keeper.count, found.1.stands, still.stands), is_full left (g.D.Disk.state left.disk) found.0 keeper.count still (call.full (ap Err is)))));
+            let still = kept (λ device. numbers_not_device (sym is ∙ device)) in (
+              (found.0, keeper.count, found.1.stands, still.stands),
+              is_full left (g.D.Disk.state left.disk) found.0 keeper.count still (call.full (ap Err is)),
+              λ rest. let at = rests left (g.D.Disk.state left.disk) found.0 keeper.count still rest in call.wanted (ap Err is) at.0 at.1,
+            )));
         crash = subst (λ (disk : g.row.D.Denot). LeavesOnly (g.D.Disk.state c.args.disk) (g.D.Disk.state disk) (λ content. MayLeave (g.D.Disk.state c.args.disk) content ⊎ StandsAs mid.seen content)) (sym c.into_disk.ensures)
             (recovers _ _ _ found.0 keeper.count found.1.stands (read.any_moment honest) (call.any_moment trusted found.0 keeper.count found.1));
         settled = λ other content left. inr (
