@@ -7,6 +7,7 @@ use nbd_wire::{
 use negotiation::End;
 use session::{Serve, serve_session};
 use std::alloc::{AllocError, Global};
+use std::io::{Read, Write};
 use std::test::Fail;
 use stream_fakes::{FakeReader, FakeWriter};
 
@@ -69,13 +70,23 @@ pub fn serve(
     mut input: FakeReader<'_>,
     mut output: FakeWriter,
 ) -> Result<Served, Fail> {
-    let geometry = Geometry::new(16, 2_097_152).ok_or("no geometry")?;
-    let export = Counted { alloc, geometry };
-    let mut answered = 0;
-    let end = serve_session(alloc, &mut input, &mut output, &export, &mut answered);
+    let (end, answered) = serve_over(alloc, &mut input, &mut output)?;
     Ok(Served {
         end,
         answered,
         output,
     })
+}
+
+/// Serves a session over these streams, and gives how it ended and how many requests were answered.
+pub fn serve_over<R: Read, W: Write>(
+    alloc: Global,
+    input: &mut R,
+    output: &mut W,
+) -> Result<(Result<(), End>, u64), Fail> {
+    let geometry = Geometry::new(16, 2_097_152).ok_or("no geometry")?;
+    let export = Counted { alloc, geometry };
+    let mut answered = 0;
+    let end = serve_session(alloc, input, output, &export, &mut answered);
+    Ok((end, answered))
 }

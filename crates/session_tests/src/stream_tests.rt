@@ -1,6 +1,7 @@
-use crate::export::serve;
+use crate::export::{serve, serve_over};
 use negotiation::End;
 use std::alloc::{AllocError, Global};
+use std::io::{self, ErrorKind, Read, Write};
 use std::process::Abort;
 use std::test::Fail;
 use stream_fakes::{FakeReader, FakeWriter, bytes_of};
@@ -82,6 +83,63 @@ fn a_whole_session_is_served_in_any_pieces(rt: HostRuntime) -> Result<(), Fail> 
     }
     is_whole(&rt, rt.alloc(), 1, 1)?;
     is_whole(&rt, rt.alloc(), MANY, 1)
+}
+
+// A stream of which every other call is interrupted, the first among them.
+#[derive(Drop)]
+struct Interrupted<S> {
+    stream: S,
+    is_done: bool,
+}
+
+impl<S> Interrupted<S> {
+    fn new(stream: S) -> Interrupted<S> {
+        Interrupted {
+            stream,
+            is_done: false,
+        }
+    }
+
+    // Whether this call is interrupted.
+    fn is_now(&mut self) -> bool {
+        let now = !self.is_done;
+        self.is_done = now;
+        now
+    }
+}
+
+impl Read for Interrupted<FakeReader<'_>> {
+    fn read(&mut self, buf: &mut [u8]) -> io::Result<usize> {
+        if self.is_now() {
+            return Err(io::Error::from(ErrorKind::Interrupted));
+        }
+        self.stream.read(buf)
+    }
+}
+
+impl Write for Interrupted<FakeWriter> {
+    fn write(&mut self, buf: &[u8]) -> io::Result<usize> {
+        if self.is_now() {
+            return Err(io::Error::from(ErrorKind::Interrupted));
+        }
+        self.stream.write(buf)
+    }
+
+    fn flush(&mut self) -> io::Result<()> {
+        self.stream.flush()
+    }
+}
+
+#[test]
+fn a_call_that_is_interrupted_is_begun_again(rt: HostRuntime) -> Result<(), Fail> {
+    let alloc = rt.alloc();
+    let input = input(alloc)?;
+    let mut reader = Interrupted::new(FakeReader::new(&input, 50, true));
+    let mut writer = Interrupted::new(FakeWriter::new(alloc, 30, MANY));
+    let (end, answered) = serve_over(alloc, &mut reader, &mut writer)?;
+    assert!(rt; end == Ok(()) && answered == 3);
+    assert!(rt; writer.stream.taken() == output(alloc)?.as_slice());
+    Ok(())
 }
 
 // The input ends behind so many bytes, or fails there: what was due for the messages before is written, and no more.
