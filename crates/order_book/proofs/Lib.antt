@@ -1,3 +1,5 @@
+pub mod Filled
 pub mod Frames
+pub mod Imaged
 pub mod Maps
 pub mod Shown

@@ -19,7 +19,7 @@ length-chunks : (n count : ℕ) (list : List ℕ) → length (first_chunks n cou
 length-chunks n zero list = refl
 length-chunks n (suc count) list = ap suc (length-chunks n count (drop n list))
 
-chunk_at : (n count : ℕ) (list : List ℕ) (k : ℕ) (d : List ℕ) → k < count → get_or (first_chunks n count list) k d ≡ take n (drop (n * k) list)
+pub chunk_at : (n count : ℕ) (list : List ℕ) (k : ℕ) (d : List ℕ) → k < count → get_or (first_chunks n count list) k d ≡ take n (drop (n * k) list)
 chunk_at n zero list k d below = absurd (omega (arith, below))
 chunk_at n (suc count) list zero d below = ap (λ (m : ℕ). take n (drop m list)) none
   where

@@ -7,6 +7,7 @@ mod fault;
 mod laws;
 mod order;
 mod pending;
+mod reading;
 
 pub use fault::OrderFault;
 pub use laws::dirty_blocks_law;

@@ -1,12 +1,18 @@
-ghost use Rattle.std.specs.Prelude.{◌≡◌, ◌+◌, ◌*◌, ◌<◌, ◌≤◌, ◌↔◌, ◌^◌, [], ℕ, List, length, slice_index, slice_index_or, true, false, ◌⊎◌, Some, IsErr, IsErrAnd, IfErr, IfOk, IfSome, IfNone, IsTrue, OnErr, OnOk};
+ghost use Rattle.std.specs.Prelude.{◌≡◌, ◌+◌, ◌*◌, ◌<◌, ◌≤◌, ◌/◌, ◌%◌, ◌↔◌, ◌^◌, [], ℕ, List, length, slice_index, slice_index_or, true, false, ◌⊎◌, Some, None, IsErr, IsErrAnd, IfErr, IfOk, IfSome, IfNone, IsTrue, OnErr, OnOk};
 ghost use Rattle.std.specs.FinMap.{len};
 ghost use Rattle.alloc_map.specs.Codes.{state_at};
 ghost use Rattle.alloc_map.specs.Runs.{AreRuns};
 ghost use Rattle.image_model.specs.Bodies.{body_limit};
-ghost use Rattle.image_model.specs.Change.{change_of};
+ghost use Rattle.checkpoint.specs.Keeper.{faults_by, refused_by};
+ghost use Rattle.checkpoint.specs.declared.fault.KeeperFault.TheVariants as KeeperFault;
+ghost use Rattle.device_image.specs.Holds.{Holds, is_written};
+ghost use Rattle.image_model.specs.Change.{Change, change_of};
+ghost use Rattle.image_model.specs.declared.command.Kind.TheVariants.{Data};
+ghost use Rattle.journal.specs.Reading.{IsOnlyRead};
 ghost use Rattle.image_model.specs.Command.{IsCommand};
 ghost use Rattle.image_model.specs.Image.{Image, apply as image_after};
 ghost use Rattle.order_book.specs.Cached.{ShowsCommand};
+ghost use Rattle.order_book.specs.Reading.{IsCleanAt, ShowsRead};
 ghost use Rattle.order_book.specs.Shown.{ShowsImage, IsZeroOutsideData};
 ghost use Rattle.order_book.specs.Order.{OrderState, new_order, IsNumbered, has_room, refusal_of, with_command, with_clean, Seals, IsInHand, with_group, with_durable};
 ghost use Rattle.shared_cache.specs.Cache.{LacksBytes, bytes_seen};
@@ -16,8 +22,9 @@ use crate::backlog::Backlog;
 use crate::commands::{apply, clean_through, has_frames};
 use crate::fault::OrderFault;
 use crate::pending::PendingCommands;
+use crate::reading::{keep_blocks, read_blocks};
 use alloc_map::{AllocMap, Run};
-use checkpoint::Keeper;
+use checkpoint::{Keeper, KeeperFault};
 use disk_model::Disk;
 use image_model::Command;
 use journal::{Group, MOST_BODY_BYTES};
@@ -298,6 +305,61 @@ impl Order {
         ensures missing { IsErr result ↔ LacksBytes self.now.cache first (length into.old) }
     {
         self.cache.read_cached(first, into)
+    }
+
+    /// Reads blocks from the first one on, as all that was accepted left them: from memory those that are there, and from
+    /// the data region each run of the others in one call of the device. These are then kept in memory, as far as there
+    /// are frames that aren't dirty.
+    ///
+    /// Where all are in memory nothing has changed. Else it refuses with 1, and with 16 after an earlier 1; `into` then
+    /// holds any bytes.
+    pub fn read_with<D: Disk>(
+        &mut self,
+        keeper: &mut Keeper<D>,
+        first: u64,
+        into: &mut [u8],
+    ) -> Result<(), KeeperFault>
+        requires whole { length into.old % 4096 ≡ 0 }
+        requires range { first + length into.old / 4096 ≤ length self.old.cache.states }
+        requires device { first + length into.old / 4096 ≤ keeper.old.geometry.blocks }
+        ensures new { self.new ≡ record self.old { cache = self.new.cache } }
+        ensures err { OnErr result (self.new ≡ self.old) }
+        ensures hit { (LacksBytes self.old.cache first (length into.old / 4096) → ⊥) → OnOk result ((self.new ≡ self.old) × (keeper.new ≡ keeper.old)) }
+        ensures lacks { OnErr result (LacksBytes self.old.cache first (length into.old / 4096)) }
+        ensures failed { (result ≡ Err KeeperFault.Failed) ↔ (IsTrue keeper.old.failed × LacksBytes self.old.cache first (length into.old / 4096)) }
+        ensures only { IfErr result (λ fault. (fault ≡ KeeperFault.DeviceFault) ⊎ (fault ≡ KeeperFault.Failed)) }
+
+        // The bytes of a block are those in memory, where it has some, and else those of the base.
+        ensures in_memory { OnOk result ((j k : ℕ) (bytes : List ℕ) → 4096 * j < length into.new → k < 4096
+            → bytes_seen self.old.cache (first + j) ≡ Some bytes → slice_index into.new (4096 * j + k) ≡ slice_index bytes k) }
+        ensures from_base { D.honest keeper.old.disk → (base : Image) (front last : List Change) → Holds keeper.old (D.state keeper.old.disk) base front last
+            → OnOk result ((j k : ℕ) → 4096 * j < length into.new → k < 4096 → bytes_seen self.old.cache (first + j) ≡ None
+            → base.kind (first + j) ≡ Data → is_written (first + j) front ≡ false
+            → slice_index into.new (4096 * j + k) ≡ base.byte (4096 * (first + j) + k)) }
+        ensures view { OnOk result (ShowsRead first into.new self.old.cache self.new.cache) }
+
+        // So they are those of the image, where the base has what is data and not dirty, and the image is shown still.
+        ensures image { D.honest keeper.old.disk → (base image : Image) (front last : List Change) → Holds keeper.old (D.state keeper.old.disk) base front last
+            → ShowsImage image self.old.cache → IsCleanAt base front image self.old.cache
+            → OnOk result ((j k : ℕ) → 4096 * j < length into.new → k < 4096 → slice_index into.new (4096 * j + k) ≡ image.byte (4096 * (first + j) + k)) }
+        ensures shown { D.honest keeper.old.disk → (base image : Image) (front last : List Change) → Holds keeper.old (D.state keeper.old.disk) base front last
+            → ShowsImage image self.old.cache → IsCleanAt base front image self.old.cache → OnOk result (ShowsImage image self.new.cache) }
+
+        // The device is read alone, and the keeper holds what it held.
+        ensures size { length into.new ≡ length into.old }
+        ensures keeper_ok { OnOk result (keeper.new ≡ record keeper.old { disk = keeper.new.disk }) }
+        ensures keeper_err { IfErr result (λ fault. keeper.new ≡ refused_by fault keeper.old keeper.new.disk) }
+        ensures extent { D.extent keeper.new.disk ≡ D.extent keeper.old.disk }
+        ensures faults_ok { OnOk result (D.faults keeper.new.disk ≡ D.faults keeper.old.disk) }
+        ensures faults_err { IfErr result (λ fault. D.faults keeper.new.disk ≡ faults_by fault (D.faults keeper.old.disk)) }
+        ensures honest { D.honest keeper.new.disk ↔ D.honest keeper.old.disk }
+        ensures only_read { D.honest keeper.old.disk → IsOnlyRead (D.state keeper.old.disk) (D.state keeper.new.disk) }
+        ensures holds { D.honest keeper.old.disk → (base : Image) (front last : List Change) → Holds keeper.old (D.state keeper.old.disk) base front last
+            → OnOk result (Holds keeper.new (D.state keeper.new.disk) base front last) }
+    {
+        let held = read_blocks(&self.cache, keeper, first, into)?;
+        keep_blocks(&mut self.cache, first, held, into);
+        Ok(())
     }
 
     /// The longest runs of blocks in one state, from one block on up to another, the first `limit` of them, as all that

@@ -166,8 +166,8 @@ impl Cache {
         Ok(())
     }
 
-    // The bytes of a block, where they are in memory.
-    fn read(&self, block: u64) -> Option<&[u8; 4096]>
+    /// The bytes of a block, where they are in memory: of one that is data those of its frame, of another one zeros.
+    pub fn read(&self, block: u64) -> Option<&[u8; 4096]>
         requires { block < length self.now.states }
         ensures { option_copied result ≡ bytes_seen self.now block }
     {

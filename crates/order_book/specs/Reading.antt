@@ -1,0 +1,41 @@
+-- what a read that goes to the device makes of what is in memory of an image
+use Rattle.std.specs.Prelude.{ℕ, ◌≡◌, ◌+◌, ◌*◌, ◌<◌, ◌⊎◌, false, List, length, take, drop, Some, None}
+use Rattle.alloc_map.specs.Codes.{state_at}
+use Rattle.device_image.specs.Holds.{is_written}
+use Rattle.image_model.specs.Change.{Change}
+use Rattle.image_model.specs.Image.{Image}
+use Rattle.image_model.specs.declared.command.Kind.TheVariants.{Data}
+use Rattle.order_book.specs.Cached.{frames_of}
+use Rattle.shared_cache.specs.Blocks.{is_dirty}
+use Rattle.shared_cache.specs.Cache.{CacheState, bytes_seen}
+
+-- the bytes of a block among those of blocks in a row
+abbrev pub block_of : List ℕ → ℕ → List ℕ
+block_of bytes offset = take 4096 (drop (4096 * offset) bytes)
+
+-- The block is one of those from the first one on, and known are the bytes that were read of it.
+abbrev pub IsRead : ℕ → List ℕ → CacheState → ℕ → Type 0
+IsRead first bytes cache block =
+    (offset : ℕ) × (4096 * offset < length bytes) × (block ≡ first + offset) × (bytes_seen cache block ≡ Some (block_of bytes offset))
+
+-- A block keeps its bytes, or its frame was clean and was taken, or it was read.
+abbrev pub KeepsOrReads : ℕ → List ℕ → CacheState → CacheState → ℕ → Type 0
+KeepsOrReads first bytes old new block =
+    (bytes_seen new block ≡ bytes_seen old block)
+    ⊎ (((is_dirty block old.blocks ≡ false) × (bytes_seen new block ≡ None)) ⊎ IsRead first bytes new block)
+
+-- Blocks from the first one on were read, and kept where a frame was there: each state stays and what is dirty, and no frame is
+-- lost.
+pub record ShowsRead (first : ℕ) (bytes : List ℕ) (old new : CacheState) : Type 0 where
+  pub states : new.states ≡ old.states
+  pub dirty : new.blocks.dirty ≡ old.blocks.dirty
+  pub frames : frames_of new ≡ frames_of old
+  pub each : (block : ℕ) → KeepsOrReads first bytes old new block
+
+-- Blocks of the image that are data and not dirty are at the base as the image has them, and no command in front of the last area
+-- writes one.
+pub record IsCleanAt (base : Image) (front : List Change) (image : Image) (cache : CacheState) : Type 0 where
+  pub kinds : (block : ℕ) → state_at cache.states block ≡ Data → is_dirty block cache.blocks ≡ false → base.kind block ≡ Data
+  pub unwritten : (block : ℕ) → state_at cache.states block ≡ Data → is_dirty block cache.blocks ≡ false → is_written block front ≡ false
+  pub bytes : (block : ℕ) → state_at cache.states block ≡ Data → is_dirty block cache.blocks ≡ false
+      → (k : ℕ) → k < 4096 → base.byte (4096 * block + k) ≡ image.byte (4096 * block + k)

@@ -1,0 +1,166 @@
+ghost use Rattle.std.specs.Prelude.{◌≡◌, ◌≢◌, ◌⊎◌, ◌+◌, ◌*◌, ◌/◌, ◌%◌, ◌<◌, ◌≤◌, ◌^◌, ◌↔◌, ℕ, List, length, slice_index, Some, None, false, IfErr, IfOk, IsTrue, OnOk, OnErr};
+ghost use Rattle.checkpoint.specs.Keeper.{faults_by, refused_by};
+ghost use Rattle.checkpoint.specs.declared.fault.KeeperFault.TheVariants as KeeperFault;
+ghost use Rattle.device_image.specs.Holds.{Holds, is_written};
+ghost use Rattle.image_model.specs.Change.{Change};
+ghost use Rattle.image_model.specs.Image.{Image};
+ghost use Rattle.image_model.specs.declared.command.Kind.TheVariants.{Data};
+ghost use Rattle.journal.specs.Reading.{IsOnlyRead};
+ghost use Rattle.order_book.specs.Cached.{frames_of};
+ghost use Rattle.order_book.specs.Reading.{ShowsRead};
+ghost use Rattle.shared_cache.specs.Cache.{LacksBytes, bytes_seen};
+ghost use Rattle.shared_cache.specs.View.{ShowsFill};
+
+use checkpoint::{Keeper, KeeperFault};
+use disk_model::Disk;
+use image_model::Kind;
+use shared_cache::Cache;
+
+/// The bytes of a block.
+const BLOCK: usize = 4_096;
+
+// Reads blocks that are in memory, from this one of them on up to the first that isn't, which it tells.
+fn read_held(cache: &Cache, first: u64, from: usize, into: &mut [u8]) -> usize
+    requires whole { length into.old % 4096 ≡ 0 }
+    requires range { first + length into.old / 4096 ≤ length cache.now.states }
+    requires fits { first + length into.old / 4096 < 2 ^ 64 }
+    requires from { 4096 * from ≤ length into.old }
+    ensures size { length into.new ≡ length into.old }
+    ensures order { from ≤ result }
+    ensures inside { 4096 * result ≤ length into.new }
+    ensures kept { (k : ℕ) → k < 4096 * from → slice_index into.new k ≡ slice_index into.old k }
+    ensures held { (j k : ℕ) (bytes : List ℕ) → from ≤ j → j < result → k < 4096 → bytes_seen cache.now (first + j) ≡ Some bytes
+        → slice_index into.new (4096 * j + k) ≡ slice_index bytes k }
+    ensures there { (j : ℕ) → from ≤ j → j < result → bytes_seen cache.now (first + j) ≢ None }
+    ensures missing { 4096 * result < length into.new → bytes_seen cache.now (first + result) ≡ None }
+{
+    let blocks = into.len() / BLOCK;
+    for block in from..blocks {
+        let Some(bytes) = cache.read(first + block as u64) else {
+            return block;
+        };
+        into[BLOCK * block..BLOCK * block + BLOCK].copy_from_slice(bytes);
+    }
+    blocks
+}
+
+// The end of the run of blocks that aren't in memory, from this one of so many on.
+fn missing_end(cache: &Cache, first: u64, from: usize, blocks: usize) -> usize
+    requires range { first + blocks ≤ length cache.now.states }
+    requires fits { first + blocks < 2 ^ 64 }
+    requires some { from < blocks }
+    requires missing { bytes_seen cache.now (first + from) ≡ None }
+    ensures some { from < result }
+    ensures inside { result ≤ blocks }
+    ensures missing { (j : ℕ) → from ≤ j → j < result → bytes_seen cache.now (first + j) ≡ None }
+{
+    for block in from + 1..blocks {
+        if cache.read(first + block as u64).is_some() {
+            return block;
+        }
+    }
+    blocks
+}
+
+// Reads a run of blocks from the device, in one call.
+fn read_run<D: Disk>(
+    keeper: &mut Keeper<D>,
+    first: u64,
+    from: usize,
+    to: usize,
+    into: &mut [u8],
+) -> Result<(), KeeperFault>
+    requires some { from < to }
+    requires inside { 4096 * to ≤ length into.old }
+    requires range { first + to ≤ keeper.old.geometry.blocks }
+    ensures size { length into.new ≡ length into.old }
+    ensures kept { (k : ℕ) → k < 4096 * from → slice_index into.new k ≡ slice_index into.old k }
+    ensures ok { OnOk result (keeper.new ≡ record keeper.old { disk = keeper.new.disk }) }
+    ensures err { IfErr result (λ fault. keeper.new ≡ refused_by fault keeper.old keeper.new.disk) }
+    ensures failed { (result ≡ Err KeeperFault.Failed) ↔ IsTrue keeper.old.failed }
+    ensures only { IfErr result (λ fault. (fault ≡ KeeperFault.DeviceFault) ⊎ (fault ≡ KeeperFault.Failed)) }
+    ensures extent { D.extent keeper.new.disk ≡ D.extent keeper.old.disk }
+    ensures faults_ok { OnOk result (D.faults keeper.new.disk ≡ D.faults keeper.old.disk) }
+    ensures faults_err { IfErr result (λ fault. D.faults keeper.new.disk ≡ faults_by fault (D.faults keeper.old.disk)) }
+    ensures honest { D.honest keeper.new.disk ↔ D.honest keeper.old.disk }
+    ensures only_read { D.honest keeper.old.disk → IsOnlyRead (D.state keeper.old.disk) (D.state keeper.new.disk) }
+    ensures holds { D.honest keeper.old.disk → (base : Image) (front last : List Change) → Holds keeper.old (D.state keeper.old.disk) base front last
+        → OnOk result (Holds keeper.new (D.state keeper.new.disk) base front last) }
+    ensures bytes { D.honest keeper.old.disk → (base : Image) (front last : List Change) → Holds keeper.old (D.state keeper.old.disk) base front last
+        → OnOk result ((j k : ℕ) → from ≤ j → j < to → k < 4096 → base.kind (first + j) ≡ Data → is_written (first + j) front ≡ false
+        → slice_index into.new (4096 * j + k) ≡ base.byte (4096 * (first + j) + k)) }
+{
+    keeper.read_base(first + from as u64, &mut into[BLOCK * from..BLOCK * to])
+}
+
+// Reads blocks, from memory those that are there and from the device the others, each run of these in one call. It tells
+// the first of these.
+pub(crate) fn read_blocks<D: Disk>(
+    cache: &Cache,
+    keeper: &mut Keeper<D>,
+    first: u64,
+    into: &mut [u8],
+) -> Result<usize, KeeperFault>
+    requires whole { length into.old % 4096 ≡ 0 }
+    requires range { first + length into.old / 4096 ≤ length cache.now.states }
+    requires device { first + length into.old / 4096 ≤ keeper.old.geometry.blocks }
+    ensures size { length into.new ≡ length into.old }
+    ensures inside { IfOk result (λ held. 4096 * held ≤ length into.new) }
+    ensures all_held { (LacksBytes cache.now first (length into.old / 4096) → ⊥) → IfOk result (λ held. (4096 * held ≡ length into.new) × (keeper.new ≡ keeper.old)) }
+    ensures ok { OnOk result (keeper.new ≡ record keeper.old { disk = keeper.new.disk }) }
+    ensures err { IfErr result (λ fault. keeper.new ≡ refused_by fault keeper.old keeper.new.disk) }
+    ensures failed { (result ≡ Err KeeperFault.Failed) ↔ (IsTrue keeper.old.failed × LacksBytes cache.now first (length into.old / 4096)) }
+    ensures lacks { OnErr result (LacksBytes cache.now first (length into.old / 4096)) }
+    ensures only { IfErr result (λ fault. (fault ≡ KeeperFault.DeviceFault) ⊎ (fault ≡ KeeperFault.Failed)) }
+    ensures extent { D.extent keeper.new.disk ≡ D.extent keeper.old.disk }
+    ensures faults_ok { OnOk result (D.faults keeper.new.disk ≡ D.faults keeper.old.disk) }
+    ensures faults_err { IfErr result (λ fault. D.faults keeper.new.disk ≡ faults_by fault (D.faults keeper.old.disk)) }
+    ensures honest { D.honest keeper.new.disk ↔ D.honest keeper.old.disk }
+    ensures only_read { D.honest keeper.old.disk → IsOnlyRead (D.state keeper.old.disk) (D.state keeper.new.disk) }
+    ensures holds { D.honest keeper.old.disk → (base : Image) (front last : List Change) → Holds keeper.old (D.state keeper.old.disk) base front last
+        → OnOk result (Holds keeper.new (D.state keeper.new.disk) base front last) }
+    ensures in_memory { OnOk result ((j k : ℕ) (bytes : List ℕ) → 4096 * j < length into.new → k < 4096
+        → bytes_seen cache.now (first + j) ≡ Some bytes → slice_index into.new (4096 * j + k) ≡ slice_index bytes k) }
+    ensures from_base { D.honest keeper.old.disk → (base : Image) (front last : List Change) → Holds keeper.old (D.state keeper.old.disk) base front last
+        → OnOk result ((j k : ℕ) → 4096 * j < length into.new → k < 4096 → bytes_seen cache.now (first + j) ≡ None
+        → base.kind (first + j) ≡ Data → is_written (first + j) front ≡ false
+        → slice_index into.new (4096 * j + k) ≡ base.byte (4096 * (first + j) + k)) }
+{
+    let blocks = into.len() / BLOCK;
+    let held = read_held(cache, first, 0, into);
+    let mut done = held;
+    while done < blocks {
+        let end = missing_end(cache, first, done, blocks);
+        read_run(keeper, first, done, end, into)?;
+        done = read_held(cache, first, end, into);
+    }
+    Ok(held)
+}
+
+// Keeps a block that was read, where it is data and there is a frame for it; whether it is kept changes no answer.
+fn keep_block(cache: &mut Cache, block: u64, bytes: &[u8; 4096])
+    requires range { block < length cache.old.states }
+    ensures view { (cache.new ≡ cache.old) ⊎ ShowsFill block bytes.now cache.old cache.new }
+    ensures states { cache.new.states ≡ cache.old.states }
+    ensures dirty { cache.new.blocks.dirty ≡ cache.old.blocks.dirty }
+    ensures frames { frames_of cache.new ≡ frames_of cache.old }
+{
+    if cache.map().state(block) == Kind::Data {
+        let _kept = cache.fill(block, bytes);
+    }
+}
+
+// Keeps blocks that were read, from this one of them on.
+pub(crate) fn keep_blocks(cache: &mut Cache, first: u64, from: usize, bytes: &[u8])
+    requires whole { length bytes.now % 4096 ≡ 0 }
+    requires range { first + length bytes.now / 4096 ≤ length cache.old.states }
+    requires fits { first + length bytes.now / 4096 < 2 ^ 64 }
+    requires from { 4096 * from ≤ length bytes.now }
+    ensures view { ShowsRead first bytes.now cache.old cache.new }
+    ensures none { 4096 * from ≡ length bytes.now → cache.new ≡ cache.old }
+{
+    let (blocks, _) = bytes.as_chunks::<4096>();
+    for offset in from..blocks.len() {
+        keep_block(cache, first + offset as u64, &blocks[offset]);
+    }
+}
