@@ -1,9 +1,11 @@
-//! What a journal costs: the last touches of an area that is full of commands, and a scan of it.
+//! What a journal costs: the last touches of an area that is full of commands, a scan of it, and the opening of a device
+//! that has to be recovered.
 #![tactic(auto)]
 
 ghost use Rattle.std.specs.Prelude.{◌≤◌};
 ghost use Rattle.journal.specs.Touches.{AreWithin};
 
+mod opening;
 mod scanning;
 mod touches;
 
@@ -53,6 +55,12 @@ fn measure_scans(rt: &HostRuntime, alloc: Global, path: &str) -> Result<()> {
     scanning::measure_scan(rt, alloc, path, 7, 256)
 }
 
+// Openings of a new file at the path with a full journal, of 4 KiB puts and of 1 MiB puts, beside copies to the other path.
+fn measure_openings(rt: &HostRuntime, alloc: Global, path: &str, copy_path: &str) -> Result<()> {
+    opening::measure_opening(rt, alloc, path, copy_path, 2_000, 1)?;
+    opening::measure_opening(rt, alloc, path, copy_path, 7, 256)
+}
+
 fn main(rt: HostRuntime) -> Result<()> {
     let alloc = rt.alloc();
     let words: Vec<String> = env::args(&rt)?.collect(alloc)?;
@@ -62,6 +70,12 @@ fn main(rt: HostRuntime) -> Result<()> {
             &rt,
             alloc,
             path.as_str(),
+        ),
+        [_, word, path, copy_path] if word.as_str() == "--open" => return measure_openings(
+            &rt,
+            alloc,
+            path.as_str(),
+            copy_path.as_str(),
         ),
         _ => {}
     }

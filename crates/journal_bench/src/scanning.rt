@@ -15,8 +15,17 @@ const AREA_BYTES: u32 = 67_108_864;
 /// The blocks of its image.
 const BLOCKS: u64 = 16_777_216;
 
-// So many puts of so many blocks each.
-fn puts(alloc: Global, count: u64, blocks: u64) -> Result<Vec<Command>, AllocError>
+// Where the put with this number begins: at a multiple of its length that looks random.
+fn place(number: u64, blocks: u64) -> u64
+    requires { 1 ≤ blocks }
+{
+    let mixed = number.wrapping_mul(0x9e37_79b9_7f4a_7c15);
+    let mixed = (mixed ^ (mixed >> 30)).wrapping_mul(0xbf58_476d_1ce4_e5b9);
+    (mixed >> 40) / blocks * blocks
+}
+
+/// So many puts of so many blocks each, at places that look random and go by their numbers behind `from`.
+pub fn puts(alloc: Global, from: u64, count: u64, blocks: u64) -> Result<Vec<Command>, AllocError>
     requires some { 1 ≤ blocks }
     requires few { blocks ≤ 256 }
     requires fit { count * (13 + 4096 * blocks) ≤ 8388608 }
@@ -26,10 +35,8 @@ fn puts(alloc: Global, count: u64, blocks: u64) -> Result<Vec<Command>, AllocErr
     let mut commands = Vec::new(alloc);
     for index in 0..count {
         let bytes = vec![in alloc; 0x41; (BLOCK_BYTES * blocks) as usize]?;
-        commands.push(Command::Put {
-            first: index,
-            bytes,
-        })?;
+        let first = place(from.wrapping_add(index), blocks);
+        commands.push(Command::Put { first, bytes })?;
     }
     Ok(commands)
 }
@@ -51,7 +58,8 @@ fn append<D: Disk>(
     ensures bytes { area.new.bytes ≡ area.old.bytes }
     ensures extent { D.extent disk.new ≡ D.extent disk.old }
 {
-    let group = Group::of(area.next().min(1 << 62), puts(alloc, count, blocks)?);
+    let next = area.next().min(1 << 62);
+    let group = Group::of(next, puts(alloc, next, count, blocks)?);
     match area.append(disk, group) {
         Ok(()) => Ok(true),
         Err((fault, group)) => {

@@ -4,7 +4,13 @@
 #[cfg(test)]
 mod areas;
 #[cfg(test)]
+mod checkpoints;
+#[cfg(test)]
 mod devices;
+#[cfg(test)]
+mod fault_tests;
+#[cfg(test)]
+mod header_tests;
 #[cfg(test)]
 mod journal_tests;
 #[cfg(test)]
@@ -15,3 +21,5 @@ mod recovery_tests;
 mod scrambling;
 #[cfg(test)]
 mod scrambling_tests;
+#[cfg(test)]
+mod twice_tests;

@@ -9,7 +9,7 @@ use Rattle.journal_bench.proofs.scanning.puts.Goals as goal
 pub loop-index-preserved : goal.loop-index-preserved
 loop-index-preserved c =
     let commands = c.loop-index.commands.items in
-    let put : Command = Put c.loop-index.index c.in_ok-bytes.bytes in
+    let put : Command = Put c.place-first.result c.in_ok-bytes.bytes in
     let long : length c.in_ok-bytes.bytes.items ≡ 4096 * c.args.blocks = ap length (c.in_ok-bytes.ensures.items_if_clones_equal (λ y is. is)) ∙ length-replicate (4096 * c.args.blocks) 65 in
     record {
       count = omega (arith, ap length c.in_ok-push.ensures.items ∙ length_push commands put, c.loop-index.invariant.count);
