@@ -259,15 +259,15 @@ else
     skipped 'a stream that cannot be written' 'there is no /dev/full'
 fi
 
-# The largest image, where the file system takes a file of 64 GiB with holes: it is formatted and opened in memory that goes with
-# its map, of 4 MiB, and not with its data.
-if dd if=/dev/null of=large.img bs=1 seek=68732067840 2>/dev/null; then
-    is 'the largest image' 'formatted 68732067840' "$(ulimit -v 65536 && "$NBDJ" format large.img --blocks 16777216 --area 2097152 2>&1)"
+# The largest image with the largest areas, where the file system takes a file of 66 GiB with holes: it is formatted and opened in
+# memory that goes with its map, of 4 MiB, and not with its data or its journal.
+if dd if=/dev/null of=large.img bs=1 seek=70875357184 2>/dev/null; then
+    is 'the largest image' 'formatted 70875357184' "$(ulimit -v 65536 && "$NBDJ" format large.img --blocks 16777216 --area 1073741824 2>&1)"
     is 'the header of the largest image' 014e42444a524e4c3100000000000000010000000001000000 "$(part large.img 0 25)"
     is 'the largest image again' 'commands 0' "$(ulimit -v 65536 && "$NBDJ" recover large.img 2>&1)"
     rm -f large.img
 else
-    skipped 'the largest image' 'the file system takes no file of 64 GiB with holes'
+    skipped 'the largest image' 'the file system takes no file of 66 GiB with holes'
 fi
 
 # The scripts that docs/SCRIPTS.md teaches, and what it says that they print.
