@@ -13,12 +13,13 @@ wrong=0
 # The most calls that are refused in turn of one check; what lies behind them is skipped, and told.
 most=400
 
-# refusing N WORD..: runs the program on `input` with its N-th call for memory refused; false where it met none
+# refusing N WORD..: runs the program on `input` with its N-th call for memory refused, and none of those that `timeout` makes; false
+# where it met none
 refusing() {
     n=$1
     shift
     rm -f met
-    REFUSE_AT=$n REFUSE_MET=met LD_PRELOAD=./refuse.so timeout 20 "$NBDJ" "$@" <input >output 2>errors
+    timeout 20 env REFUSE_AT="$n" REFUSE_MET=met LD_PRELOAD=./refuse.so "$NBDJ" "$@" <input >output 2>errors
     status=$?
     told
     [ -e met ]
@@ -227,7 +228,7 @@ is 'check leaves the image' same "$(cmp -s d.img stored.img && echo same)"
 # test_refusing N PROGRAM TEST: the like for a built test
 test_refusing() {
     rm -f met
-    REFUSE_AT=$1 REFUSE_MET=met LD_PRELOAD=./refuse.so timeout 20 "$2" "$3" >output 2>&1
+    timeout 20 env REFUSE_AT="$1" REFUSE_MET=met LD_PRELOAD=./refuse.so "$2" "$3" >output 2>&1
     status=$?
     [ -e met ]
 }
