@@ -1,0 +1,100 @@
+//! Commands, and what an order says to them: a test wants one answer of it, so most functions here tell no fault.
+ghost use Rattle.std.specs.Prelude.{◌≡◌, ◌+◌, ◌*◌, ◌≤◌, length, true, IfSome};
+ghost use Rattle.image_model.specs.Command.{IsCommand};
+
+use image_model::{Command, Kind};
+use order_book::{Order, OrderFault};
+use std::alloc::{AllocError, Global};
+
+// The byte that puts with this salt give a place of the image. Those of neighbours differ, and those of salts near each other.
+pub fn byte_at(place: u64, salt: u64) -> u8 {
+    let mixed = place.wrapping_mul(31).wrapping_add(place >> 12);
+    (mixed.wrapping_add(salt) % 251) as u8
+}
+
+// The place of a block's first byte.
+pub fn place_of(block: u64) -> u64 {
+    block.wrapping_mul(4096)
+}
+
+// A put of blocks.
+pub fn put(alloc: Global, first: u64, blocks: u32, salt: u64) -> Result<Command, AllocError> {
+    let from = place_of(first);
+    let mut bytes = Vec::new(alloc);
+    for offset in 0..4096 * blocks as u64 {
+        bytes.push(byte_at(from.wrapping_add(offset), salt))?;
+    }
+    Ok(Command::Put { first, bytes })
+}
+
+// Whether so many blocks from the first one on are some, and lie in an image.
+fn is_range(image: u64, first: u64, blocks: u64) -> bool
+    ensures some { result ≡ true → 1 ≤ blocks }
+    ensures inside { result ≡ true → first + blocks ≤ image }
+{
+    1 <= blocks && blocks <= image && first <= image - blocks
+}
+
+// How many blocks the bytes fill, where these are whole and no more than a command has.
+fn whole_blocks(bytes: &[u8]) -> Option<u64>
+    ensures whole { IfSome result (λ blocks. length bytes.now ≡ 4096 * blocks) }
+    ensures few { IfSome result (λ blocks. blocks ≤ 256) }
+{
+    let blocks = bytes.len() as u64 / 4096;
+    if bytes.len() as u64 != 4096 * blocks || blocks > 256 {
+        return None;
+    }
+    Some(blocks)
+}
+
+// Whether an image of so many blocks takes the command.
+fn is_inside(image: u64, command: &Command) -> bool
+    ensures { result ≡ true → IsCommand image command.now }
+{
+    match command {
+        Command::Put { first, bytes } => match whole_blocks(bytes) {
+            Some(blocks) => is_range(image, *first, blocks),
+            None => false,
+        },
+        Command::Clear {
+            first,
+            blocks,
+            kind,
+        } => *kind != Kind::Data && is_range(image, *first, *blocks as u64),
+    }
+}
+
+// What the order says to a command, and nothing to one outside its image; one that is refused is let go.
+pub fn offer(order: &mut Order, command: Command) -> Option<Result<u64, OrderFault>> {
+    if !is_inside(order.blocks(), &command) {
+        return None;
+    }
+    match order.accept(command) {
+        Ok(number) => Some(Ok(number)),
+        Err((fault, _command)) => Some(Err(fault)),
+    }
+}
+
+// Whether the order accepts a command by this number.
+pub fn takes(order: &mut Order, command: Command, number: u64) -> bool {
+    match offer(order, command) {
+        Some(Ok(given)) => given == number,
+        _ => false,
+    }
+}
+
+// Whether the order accepts a put of blocks by this number.
+pub fn takes_put(alloc: Global, order: &mut Order, first: u64, blocks: u32, number: u64) -> bool {
+    match put(alloc, first, blocks, 7) {
+        Ok(command) => takes(order, command, number),
+        Err(_) => false,
+    }
+}
+
+// Whether the order has no room for a put of one block.
+pub fn is_full(alloc: Global, order: &mut Order, block: u64) -> bool {
+    match put(alloc, block, 1, 7) {
+        Ok(command) => matches!(offer(order, command), Some(Err(OrderFault::NoRoom))),
+        Err(_) => false,
+    }
+}

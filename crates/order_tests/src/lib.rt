@@ -1,0 +1,15 @@
+//! Tests of orders that read, over keepers of simulated devices. They stand beside these crates, since a crate with tests is proved twice.
+#![tactic(auto)]
+
+#[cfg(test)]
+mod commands;
+#[cfg(test)]
+mod plain;
+#[cfg(test)]
+mod random_tests;
+#[cfg(test)]
+mod read_tests;
+#[cfg(test)]
+mod room_tests;
+#[cfg(test)]
+mod subject;

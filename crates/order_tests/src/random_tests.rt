@@ -1,0 +1,154 @@
+//! Commands, reads, states and cleans in any order, each answer compared with that of plain bytes.
+ghost use Rattle.std.specs.Prelude.{◌<◌, ◌≤◌, ◌^◌};
+
+use crate::commands::{offer, put};
+use crate::plain::{BLOCKS, Plain};
+use crate::subject::{Subject, fresh};
+use image_model::{Command, Kind};
+use order_book::OrderFault;
+use std::alloc::{AllocError, Global};
+
+// A square and a number more, with its halves exchanged.
+fn mixed(root: u64, more: u64) -> u64 {
+    let square = root.wrapping_mul(root).wrapping_add(more);
+    (square >> 32).wrapping_add(square.wrapping_mul(4_294_967_296))
+}
+
+// A number below the limit, as good as random: of the turn with this salt, and among its numbers this one.
+fn roll(salt: u64, which: u64, limit: u64) -> u64
+    requires { 0 < limit }
+    ensures { result < limit }
+{
+    let key = 0x548c_9dec_bce6_5297;
+    let count = salt.wrapping_mul(8).wrapping_add(which);
+    let place = count.wrapping_add(1).wrapping_mul(key);
+    let root = mixed(mixed(place, place), place.wrapping_add(key));
+    (root.wrapping_mul(root).wrapping_add(place) >> 33) % limit
+}
+
+// A range of blocks of the image, no more than so many.
+fn range(salt: u64, most: u64) -> (u64, u64)
+    requires { 0 < most }
+    ensures { result.1 ≤ most }
+{
+    let first = roll(salt, 1, BLOCKS);
+    (first, 1 + roll(salt, 2, most.min(BLOCKS - first)))
+}
+
+// A put of a few blocks, or a clear of more.
+fn command(alloc: Global, salt: u64) -> Result<Command, AllocError> {
+    if roll(salt, 3, 4) > 0 {
+        let (first, blocks) = range(salt, 8);
+        return put(alloc, first, blocks as u32, salt);
+    }
+    let (first, blocks) = range(salt, 16);
+    let kind = if roll(salt, 4, 2) == 0 {
+        Kind::Zero
+    } else {
+        Kind::Hole
+    };
+    Ok(Command::Clear {
+        first,
+        blocks: blocks as u32,
+        kind,
+    })
+}
+
+// What is compared: an order over a keeper, and the image that both come to.
+#[derive(Drop)]
+struct Compared {
+    subject: Subject,
+    plain: Plain,
+}
+
+impl Compared {
+    // 64 blocks over 16 frames: blocks leave memory, and come back from the device.
+    fn new(alloc: Global) -> Option<Compared> {
+        let plain = Plain::new(alloc)?;
+        let subject = fresh(alloc, BLOCKS, 16)?;
+        Some(Compared { subject, plain })
+    }
+
+    // Stores what is pending, carries a checkpoint through where one can begin, and lets frames go.
+    fn make_room(&mut self) -> bool {
+        let stored = self.subject.store() && self.subject.checkpoint();
+        let _some = self.subject.clean();
+        stored
+    }
+
+    // What the order says to the command of this turn, which the image follows.
+    fn offer(&mut self, salt: u64) -> Option<Result<u64, OrderFault>> {
+        let change = command(self.subject.alloc, salt).ok()?;
+        self.plain.apply(&change, salt);
+        offer(&mut self.subject.order, change)
+    }
+
+    // Whether the command of this turn is accepted, where there is no room for it once there is some.
+    fn change(&mut self, salt: u64) -> bool {
+        match self.offer(salt) {
+            Some(Ok(_)) => true,
+            Some(Err(OrderFault::NoRoom)) => {
+                self.make_room() && matches!(self.offer(salt), Some(Ok(_)))
+            }
+            _ => false,
+        }
+    }
+
+    // Whether a read of this range gives the bytes of the image.
+    fn reads(&mut self, range: (u64, u64)) -> bool
+        requires { range.1 < 2 ^ 32 }
+    {
+        match self.subject.read(range.0, range.1) {
+            Some(Ok(bytes)) => self.plain.has_bytes(range.0, &bytes),
+            _ => false,
+        }
+    }
+
+    // Whether the runs of states from this block on are those of the image.
+    fn tells(&self, from: u64) -> bool {
+        if BLOCKS < from || self.subject.order.blocks() != BLOCKS {
+            return false;
+        }
+        match self
+            .subject
+            .order
+            .status(self.subject.alloc, from, BLOCKS, 64)
+        {
+            Ok(runs) => self.plain.are_runs(from, &runs),
+            Err(_) => false,
+        }
+    }
+
+    // A command, a read, the states, or what is stored: whether the answer is the right one.
+    fn turn(&mut self, salt: u64) -> bool {
+        match roll(salt, 0, 8) {
+            0 => self.make_room(),
+            1 => self.subject.store(),
+            2 => self.tells(roll(salt, 1, BLOCKS)),
+            3 | 4 => self.reads(range(salt, 16)),
+            _ => self.change(salt),
+        }
+    }
+
+    // How many of so many turns are answered as they should be, up to the first that isn't.
+    fn right_turns(&mut self, turns: u64) -> u64 {
+        for salt in 0..turns {
+            if !self.turn(salt) {
+                return salt;
+            }
+        }
+        turns
+    }
+
+    // Whether all bytes and states are those of the image.
+    fn is_whole(&mut self) -> bool {
+        self.reads((0, BLOCKS)) && self.tells(0)
+    }
+}
+
+#[test]
+fn answers_are_those_of_plain_bytes(rt: HostRuntime) {
+    let mut compared = Compared::new(rt.alloc()).expect(&rt, "an order of 64 blocks");
+    assert_eq!(rt; compared.right_turns(500), 500);
+    assert!(rt; compared.is_whole());
+}
