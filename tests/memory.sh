@@ -233,7 +233,7 @@ test_refusing() {
     [ -e met ]
 }
 
-# A test that memory is refused ends by itself: it passes, or it says where it stopped.
+# A test that memory is refused ends by itself: it passes, or it says where it stopped. Some need none.
 found=0
 : >wanted
 : >errors
@@ -247,6 +247,10 @@ for built in "$here"/crates/*/out/*_tests; do
             tell "$tests, $test, call $n" "$(grep -q '^test result: ok\|^test stopped at\|^the test failed' output || echo "status $status")"
             n=$((n + 1))
         done
+        if [ "$n" -eq 1 ] && grep -q '^test result: ok' output; then
+            skipped "$tests, $test" 'it makes no call for memory'
+            continue
+        fi
         checked "$tests, $test" "$(grep -q '^test result: ok' output || echo "status $status")"
     done
 done
