@@ -11,7 +11,7 @@ refused=0
 wrong=0
 
 # The most calls that are refused in turn of one check; what lies behind them is skipped, and told.
-most=400
+most=200
 
 # refusing N WORD..: runs the program on `input` with its N-th call for memory refused, and none of those that `timeout` makes; false
 # where it met none
