@@ -268,14 +268,10 @@ fn outcome(
     ensures told { (result ≡ end) ⊎ (result ≡ stored) ⊎ (result ≡ Err Refusal.DeviceFault) }
 {
     match end {
-        Ok(()) | Err(Refusal::PeerClosed | Refusal::ProtocolEnd) => {
-            if stopped {
-                return Err(Refusal::DeviceFault);
-            }
-            stored?;
-            end
+        Ok(()) | Err(Refusal::PeerClosed | Refusal::ProtocolEnd) if stopped => {
+            Err(Refusal::DeviceFault)
         }
-        Err(Refusal::StreamFault) => {
+        Ok(()) | Err(Refusal::PeerClosed | Refusal::ProtocolEnd | Refusal::StreamFault) => {
             stored?;
             end
         }
