@@ -32,30 +32,25 @@ use Rattle.world.specs.World.{Setting, Stage, World, dirty_behind, has_room, las
 use Rattle.world_law.specs.Law.{Grows, IsRising, IsWithin, TellsTruth}
 use Rattle.nbdj_pipe.specs.Causes.{HasCause, LacksRoom}
 use Rattle.nbdj_pipe.specs.Checkpoint.{EndsBy, HasCopied, HasCopiedAll, HasFullArea, IsCopied, IsDone, IsEmptied, IsFine, IsFinished, KeepsOrder, OrStopped}
-use Rattle.nbdj_pipe.specs.Export.{IsJudged, Settles}
+use Rattle.nbdj_pipe.specs.Export.{IsJudged, IsStoring, Settles}
 use Rattle.nbdj_pipe.specs.Talk.{spoken, verdict_on}
 use Rattle.nbdj_pipe.specs.declared.refusal.Refusal.{Refusal}
 use Rattle.nbdj_pipe.proofs.Causes.{cause_behind}
 use Rattle.nbdj_pipe.proofs.Steps.{last_same, of_test, spoken_on, still_step}
-
--- the last of a log stands at the length of what is before
-at_end : (log : List Event) (event : Event) → slice_get (log ++ event ∷ []) (length log) ≡ Some event
-at_end [] event = refl
-at_end (other ∷ log) event = at_end log event
+use Rattle.nbdj_pipe.proofs.Wanted.{header_wanted}
 
 -- a step of a checkpoint was done, or its event shows why the checkpoint ends early
-pub turn_shown : (world next : World) (step : Step) (event : Event) (outcome : Result (Unit {0}) Refusal) → IsRun world (step ∷ []) next → TellsTruth next → next.log ≡ world.log ++ event ∷ [] → EndsBy event outcome
+pub turn_shown : (world next : World) (step : Step) (event : Event) (outcome : Result (Unit {0}) Refusal) → IsRun world (step ∷ []) next → IsStoring step → next.log ≡ world.log ++ event ∷ [] → EndsBy event outcome
     → MatchResult outcome (λ done. IsDone world next) (λ refusal. HasCause refusal world next)
-turn_shown world next step event (Ok done) run truth log fine = record { event = event; log = log; fine = fine }
-turn_shown world next step event (Err refusal) run truth log (inl memory) = subst (λ (r : Refusal). HasCause r world next) (sym memory.0) tt
-turn_shown world next step event (Err refusal) run truth log (inr full) = subst (λ (r : Refusal). HasCause r world next) (sym full.0) (record {
-  passed = next;
-  before = step ∷ [];
-  behind = [];
-  to = run;
-  on = refl;
-  holds = truth.full (length world.log) (subst (λ (l : List Event). StandsAt l (length world.log) (Failed fault.NumbersFull)) (sym log)
-      (subst (λ (e : Event). slice_get (world.log ++ event ∷ []) (length world.log) ≡ Some e) full.1 (at_end world.log event)));
+turn_shown world next step event (Ok done) run storing log fine = record { event = event; log = log; fine = fine }
+turn_shown world next step event (Err refusal) run storing log (inl memory) = subst (λ (r : Refusal). HasCause r world next) (sym memory.0) tt
+turn_shown world next step event (Err refusal) run storing log (inr full) = subst (λ (r : Refusal). HasCause r world next) (sym full.0) (record {
+  passed = world;
+  before = [];
+  behind = step ∷ [];
+  to = refl;
+  on = run;
+  holds = header_wanted world step run.0 storing (ap (λ (w : World). w.log) (sym run.1) ∙ (log ∙ ap (λ (e : Event). world.log ++ e ∷ []) full.1));
 })
 
 -- steps that copy leave the connections as they are, and say nothing
@@ -180,11 +175,11 @@ copying_ends first world failure event copied log fine none = by (copy_ends worl
 
 -- what ends copying: the device has failed or all is copied, or the event shows why the checkpoint ends early
 pub all_copied : (first world next : World) (event : Event) (outcome : Result (Unit {0}) Refusal) (before : List Step) → HasCopied first.stage world.stage → IsRun first before world → IsCopied world next (Err event)
-    → TellsTruth next → (event ≡ Took → ⊥) → EndsBy event outcome → MatchResult outcome (λ done. OrStopped HasCopiedAll first next) (λ refusal. HasCause refusal first next)
-all_copied first world next event (Ok done) before copied run (failure, is, log) truth none fine = subst (OrStopped HasCopiedAll first) (sym is)
+    → (event ≡ Took → ⊥) → EndsBy event outcome → MatchResult outcome (λ done. OrStopped HasCopiedAll first next) (λ refusal. HasCause refusal first next)
+all_copied first world next event (Ok done) before copied run (failure, is, log) none fine = subst (OrStopped HasCopiedAll first) (sym is)
     (copying_ends first world failure event copied (subst (λ (w : World). w.log ≡ world.log ++ event ∷ []) is log) fine none)
-all_copied first world next event (Err refusal) before copied run (failure, is, log) truth none ends =
-    cause_behind refusal first world next before run (turn_shown world next steps.Copy event (Err refusal) (failure, is) truth log ends)
+all_copied first world next event (Err refusal) before copied run (failure, is, log) none ends =
+    cause_behind refusal first world next before run (turn_shown world next steps.Copy event (Err refusal) (failure, is) tt log ends)
 
 -- where nothing is left to copy, and no map to write, the map is written
 map_is_written : (mapped : Bool) (left : ℕ) → (not mapped && nat_lt 0 left) ≡ false → (not mapped && (left == 0)) ≡ false → mapped ≡ true
