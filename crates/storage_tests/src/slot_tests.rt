@@ -1,8 +1,8 @@
 //! Headers by hand, written to a simulated device, changed and read again.
-use crate::{
+use disk_model::{DeviceFault, Disk, SimDisk};
+use header_slots::{
     Areas, Header, HeaderChange, HeaderFault, change_header, fill_slot, open_gate, read_current,
 };
-use disk_model::{DeviceFault, Disk, SimDisk};
 use image_model::{Geometry, Side};
 use std::process::Abort;
 use std::test::Fail;

@@ -1,7 +1,7 @@
 //! Maps by hand: the bytes of four blocks, bytes that aren't a map, and ranges over the edges of words.
 ghost use Rattle.std.specs.Prelude.{◌≡◌, ◌≤◌, length, IfOk};
 
-use crate::{AllocMap, BadMap, Run};
+use alloc_map::{AllocMap, BadMap, Run};
 use image_model::Kind;
 use std::alloc::{AllocError, Global};
 use std::test::Fail;

@@ -1,5 +1,5 @@
 //! A plain image against a small case computed by hand.
-use crate::{Command, Kind, OutOfRange, PlainImage};
+use image_model::{Command, Kind, OutOfRange, PlainImage};
 use std::test::Fail;
 
 #[test]

@@ -1,5 +1,5 @@
 //! Scripts of calls against contents computed by hand, and devices over real files.
-use crate::{CallKind, CrashChoice, DeviceFault, Disk, FileDisk, SimDisk, write_synced};
+use disk_model::{CallKind, CrashChoice, DeviceFault, Disk, FileDisk, SimDisk, write_synced};
 use std::fs;
 use std::fs::OpenOptions;
 use std::process::Abort;

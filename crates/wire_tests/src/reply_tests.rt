@@ -1,7 +1,8 @@
+//! Replies as bytes, simple ones and chunks.
 ghost use Rattle.std.specs.Prelude.{◌≡◌, ◌<◌, ◌≤◌};
 ghost use Rattle.nbd_reply.specs.Reply.{IsAnswerTo};
 
-use crate::{encode_chunks, encode_reply};
+use nbd_reply::{encode_chunks, encode_reply};
 use nbd_wire::{
     Answer, BLOCK_STATUS, DATA, Errno, FLUSH, HOLE, READ, ReadBytes, Reply, Run, SessionFlags,
     States,
@@ -124,52 +125,42 @@ fn parts(rt: HostRuntime) -> Result<(), Fail> {
         answer: Answer::Bytes(data_and_hole(rt.alloc(), 0, 4096, 4096)?),
     };
     // What stood before the reply stays.
-    let mut out = vec![in rt.alloc(); 0xeeu8; 3]?;
+    let mut out = beginning(rt.alloc())?;
     encode_chunks(&both, false, &mut out)?;
     let (first, second) = out.split_at(out.len().min(3 + 28 + 4096));
-    assert!(rt;
-        is_hex_then(
-            first,
-            "eeeeee668e33ef00000001000000000000000a000010080000000000000000",
-            0x41,
-            4096
-        )
-    );
-    assert!(rt;
-        is_hex(
-            second,
-            "668e33ef00010002000000000000000a0000000c000000000000100000001000"
-        )
-    );
+    let head = "eeeeee668e33ef00000001000000000000000a000010080000000000000000";
+    assert!(rt; is_hex_then(first, head, 0x41, 4096));
+    let hole = "668e33ef00010002000000000000000a0000000c000000000000100000001000";
+    assert!(rt; is_hex(second, hole));
+    Ok(())
+}
+
+#[test]
+fn parts_in_one_chunk(rt: HostRuntime) -> Result<(), Fail> {
+    let both = Reply {
+        cookie: 10,
+        answer: Answer::Bytes(data_and_hole(rt.alloc(), 0, 4096, 4096)?),
+    };
     let mut out = beginning(rt.alloc())?;
     encode_reply(&both, &STRUCTURED, READ, true, &mut out)?;
     let out = behind(rt.alloc(), &out)?;
     let (first, second) = out.split_at(out.len().min(28 + 4096));
-    assert!(rt;
-        is_hex_then(
-            first,
-            "668e33ef00010001000000000000000a000020080000000000000000",
-            0x41,
-            4096
-        )
-    );
+    let head = "668e33ef00010001000000000000000a000020080000000000000000";
+    assert!(rt; is_hex_then(first, head, 0x41, 4096));
     assert!(rt; is_hex_then(second, "", 0, 4096));
-    // Runs that begin and end inside blocks.
+    Ok(())
+}
+
+// Runs that begin and end inside blocks.
+#[test]
+fn parts_inside_blocks(rt: HostRuntime) -> Result<(), Fail> {
     let inside = Answer::Bytes(data_and_hole(rt.alloc(), 4095, 2, 300)?);
     let out = encoded(rt.alloc(), 1, inside, &STRUCTURED, READ)?;
     let (first, second) = out.split_at(out.len().min(30));
-    assert!(rt;
-        is_hex(
-            first,
-            "668e33ef0000000100000000000000010000000a0000000000000fff4141"
-        )
-    );
-    assert!(rt;
-        is_hex(
-            second,
-            "668e33ef0001000200000000000000010000000c00000000000010010000012c"
-        )
-    );
+    let data = "668e33ef0000000100000000000000010000000a0000000000000fff4141";
+    assert!(rt; is_hex(first, data));
+    let hole = "668e33ef0001000200000000000000010000000c00000000000010010000012c";
+    assert!(rt; is_hex(second, hole));
     Ok(())
 }
 
@@ -182,12 +173,13 @@ fn states(rt: HostRuntime) -> Result<(), Fail> {
     })?;
     let first = Answer::States(States::new(runs));
     let out = encoded(rt.alloc(), 6, first, &STRUCTURED, BLOCK_STATUS)?;
-    assert!(rt;
-        is_hex(
-            &out,
-            "668e33ef0001000500000000000000060000000c000000010000100000000000"
-        )
-    );
+    let wanted = "668e33ef0001000500000000000000060000000c000000010000100000000000";
+    assert!(rt; is_hex(&out, wanted));
+    Ok(())
+}
+
+#[test]
+fn states_of_three_runs(rt: HostRuntime) -> Result<(), Fail> {
     let mut runs = Vec::new(rt.alloc());
     runs.push(Run {
         length: 4096,
@@ -207,29 +199,27 @@ fn states(rt: HostRuntime) -> Result<(), Fail> {
     };
     let mut out = Vec::new(rt.alloc());
     encode_chunks(&all, false, &mut out)?;
-    assert!(rt;
-        is_hex(
-            &out,
-            "668e33ef0001000500000000000000060000001c00000001000010000000000000001000000000020000100000000003"
-        )
-    );
+    let wanted =
+        "668e33ef0001000500000000000000060000001c00000001000010000000000000001000000000020000100000000003";
+    assert!(rt; is_hex(&out, wanted));
     Ok(())
 }
 
 #[test]
+fn errors(rt: HostRuntime) -> Result<(), Fail> {
+    let refused = Answer::Refused(Errno::Invalid);
+    let out = encoded(rt.alloc(), 9, refused, &STRUCTURED, READ)?;
+    assert!(rt; is_hex(&out, "668e33ef00018001000000000000000900000006000000160000"));
+    let refused = Answer::Refused(Errno::Invalid);
+    let out = encoded(rt.alloc(), 9, refused, &PLAIN, READ)?;
+    assert!(rt; is_hex(&out, "67446698000000160000000000000009"));
+    Ok(())
+}
+
+// Other requests have simple replies in each session.
+#[test]
 fn errors_and_done(rt: HostRuntime) -> Result<(), Fail> {
     let refused = Answer::Refused(Errno::Invalid);
-    let out = encoded(
-        rt.alloc(),
-        9,
-        refused.try_clone(rt.alloc())?,
-        &STRUCTURED,
-        READ,
-    )?;
-    assert!(rt; is_hex(&out, "668e33ef00018001000000000000000900000006000000160000"));
-    let out = encoded(rt.alloc(), 9, refused.try_clone(rt.alloc())?, &PLAIN, READ)?;
-    assert!(rt; is_hex(&out, "67446698000000160000000000000009"));
-    // Other requests have simple replies in each session.
     let out = encoded(rt.alloc(), 9, refused, &STRUCTURED, FLUSH)?;
     assert!(rt; is_hex(&out, "67446698000000160000000000000009"));
     let out = encoded(rt.alloc(), 9, Answer::Done, &STRUCTURED, FLUSH)?;

@@ -1,10 +1,14 @@
-use crate::{
+//! Requests and simple replies as bytes, and out of a stream in pieces.
+ghost use Rattle.std.specs.Prelude.{◌≤◌, length};
+
+use bitflags::Flags;
+use nbd_wire::{
     BLOCK_STATUS, BadMagic, CommandFlags, DISCONNECT, Errno, FLUSH, READ, Request, RequestFault,
     RequestHead, StreamReader, TRIM, WRITE, WRITE_ZEROES, WireFault, decode_request,
     encode_request, encode_simple,
 };
-use bitflags::Flags;
 use std::alloc::{AllocError, Global};
+use std::process::Abort;
 use std::test::Fail;
 
 const ROW: RequestHead = RequestHead {
@@ -60,70 +64,93 @@ fn same(found: &[Request], wanted: &[Wanted]) -> bool {
             && a.bytes() == b.bytes.as_slice())
 }
 
+const ROW_BYTES: [u8; 28] = [
+    0x25, 0x60, 0x95, 0x13, 0, 0, 0, 1, 1, 2, 3, 4, 5, 6, 7, 8, 0, 0, 0, 0, 0, 0, 0, 0, 0, 0, 0x10,
+    0,
+];
+
 #[test]
-fn heads_and_simple_replies(rt: HostRuntime) -> Result<(), Fail> {
-    let bytes = [
-        0x25, 0x60, 0x95, 0x13, 0, 0, 0, 1, 1, 2, 3, 4, 5, 6, 7, 8, 0, 0, 0, 0, 0, 0, 0, 0, 0, 0,
-        0x10, 0,
-    ];
-    assert_eq!(rt; decode_request(&bytes), Ok(ROW));
-    assert_eq!(rt; encode_request(&ROW).as_slice(), bytes.as_slice());
+fn a_head_and_its_bytes(rt: HostRuntime) {
+    assert_eq!(rt; decode_request(&ROW_BYTES), Ok(ROW));
+    assert_eq!(rt; encode_request(&ROW).as_slice(), ROW_BYTES.as_slice());
     for i in 0..4usize {
-        let mut other = bytes;
+        let mut other = ROW_BYTES;
         other[i] ^= 1;
         assert_eq!(rt; decode_request(&other), Err(BadMagic));
     }
-    let kinds = [
-        READ,
-        WRITE,
-        DISCONNECT,
-        FLUSH,
-        TRIM,
-        5,
-        WRITE_ZEROES,
-        BLOCK_STATUS,
-        8,
-        0xffff,
-    ];
-    for kind in kinds {
+}
+
+// The row's head and bytes with another command and these flags.
+fn check_head(rt: &impl Abort, kind: u16, flags: u16) {
+    let [high, low] = flags.to_be_bytes();
+    let [kind_high, kind_low] = kind.to_be_bytes();
+    let mut text = ROW_BYTES;
+    text[4] = high;
+    text[5] = low;
+    text[6] = kind_high;
+    text[7] = kind_low;
+    let mut wanted = ROW;
+    wanted.flags = flags;
+    wanted.kind = kind;
+    assert!(rt; decode_request(&text) == Ok(wanted));
+    assert!(rt; encode_request(&wanted).as_slice() == text.as_slice());
+}
+
+const KINDS: [u16; 10] = [
+    READ,
+    WRITE,
+    DISCONNECT,
+    FLUSH,
+    TRIM,
+    5,
+    WRITE_ZEROES,
+    BLOCK_STATUS,
+    8,
+    0xffff,
+];
+
+#[test]
+fn heads_of_each_command_and_flag(rt: HostRuntime) {
+    for kind in KINDS {
         for bit in 0..16u32 {
-            let flags = 1u16 << bit;
-            let [high, low] = flags.to_be_bytes();
-            let [kind_high, kind_low] = kind.to_be_bytes();
-            let mut text = bytes;
-            text[4] = high;
-            text[5] = low;
-            text[6] = kind_high;
-            text[7] = kind_low;
-            let mut wanted = ROW;
-            wanted.flags = flags;
-            wanted.kind = kind;
-            assert_eq!(rt; decode_request(&text), Ok(wanted));
-            assert_eq!(rt; encode_request(&wanted).as_slice(), text.as_slice());
+            check_head(&rt, kind, 1u16 << bit);
         }
     }
-    assert_eq!(rt;
-        encode_simple(0, 7).as_slice(),
-        [0x67, 0x44, 0x66, 0x98, 0, 0, 0, 0, 0, 0, 0, 0, 0, 0, 0, 7].as_slice()
+}
+
+#[test]
+fn simple_replies(rt: HostRuntime) {
+    assert!(rt;
+        encode_simple(0, 7).as_slice()
+            == [0x67, 0x44, 0x66, 0x98, 0, 0, 0, 0, 0, 0, 0, 0, 0, 0, 0, 7].as_slice()
     );
-    assert_eq!(rt;
-        encode_simple(28, 2).as_slice(),
-        [0x67, 0x44, 0x66, 0x98, 0, 0, 0, 28, 0, 0, 0, 0, 0, 0, 0, 2].as_slice()
+    assert!(rt;
+        encode_simple(28, 2).as_slice()
+            == [0x67, 0x44, 0x66, 0x98, 0, 0, 0, 28, 0, 0, 0, 0, 0, 0, 0, 2].as_slice()
     );
-    assert_eq!(rt;
-        encode_simple(22, 0x0102_0304_0506_0708).as_slice(),
-        [0x67, 0x44, 0x66, 0x98, 0, 0, 0, 22, 1, 2, 3, 4, 5, 6, 7, 8].as_slice()
+    assert!(rt;
+        encode_simple(22, 0x0102_0304_0506_0708).as_slice()
+            == [0x67, 0x44, 0x66, 0x98, 0, 0, 0, 22, 1, 2, 3, 4, 5, 6, 7, 8].as_slice()
     );
+}
+
+#[test]
+fn flags_by_name(rt: HostRuntime) {
     let flags = CommandFlags::from_bits_retain(9);
     assert!(rt; flags.contains(CommandFlags::FUA) && flags.contains(CommandFlags::REQ_ONE));
     assert!(rt; !flags.contains(CommandFlags::NO_HOLE) && !flags.contains(CommandFlags::DF));
-    let numbers = [
-        Errno::Io.number(),
-        Errno::NoMemory.number(),
-        Errno::Invalid.number(),
-        Errno::NoSpace.number(),
-    ];
-    assert_eq!(rt; numbers.as_slice(), [5, 12, 22, 28].as_slice());
+}
+
+#[test]
+fn errors_and_their_numbers(rt: HostRuntime) {
+    assert_eq!(rt; Errno::Io.number(), 5);
+    assert_eq!(rt; Errno::NoMemory.number(), 12);
+    assert_eq!(rt; Errno::Invalid.number(), 22);
+    assert_eq!(rt; Errno::NoSpace.number(), 28);
+}
+
+#[test]
+fn faults_and_their_texts(rt: HostRuntime) -> Result<(), Fail> {
     let texts = format!(in rt.alloc();
         "{}, {}, {}, {}",
         WireFault::NoMemory,
@@ -135,26 +162,42 @@ fn heads_and_simple_replies(rt: HostRuntime) -> Result<(), Fail> {
     Ok(())
 }
 
-// Twelve requests, and their bytes.
+// Puts a request behind those that are wanted, and its bytes behind the stream.
+fn want(
+    alloc: Global,
+    requests: &mut Vec<Wanted>,
+    stream: &mut Vec<u8>,
+    head: RequestHead,
+    sent: usize,
+) -> Result<(), AllocError> {
+    let bytes = vec![in alloc; (head.cookie % 251) as u8; sent]?;
+    put(stream, &head, &bytes)?;
+    requests.push(Wanted { head, bytes })?;
+    Ok(())
+}
+
+// The commands of twelve requests, their lengths, and how many bytes stand behind each.
+const TWELVE: [(u16, u32, usize); 12] = [
+    (WRITE, 5, 5),
+    (READ, 4096, 0),
+    (WRITE, 0, 0),
+    (WRITE, 1, 1),
+    (FLUSH, 0, 0),
+    (TRIM, 8192, 0),
+    (WRITE, 700, 700),
+    (WRITE_ZEROES, 4096, 0),
+    (BLOCK_STATUS, 65536, 0),
+    (5, 77, 0),
+    (WRITE, 512, 512),
+    (DISCONNECT, 0, 0),
+];
+
+// The requests, and their bytes.
 fn twelve(alloc: Global) -> Result<(Vec<Wanted>, Vec<u8>), AllocError> {
-    let rows: [(u16, u32, usize); 12] = [
-        (WRITE, 5, 5),
-        (READ, 4096, 0),
-        (WRITE, 0, 0),
-        (WRITE, 1, 1),
-        (FLUSH, 0, 0),
-        (TRIM, 8192, 0),
-        (WRITE, 700, 700),
-        (WRITE_ZEROES, 4096, 0),
-        (BLOCK_STATUS, 65536, 0),
-        (5, 77, 0),
-        (WRITE, 512, 512),
-        (DISCONNECT, 0, 0),
-    ];
     let mut requests = Vec::new(alloc);
     let mut stream = Vec::new(alloc);
     let mut cookie = 0u64;
-    for (kind, length, sent) in rows {
+    for (kind, length, sent) in TWELVE {
         cookie = cookie.wrapping_add(0x0101_0000_0000_0001);
         let head = RequestHead {
             flags: 3,
@@ -163,31 +206,47 @@ fn twelve(alloc: Global) -> Result<(Vec<Wanted>, Vec<u8>), AllocError> {
             offset: 12288,
             length,
         };
-        let bytes = vec![in alloc; (cookie % 251) as u8; sent]?;
-        put(&mut stream, &head, bytes.as_slice())?;
-        requests.push(Wanted { head, bytes })?;
+        want(alloc, &mut requests, &mut stream, head, sent)?;
     }
     Ok((requests, stream))
+}
+
+// The requests that are found in three pieces of a stream.
+fn found_in(alloc: Global, pieces: [&[u8]; 3]) -> Result<Vec<Request>, Fail> {
+    let mut reader = StreamReader::new(alloc);
+    let mut found = Vec::new(alloc);
+    for piece in pieces {
+        feed_to(&mut reader, piece, &mut found)?;
+    }
+    Ok(found)
+}
+
+// Cut at this place, and the part before it once more: at each place of its first 100 bytes.
+fn check_cut(
+    rt: &impl Abort,
+    alloc: Global,
+    wanted: &[Wanted],
+    stream: &[u8],
+    second: usize,
+) -> Result<(), Fail>
+    requires { second ≤ length stream.now }
+{
+    let (front, last) = stream.split_at(second);
+    let firsts = if second <= 100 { second + 1 } else { 1 };
+    for first in 0..firsts {
+        let (start, middle) = front.split_at(first.min(front.len()));
+        let found = found_in(alloc, [start, middle, last])?;
+        assert!(rt; same(&found, wanted));
+    }
+    Ok(())
 }
 
 #[test]
 fn cut_everywhere(rt: HostRuntime) -> Result<(), Fail> {
     let (wanted, stream) = twelve(rt.alloc())?;
-    let stream = stream.as_slice();
     assert!(rt; stream.len() <= 2000);
     for second in 0..=stream.len() {
-        let (front, last) = stream.split_at(second);
-        // Each cut by itself, and each pair of cuts within the first 100 bytes.
-        let firsts = if second <= 100 { second + 1 } else { 1 };
-        for first in 0..firsts {
-            let (start, middle) = front.split_at(first.min(front.len()));
-            let mut reader = StreamReader::new(rt.alloc());
-            let mut found = Vec::new(rt.alloc());
-            feed_to(&mut reader, start, &mut found)?;
-            feed_to(&mut reader, middle, &mut found)?;
-            feed_to(&mut reader, last, &mut found)?;
-            assert!(rt; same(found.as_slice(), wanted.as_slice()));
-        }
+        check_cut(&rt, rt.alloc(), &wanted, &stream, second)?;
     }
     Ok(())
 }
@@ -229,6 +288,35 @@ fn feed_long(
     Ok((Ok(()), found))
 }
 
+// What is to be found of it, where so many bytes are kept.
+fn wanted_long(alloc: Global, length: u32, kept: usize) -> Result<Vec<Wanted>, AllocError> {
+    let mut wanted = Vec::new(alloc);
+    wanted.push(Wanted {
+        head: head(WRITE, length),
+        bytes: vec![in alloc; 7u8; kept]?,
+    })?;
+    wanted.push(Wanted {
+        head: head(FLUSH, 0),
+        bytes: Vec::new(alloc),
+    })?;
+    Ok(wanted)
+}
+
+fn check_long(
+    rt: &impl Abort,
+    alloc: Global,
+    row: (u32, usize),
+    cut: usize,
+    piece: &[u8],
+) -> Result<(), Fail> {
+    let (length, kept) = row;
+    let wanted = wanted_long(alloc, length, kept)?;
+    let (end, found) = feed_long(alloc, length, cut, piece)?;
+    end?;
+    assert!(rt; same(&found, &wanted));
+    Ok(())
+}
+
 #[test]
 fn long_data(rt: HostRuntime) -> Result<(), Fail> {
     let piece = vec![in rt.alloc(); 7u8; 1_000_003]?;
@@ -240,23 +328,18 @@ fn long_data(rt: HostRuntime) -> Result<(), Fail> {
         (1_048_577, 0),
         (33_554_432, 0),
     ];
-    for (length, kept) in rows {
+    for row in rows {
         for cut in [0usize, 1, 27, 28] {
-            let (end, found) = feed_long(rt.alloc(), length, cut, piece.as_slice())?;
-            end?;
-            let mut wanted = Vec::new(rt.alloc());
-            wanted.push(Wanted {
-                head: head(WRITE, length),
-                bytes: vec![in rt.alloc(); 7u8; kept]?,
-            })?;
-            wanted.push(Wanted {
-                head: head(FLUSH, 0),
-                bytes: Vec::new(rt.alloc()),
-            })?;
-            assert!(rt; same(found.as_slice(), wanted.as_slice()));
+            check_long(&rt, rt.alloc(), row, cut, &piece)?;
         }
     }
-    let (end, found) = feed_long(rt.alloc(), 33_554_433, 3, piece.as_slice())?;
+    Ok(())
+}
+
+#[test]
+fn data_that_are_too_long(rt: HostRuntime) -> Result<(), Fail> {
+    let piece = vec![in rt.alloc(); 7u8; 1_000_003]?;
+    let (end, found) = feed_long(rt.alloc(), 33_554_433, 3, &piece)?;
     assert_eq!(rt; end, Err(WireFault::Malformed(RequestFault::TooLong)));
     assert!(rt; found.is_empty());
     Ok(())
