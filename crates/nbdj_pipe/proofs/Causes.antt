@@ -21,10 +21,29 @@ use Rattle.world_law.specs.Law.{Grows, IsWithin}
 use Rattle.nbdj_pipe.specs.Causes.{HasCause, HasNoGeneration, Passes}
 use Rattle.nbdj_pipe.specs.Checkpoint.{HasFullArea, IsUnfit}
 use Rattle.nbdj_pipe.specs.Export.{CameTo, GetsOn, IsSettled, IsWaiting, StoredBy}
+use Rattle.nbdj_pipe.specs.Refusals.{IsEarly, IsOfExport}
 use Rattle.nbdj_pipe.specs.Session.{IsEndShown}
 use Rattle.nbdj_pipe.specs.declared.refusal.Refusal.{Refusal}
 use Rattle.nbdj_pipe.specs.declared.refusal.Refusal.TheVariants.{NoMemory, DeviceFault, BadMap, NoHeader, BadHeader, NumbersFull, AreaFull, OutOfOrder, DamagedGroup, NotNow, Failed as NeverEnds, NoRoom, PeerClosed, ProtocolEnd, StreamFault}
 use Rattle.nbdj_pipe.proofs.Steps.{last_same, of_test}
+
+-- what an export refuses ends its session early
+pub early_of : (refusal : Refusal) → IsOfExport refusal → IsEarly refusal
+early_of NoMemory is = tt
+early_of NumbersFull is = tt
+early_of NeverEnds is = tt
+early_of DeviceFault is = absurd is
+early_of BadMap is = absurd is
+early_of NoHeader is = absurd is
+early_of BadHeader is = absurd is
+early_of AreaFull is = absurd is
+early_of OutOfOrder is = absurd is
+early_of DamagedGroup is = absurd is
+early_of NotNow is = absurd is
+early_of NoRoom is = absurd is
+early_of PeerClosed is = absurd is
+early_of ProtocolEnd is = absurd is
+early_of StreamFault is = absurd is
 
 -- one run behind another
 run_on : (first mid last : World) (before behind : List Step) → IsRun first before mid → IsRun mid behind last → IsRun first (before ++ behind) last

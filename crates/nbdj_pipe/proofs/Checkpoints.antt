@@ -8,8 +8,8 @@ use Rattle.std.specs.Prelude.{slice_get}
 use Rattle.std.proofs.lemmas.List.Sums.{sum_by-append}
 use Rattle.std.proofs.lemmas.Bool.{and_from, both_ways, le-leb, eqb-false, leb-false, leb-true, ltb-false}
 use Rattle.image_model.specs.Bodies.{bodies_bytes, body_bytes, body_limit, longest}
-use Rattle.image_model.specs.Change.{Change}
-use Rattle.image_model.specs.Dirty.{Dirty, dirty_after, dirty_blocks, frames_suffice, with_blocks}
+use Rattle.image_model.specs.Change.{Change, Written, Cleared}
+use Rattle.image_model.specs.Dirty.{Dirty, dirty_after, dirty_blocks, with_blocks}
 use Rattle.nbd_wire.specs.Request.{Message}
 use Rattle.device_image.specs.Keeper.{KeeperState}
 use Rattle.disk_model.specs.Disk.{State}
@@ -24,7 +24,7 @@ use Rattle.world.specs.declared.event.StepFault.TheVariants as fault
 use Rattle.world.specs.declared.step.Step.{Step}
 use Rattle.world.specs.declared.step.Step.TheVariants as steps
 use Rattle.world.specs.Checkpoint.{can_clean, can_copy, can_finish, can_map, can_rotate, finished, is_full, is_turned, last_turned, rotated}
-use Rattle.world.specs.Log.{StandsAt, command_of}
+use Rattle.world.specs.Log.{StandsAt, cleared_as, command_of}
 use Rattle.world.specs.Run.{IsReached, IsRun}
 use Rattle.world.specs.Serve.{Failure, Nothing, OutOfMemory, DeviceFailure}
 use Rattle.world.specs.Step.{after_step, clean, copy_block, finish, in_time, rotate, seal, sealed_more, with_generation, without_memory, write_map, written}
@@ -32,30 +32,25 @@ use Rattle.world.specs.World.{Setting, Stage, World, dirty_behind, has_room, las
 use Rattle.world_law.specs.Law.{Grows, IsRising, IsWithin, TellsTruth}
 use Rattle.nbdj_pipe.specs.Causes.{HasCause, LacksRoom}
 use Rattle.nbdj_pipe.specs.Checkpoint.{EndsBy, HasCopied, HasCopiedAll, HasFullArea, IsCopied, IsDone, IsEmptied, IsFine, IsFinished, KeepsOrder, OrStopped}
-use Rattle.nbdj_pipe.specs.Export.{IsJudged, Settles}
+use Rattle.nbdj_pipe.specs.Export.{IsJudged, IsStoring, Settles}
 use Rattle.nbdj_pipe.specs.Talk.{spoken, verdict_on}
 use Rattle.nbdj_pipe.specs.declared.refusal.Refusal.{Refusal}
 use Rattle.nbdj_pipe.proofs.Causes.{cause_behind}
 use Rattle.nbdj_pipe.proofs.Steps.{last_same, of_test, spoken_on, still_step}
-
--- the last of a log stands at the length of what is before
-at_end : (log : List Event) (event : Event) → slice_get (log ++ event ∷ []) (length log) ≡ Some event
-at_end [] event = refl
-at_end (other ∷ log) event = at_end log event
+use Rattle.nbdj_pipe.proofs.Wanted.{header_wanted}
 
 -- a step of a checkpoint was done, or its event shows why the checkpoint ends early
-pub turn_shown : (world next : World) (step : Step) (event : Event) (outcome : Result (Unit {0}) Refusal) → IsRun world (step ∷ []) next → TellsTruth next → next.log ≡ world.log ++ event ∷ [] → EndsBy event outcome
+pub turn_shown : (world next : World) (step : Step) (event : Event) (outcome : Result (Unit {0}) Refusal) → IsRun world (step ∷ []) next → IsStoring step → next.log ≡ world.log ++ event ∷ [] → EndsBy event outcome
     → MatchResult outcome (λ done. IsDone world next) (λ refusal. HasCause refusal world next)
-turn_shown world next step event (Ok done) run truth log fine = record { event = event; log = log; fine = fine }
-turn_shown world next step event (Err refusal) run truth log (inl memory) = subst (λ (r : Refusal). HasCause r world next) (sym memory.0) tt
-turn_shown world next step event (Err refusal) run truth log (inr full) = subst (λ (r : Refusal). HasCause r world next) (sym full.0) (record {
-  passed = next;
-  before = step ∷ [];
-  behind = [];
-  to = run;
-  on = refl;
-  holds = truth.full (length world.log) (subst (λ (l : List Event). StandsAt l (length world.log) (Failed fault.NumbersFull)) (sym log)
-      (subst (λ (e : Event). slice_get (world.log ++ event ∷ []) (length world.log) ≡ Some e) full.1 (at_end world.log event)));
+turn_shown world next step event (Ok done) run storing log fine = record { event = event; log = log; fine = fine }
+turn_shown world next step event (Err refusal) run storing log (inl memory) = subst (λ (r : Refusal). HasCause r world next) (sym memory.0) tt
+turn_shown world next step event (Err refusal) run storing log (inr full) = subst (λ (r : Refusal). HasCause r world next) (sym full.0) (record {
+  passed = world;
+  before = [];
+  behind = step ∷ [];
+  to = refl;
+  on = run;
+  holds = header_wanted world step run.0 storing (ap (λ (w : World). w.log) (sym run.1) ∙ (log ∙ ap (λ (e : Event). world.log ++ e ∷ []) full.1));
 })
 
 -- steps that copy leave the connections as they are, and say nothing
@@ -180,11 +175,11 @@ copying_ends first world failure event copied log fine none = by (copy_ends worl
 
 -- what ends copying: the device has failed or all is copied, or the event shows why the checkpoint ends early
 pub all_copied : (first world next : World) (event : Event) (outcome : Result (Unit {0}) Refusal) (before : List Step) → HasCopied first.stage world.stage → IsRun first before world → IsCopied world next (Err event)
-    → TellsTruth next → (event ≡ Took → ⊥) → EndsBy event outcome → MatchResult outcome (λ done. OrStopped HasCopiedAll first next) (λ refusal. HasCause refusal first next)
-all_copied first world next event (Ok done) before copied run (failure, is, log) truth none fine = subst (OrStopped HasCopiedAll first) (sym is)
+    → (event ≡ Took → ⊥) → EndsBy event outcome → MatchResult outcome (λ done. OrStopped HasCopiedAll first next) (λ refusal. HasCause refusal first next)
+all_copied first world next event (Ok done) before copied run (failure, is, log) none fine = subst (OrStopped HasCopiedAll first) (sym is)
     (copying_ends first world failure event copied (subst (λ (w : World). w.log ≡ world.log ++ event ∷ []) is log) fine none)
-all_copied first world next event (Err refusal) before copied run (failure, is, log) truth none ends =
-    cause_behind refusal first world next before run (turn_shown world next steps.Copy event (Err refusal) (failure, is) truth log ends)
+all_copied first world next event (Err refusal) before copied run (failure, is, log) none ends =
+    cause_behind refusal first world next before run (turn_shown world next steps.Copy event (Err refusal) (failure, is) tt log ends)
 
 -- where nothing is left to copy, and no map to write, the map is written
 map_is_written : (mapped : Bool) (left : ℕ) → (not mapped && nat_lt 0 left) ≡ false → (not mapped && (left == 0)) ≡ false → mapped ≡ true
@@ -398,32 +393,31 @@ len_with dirty number first (suc count) =
 pub emptied_has_room : (first world : World) (request : Message) → IsWithin first → IsEmptied first.stage world.stage → first.stage.durable ≡ length first.stage.order → length request.bytes ≤ 1048576 → 512 ≤ world.stage.setting.frames
     → LacksRoom world request → ⊥
 emptied_has_room first world request within emptied durable few frames lacks = both_ways (has_room world (command_of request)) lacks.full
-    (and_from (frames_suffice world.stage.setting.frames (dirty_behind world.stage.cleaned world.stage) (last_number world + 1) (command_of request)) (nat_le (bodies_bytes (drop world.stage.durable world.stage.order) + body_bytes (command_of request)) 67108864)
-    (le-leb (len (dirty_after (dirty_behind world.stage.cleaned world.stage) (last_number world + 1) (command_of request))) world.stage.setting.frames enough)
-    (le-leb (bodies_bytes (drop world.stage.durable world.stage.order) + body_bytes (command_of request)) 67108864 short))
+    (of_test (λ (command : Change). has_room world command ≡ true) (request.head.kind == 1) (Written (request.head.offset / 4096) request.bytes) (Cleared (request.head.offset / 4096) (request.head.length / 4096) (cleared_as request.head))
+    (λ is. and_from (nat_le (len (dirty_after dirty (last_number world + 1) (Written (request.head.offset / 4096) request.bytes))) world.stage.setting.frames) (nat_le (waiting + (13 + length request.bytes)) 67108864)
+    (le-leb (len (dirty_after dirty (last_number world + 1) (Written (request.head.offset / 4096) request.bytes))) world.stage.setting.frames enough) (le-leb (waiting + (13 + length request.bytes)) 67108864 (omega (arith, none, few))))
+    (λ is. and_from true (nat_le (waiting + 13) 67108864) refl (le-leb (waiting + 13) 67108864 (omega (arith, none)))))
   where
-    bytes : List ℕ
-    bytes = request.bytes
+    dirty : Dirty
+    dirty = dirty_behind world.stage.cleaned world.stage
+
+    waiting : ℕ
+    waiting = bodies_bytes (drop world.stage.durable world.stage.order)
 
     all : world.stage.base ≡ length world.stage.order
     all = let order = ap length emptied.keeps.order in omega (arith, emptied.base, order, durable, within.durable, within.stored, within.sealed)
 
-    all_durable : world.stage.durable ≡ length world.stage.order
-    all_durable = let order = ap length emptied.keeps.order in omega (arith, emptied.keeps.durable, order, durable)
+    none : waiting ≡ 0
+    none = let order = ap length emptied.keeps.order in ap bodies_bytes (drop_all world.stage.durable world.stage.order (omega (arith, emptied.keeps.durable, order, durable)))
 
     none_dirty : len (dirty_behind world.stage.base world.stage) ≡ 0
     none_dirty = ap (λ (commands : List Change). len (dirty_blocks (world.stage.setting.opening + world.stage.base) commands)) (drop_all world.stage.base world.stage.order (omega (arith, all))) ∙ len-empty nat_cmp ℕ
 
-    enough : len (dirty_after (dirty_behind world.stage.cleaned world.stage) (last_number world + 1) (command_of request)) ≤ world.stage.setting.frames
+    enough : len (dirty_after dirty (last_number world + 1) (Written (request.head.offset / 4096) request.bytes)) ≤ world.stage.setting.frames
     enough =
-        let own = len_with (dirty_behind world.stage.cleaned world.stage) (last_number world + 1) (request.head.offset / 4096) ((length request.bytes + 4095) / 4096) in
+        let own = len_with dirty (last_number world + 1) (request.head.offset / 4096) ((length request.bytes + 4095) / 4096) in
         let blocks : (length request.bytes + 4095) / 4096 ≤ 256 = omega (arith, few) in
         omega (arith, own, blocks, none_dirty, emptied.clean, frames)
-
-    short : bodies_bytes (drop world.stage.durable world.stage.order) + body_bytes (command_of request) ≤ 67108864
-    short =
-        let none : bodies_bytes (drop world.stage.durable world.stage.order) ≡ 0 = ap bodies_bytes (drop_all world.stage.durable world.stage.order (omega (arith, all_durable))) in
-        omega (arith, none, few)
 
 -- what a request is judged to be stays so as long as the device isn't opened again
 pub judged_as : (request : Message) (outcome : Result (Unit {0}) Refusal) (old new : Setting) (state : Connection) → new ≡ old → OnOk outcome (IsJudged (verdict_on request.head new.geometry new.flags) state)

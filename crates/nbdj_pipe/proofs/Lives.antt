@@ -1,5 +1,5 @@
 -- the run of a pipe, from the opening of its device to the end
-use Rattle.std.proofs.Common.{◌≤◌, ◌≡◌, inl, inr, ℕ, suc, ◌<◌, Bool, true, false, List, [], ◌∷◌, ◌++◌, length, arith, Option, Some, None, Result, Ok, Err, IfErr, refl, sym, ap, subst, ◌∙◌}
+use Rattle.std.proofs.Common.{◌≤◌, ◌≡◌, ◌⊎◌, inl, inr, ℕ, suc, ◌<◌, Bool, true, false, List, [], ◌∷◌, ◌++◌, length, arith, Option, Some, None, Result, Ok, Err, IfErr, refl, sym, ap, subst, ◌∙◌}
 use Rattle.std.proofs.lemmas.List.{append-nil}
 use Rattle.std.specs.List.{AllByRecursion}
 use Rattle.checkpoint.specs.Opening.{IsOpening}
@@ -27,13 +27,13 @@ use Rattle.world.specs.declared.event.Event.TheVariants.{Sent, Answered, Numbere
 use Rattle.world.specs.declared.step.Mode.{Mode}
 use Rattle.world_law.specs.Law.{HasFailed, IsWithin, TellsFault, TellsTruth}
 use Rattle.nbdj_pipe.specs.Causes.{HasCause}
-use Rattle.nbdj_pipe.specs.Export.{Follows, Settles}
+use Rattle.nbdj_pipe.specs.Export.{Follows, IsSettled, Settles}
 use Rattle.nbdj_pipe.specs.Life.{IsFound, IsLife, IsLived}
 use Rattle.nbdj_pipe.specs.Pipe.{IsOrderly}
 use Rattle.nbdj_pipe.specs.Session.{HasTalked, IsEndOr, IsEndShown, Runs}
 use Rattle.nbdj_pipe.specs.Talk.{Exchange, plain, spoken, talk, talk_to}
 use Rattle.nbdj_pipe.specs.declared.refusal.Refusal.{Refusal}
-use Rattle.nbdj_pipe.specs.declared.refusal.Refusal.TheVariants.{DeviceFault}
+use Rattle.nbdj_pipe.specs.declared.refusal.Refusal.TheVariants.{DeviceFault, StreamFault}
 use Rattle.nbdj_pipe.proofs.Causes.{caused_before, caused_behind}
 use Rattle.nbdj_pipe.proofs.Sessions.{not_device}
 use Rattle.nbdj_pipe.proofs.Steps.{follows_on}
@@ -163,6 +163,10 @@ module _ {D : Type 0} (state : D → State) (faults : D → ℕ) (honest : D →
         let of = whole.leads.of_export.of_order in
         omega (arith, is, of.durable, of.mark)
 
+    settled_stage : IsSettled order'' → (next.stage.stopped ≡ true) ⊎ (next.stage.durable ≡ length next.stage.order)
+    settled_stage (inl is) = inl (sym whole.leads.of_export.of_order.stopped ∙ is)
+    settled_stage (inr is) = inr (all_stored is)
+
     -- the device has counted no fault where the order works
     none_since : order''.stopped ≡ false → faults keeper''.disk ≡ faults start
     none_since is =
@@ -186,8 +190,8 @@ module _ {D : Type 0} (state : D → State) (faults : D → ℕ) (honest : D →
         (caused_before end first mid next settled.1.follows.steps settled.1.follows.leads.run begun.3)
     shown (inr is) = caused_behind outcome first mid next begun.2.steps begun.2.leads.run is
 
-    life : (IsOrderly outcome → order''.durable ≡ order''.mark) → (IsOrderly outcome → order''.stopped ≡ false) → IsLife state faults frames mode start keeper''.disk outcome trusted exchanges last
-    life stored works_on = record {
+    life : (IsOrderly outcome → order''.durable ≡ order''.mark) → (IsOrderly outcome → order''.stopped ≡ false) → (outcome ≡ Err StreamFault → IsSettled order'') → IsLife state faults frames mode start keeper''.disk outcome trusted exchanges last
+    life stored works_on broken_on = record {
       opened = keeper.disk;
       setting = first.stage.setting;
       next = next;
@@ -202,6 +206,7 @@ module _ {D : Type 0} (state : D → State) (faults : D → ℕ) (honest : D →
       truth = told_talk HasFailedSince exchanges last each_told;
       stored = λ is. all_stored (stored is);
       quiet = λ is. none_since (works_on is);
+      broken = λ is. settled_stage (broken_on is);
       cause = shown settled.2;
       found = found_of trusted given;
       leaves = all_reached;
@@ -212,8 +217,8 @@ module _ {D : Type 0} (state : D → State) (faults : D → ℕ) (honest : D →
     stopped_since : order''.stopped ≡ true → HasFailedSince
     stopped_since is = failed_since (tells.stopped (sym whole.leads.of_export.of_order.stopped ∙ is))
 
-  pub lived : (IsOrderly outcome → order''.durable ≡ order''.mark) → (IsOrderly outcome → order''.stopped ≡ false) → IsLived state faults honest frames mode start keeper''.disk exchanges last outcome
-  lived stored works_on trusted given = life trusted given stored works_on
+  pub lived : (IsOrderly outcome → order''.durable ≡ order''.mark) → (IsOrderly outcome → order''.stopped ≡ false) → (outcome ≡ Err StreamFault → IsSettled order'') → IsLived state faults honest frames mode start keeper''.disk exchanges last outcome
+  lived stored works_on broken_on trusted given = life trusted given stored works_on broken_on
 
   -- a device fault that is told is one that the device has counted
   pub told_fault : (end ≡ Err DeviceFault → ⊥) → IsEndOr end outcome order''.stopped → outcome ≡ Err DeviceFault → HasRisen (faults start) (faults keeper''.disk)

@@ -1,11 +1,11 @@
 -- Why a session ends before its input does, by a world that its run passes (docs/FORMATS.md, "Refusals").
-use Rattle.std.specs.Prelude.{◌≡◌, true, false, List, Ok}
+use Rattle.std.specs.Prelude.{◌≡◌, ◌⊎◌, true, false, List, Ok}
 use Rattle.nbd_wire.specs.Request.{Message}
 use Rattle.world.specs.declared.action.Action.TheVariants.{Serve}
 use Rattle.world.specs.declared.step.Step.{Step}
 use Rattle.world.specs.Log.{command_of, is_flush}
 use Rattle.world.specs.Run.{IsRun}
-use Rattle.world.specs.Checkpoint.{is_full}
+use Rattle.world.specs.Checkpoint.{can_finish, can_rotate, is_full}
 use Rattle.world.specs.World.{World, has_room}
 use Rattle.nbdj_pipe.specs.Talk.{verdict_on}
 use Rattle.nbdj_pipe.specs.declared.refusal.Refusal.{Refusal}
@@ -20,9 +20,11 @@ pub record Passes (P : World → Type 0) (first last : World) : Type 0 where
   pub on : IsRun passed behind last
   pub holds : P passed
 
--- No generation is left for another header.
-abbrev pub HasNoGeneration : World → Type 0
-HasNoGeneration world = is_full world.stage ≡ true
+-- The device works, the next step of a checkpoint writes a header, and no generation is left for it.
+pub record HasNoGeneration (world : World) : Type 0 where
+  pub works : world.stage.stopped ≡ false
+  pub wanted : (can_rotate world.stage ≡ true) ⊎ (can_finish world.stage ≡ true)
+  pub full : is_full world.stage ≡ true
 
 -- The device works, and there is no room for the command of this request, which passes judgement and isn't a FLUSH.
 pub record LacksRoom (world : World) (request : Message) : Type 0 where
@@ -31,7 +33,7 @@ pub record LacksRoom (world : World) (request : Message) : Type 0 where
   pub other : is_flush request ≡ false
   pub full : has_room world (command_of request) ≡ false
 
--- What a run says of a refusal that ends its session: that no generation is left. No area stays full, for no command is there
+-- What a run says of a refusal that ends its session: that a header was wanted and no generation is left for it. No area stays full, for no command is there
 -- no room in the end, and storing never fails to come to an end. Of the others it says nothing.
 abbrev pub HasCause : Refusal → World → World → Type 0
 HasCause NoMemory first last = Unit {0}

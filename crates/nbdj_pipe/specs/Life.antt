@@ -1,5 +1,5 @@
 -- the run of a pipe, from the opening of its device to the end
-use Rattle.std.specs.Prelude.{ℕ, ◌≡◌, ◌⊎◌, Bool, true, List, length, Option, Result, IfErr}
+use Rattle.std.specs.Prelude.{ℕ, ◌≡◌, ◌⊎◌, Bool, true, List, length, Option, Result, Err, IfErr}
 use Rattle.std.specs.List.{AllByRecursion}
 use Rattle.checkpoint.specs.Opening.{StandsAs}
 use Rattle.device_image.specs.Stands.{StandsFor}
@@ -18,6 +18,7 @@ use Rattle.nbdj_pipe.specs.Causes.{HasCause}
 use Rattle.nbdj_pipe.specs.Pipe.{IsOrderly}
 use Rattle.nbdj_pipe.specs.Talk.{AreAnswered, Exchange, plain, spoken, talk_to}
 use Rattle.nbdj_pipe.specs.declared.refusal.Refusal.{Refusal}
+use Rattle.nbdj_pipe.specs.declared.refusal.Refusal.TheVariants.{StreamFault}
 
 -- What an opening found on an honest device: a content that a crash at its start may leave stands for the image and the
 -- number with which the life begins, and so does what the device gives from then on, whose sizes and generation are the
@@ -55,6 +56,8 @@ pub record IsLife {D : Type 0} (state : D → State) (faults : D → ℕ) (frame
   -- where the input came to its end and the device didn't fail, all is durable that was ordered
   pub stored : IsOrderly outcome → next.stage.durable ≡ length next.stage.order
   pub quiet : IsOrderly outcome → faults end ≡ faults start
+  -- where a stream failed it is durable too, or the device has failed
+  pub broken : outcome ≡ Err StreamFault → (next.stage.stopped ≡ true) ⊎ (next.stage.durable ≡ length next.stage.order)
   -- the run shows why the session ended before its input did
   pub cause : IfErr outcome (λ refusal. HasCause refusal (fresh setting) next)
   -- on an honest device

@@ -41,6 +41,24 @@ abbrev pub of_wire : WireFault → Refusal
 of_wire wire.NoMemory = NoMemory
 of_wire (wire.Malformed fault) = ProtocolEnd
 
+-- a refusal of an export, which has no part in the streams: memory and generations
+abbrev pub IsOfExport : Refusal → Type 0
+IsOfExport NoMemory = Unit {0}
+IsOfExport DeviceFault = ⊥
+IsOfExport BadMap = ⊥
+IsOfExport NoHeader = ⊥
+IsOfExport BadHeader = ⊥
+IsOfExport NumbersFull = Unit {0}
+IsOfExport AreaFull = ⊥
+IsOfExport OutOfOrder = ⊥
+IsOfExport DamagedGroup = ⊥
+IsOfExport NotNow = ⊥
+IsOfExport Failed = Unit {0}
+IsOfExport NoRoom = ⊥
+IsOfExport PeerClosed = ⊥
+IsOfExport ProtocolEnd = ⊥
+IsOfExport StreamFault = ⊥
+
 -- a refusal that ends a session before its input does: memory, generations, and what the streams refuse
 abbrev pub IsEarly : Refusal → Type 0
 IsEarly NoMemory = Unit {0}

@@ -4,7 +4,7 @@ ghost use Rattle.nbd_wire.specs.Request.{Message};
 ghost use Rattle.nbdj_pipe.specs.Causes.{HasCause, LacksRoom};
 ghost use Rattle.nbdj_pipe.specs.Checkpoint.{EndsBy, HasCopiedAll, IsCopied, IsDone, IsEmptied, IsFinished, OrStopped};
 ghost use Rattle.nbdj_pipe.specs.Export.{AwaitsAnswer, CameTo, Follows, GetsOn, HasAnswer, IsGiven, IsJudged, IsOfKind, IsSettled, IsStoring, IsWaiting, Settles, StoredBy, said_of, told, told_by};
-ghost use Rattle.nbdj_pipe.specs.Refusals.{IsEarly};
+ghost use Rattle.nbdj_pipe.specs.Refusals.{IsOfExport};
 ghost use Rattle.nbdj_pipe.specs.Talk.{plain, spoken, verdict_on};
 ghost use Rattle.order_book.specs.Order.{IsInHand};
 ghost use Rattle.request_core.specs.Life.{Trusts};
@@ -30,7 +30,7 @@ const MOST_COPIED: u32 = 256;
 // Whether a group fits the area, by the events of sealing it, appending it and publishing it. After a fault of the device
 // nothing is refused: the order is stopped, and answers tell of it.
 fn stored(sealed: &Event, appended: &Event, published: &Event) -> Result<bool, Refusal>
-    ensures early { IfErr result IsEarly }
+    ensures early { IfErr result IsOfExport }
     ensures events { StoredBy sealed.now appended.now published.now result }
 {
     if let Event::Failed(_) = sealed {
@@ -126,7 +126,7 @@ impl<D: Disk> Export<D> {
         ensures group { IfSome self.new.connections.group (IsInHand self.new.order) }
         ensures extent { D.extent self.new.keeper.disk ≡ D.extent self.old.keeper.disk }
         ensures honest { D.honest self.new.keeper.disk ↔ D.honest self.old.keeper.disk }
-        ensures early { IfErr result IsEarly }
+        ensures early { IfErr result IsOfExport }
         ensures world { (world : World) (trusted : Bool) → IsExportOf world self.old.order self.old.keeper (D.faults self.old.keeper.disk) self.old.connections (Trusts trusted (D.honest self.old.keeper.disk)) (D.state self.old.keeper.disk)
             → (failure : Failure) × Settles world (after_step world step failure) self.new.order self.new.keeper (D.faults self.new.keeper.disk) self.new.connections
             (Trusts trusted (D.honest self.new.keeper.disk)) (D.state self.old.keeper.disk) (D.state self.new.keeper.disk)
@@ -167,7 +167,7 @@ impl<D: Disk> Export<D> {
         ensures group { IfSome self.new.connections.group (IsInHand self.new.order) }
         ensures extent { D.extent self.new.keeper.disk ≡ D.extent self.old.keeper.disk }
         ensures honest { D.honest self.new.keeper.disk ↔ D.honest self.old.keeper.disk }
-        ensures early { IfErr result IsEarly }
+        ensures early { IfErr result IsOfExport }
         ensures world { (world : World) (trusted : Bool) → IsExportOf world self.old.order self.old.keeper (D.faults self.old.keeper.disk) self.old.connections (Trusts trusted (D.honest self.old.keeper.disk)) (D.state self.old.keeper.disk)
             → (next : World) × Settles world next self.new.order self.new.keeper (D.faults self.new.keeper.disk) self.new.connections
             (Trusts trusted (D.honest self.new.keeper.disk)) (D.state self.old.keeper.disk) (D.state self.new.keeper.disk)
@@ -189,7 +189,7 @@ impl<D: Disk> Export<D> {
         ensures group { IfSome self.new.connections.group (IsInHand self.new.order) }
         ensures extent { D.extent self.new.keeper.disk ≡ D.extent self.old.keeper.disk }
         ensures honest { D.honest self.new.keeper.disk ↔ D.honest self.old.keeper.disk }
-        ensures early { IfErr result IsEarly }
+        ensures early { IfErr result IsOfExport }
         ensures world { (world : World) (trusted : Bool) → IsExportOf world self.old.order self.old.keeper (D.faults self.old.keeper.disk) self.old.connections (Trusts trusted (D.honest self.old.keeper.disk)) (D.state self.old.keeper.disk)
             → (next : World) × Settles world next self.new.order self.new.keeper (D.faults self.new.keeper.disk) self.new.connections
             (Trusts trusted (D.honest self.new.keeper.disk)) (D.state self.old.keeper.disk) (D.state self.new.keeper.disk)
@@ -209,7 +209,7 @@ impl<D: Disk> Export<D> {
         ensures group { IfSome self.new.connections.group (IsInHand self.new.order) }
         ensures extent { D.extent self.new.keeper.disk ≡ D.extent self.old.keeper.disk }
         ensures honest { D.honest self.new.keeper.disk ↔ D.honest self.old.keeper.disk }
-        ensures early { IfErr result IsEarly }
+        ensures early { IfErr result IsOfExport }
         ensures world { (world : World) (trusted : Bool) → IsExportOf world self.old.order self.old.keeper (D.faults self.old.keeper.disk) self.old.connections (Trusts trusted (D.honest self.old.keeper.disk)) (D.state self.old.keeper.disk)
             → (next : World) × Settles world next self.new.order self.new.keeper (D.faults self.new.keeper.disk) self.new.connections
             (Trusts trusted (D.honest self.new.keeper.disk)) (D.state self.old.keeper.disk) (D.state self.new.keeper.disk)
@@ -232,7 +232,7 @@ impl<D: Disk> Export<D> {
         ensures group { IfSome self.new.connections.group (IsInHand self.new.order) }
         ensures extent { D.extent self.new.keeper.disk ≡ D.extent self.old.keeper.disk }
         ensures honest { D.honest self.new.keeper.disk ↔ D.honest self.old.keeper.disk }
-        ensures early { IfErr result IsEarly }
+        ensures early { IfErr result IsOfExport }
         ensures world { (world : World) (trusted : Bool) → IsExportOf world self.old.order self.old.keeper (D.faults self.old.keeper.disk) self.old.connections (Trusts trusted (D.honest self.old.keeper.disk)) (D.state self.old.keeper.disk)
             → (next : World) × Settles world next self.new.order self.new.keeper (D.faults self.new.keeper.disk) self.new.connections
             (Trusts trusted (D.honest self.new.keeper.disk)) (D.state self.old.keeper.disk) (D.state self.new.keeper.disk)
@@ -260,7 +260,7 @@ impl<D: Disk> Export<D> {
         ensures group { IfSome self.new.connections.group (IsInHand self.new.order) }
         ensures extent { D.extent self.new.keeper.disk ≡ D.extent self.old.keeper.disk }
         ensures honest { D.honest self.new.keeper.disk ↔ D.honest self.old.keeper.disk }
-        ensures early { IfErr result IsEarly }
+        ensures early { IfErr result IsOfExport }
         ensures world { (world : World) (trusted : Bool) → IsExportOf world self.old.order self.old.keeper (D.faults self.old.keeper.disk) self.old.connections (Trusts trusted (D.honest self.old.keeper.disk)) (D.state self.old.keeper.disk)
             → (next : World) × Settles world next self.new.order self.new.keeper (D.faults self.new.keeper.disk) self.new.connections
             (Trusts trusted (D.honest self.new.keeper.disk)) (D.state self.old.keeper.disk) (D.state self.new.keeper.disk)
@@ -289,7 +289,7 @@ impl<D: Disk> Export<D> {
         ensures extent { D.extent self.new.keeper.disk ≡ D.extent self.old.keeper.disk }
         ensures honest { D.honest self.new.keeper.disk ↔ D.honest self.old.keeper.disk }
         ensures ok { OnOk result (IsSettled self.new.order) }
-        ensures early { IfErr result IsEarly }
+        ensures early { IfErr result IsOfExport }
         ensures world { (world : World) (trusted : Bool) → IsExportOf world self.old.order self.old.keeper (D.faults self.old.keeper.disk) self.old.connections (Trusts trusted (D.honest self.old.keeper.disk)) (D.state self.old.keeper.disk)
             → (next : World) × Settles world next self.new.order self.new.keeper (D.faults self.new.keeper.disk) self.new.connections
             (Trusts trusted (D.honest self.new.keeper.disk)) (D.state self.old.keeper.disk) (D.state self.new.keeper.disk)
@@ -338,7 +338,7 @@ impl<D: Disk> Export<D> {
         ensures group { IfSome self.new.connections.group (IsInHand self.new.order) }
         ensures extent { D.extent self.new.keeper.disk ≡ D.extent self.old.keeper.disk }
         ensures honest { D.honest self.new.keeper.disk ↔ D.honest self.old.keeper.disk }
-        ensures early { IfErr result IsEarly }
+        ensures early { IfErr result IsOfExport }
         ensures world { (world : World) (trusted : Bool) (request : Message) → IsExportOf world self.old.order self.old.keeper (D.faults self.old.keeper.disk) self.old.connections (Trusts trusted (D.honest self.old.keeper.disk)) (D.state self.old.keeper.disk)
             → world.connections 0 ≡ Connection.Requested request → length request.bytes ≤ 1048576 → 512 ≤ world.stage.setting.frames
             → (next : World) × OnOk result (IsJudged (verdict_on request.head world.stage.setting.geometry world.stage.setting.flags) (next.connections 0))
@@ -365,7 +365,7 @@ impl<D: Disk> Export<D> {
         ensures group { IfSome self.new.connections.group (IsInHand self.new.order) }
         ensures extent { D.extent self.new.keeper.disk ≡ D.extent self.old.keeper.disk }
         ensures honest { D.honest self.new.keeper.disk ↔ D.honest self.old.keeper.disk }
-        ensures early { IfErr result IsEarly }
+        ensures early { IfErr result IsOfExport }
         ensures world { (world : World) (trusted : Bool) (request : Message) → IsExportOf world self.old.order self.old.keeper (D.faults self.old.keeper.disk) self.old.connections (Trusts trusted (D.honest self.old.keeper.disk)) (D.state self.old.keeper.disk)
             → world.connections 0 ≡ Connection.Requested request → length request.bytes ≤ 1048576 → 512 ≤ world.stage.setting.frames
             → (next : World) × OnOk result (IsJudged (verdict_on request.head world.stage.setting.geometry world.stage.setting.flags) (next.connections 0))
@@ -405,7 +405,7 @@ impl<D: Disk> Export<D> {
         ensures group { IfSome self.new.connections.group (IsInHand self.new.order) }
         ensures extent { D.extent self.new.keeper.disk ≡ D.extent self.old.keeper.disk }
         ensures honest { D.honest self.new.keeper.disk ↔ D.honest self.old.keeper.disk }
-        ensures early { IfErr result IsEarly }
+        ensures early { IfErr result IsOfExport }
         ensures world { (world : World) (trusted : Bool) → IsExportOf world self.old.order self.old.keeper (D.faults self.old.keeper.disk) self.old.connections (Trusts trusted (D.honest self.old.keeper.disk)) (D.state self.old.keeper.disk)
             → AwaitsAnswer (world.connections 0)
             → (next : World) × IfOk result (λ answer. (next.connections 0 ≡ Connection.Idle) × IsGiven (world.connections 0) answer)
@@ -431,7 +431,7 @@ impl<D: Disk> Export<D> {
         ensures group { IfSome self.new.connections.group (IsInHand self.new.order) }
         ensures extent { D.extent self.new.keeper.disk ≡ D.extent self.old.keeper.disk }
         ensures honest { D.honest self.new.keeper.disk ↔ D.honest self.old.keeper.disk }
-        ensures early { IfErr result IsEarly }
+        ensures early { IfErr result IsOfExport }
         ensures kind { IfOk result (IsOfKind request) }
         ensures world { (world : World) (trusted : Bool) → IsExportOf world self.old.order self.old.keeper (D.faults self.old.keeper.disk) self.old.connections (Trusts trusted (D.honest self.old.keeper.disk)) (D.state self.old.keeper.disk)
             → world.connections 0 ≡ Connection.Idle → world.stage.setting.flags ≡ plain → 512 ≤ world.stage.setting.frames

@@ -1,10 +1,10 @@
 ghost use Rattle.std.specs.Prelude.{◌≡◌, ◌↔◌, ◌⊎◌, ◌<◌, [], Bool, List, false, length, vec_len, IfErr, IfOk, IfSome, IsErrOf, Ok, Err, OnErr, OnOk};
 ghost use Rattle.byte_streams.specs.Streams.{WritesPart};
 ghost use Rattle.disk_model.specs.Faults.{HasRisen};
-ghost use Rattle.nbdj_pipe.specs.Export.{Settles};
+ghost use Rattle.nbdj_pipe.specs.Export.{IsSettled, Settles};
 ghost use Rattle.nbdj_pipe.specs.Life.{IsLived};
 ghost use Rattle.nbdj_pipe.specs.Pipe.{IsOrderly, IsPiped, IsUnopened};
-ghost use Rattle.nbdj_pipe.specs.Refusals.{IsEarly};
+ghost use Rattle.nbdj_pipe.specs.Refusals.{IsOfExport};
 ghost use Rattle.nbdj_pipe.specs.Session.{IsEndOr, IsEndShown, IsFed, Runs, Serves, StaysOpen, Takes};
 ghost use Rattle.nbdj_pipe.specs.Talk.{error_of, plain, reply_to};
 ghost use Rattle.nbdj_pipe.specs.declared.refusal.Refusal.TheVariants as Refusal;
@@ -232,8 +232,9 @@ impl<D: Disk> Session<D> {
         written
     }
 
-    // Stores what is pending. A fault of the device is told in place of an orderly end, since what was answered may be lost;
-    // an early end was told for a reason of its own.
+    // Stores what is pending. A fault of the device is told in place of an orderly end, since what was answered may be lost,
+    // and what kept commands from being stored in place of that or of a fault of the streams; another early end was told
+    // for a reason of its own.
     fn finish(&mut self, end: Result<(), Refusal>) -> Result<(), Refusal>
         requires group { IfSome self.old.export.connections.group (IsInHand self.old.export.order) }
         ensures group { IfSome self.new.export.connections.group (IsInHand self.new.export.order) }
@@ -242,6 +243,7 @@ impl<D: Disk> Session<D> {
         ensures end { IsEndOr end result self.new.export.order.stopped }
         ensures stored { IsOrderly result → self.new.export.order.durable ≡ self.new.export.order.mark }
         ensures works { IsOrderly result → self.new.export.order.stopped ≡ false }
+        ensures broken { IsErrOf result Refusal.StreamFault → IsSettled self.new.export.order }
         ensures world { (world : World) (trusted : Bool) → IsExportOf world self.old.export.order self.old.export.keeper (D.faults self.old.export.keeper.disk) self.old.export.connections
             (Trusts trusted (D.honest self.old.export.keeper.disk)) (D.state self.old.export.keeper.disk)
             → (next : World) × Settles world next self.new.export.order self.new.export.keeper (D.faults self.new.export.keeper.disk) self.new.export.connections
@@ -259,16 +261,17 @@ fn outcome(
     stored: Result<(), Refusal>,
     stopped: bool,
 ) -> Result<(), Refusal>
-    requires { IfErr stored IsEarly }
+    requires { IfErr stored IsOfExport }
     ensures end { IsEndOr end result stopped }
     ensures stored { IsOrderly result → (stopped ≡ false) × (stored ≡ Ok tt) }
+    ensures broken { IsErrOf result Refusal.StreamFault → stored ≡ Ok tt }
     ensures told { (result ≡ end) ⊎ (result ≡ stored) ⊎ (result ≡ Err Refusal.DeviceFault) }
 {
     match end {
-        Ok(()) | Err(Refusal::PeerClosed | Refusal::ProtocolEnd) => {
-            if stopped {
-                return Err(Refusal::DeviceFault);
-            }
+        Ok(()) | Err(Refusal::PeerClosed | Refusal::ProtocolEnd) if stopped => {
+            Err(Refusal::DeviceFault)
+        }
+        Ok(()) | Err(Refusal::PeerClosed | Refusal::ProtocolEnd | Refusal::StreamFault) => {
             stored?;
             end
         }

@@ -106,6 +106,8 @@ pub(crate) fn read_blocks<D: Disk>(
     requires device { first + length into.old / 4096 ≤ keeper.old.geometry.blocks }
     ensures size { length into.new ≡ length into.old }
     ensures inside { IfOk result (λ held. 4096 * held ≤ length into.new) }
+    ensures there { IfOk result (λ held. (j : ℕ) → j < held → bytes_seen cache.now (first + j) ≢ None) }
+    ensures missing { IfOk result (λ held. 4096 * held < length into.new → bytes_seen cache.now (first + held) ≡ None) }
     ensures all_held { (LacksBytes cache.now first (length into.old / 4096) → ⊥) → IfOk result (λ held. (4096 * held ≡ length into.new) × (keeper.new ≡ keeper.old)) }
     ensures ok { OnOk result (keeper.new ≡ record keeper.old { disk = keeper.new.disk }) }
     ensures err { IfErr result (λ fault. keeper.new ≡ refused_by fault keeper.old keeper.new.disk) }

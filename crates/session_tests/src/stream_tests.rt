@@ -1,7 +1,7 @@
 use crate::export::{serve, serve_over};
+use crate::interrupted::Interrupted;
 use negotiation::End;
 use std::alloc::{AllocError, Global};
-use std::io::{self, ErrorKind, Read, Write};
 use std::process::Abort;
 use std::test::Fail;
 use stream_fakes::{FakeReader, FakeWriter, bytes_of};
@@ -83,51 +83,6 @@ fn a_whole_session_is_served_in_any_pieces(rt: HostRuntime) -> Result<(), Fail> 
     }
     is_whole(&rt, rt.alloc(), 1, 1)?;
     is_whole(&rt, rt.alloc(), MANY, 1)
-}
-
-// A stream of which every other call is interrupted, the first among them.
-#[derive(Drop)]
-struct Interrupted<S> {
-    stream: S,
-    is_done: bool,
-}
-
-impl<S> Interrupted<S> {
-    fn new(stream: S) -> Interrupted<S> {
-        Interrupted {
-            stream,
-            is_done: false,
-        }
-    }
-
-    // Whether this call is interrupted.
-    fn is_now(&mut self) -> bool {
-        let now = !self.is_done;
-        self.is_done = now;
-        now
-    }
-}
-
-impl Read for Interrupted<FakeReader<'_>> {
-    fn read(&mut self, buf: &mut [u8]) -> io::Result<usize> {
-        if self.is_now() {
-            return Err(io::Error::from(ErrorKind::Interrupted));
-        }
-        self.stream.read(buf)
-    }
-}
-
-impl Write for Interrupted<FakeWriter> {
-    fn write(&mut self, buf: &[u8]) -> io::Result<usize> {
-        if self.is_now() {
-            return Err(io::Error::from(ErrorKind::Interrupted));
-        }
-        self.stream.write(buf)
-    }
-
-    fn flush(&mut self) -> io::Result<()> {
-        self.stream.flush()
-    }
 }
 
 #[test]

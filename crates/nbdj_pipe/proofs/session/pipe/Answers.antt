@@ -53,7 +53,7 @@ returns-clause-dialog g c =
     (λ exchanges last runs. lived disk.state disk.faults disk.honest c.leads_law.ensures c.schedule_law.ensures.truth c.schedule_law.ensures.within c.fresh_parts_law.ensures start keeper ran.keeper done.keeper ran.order done.order ran.connections done.connections
     frames c.args.options.frames_enough c.args.options.mode states c.in-Ok.ensures.recovered parts.ensures.order.1 few c.in-Ok.ensures.faults c.in-Ok.ensures.found
     c.finish-outcome.ensures.honest.0 (λ is. c.finish-outcome.ensures.honest.1 (c.run-end.ensures.honest.1 (c.in-Ok.ensures.honest.1 is))) c.run-end.result c.finish-outcome.result exchanges last
-    (fresh_runs exchanges last runs) c.finish-outcome.ensures.world c.finish-outcome.ensures.stored c.finish-outcome.ensures.works)
+    (fresh_runs exchanges last runs) c.finish-outcome.ensures.world c.finish-outcome.ensures.stored c.finish-outcome.ensures.works c.finish-outcome.ensures.broken)
     done.order.stopped piped c.finish-outcome.ensures.end))
 
 pub returns-clause-device : goal.returns-clause-device

@@ -130,3 +130,9 @@ loop-done-preserved g c =
         | inr m ↦ absurd (held.there j m below none)
       ];
     }
+
+pub returns-clause-there : goal.returns-clause-there
+returns-clause-there g c = λ j below. c.read_held-held.ensures.there j (omega arith) below
+
+pub returns-clause-missing : goal.returns-clause-missing
+returns-clause-missing g c = λ less. c.read_held-held.ensures.missing (omega (arith, less, c.loop-done.invariant.size, c.read_held-held.ensures.size))

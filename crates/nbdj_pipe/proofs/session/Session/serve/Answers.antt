@@ -7,6 +7,7 @@ use Rattle.nbdj_pipe.specs.Talk.{reply_to}
 use Rattle.nbdj_pipe.specs.declared.refusal.Refusal.{Refusal}
 use Rattle.nbdj_pipe.specs.declared.refusal.Refusal.TheVariants.{NoMemory}
 use Rattle.nbdj_pipe.specs.declared.session.Flow.{Flow}
+use Rattle.nbdj_pipe.proofs.Causes.{early_of}
 use Rattle.nbdj_pipe.proofs.Runs.{answered_run, disc_run, failed_run, runs_bare}
 use Rattle.nbdj_pipe.proofs.Sessions.{as_error}
 use Rattle.nbdj_pipe.proofs.session.Session.serve.Goals as goal
@@ -19,7 +20,7 @@ returns-in_err-serve-clause-serves g c =
     let request = c.args.request in
     as_error (λ (r : Result Flow Refusal). Serves request c.args.self.now.replies.items c.args.self.now.replies.items r (Runs disk.state disk.faults disk.honest a.order a.keeper a.connections e.order e.keeper e.connections))
     c.in_err-serve.field-0.0 c.from_residual.result c.from_residual.ensures.1
-    (c.in_err-serve.ensures.early, refl, inl (failed_run disk.state disk.faults disk.honest a.order e.order a.keeper e.keeper a.connections e.connections request c.in_err-serve.field-0.0 c.serve.result c.in_err-serve.was c.serve.ensures.world))
+    (early_of c.in_err-serve.field-0.0 c.in_err-serve.ensures.early, refl, inl (failed_run disk.state disk.faults disk.honest a.order e.order a.keeper e.keeper a.connections e.connections request c.in_err-serve.field-0.0 c.serve.result c.in_err-serve.was c.serve.ensures.world))
 
 pub returns-in_err-extend_from_slice-in-Some-clause-serves :
     goal.returns-in_err-extend_from_slice-in-Some-clause-serves
