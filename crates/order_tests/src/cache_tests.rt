@@ -1,7 +1,7 @@
 //! Each call on a cache of its own.
-use crate::{Cache, KeepFault, Missing};
 use alloc_map::AllocMap;
 use image_model::Kind;
+use shared_cache::{Cache, KeepFault, Missing};
 use std::test::Fail;
 
 #[test]

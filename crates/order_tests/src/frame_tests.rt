@@ -1,5 +1,5 @@
 //! One frame through all lists, and a pool that has none left.
-use crate::{FramePool, NoFrame};
+use frame_pool::{FramePool, NoFrame};
 use std::test::Fail;
 
 #[test]
