@@ -1,10 +1,9 @@
 -- what a checkpoint, step by step, makes of the world of an export
-use Rattle.std.proofs.Common.{◌≡◌, ◌⊎◌, inl, inr, ℕ, zero, suc, ◌+◌, ◌-◌, ◌<◌, ◌≤◌, ◌==◌, ◌&&◌, ◌/◌, not, Bool, cond, true, false, nat_le, nat_lt, List, [], ◌∷◌, ◌++◌, length, drop, take, replicate, Some, Result, Ok, Err, MatchResult, OnOk, append-nil, refl, sym, ap, subst, ◌∙◌, arith}
+use Rattle.std.proofs.Common.{◌≡◌, ◌⊎◌, inl, inr, ℕ, zero, suc, ◌+◌, ◌-◌, ◌<◌, ◌≤◌, ◌==◌, ◌&&◌, ◌/◌, not, Bool, cond, true, false, nat_le, nat_lt, List, [], ◌∷◌, ◌++◌, length, drop, take, replicate, Result, Ok, Err, MatchResult, OnOk, append-nil, refl, sym, ap, subst, ◌∙◌, arith}
 use Rattle.std.specs.Cmp.{nat_cmp_total}
 use Rattle.std.specs.FinMap.{contains_key, insert, len, len-empty, len-insert}
 use Rattle.std.specs.Ordering.{nat_cmp}
 use Rattle.std.proofs.lemmas.List.{drop_all}
-use Rattle.std.specs.Prelude.{slice_get}
 use Rattle.std.proofs.lemmas.List.Sums.{sum_by-append}
 use Rattle.std.proofs.lemmas.Bool.{and_from, both_ways, le-leb, eqb-false, leb-false, leb-true, ltb-false}
 use Rattle.image_model.specs.Bodies.{bodies_bytes, body_bytes, body_limit, longest}
@@ -24,12 +23,12 @@ use Rattle.world.specs.declared.event.StepFault.TheVariants as fault
 use Rattle.world.specs.declared.step.Step.{Step}
 use Rattle.world.specs.declared.step.Step.TheVariants as steps
 use Rattle.world.specs.Checkpoint.{can_clean, can_copy, can_finish, can_map, can_rotate, finished, is_full, is_turned, last_turned, rotated}
-use Rattle.world.specs.Log.{StandsAt, cleared_as, command_of}
+use Rattle.world.specs.Log.{cleared_as, command_of}
 use Rattle.world.specs.Run.{IsReached, IsRun}
 use Rattle.world.specs.Serve.{Failure, Nothing, OutOfMemory, DeviceFailure}
 use Rattle.world.specs.Step.{after_step, clean, copy_block, finish, in_time, rotate, seal, sealed_more, with_generation, without_memory, write_map, written}
 use Rattle.world.specs.World.{Setting, Stage, World, dirty_behind, has_room, last_number}
-use Rattle.world_law.specs.Law.{Grows, IsRising, IsWithin, TellsTruth}
+use Rattle.world_law.specs.Law.{Grows, IsRising, IsWithin}
 use Rattle.nbdj_pipe.specs.Causes.{HasCause, LacksRoom}
 use Rattle.nbdj_pipe.specs.Checkpoint.{EndsBy, HasCopied, HasCopiedAll, HasFullArea, IsCopied, IsDone, IsEmptied, IsFine, IsFinished, KeepsOrder, OrStopped}
 use Rattle.nbdj_pipe.specs.Export.{IsJudged, IsStoring, Settles}

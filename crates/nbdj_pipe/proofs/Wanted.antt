@@ -7,7 +7,7 @@ use Rattle.world.specs.declared.step.Step.{Step}
 use Rattle.world.specs.declared.step.Step.TheVariants.{Send, Serve, Answer, Seal, Append, Publish, Rotate, Copy, Map, Finish, Clean}
 use Rattle.world.specs.Checkpoint.{can_clean, can_copy, can_finish, can_map, can_rotate, finished, is_full, rotated}
 use Rattle.world.specs.Serve.{Failure, Nothing, OutOfMemory, DeviceFailure}
-use Rattle.world.specs.Step.{after_step, append, append_in_hand, clean, copy_block, finish, in_time, publish, rotate, seal, sealed_more, stored_more, with_generation, without_memory, write_map, written}
+use Rattle.world.specs.Step.{after_step, append_in_hand, in_time, sealed_more, with_generation, without_memory, written}
 use Rattle.image_model.specs.Bodies.{bodies_bytes}
 use Rattle.world.specs.World.{Stage, World, fits, in_hand}
 use Rattle.nbdj_pipe.specs.Causes.{HasNoGeneration}
