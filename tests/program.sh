@@ -186,6 +186,28 @@ tail -c "+$((data + 1))" d.img >found
 same 'the blocks after the recovery' wanted found
 ends 'a recovered device again' 0 "$(text 'commands 41')" '' recover d.img
 
+# Of four blocks that were written the second becomes a hole by TRIM, the third allocated zero by WRITE_ZEROES with NO_HOLE, and the
+# fourth a hole by WRITE_ZEROES.
+fresh 16 2097152
+{
+    request 0000 1 1 0 16384; filled 16384 D
+    request 0000 4 2 4096 4096
+    request 0002 6 3 8192 4096
+    request 0001 6 4 12288 4096
+    request 0002 4 5 0 4096
+    request 0000 4 6 61440 8192
+    request 0000 6 7 61440 8192
+    request 0000 2 8 0 0
+} >input
+ends 'clears' 0 "$(reply 1 0)$(reply 2 0)$(reply 3 0)$(reply 4 0)$(reply 5 22)$(reply 6 22)$(reply 7 28)" '' pipe d.img
+: >input
+checks 'check of the clears' 16 0 0 4 1 1 14
+ends 'after the clears' 0 "$(text 'commands 4')" '' recover d.img
+data=$((8192 + 2 * 2097152 + 2 * 4096))
+{ filled 4096 D; filled 61440 '\000'; } >wanted
+tail -c "+$((data + 1))" d.img >found
+same 'the blocks after the clears' wanted found
+
 # A journal that fills is emptied: the first write is copied into the image, and the second one stored.
 fresh 256 2097152
 {

@@ -6,8 +6,6 @@ mod fault;
 mod laws;
 mod map;
 mod run;
-#[cfg(test)]
-mod tests;
 
 pub use fault::BadMap;
 pub use laws::map_laws;

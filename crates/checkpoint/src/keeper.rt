@@ -20,7 +20,6 @@ use std::alloc::Global;
 use std::marker::Model;
 
 /// The keeper of an open device.
-#[derive(Drop)]
 pub struct Keeper<D: Disk> {
     pub(crate) alloc: Global,
     pub(crate) disk: D,
@@ -35,6 +34,23 @@ pub struct Keeper<D: Disk> {
     // The area that the next group goes to.
     pub(crate) area: Area,
     pub(crate) failed: bool,
+}
+
+// Written out, it is proved once, and not again in each function that lets a keeper go.
+impl<D: Disk + Drop> Drop for Keeper<D> {
+    fn drop(self) {
+        let Keeper {
+            alloc: _,
+            disk: _,
+            header: _,
+            slot: _,
+            count: _,
+            map: _,
+            plan: _,
+            area: _,
+            failed: _,
+        } = self;
+    }
 }
 
 impl<D: Disk> Model for Keeper<D> {

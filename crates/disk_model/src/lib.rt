@@ -31,8 +31,6 @@ mod file;
 mod history;
 mod sim;
 mod synced;
-#[cfg(test)]
-mod tests;
 
 pub use disk::{DeviceFault, Disk};
 pub use fault_plan::CallKind;

@@ -6,8 +6,6 @@ mod links;
 mod lists;
 mod place;
 mod pool;
-#[cfg(test)]
-mod tests;
 
 pub use fault::NoFrame;
 pub use pool::FramePool;

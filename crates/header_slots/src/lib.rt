@@ -6,8 +6,6 @@ mod fault;
 mod header;
 mod laws;
 mod slots;
-#[cfg(test)]
-mod tests;
 
 pub use change::{HeaderChange, change_header, close_other, open_other, write_body};
 pub use fault::HeaderFault;

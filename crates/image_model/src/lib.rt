@@ -6,8 +6,6 @@ mod gate;
 mod geometry;
 mod plain_image;
 mod side;
-#[cfg(test)]
-mod tests;
 
 pub use command::{Command, Kind};
 pub use gate::{CLOSED, OPEN};

@@ -7,6 +7,3 @@ mod reply;
 
 pub use laws::{one_reply, reads_back};
 pub use reply::{encode_chunks, encode_reply};
-
-#[cfg(test)]
-mod tests;

@@ -2,3 +2,4 @@ pub mod Heads
 pub mod Requests
 pub mod Streams
 pub mod Parts
+mod Filling

@@ -1,5 +1,6 @@
 -- The fields of a reader, and what they mean.
 use Rattle.std.specs.Prelude.{◌≡◌, ℕ, ◌-◌, ◌^◌, ◌<◌, ◌≤◌, Option, Some, None, List, [], ◌∷◌, ◌++◌, length, take, vec_capacity}
+use Rattle.std.specs.Io.KnownBytes.{Consumes, IsAtEnd}
 use Rattle.nbd_wire.specs.declared.stream.State.{State}
 use Rattle.nbd_wire.specs.declared.stream.State.TheVariants.{Head, Data, Discard, Failed}
 use Rattle.nbd_wire.specs.Request.{Message}
@@ -58,3 +59,11 @@ IsGoing starved = ⊥
 -- no request came, and no fault
 abbrev pub IsQuiet : State × Option Message → Type 0
 IsQuiet step = (step.1 ≡ None) × IsGoing (reading (kept step.0))
+
+-- so many bytes were read off a stream, and stand behind those before
+pub record IsReadBehind (before : List ℕ) (input left : Option (List ℕ)) (count : ℕ) (after : List ℕ) : Type 0 where
+  pub piece : List ℕ
+  pub len : length piece ≡ count
+  pub behind : after ≡ before ++ piece
+  pub read : Consumes input left piece
+  pub end : count ≡ 0 → IsAtEnd left

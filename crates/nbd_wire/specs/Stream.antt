@@ -1,6 +1,7 @@
 -- A stream of requests, and what a reader keeps of it.
 use Rattle.std.specs.Prelude.{◌≡◌, ◌≢◌, ℕ, ◌+◌, ◌-◌, ◌<◌, ◌≤◌, Option, Some, None, List, [], ◌∷◌, ◌++◌, length, take, Result, Ok, Err}
 use Rattle.std.specs.Global.{Vec}
+use Rattle.std.specs.Io.KnownBytes.{Consumes, IsAtEnd}
 use Rattle.std.specs.List.{flat_map}
 use Rattle.nbd_wire.specs.declared.error.RequestFault.{RequestFault}
 use Rattle.nbd_wire.specs.declared.error.RequestFault.TheVariants.{BadMagic, TooLong}
@@ -113,6 +114,23 @@ missing_len (reading (in_data head bytes)) = head.length - length bytes
 missing_len (reading (in_discard head missing)) = missing
 missing_len (reading (failed fault)) = 0
 missing_len starved = 0
+
+-- how many bytes are still to come of data that are kept
+abbrev pub room_of : Reader → ℕ
+room_of (reading (in_head bytes)) = 0
+room_of (reading (in_data head bytes)) = head.length - length bytes
+room_of (reading (in_discard head missing)) = 0
+room_of (reading (failed fault)) = 0
+room_of starved = 0
+
+-- So many bytes were read off a stream as a piece that was fed; it ends no request. None comes only at the end of the stream.
+pub record Fills (old : Reader) (input left : Option (List ℕ)) (count : ℕ) (new : Reader) : Type 0 where
+  pub piece : List ℕ
+  pub len : length piece ≡ count
+  pub read : Consumes input left piece
+  pub feeds : Feeds old piece [] new
+  pub going : end_of new ≡ None
+  pub end : count ≡ 0 → IsAtEnd left
 
 -- what is kept begins with no whole request
 abbrev pub NoRequest : Type 0

@@ -16,6 +16,3 @@ pub use laws::{any_pieces, one_head, one_reading, one_request};
 pub use message::{Answer, DATA, HOLE, ReadBytes, Reply, Request, Run, SessionFlags, States};
 pub use stream::{MAX_PAYLOAD, MAX_THROWN_AWAY, StreamReader};
 pub use transmission::{TransmissionFlags, transmission_flags};
-
-#[cfg(test)]
-mod tests;

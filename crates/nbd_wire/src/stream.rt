@@ -1,14 +1,16 @@
-ghost use Rattle.std.specs.Prelude.{◌≡◌, ◌+◌, ◌-◌, ◌<◌, ◌≤◌, ℕ, List, [], ◌∷◌, ◌++◌, Some, length, take, IfOk, IfErr, IsOkAnd, vec_len, vec_capacity};
+ghost use Rattle.std.specs.Prelude.{◌≡◌, ◌+◌, ◌-◌, ◌<◌, ◌≤◌, ℕ, List, [], ◌∷◌, ◌++◌, Some, length, take, IfOk, IfErr, IsOkAnd, OnErr, vec_len, vec_capacity};
+ghost use Rattle.std.specs.Io.KnownBytes.{Keeps};
 ghost use Rattle.nbd_wire.specs.Head.{head_bytes};
 ghost use Rattle.nbd_wire.specs.Request.{handed_len};
-ghost use Rattle.nbd_wire.specs.Stream.{in_head, failed, reading, fresh, IsKeptWrite, IsDiscardedWrite, Reads, Feeds, answered, end_of, held, missing_len};
-ghost use Rattle.nbd_wire.specs.State.{kept, reader_of, IsState, IsReader, wanted_of, found, Advances, AdvancesTo, IsGoing, IsQuiet};
+ghost use Rattle.nbd_wire.specs.Stream.{in_head, failed, reading, fresh, IsKeptWrite, IsDiscardedWrite, Reads, Feeds, Fills, answered, end_of, held, missing_len, room_of};
+ghost use Rattle.nbd_wire.specs.State.{kept, reader_of, IsState, IsReader, wanted_of, found, Advances, AdvancesTo, IsGoing, IsQuiet, IsReadBehind};
 
 use crate::command::WRITE;
 use crate::error::{RequestFault, WireFault};
 use crate::head::{RequestHead, decode_request};
 use crate::message::Request;
 use std::alloc::{AllocError, Global};
+use std::io::{self, Read};
 use std::marker::Model;
 
 /// The most bytes of data that a WRITE is handed on with: 1 MiB.
@@ -17,6 +19,9 @@ pub const MAX_PAYLOAD: u32 = 1_048_576;
 pub const MAX_THROWN_AWAY: u32 = 33_554_432;
 
 const HEAD_LEN: usize = 28;
+
+// The most bytes that are read at once into the room of data: 64 KiB. They are made zero first, and lie in a cache then.
+const MOST_LENT: usize = 65_536;
 
 /// Takes requests from a stream of bytes, in whatever pieces it comes. It holds no more than the request at
 /// hand, at most 28 bytes of a head and [`MAX_PAYLOAD`] of data.
@@ -91,6 +96,34 @@ impl StreamReader {
         let (state, requests) = read_all(self.alloc, state, piece);
         self.state = state;
         answer(&self.state, requests)
+    }
+
+    /// How many bytes are still to come of the data at hand; none where nothing is kept of them.
+    pub fn room(&self) -> usize
+        ensures { result ≡ room_of self.now }
+    {
+        match &self.state {
+            Some(State::Data { head, bytes }) => head.length as usize - bytes.len(),
+            _ => 0,
+        }
+    }
+
+    /// Reads once from the stream, straight into the room of the data at hand, 64 KiB of them at most. Their last byte is
+    /// left to a piece, so that no request is whole behind it. A fault of the stream leaves the reader as it was.
+    pub fn fill<R: Read>(&mut self, input: &mut R) -> io::Result<usize>
+        requires { 1 < room_of self.old }
+
+        // What was read is a piece that was fed; at the end of the stream it is empty.
+        ensures ok { IfOk result (λ count. Fills self.old (R.remaining input.old) (R.remaining input.new) count self.new) }
+        ensures err { OnErr result ((self.new ≡ self.old) × Keeps (R.remaining input.old) (R.remaining input.new)) }
+        ensures held { held self.new < 28 + MAX_PAYLOAD }
+    {
+        let Some(state) = self.state.take() else {
+            return Ok(0);
+        };
+        let (state, count) = fill(state, input);
+        self.state = Some(state);
+        count
     }
 }
 
@@ -265,4 +298,50 @@ fn discard(alloc: Global, head: RequestHead, missing: u32, count: u32) -> (State
         return (State::Discard { head, missing }, None);
     }
     (at_start(), Some(without_data(alloc, head)))
+}
+
+// Reads once into the room of the data at hand.
+fn fill<R: Read>(state: State, input: &mut R) -> (State, io::Result<usize>)
+    requires sound { IsState state }
+    requires room { 1 < room_of (reading (kept state)) }
+    ensures sound { IsState result.0 }
+    ensures ok { IfOk result.1 (λ count. Fills (reading (kept state)) (R.remaining input.old) (R.remaining input.new) count (reading (kept result.0))) }
+    ensures err { OnErr result.1 ((kept result.0 ≡ kept state) × Keeps (R.remaining input.old) (R.remaining input.new)) }
+{
+    match state {
+        State::Data { head, bytes } => {
+            let most = head.length as usize - 1 - bytes.len();
+            let (bytes, count) = read_behind(input, bytes, most.min(MOST_LENT));
+            (State::Data { head, bytes }, count)
+        }
+        state => (state, Ok(0)),
+    }
+}
+
+// Reads once, up to so many bytes, behind bytes that have the room for them.
+fn read_behind<R: Read>(
+    input: &mut R,
+    mut bytes: Vec<u8>,
+    most: usize,
+) -> (Vec<u8>, io::Result<usize>)
+    requires some { 0 < most }
+    requires room { vec_len bytes + most ≤ vec_capacity bytes }
+    ensures ok { IfOk result.1 (λ count. IsReadBehind bytes.items (R.remaining input.old) (R.remaining input.new) count result.0.items) }
+    ensures err { OnErr result.1 ((result.0.items ≡ bytes.items) × Keeps (R.remaining input.old) (R.remaining input.new)) }
+    ensures most { vec_len result.0 ≤ vec_len bytes + most }
+    ensures room { vec_capacity bytes ≤ vec_capacity result.0 }
+{
+    let len = bytes.len();
+    // The room was reserved.
+    bytes.resize(len + most, 0).unwrap();
+    match input.read(&mut bytes[len..]) {
+        Ok(count) => {
+            bytes.truncate(len + count);
+            (bytes, Ok(count))
+        }
+        Err(error) => {
+            bytes.truncate(len);
+            (bytes, Err(error))
+        }
+    }
 }

@@ -7,8 +7,8 @@ use Rattle.std.proofs.lemmas.List.{drop_all}
 use Rattle.std.proofs.lemmas.List.Sums.{sum_by-append}
 use Rattle.std.proofs.lemmas.Bool.{and_from, both_ways, le-leb, eqb-false, leb-false, leb-true, ltb-false}
 use Rattle.image_model.specs.Bodies.{bodies_bytes, body_bytes, body_limit, longest}
-use Rattle.image_model.specs.Change.{Change}
-use Rattle.image_model.specs.Dirty.{Dirty, dirty_after, dirty_blocks, frames_suffice, with_blocks}
+use Rattle.image_model.specs.Change.{Change, Written, Cleared}
+use Rattle.image_model.specs.Dirty.{Dirty, dirty_after, dirty_blocks, with_blocks}
 use Rattle.nbd_wire.specs.Request.{Message}
 use Rattle.device_image.specs.Keeper.{KeeperState}
 use Rattle.disk_model.specs.Disk.{State}
@@ -23,7 +23,7 @@ use Rattle.world.specs.declared.event.StepFault.TheVariants as fault
 use Rattle.world.specs.declared.step.Step.{Step}
 use Rattle.world.specs.declared.step.Step.TheVariants as steps
 use Rattle.world.specs.Checkpoint.{can_clean, can_copy, can_finish, can_map, can_rotate, finished, is_full, is_turned, last_turned, rotated}
-use Rattle.world.specs.Log.{command_of}
+use Rattle.world.specs.Log.{cleared_as, command_of}
 use Rattle.world.specs.Run.{IsReached, IsRun}
 use Rattle.world.specs.Serve.{Failure, Nothing, OutOfMemory, DeviceFailure}
 use Rattle.world.specs.Step.{after_step, clean, copy_block, finish, in_time, rotate, seal, sealed_more, with_generation, without_memory, write_map, written}
@@ -392,32 +392,31 @@ len_with dirty number first (suc count) =
 pub emptied_has_room : (first world : World) (request : Message) → IsWithin first → IsEmptied first.stage world.stage → first.stage.durable ≡ length first.stage.order → length request.bytes ≤ 1048576 → 512 ≤ world.stage.setting.frames
     → LacksRoom world request → ⊥
 emptied_has_room first world request within emptied durable few frames lacks = both_ways (has_room world (command_of request)) lacks.full
-    (and_from (frames_suffice world.stage.setting.frames (dirty_behind world.stage.cleaned world.stage) (last_number world + 1) (command_of request)) (nat_le (bodies_bytes (drop world.stage.durable world.stage.order) + body_bytes (command_of request)) 67108864)
-    (le-leb (len (dirty_after (dirty_behind world.stage.cleaned world.stage) (last_number world + 1) (command_of request))) world.stage.setting.frames enough)
-    (le-leb (bodies_bytes (drop world.stage.durable world.stage.order) + body_bytes (command_of request)) 67108864 short))
+    (of_test (λ (command : Change). has_room world command ≡ true) (request.head.kind == 1) (Written (request.head.offset / 4096) request.bytes) (Cleared (request.head.offset / 4096) (request.head.length / 4096) (cleared_as request.head))
+    (λ is. and_from (nat_le (len (dirty_after dirty (last_number world + 1) (Written (request.head.offset / 4096) request.bytes))) world.stage.setting.frames) (nat_le (waiting + (13 + length request.bytes)) 67108864)
+    (le-leb (len (dirty_after dirty (last_number world + 1) (Written (request.head.offset / 4096) request.bytes))) world.stage.setting.frames enough) (le-leb (waiting + (13 + length request.bytes)) 67108864 (omega (arith, none, few))))
+    (λ is. and_from true (nat_le (waiting + 13) 67108864) refl (le-leb (waiting + 13) 67108864 (omega (arith, none)))))
   where
-    bytes : List ℕ
-    bytes = request.bytes
+    dirty : Dirty
+    dirty = dirty_behind world.stage.cleaned world.stage
+
+    waiting : ℕ
+    waiting = bodies_bytes (drop world.stage.durable world.stage.order)
 
     all : world.stage.base ≡ length world.stage.order
     all = let order = ap length emptied.keeps.order in omega (arith, emptied.base, order, durable, within.durable, within.stored, within.sealed)
 
-    all_durable : world.stage.durable ≡ length world.stage.order
-    all_durable = let order = ap length emptied.keeps.order in omega (arith, emptied.keeps.durable, order, durable)
+    none : waiting ≡ 0
+    none = let order = ap length emptied.keeps.order in ap bodies_bytes (drop_all world.stage.durable world.stage.order (omega (arith, emptied.keeps.durable, order, durable)))
 
     none_dirty : len (dirty_behind world.stage.base world.stage) ≡ 0
     none_dirty = ap (λ (commands : List Change). len (dirty_blocks (world.stage.setting.opening + world.stage.base) commands)) (drop_all world.stage.base world.stage.order (omega (arith, all))) ∙ len-empty nat_cmp ℕ
 
-    enough : len (dirty_after (dirty_behind world.stage.cleaned world.stage) (last_number world + 1) (command_of request)) ≤ world.stage.setting.frames
+    enough : len (dirty_after dirty (last_number world + 1) (Written (request.head.offset / 4096) request.bytes)) ≤ world.stage.setting.frames
     enough =
-        let own = len_with (dirty_behind world.stage.cleaned world.stage) (last_number world + 1) (request.head.offset / 4096) ((length request.bytes + 4095) / 4096) in
+        let own = len_with dirty (last_number world + 1) (request.head.offset / 4096) ((length request.bytes + 4095) / 4096) in
         let blocks : (length request.bytes + 4095) / 4096 ≤ 256 = omega (arith, few) in
         omega (arith, own, blocks, none_dirty, emptied.clean, frames)
-
-    short : bodies_bytes (drop world.stage.durable world.stage.order) + body_bytes (command_of request) ≤ 67108864
-    short =
-        let none : bodies_bytes (drop world.stage.durable world.stage.order) ≡ 0 = ap bodies_bytes (drop_all world.stage.durable world.stage.order (omega (arith, all_durable))) in
-        omega (arith, none, few)
 
 -- what a request is judged to be stays so as long as the device isn't opened again
 pub judged_as : (request : Message) (outcome : Result (Unit {0}) Refusal) (old new : Setting) (state : Connection) → new ≡ old → OnOk outcome (IsJudged (verdict_on request.head new.geometry new.flags) state)

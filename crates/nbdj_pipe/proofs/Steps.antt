@@ -25,7 +25,7 @@ use Rattle.world.specs.declared.event.Event.TheVariants.{Sent, Answered, Numbere
 use Rattle.world.specs.declared.step.Step.{Step}
 use Rattle.world.specs.declared.step.Step.TheVariants as steps
 use Rattle.world.specs.declared.step.Step.TheVariants.{Send, Serve, Seal, Append, Publish, Rotate, Copy, Map, Finish, Clean}
-use Rattle.world.specs.Log.{command_of, is_flush}
+use Rattle.world.specs.Log.{command_of, is_flush, is_write_type}
 use Rattle.world.specs.Serve.{Failure, Nothing, OutOfMemory, DeviceFailure, accepted, answer, answered, held, judged, logged, moved, ordered, passed, ready, state_after}
 use Rattle.world.specs.Step.{after_step, append, publish, seal, sealed_more, stored_more, clean, in_time, with_generation, without_memory, written}
 use Rattle.world.specs.World.{World, fits, has_room, last_number, put, Stage}
@@ -270,7 +270,7 @@ end_kind head geometry flags is = by_kind (head.kind == 2) refl
         absurd (no_end (head.kind == 2) (not (is_known head.kind)) (not (bit_and head.flags (allowed_flags head.kind flags.structured) == head.flags))
         ((head.kind == 3) && (head.offset == 0) && (head.length == 0)) (head.kind == 3) ((head.kind == 7) && not (flags.structured && flags.context))
         (is_unaligned head) (((head.kind == 0) || (head.kind == 1)) && nat_lt 1048576 head.length) (nat_lt (4096 * geometry.blocks) (head.offset + head.length))
-        (not (head.kind == 1)) (past_end head.kind) at is)
+        (not (is_write_type head.kind)) (past_end head.kind) at is)
 
 -- the answer that was given is one that the request may have
 pub has_answer : (world next : World) (request : Message) (given : Answer) (state : Connection) → (request.head.kind ≡ 2 → ⊥) → world.stage.setting.flags ≡ plain

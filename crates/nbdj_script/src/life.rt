@@ -11,14 +11,15 @@ ghost use Rattle.request_core.specs.Bench.{new_bench};
 ghost use Rattle.request_core.specs.Life.{IsRehearsed};
 ghost use Rattle.world.specs.World.{World};
 
-use crate::script_line::{BlockWrite, CONNECTIONS, Setup};
+use crate::script_line::{BlockClear, BlockWrite, CONNECTIONS, Setup};
 use bitflags::Flags;
 use checkpoint::{Keeper, KeeperFault};
 use device_image::keeper_laws;
 use disk_model::{CallKind, Disk, SimDisk};
 use image_model::{BLOCK_BYTES, Kind};
 use nbd_wire::{
-    Answer, CommandFlags, Errno, FLUSH, MAX_PAYLOAD, Request, RequestHead, SessionFlags, WRITE,
+    Answer, CommandFlags, Errno, FLUSH, MAX_PAYLOAD, Request, RequestHead, SessionFlags, TRIM,
+    WRITE, WRITE_ZEROES,
 };
 use order_book::Order;
 use request_core::{Bench, Event, Step, StepFault, fresh_parts_law, rehearse};
@@ -259,6 +260,28 @@ pub fn write(alloc: Global, cookie: u64, put: BlockWrite) -> Result<Request, All
         length,
     };
     Ok(Request::new(head, filled(alloc, put.byte, kept as usize)?))
+}
+
+/// A TRIM, or a WRITE_ZEROES with NO_HOLE.
+pub fn clear(alloc: Global, cookie: u64, clear: BlockClear) -> Request {
+    let fua = if clear.fua {
+        CommandFlags::FUA.bits()
+    } else {
+        0
+    };
+    let (kind, no_hole) = if clear.no_hole {
+        (WRITE_ZEROES, CommandFlags::NO_HOLE.bits())
+    } else {
+        (TRIM, 0)
+    };
+    let head = RequestHead {
+        flags: fua | no_hole,
+        kind,
+        cookie,
+        offset: clear.first * BLOCK_BYTES,
+        length: (clear.blocks * BLOCK_BYTES) as u32,
+    };
+    Request::new(head, Vec::new(alloc))
 }
 
 fn filled(alloc: Global, byte: u8, count: usize) -> Result<Vec<u8>, AllocError>

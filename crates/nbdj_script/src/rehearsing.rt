@@ -6,7 +6,7 @@ ghost use Rattle.nbdj_script.specs.Life.{IsFoundFrom, IsLifeOf};
 ghost use Rattle.request_core.specs.Life.{IsNextLife};
 ghost use Rattle.world.specs.World.{World};
 
-use crate::life::{BlockRun, Life, Told, flush, open, write};
+use crate::life::{BlockRun, Life, Told, clear, flush, open, write};
 use crate::script_line::{Line, Setup, StepLine, parse};
 use checkpoint::{Keeper, KeeperFault};
 use disk_model::{CrashChoice, Disk, SimDisk};
@@ -355,6 +355,7 @@ fn print_opened<W: Write>(count: u64, runs: &[BlockRun], output: &mut W) -> Resu
 fn step_of(alloc: Global, line: StepLine, cookie: u64) -> Result<Step, AllocError> {
     Ok(match line {
         StepLine::Put(connection, put) => Step::Send(connection, write(alloc, cookie, put)?),
+        StepLine::Clear(connection, range) => Step::Send(connection, clear(alloc, cookie, range)),
         StepLine::Flush(connection) => Step::Send(connection, flush(alloc, cookie)),
         StepLine::Serve(connection) => Step::Serve(connection),
         StepLine::Answer(connection) => Step::Answer(connection),

@@ -13,6 +13,9 @@ pub const CONNECTIONS: usize = 16;
 // The most blocks that a WRITE may announce, of the 33,554,432 bytes that a server reads.
 const MOST_BLOCKS: u64 = 8192;
 
+// The most blocks that any request may name, whose length has 32 bits.
+const MOST_CLEARED: u64 = 1_048_575;
+
 /// A line of a script, by `docs/SCRIPTS.md`.
 #[derive(Clone, Copy, Debug)]
 pub enum Line {
@@ -32,6 +35,8 @@ pub enum Line {
 pub enum StepLine {
     /// A connection sends a WRITE.
     Put(usize, BlockWrite),
+    /// A connection sends a TRIM, or a WRITE_ZEROES with NO_HOLE.
+    Clear(usize, BlockClear),
     /// A connection sends a FLUSH.
     Flush(usize),
     Serve(usize),
@@ -68,6 +73,17 @@ pub struct BlockWrite {
     ghost blocks_fit: { blocks ≤ 8192 },
 }
 
+/// A TRIM of blocks, which become holes, or a WRITE_ZEROES with NO_HOLE, which become allocated zero.
+#[derive(Clone, Copy, Debug)]
+pub struct BlockClear {
+    pub first: u64,
+    pub blocks: u64,
+    pub no_hole: bool,
+    pub fua: bool,
+    ghost first_fits: { first * 4096 < 2 ^ 64 },
+    ghost blocks_fit: { blocks ≤ 1048575 },
+}
+
 /// The line that a text is; none where it is no step.
 pub fn parse(alloc: Global, text: &[u8]) -> Result<Option<Line>, AllocError> {
     let Ok(text) = str::from_utf8(text) else {
@@ -99,6 +115,14 @@ fn step_of(words: &[&str]) -> Option<StepLine> {
         ["send", connection, "put", first, blocks, byte, "fua"] => {
             let write = write_of(first, blocks, byte, true)?;
             Some(StepLine::Put(connection_of(connection)?, write))
+        }
+        ["send", connection, "clear", kind, first, blocks] => {
+            let clear = clear_of(kind, first, blocks, false)?;
+            Some(StepLine::Clear(connection_of(connection)?, clear))
+        }
+        ["send", connection, "clear", kind, first, blocks, "fua"] => {
+            let clear = clear_of(kind, first, blocks, true)?;
+            Some(StepLine::Clear(connection_of(connection)?, clear))
         }
         ["send", connection, "flush"] => Some(StepLine::Flush(connection_of(connection)?)),
         ["serve", connection] => Some(StepLine::Serve(connection_of(connection)?)),
@@ -137,6 +161,25 @@ fn write_of(first: &str, blocks: &str, byte: &str, fua: bool) -> Option<BlockWri
         first,
         blocks,
         byte: byte_of(byte)?,
+        fua,
+    })
+}
+
+fn clear_of(kind: &str, first: &str, blocks: &str, fua: bool) -> Option<BlockClear> {
+    let no_hole = match kind {
+        "hole" => false,
+        "zero" => true,
+        _ => return None,
+    };
+    let first = number_of(first)?;
+    let blocks = number_of(blocks)?;
+    if first >= 1 << 52 || blocks > MOST_CLEARED {
+        return None;
+    }
+    Some(BlockClear {
+        first,
+        blocks,
+        no_hole,
         fua,
     })
 }

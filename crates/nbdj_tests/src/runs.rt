@@ -13,12 +13,36 @@ use std::test::Fail;
 use world::Mode;
 
 // What a run of a plan left.
-#[derive(Drop)]
 pub struct Ran {
     pub status: u8,
     pub output: Vec<u8>,
     pub errors: Vec<u8>,
-    pub disk: SimDisk,
+    disk: SimDisk,
+}
+
+// Written out, it is proved once, and not again in each function that lets such a value go.
+impl Drop for Ran {
+    fn drop(self) {
+        let Ran {
+            status: _,
+            output: _,
+            errors: _,
+            disk: _,
+        } = self;
+    }
+}
+
+impl Ran {
+    // The device that is left.
+    pub fn into_disk(self) -> SimDisk {
+        let Ran {
+            status: _,
+            output: _,
+            errors: _,
+            disk,
+        } = self;
+        disk
+    }
 }
 
 // Carries out a plan over a simulated device.
@@ -47,7 +71,7 @@ pub fn formatted(rt: &impl Abort, alloc: Global, blocks: u64, area: u32) -> Resu
         &mut [].as_slice(),
     );
     assert_eq!(rt; ran.status, 0);
-    Ok(ran.disk)
+    Ok(ran.into_disk())
 }
 
 pub const PIPE: Plan<'static> = Plan::Pipe {

@@ -1,9 +1,9 @@
 use checkpoint::Keeper;
-use disk_model::SimDisk;
+use disk_model::{CallKind, CrashChoice, SimDisk};
 use image_model::Geometry;
-use nbd_wire::{FLUSH, Request, RequestHead, SessionFlags, WRITE};
+use nbd_wire::{Answer, Errno, FLUSH, Request, RequestHead, SessionFlags, WRITE};
 use order_book::Order;
-use request_core::{Bench, Event, Mode, Step, rehearse};
+use request_core::{Bench, Event, Mode, Step, StepFault, rehearse};
 use std::alloc::{AllocError, Global};
 use std::process::Abort;
 use std::test::Fail;
@@ -19,6 +19,13 @@ pub fn formatted(rt: &impl Abort, alloc: Global) -> Result<SimDisk, Fail> {
     let mut disk = SimDisk::new(alloc, geometry.device_bytes())?;
     let made = Keeper::format(alloc, &mut disk, geometry);
     assert!(rt; made.is_ok());
+    Ok(disk)
+}
+
+// The same, where this call of a kind fails.
+pub fn failing(rt: &impl Abort, alloc: Global, kind: CallKind, call: u64) -> Result<SimDisk, Fail> {
+    let mut disk = formatted(rt, alloc)?;
+    disk.fail(kind, call);
     Ok(disk)
 }
 
@@ -103,11 +110,98 @@ pub fn store(steps: &mut Vec<Step>) -> Result<(), AllocError> {
 }
 
 // What a schedule left.
-#[derive(Drop)]
 pub struct Left {
-    pub log: Vec<Event>,
-    pub disk: SimDisk,
-    pub count: u64,
+    log: Vec<Event>,
+    disk: SimDisk,
+    count: u64,
+}
+
+// Written out, it is proved once, and not again in each function that lets such a value go.
+impl Drop for Left {
+    fn drop(self) {
+        let Left {
+            log: _,
+            disk: _,
+            count: _,
+        } = self;
+    }
+}
+
+impl Left {
+    // How much the log says.
+    pub fn events(&self) -> usize {
+        self.log.len()
+    }
+
+    // Whether the log says at this place that the connection's request was done.
+    pub fn answers(&self, place: usize, connection: usize) -> bool {
+        matches!(self.log.get(place), Some(Event::Answered(by, Answer::Done)) if *by == connection)
+    }
+
+    // Whether it says that the connection's request was refused by EIO.
+    pub fn refuses(&self, place: usize, connection: usize) -> bool {
+        matches!(
+            self.log.get(place),
+            Some(Event::Answered(by, Answer::Refused(Errno::Io))) if *by == connection
+        )
+    }
+
+    // Whether it says that the connection's command has this number.
+    pub fn numbers(&self, place: usize, connection: usize, number: u64) -> bool {
+        matches!(
+            self.log.get(place),
+            Some(Event::Numbered(by, found)) if *by == connection && *found == number
+        )
+    }
+
+    // Whether it says that a step failed for this.
+    pub fn fails(&self, place: usize, fault: StepFault) -> bool {
+        matches!(self.log.get(place), Some(Event::Failed(found)) if *found == fault)
+    }
+
+    // Whether it says that a step was held.
+    pub fn holds(&self, place: usize) -> bool {
+        matches!(self.log.get(place), Some(Event::Held))
+    }
+
+    // Whether it says that a step took place.
+    pub fn took(&self, place: usize) -> bool {
+        matches!(self.log.get(place), Some(Event::Took))
+    }
+
+    // The device crashes, and an opening finds so many commands.
+    pub fn check_crashed(
+        self,
+        rt: &impl Abort,
+        alloc: Global,
+        choice: CrashChoice,
+        count: u64,
+    ) -> Result<(), Fail> {
+        let Left {
+            log: _,
+            mut disk,
+            count: _,
+        } = self;
+        disk.crash(choice);
+        check_count(rt, alloc, disk, count)
+    }
+
+    // An opening finds so many commands.
+    pub fn check_opened(self, rt: &impl Abort, alloc: Global, count: u64) -> Result<(), Fail> {
+        let Left {
+            log: _,
+            disk,
+            count: _,
+        } = self;
+        check_count(rt, alloc, disk, count)
+    }
+}
+
+// An opening of the device finds so many commands.
+fn check_count(rt: &impl Abort, alloc: Global, disk: SimDisk, count: u64) -> Result<(), Fail> {
+    let opened = run(rt, alloc, disk, Mode::Writeback, &[])?;
+    assert_eq!(rt; opened.count, count);
+    Ok(())
 }
 
 // Opens the device and carries out the steps, over three connections.

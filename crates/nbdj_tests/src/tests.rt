@@ -48,7 +48,7 @@ fn first_run(rt: HostRuntime) -> Result<(), Fail> {
     let replies =
         b"\x67\x44\x66\x98\0\0\0\0\x01\x02\x03\x04\x05\x06\x07\x08\x67\x44\x66\x98\0\0\0\0\0\0\0\0\0\0\0\x02";
     assert!(rt; piped.output.as_slice() == replies.as_slice());
-    let mut disk = piped.disk;
+    let mut disk = piped.into_disk();
     check_device(&rt, &mut disk)?;
     check_recovered(&rt, alloc, disk, b"commands 1\n");
     Ok(())
@@ -64,7 +64,7 @@ fn check_cut(rt: &impl Abort, alloc: Global, disk: SimDisk, stream: &[u8], cut: 
     let whole = run(alloc, &PIPE, disk, &mut front.chain(back));
     assert!(rt; whole.status == 0);
     assert!(rt; whole.output.as_slice() == CUT_REPLIES.as_slice());
-    whole.disk
+    whole.into_disk()
 }
 
 // Ended at this place it has the replies to its whole requests.
@@ -81,7 +81,7 @@ fn check_end(rt: &impl Abort, alloc: Global, disk: SimDisk, stream: &[u8], cut: 
     assert!(rt; part.status == 1);
     assert!(rt; part.output.as_slice() == &CUT_REPLIES[..answered]);
     assert!(rt; part.errors.as_slice() == b"nbdj: peer closed (19)\n".as_slice());
-    part.disk
+    part.into_disk()
 }
 
 // Wherever the stream is cut in two, the replies are the same; and wherever it ends, what was answered is stored.
@@ -124,7 +124,7 @@ fn device_fault(rt: HostRuntime) -> Result<(), Fail> {
         b"\x67\x44\x66\x98\0\0\0\0\0\0\0\0\0\0\0\x01\x67\x44\x66\x98\0\0\0\x05\0\0\0\0\0\0\0\x02\x67\x44\x66\x98\0\0\0\x05\0\0\0\0\0\0\0\x03";
     assert!(rt; piped.output.as_slice() == replies.as_slice());
     assert!(rt; piped.errors.as_slice() == b"nbdj: device fault (1)\n".as_slice());
-    let mut disk = piped.disk;
+    let mut disk = piped.into_disk();
     disk.crash(CrashChoice::New);
     check_recovered(&rt, alloc, disk, b"commands 0\n");
     Ok(())

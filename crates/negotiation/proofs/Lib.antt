@@ -2,3 +2,4 @@ pub mod Dialogs
 pub mod OneHearing
 pub mod Requests
 pub mod Sessions
+pub mod Filling

@@ -1,9 +1,10 @@
 -- What a session holds, and what a piece of its input comes to.
 use Rattle.std.specs.Prelude.{◌≡◌, ◌⊎◌, ℕ, ◌+◌, ◌-◌, ◌<◌, ◌≤◌, Option, Some, None, List, [], ◌∷◌, ◌++◌, length, Result, Ok, Err}
 use Rattle.std.specs.Global.{Vec}
+use Rattle.std.specs.Io.KnownBytes.{Consumes, IsAtEnd}
 use Rattle.std.specs.Option.{option_map}
 use Rattle.nbd_wire.specs.Request.{Message}
-use Rattle.nbd_wire.specs.Stream.{fresh, held, end_of as end_of_requests}
+use Rattle.nbd_wire.specs.Stream.{fresh, held, end_of as end_of_requests, room_of as room_of_reader}
 use Rattle.nbd_wire.specs.declared.message.SessionFlags.{SessionFlags}
 use Rattle.option_wire.specs.Handshake.{client_flags_bytes, greeting_bytes}
 use Rattle.option_wire.specs.Head.{option_head}
@@ -173,6 +174,30 @@ pub record Feeds (old : SessionState) (piece before after : List ℕ) (requests 
   pub behind : IsBehind old.standing → (turns ≡ []) × (between.flags ≡ old.flags) × IsBehind between.standing
   pub whole : ((end_of new.standing ≡ Some NoMemory) × ((requests ≡ []) ⊎ ((new.flags ≡ between.flags) × IsBehind between.standing))) ⊎ ((rest ≡ []) × (new ≡ between))
 
+-- how many bytes are still to come of a request's data that are kept
+abbrev pub room_of : Standing → ℕ
+room_of silent = 0
+room_of (in_flags bytes) = 0
+room_of (in_head bytes) = 0
+room_of (in_option code size bytes) = 0
+room_of (in_discard code missing) = 0
+room_of (in_requests reader) = room_of_reader reader
+room_of ended = 0
+room_of broken = 0
+room_of exhausted = 0
+
+-- So many bytes were read off a stream as a piece that was fed; it ends no request, and nothing is due for it. None comes only at
+-- the end of the stream.
+pub record Fills (old : SessionState) (input left : Option (List ℕ)) (count : ℕ) (new : SessionState) : Type 0 where
+  pub piece : List ℕ
+  pub len : length piece ≡ count
+  pub read : Consumes input left piece
+  pub feeds : Feeds old piece [] [] [] new
+  pub size : new.size ≡ old.size
+  pub said : IsSaid new.standing
+  pub going : end_of new.standing ≡ None
+  pub end : count ≡ 0 → IsAtEnd left
+
 -- the greeting is written where nothing was said yet, and else nothing
 abbrev pub Greets : Standing → Standing → List ℕ → List ℕ → Type 0
 Greets silent new before after = (new ≡ in_flags []) × (after ≡ before ++ greeting_bytes)
@@ -195,6 +220,17 @@ pub record Hands (old : Standing) (piece : List ℕ) (requests : List Message) (
   pub hears : (size : ℕ) (flags : SessionFlags) → HearsOn (record { size = size; flags = flags; standing = old }) first [] requests
       (record { size = size; flags = flags; standing = between })
   pub whole : ((end_of new ≡ Some NoMemory) × ((requests ≡ []) ⊎ IsBehind between)) ⊎ ((rest ≡ []) × (new ≡ between))
+
+-- so many bytes were read off a stream, as a piece behind the handshake that ends no request
+pub record HandsNone (old : Standing) (input left : Option (List ℕ)) (count : ℕ) (new : Standing) : Type 0 where
+  pub piece : List ℕ
+  pub len : length piece ≡ count
+  pub read : Consumes input left piece
+  pub hands : Hands old piece [] new
+  pub was : IsBehind old
+  pub said : IsSaid new
+  pub going : end_of new ≡ None
+  pub end : count ≡ 0 → IsAtEnd left
 
 -- some first part of the piece was read, and the replies to the options in it were written
 pub record Runs (old : SessionState) (piece behind before after : List ℕ) (new : SessionState) : Type 0 where

@@ -1,7 +1,8 @@
 ghost use Rattle.std.specs.Prelude.{◌≡◌, ◌⊎◌, ◌↔◌, ℕ, ◌*◌, ◌+◌, ◌≤◌, ◌<◌, List, [], Some, IsTrue, length, vec_len, IfOk, IfErr, IsOkAnd, OnErr, Err, position};
+ghost use Rattle.std.specs.Io.KnownBytes.{Keeps};
 ghost use Rattle.negotiation.specs.declared.stage.Talk.{Talk};
 ghost use Rattle.negotiation.specs.Dialog.{ended, in_requests, is_disc, plain, silent};
-ghost use Rattle.negotiation.specs.Session.{Advances, Feeds, Greets, Hands, IsBehind, IsGreeted, IsSaid, IsStage, Runs, end_of, handed, held_by, standing_of, state_of, wanted_of};
+ghost use Rattle.negotiation.specs.Session.{Advances, Feeds, Fills, Greets, Hands, HandsNone, IsBehind, IsGreeted, IsSaid, IsStage, Runs, end_of, handed, held_by, room_of, standing_of, state_of, wanted_of};
 
 use crate::end::End;
 use crate::stage::{Stage, Talk, discard, take_data, take_flags, take_head, wanted};
@@ -9,6 +10,7 @@ use image_model::{BLOCK_BYTES, Geometry};
 use nbd_wire::{DISCONNECT, Request, SessionFlags, StreamReader};
 use option_wire::greeting;
 use std::alloc::{AllocError, Global};
+use std::io::{self, Read};
 use std::marker::Model;
 use std::mem;
 
@@ -80,6 +82,32 @@ impl Session {
         let (stage, requests) = hand_out(self.alloc, talk.stage, rest);
         self.stage = stage;
         requests
+    }
+
+    /// How many bytes are still to come of the data at hand, of a request that isn't whole; none where nothing is kept of them.
+    pub fn room(&self) -> usize
+        ensures { result ≡ room_of self.now.standing }
+    {
+        match &self.stage {
+            Stage::Requests(reader) => reader.room(),
+            _ => 0,
+        }
+    }
+
+    /// Reads once from the stream, straight into the room of the data at hand, but for their last byte. So no request is
+    /// whole behind it, and nothing is due. A fault of the stream leaves the session as it was.
+    pub fn fill<R: Read>(&mut self, input: &mut R) -> io::Result<usize>
+        requires { 1 < room_of self.old.standing }
+
+        // What was read is a piece that was fed; at the end of the stream it is empty.
+        ensures ok { IfOk result (λ count. Fills self.old (R.remaining input.old) (R.remaining input.new) count self.new) }
+        ensures err { OnErr result ((self.new ≡ self.old) × Keeps (R.remaining input.old) (R.remaining input.new)) }
+        ensures held { held_by self.new.standing < 28 + 1048576 }
+    {
+        let stage = mem::replace(&mut self.stage, Stage::Exhausted);
+        let (stage, count) = fill(stage, input);
+        self.stage = stage;
+        count
     }
 
     /// What is agreed on.
@@ -233,4 +261,22 @@ fn disc_place(requests: &[Request]) -> Option<usize>
     requests
         .iter()
         .position(|request| request.head().kind == DISCONNECT)
+}
+
+// Reads once into the room of the data at hand.
+fn fill<R: Read>(stage: Stage, input: &mut R) -> (Stage, io::Result<usize>)
+    requires { 1 < room_of (standing_of stage) }
+    ensures sound { IsGreeted result.0 }
+    ensures ok { IfOk result.1 (λ count. HandsNone (standing_of stage) (R.remaining input.old) (R.remaining input.new) count (standing_of result.0)) }
+    ensures err { OnErr result.1 ((standing_of result.0 ≡ standing_of stage) × Keeps (R.remaining input.old) (R.remaining input.new)) }
+    ensures held { held_by (standing_of result.0) < 28 + 1048576 }
+{
+    match stage {
+        Stage::Requests(reader) => {
+            let mut reader = reader;
+            let count = reader.fill(input);
+            (Stage::Requests(reader), count)
+        }
+        stage => (stage, Ok(0)),
+    }
 }

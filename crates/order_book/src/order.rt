@@ -39,7 +39,6 @@ const MOST_BACKLOG_BYTES: u64 = 67_108_864;
 const BYTES_ROUND_BODY: u64 = 18;
 
 /// The order in which write commands count.
-#[derive(Drop)]
 pub struct Order {
     opening: u64,
     durable: u64,
@@ -51,6 +50,24 @@ pub struct Order {
     cache: Cache,
     area: u32,
     stopped: bool,
+}
+
+// Written out, it is proved once, and not again in each function that lets an order go.
+impl Drop for Order {
+    fn drop(self) {
+        let Order {
+            opening: _,
+            durable: _,
+            sealed: _,
+            mark: _,
+            in_hand: _,
+            pending: _,
+            backlog: _,
+            cache: _,
+            area: _,
+            stopped: _,
+        } = self;
+    }
 }
 
 impl Model for Order {

@@ -1,8 +1,12 @@
-//! Tests of orders that read, over keepers of simulated devices. They stand beside these crates, since a crate with tests is proved twice.
+//! Tests of frames, caches, and orders that read, over keepers of simulated devices. They stand beside these crates, since a crate with tests is proved twice.
 #![tactic(auto)]
 
 #[cfg(test)]
+mod cache_tests;
+#[cfg(test)]
 mod commands;
+#[cfg(test)]
+mod frame_tests;
 #[cfg(test)]
 mod plain;
 #[cfg(test)]

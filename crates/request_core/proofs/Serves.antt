@@ -1,13 +1,14 @@
 -- what serving a connection makes of the world
-use Rattle.std.proofs.Common.{◌≡◌, ◌⊎◌, inl, inr, ℕ, ◌+◌, ◌/◌, ◌<◌, ◌<◌, ◌==◌, ◌↔◌, Bool, true, false, if◌then◌else◌, Option, None, List, [], ◌∷◌, append-nil, length, bit_and, sym, ◌∙◌, ap, subst, refl, arith}
+use Rattle.std.proofs.Common.{◌≡◌, ◌⊎◌, inl, inr, ℕ, ◌+◌, ◌/◌, ◌<◌, ◌<◌, ◌==◌, ◌&&◌, ◌↔◌, Bool, true, false, if◌then◌else◌, Option, None, List, [], ◌∷◌, append-nil, length, bit_and, sym, ◌∙◌, ap, subst, refl, arith}
 use Rattle.std.proofs.lemmas.Bool.{cases_eq, cases_Bool, eq-eqb, le-ltb, lt-ltb, ne_eqb}
 use Rattle.image_model.specs.declared.command.Command.{Command}
 use Rattle.image_model.specs.declared.geometry.Geometry.{Geometry}
 use Rattle.nbd_wire.specs.declared.head.RequestHead.{RequestHead}
 use Rattle.world.specs.declared.step.Mode.{Mode}
 use Rattle.world.specs.declared.step.Mode.TheVariants.{Writeback, Writethrough}
-use Rattle.world.specs.Verdict.{IsServedWrite}
-use Rattle.image_model.specs.Change.{Change, IsChange, change_of}
+use Rattle.world.specs.Verdict.{IsServedCommand}
+use Rattle.image_model.specs.Change.{Change, Cleared, IsChange, IsCleared, Written, change_of}
+use Rattle.image_model.specs.declared.command.Kind.TheVariants.{Zero, Hole}
 use Rattle.journal.specs.Group.{Numbered}
 use Rattle.nbd_wire.specs.Request.{Message}
 use Rattle.nbd_wire.specs.declared.error.Errno.TheVariants.{NoSpace}
@@ -22,7 +23,7 @@ use Rattle.world.specs.declared.connection.Connection.TheVariants.{Idle, Request
 use Rattle.world.specs.declared.event.Event.{Event}
 use Rattle.world.specs.declared.event.Event.TheVariants.{Numbered as numbered, Held}
 use Rattle.nbd_wire.specs.declared.message.Answer.TheVariants.{Refused}
-use Rattle.world.specs.Log.{command_of, waits_for_store}
+use Rattle.world.specs.Log.{cleared_as, command_of, waits_for_store}
 use Rattle.world.specs.Serve.{Failure, Nothing, logged, held, moved, ready, accepted, write_served, state_after}
 use Rattle.world.specs.World.{World, put, last_number, has_room, Stage}
 use Rattle.world_law.specs.Law.{IsWithin}
@@ -145,12 +146,32 @@ pub waits_same : (mode : Mode) (head : RequestHead) (request : Message) → head
 waits_same Writethrough head request is = refl
 waits_same Writeback head request is = ap (λ (h : RequestHead). bit_and h.flags 1 == 1) is
 
--- the command of a WRITE that passes judgement is one that the image takes
-pub write_change : (request : Message) (geometry : Geometry) → IsServedWrite request.head geometry → length request.bytes ≡ request.head.length
+-- the command of a WRITE, and one that the image takes where it passes judgement
+pub put_command : (request : Message) → request.head.kind ≡ 1 → command_of request ≡ Written (request.head.offset / 4096) request.bytes
+put_command request is = ap (λ (b : Bool). if b then Written (request.head.offset / 4096) request.bytes else Cleared (request.head.offset / 4096) (request.head.length / 4096) (cleared_as request.head)) (eq-eqb request.head.kind 1 is)
+
+pub put_change : (request : Message) (geometry : Geometry) → request.head.kind ≡ 1 → IsServedCommand request.head geometry → length request.bytes ≡ request.head.length
     → IsChange geometry.blocks (command_of request)
-write_change request geometry served whole =
-    let some = served.some in let most = served.most in let from_block = served.from_block in let whole_blocks = served.whole_blocks in let inside = served.inside in
-    (request.head.length / 4096, omega arith, omega arith, omega arith, omega arith)
+put_change request geometry kind served whole =
+    let some = served.some in let most = served.most kind in let from_block = served.from_block in let whole_blocks = served.whole_blocks in let inside = served.inside in
+    subst (IsChange geometry.blocks) (sym (put_command request kind)) (request.head.length / 4096, omega arith, omega arith, omega arith, omega arith)
+
+-- that of a TRIM or a WRITE_ZEROES
+pub clear_command : (request : Message) → (request.head.kind ≡ 1 → ⊥) → command_of request ≡ Cleared (request.head.offset / 4096) (request.head.length / 4096) (cleared_as request.head)
+clear_command request other = ap (λ (b : Bool). if b then Written (request.head.offset / 4096) request.bytes else Cleared (request.head.offset / 4096) (request.head.length / 4096) (cleared_as request.head)) (ne_eqb request.head.kind 1 other)
+
+cleared_kind : (head : RequestHead) → IsCleared (cleared_as head)
+cleared_kind head = by_test ((head.kind == 6) && (bit_and head.flags 2 == 2))
+  where
+    by_test : (test : Bool) → IsCleared (if test then Zero else Hole)
+    by_test true = tt
+    by_test false = tt
+
+pub clear_change : (request : Message) (geometry : Geometry) → (request.head.kind ≡ 1 → ⊥) → IsServedCommand request.head geometry → request.head.length < 4294967296
+    → IsChange geometry.blocks (command_of request)
+clear_change request geometry other served few =
+    let some = served.some in let from_block = served.from_block in let whole_blocks = served.whole_blocks in let inside = served.inside in
+    subst (IsChange geometry.blocks) (sym (clear_command request other)) (omega arith, omega arith, omega (arith, few), cleared_kind request.head)
 
 pub request_none : (state : Connection) → ((request : Message) → state ≡ Requested request → ⊥) → None ≡ request_in state
 request_none Idle other = refl

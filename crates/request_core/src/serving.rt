@@ -4,10 +4,10 @@ ghost use Rattle.nbd_wire.specs.Request.{Message};
 ghost use Rattle.nbd_wire.specs.declared.error.Errno.{Errno};
 ghost use Rattle.request_core.specs.Parts.{AreConnectionsOf, IsOrderOf};
 ghost use Rattle.request_core.specs.Serving.{AreTermsOf, IsAnsweredBy, IsHandedBack, IsSameHand, IsSentBy, IsServed, IsServedBy, IsTalked, IsWriteServed, answer_due, event_for, is_idle, ready_for, request_again, request_in, sent_state, served_after, state_of};
-ghost use Rattle.world.specs.Log.{waits_for_store};
+ghost use Rattle.world.specs.Log.{cleared_as, waits_for_store};
 ghost use Rattle.world.specs.Serve.{Failure, answer as answer_of, serve as serve_of};
 ghost use Rattle.world.specs.Step.{send as send_of};
-ghost use Rattle.world.specs.Verdict.{IsServedWrite, verdict};
+ghost use Rattle.world.specs.Verdict.{IsServedCommand, verdict};
 ghost use Rattle.world.specs.declared.action.Action.{Action};
 ghost use Rattle.world.specs.World.{World};
 ghost use Rattle.world.specs.declared.connection.Connection.TheVariants as Connection;
@@ -15,9 +15,10 @@ ghost use Rattle.world_law.specs.Law.{IsWithin};
 
 use crate::judgement::judge;
 use bitflags::Flags;
-use image_model::{BLOCK_BYTES, Command, Geometry};
+use image_model::{BLOCK_BYTES, Command, Geometry, Kind};
 use nbd_wire::{
     Answer, CommandFlags, DISCONNECT, Errno, FLUSH, Reply, Request, RequestHead, SessionFlags,
+    WRITE, WRITE_ZEROES,
 };
 use order_book::{Order, OrderFault};
 use std::alloc::Global;
@@ -180,7 +181,7 @@ fn state_of(served: Served) -> Connection
 
 /// Serves a request that isn't a DISC: it is judged, and a command gets its place in the order.
 ///
-/// A WRITE for which there is no room comes back. No request needs the device so far.
+/// A write command for which there is no room comes back. No request needs the device so far.
 pub fn serve_held(request: Request, order: &mut Order, terms: Terms) -> Served
     requires kind { request.head.kind ≢ 2 }
     requires blocks { length order.old.cache.states ≡ terms.geometry.blocks }
@@ -195,7 +196,8 @@ pub fn serve_held(request: Request, order: &mut Order, terms: Terms) -> Served
         Err(errno) => refused(head.cookie, errno),
         Ok(Action::Serve) if order.stopped() => refused(head.cookie, Errno::Io),
         Ok(Action::Serve) if head.kind == FLUSH => Served::Wait(last),
-        Ok(Action::Serve) => serve_write(request, order, terms),
+        Ok(Action::Serve) if head.kind == WRITE => serve_put(request, order, terms),
+        Ok(Action::Serve) => serve_clear(request, order, terms),
     }
 }
 
@@ -209,8 +211,9 @@ fn refused(cookie: u64, errno: Errno) -> Served
 }
 
 // Gives a WRITE that passes judgement its place in the order, which isn't stopped.
-fn serve_write(request: Request, order: &mut Order, terms: Terms) -> Served
-    requires write { IsServedWrite request.head terms.geometry }
+fn serve_put(request: Request, order: &mut Order, terms: Terms) -> Served
+    requires kind { request.head.kind ≡ 1 }
+    requires write { IsServedCommand request.head terms.geometry }
     requires works { order.old.stopped ≡ false }
     requires fits { order.old.mark < 18446744073709551616 }
     requires blocks { length order.old.cache.states ≡ terms.geometry.blocks }
@@ -228,6 +231,44 @@ fn serve_write(request: Request, order: &mut Order, terms: Terms) -> Served
         Err((OrderFault::NoMemory, _)) => refused(head.cookie, Errno::NoMemory),
         Err((OrderFault::NumbersFull, _)) => refused(head.cookie, Errno::NoSpace),
         Err((OrderFault::Stopped, _)) => refused(head.cookie, Errno::Io),
+    }
+}
+
+// Gives a TRIM or a WRITE_ZEROES that passes judgement its place in the order, which isn't stopped.
+fn serve_clear(request: Request, order: &mut Order, terms: Terms) -> Served
+    requires kind { request.head.kind ≢ 1 }
+    requires write { IsServedCommand request.head terms.geometry }
+    requires works { order.old.stopped ≡ false }
+    requires fits { order.old.mark < 18446744073709551616 }
+    requires blocks { length order.old.cache.states ≡ terms.geometry.blocks }
+    ensures blocks { length order.new.cache.states ≡ length order.old.cache.states }
+    ensures served { IsWriteServed request terms.geometry terms.mode order.old order.new result }
+{
+    let head = request.head();
+    let cookie = head.cookie;
+    let command = Command::Clear {
+        first: head.offset / BLOCK_BYTES,
+        blocks: head.length / BLOCK_BYTES as u32,
+        kind: cleared_as(&head),
+    };
+    match order.accept(command) {
+        Ok(number) => accepted(&head, terms.mode, number),
+        Err((OrderFault::NoRoom, _)) => Served::NoRoom(request),
+        Err((OrderFault::NoMemory, _)) => refused(cookie, Errno::NoMemory),
+        Err((OrderFault::NumbersFull, _)) => refused(cookie, Errno::NoSpace),
+        Err((OrderFault::Stopped, _)) => refused(cookie, Errno::Io),
+    }
+}
+
+// What becomes of the blocks that are cleared.
+fn cleared_as(head: &RequestHead) -> Kind
+    ensures { result ≡ cleared_as head.now }
+{
+    let no_hole = CommandFlags::NO_HOLE.bits();
+    if head.kind == WRITE_ZEROES && head.flags & no_hole == no_hole {
+        Kind::Zero
+    } else {
+        Kind::Hole
     }
 }
 

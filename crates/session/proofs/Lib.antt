@@ -3,3 +3,4 @@ pub mod Hearing
 pub mod OneDialog
 pub mod Serving
 pub mod Transmitting
+pub mod Filling

@@ -1,15 +1,17 @@
-ghost use Rattle.std.specs.Prelude.{◌≡◌, ℕ, ◌<◌, List, [], Some, IfErr, IfOk, IsErrAnd, IsErrOf, OnOk, vec_len};
-ghost use Rattle.std.specs.Io.KnownBytes.{Consumes, IsAtEnd};
-ghost use Rattle.negotiation.specs.Session.{IsBehind, IsSaid, end_of};
+ghost use Rattle.std.specs.Prelude.{◌≡◌, ℕ, ◌<◌, List, [], Option, Some, IfErr, IfOk, IsErrAnd, IsErrOf, OnErr, OnOk, vec_len};
+ghost use Rattle.std.specs.Global.{Vec};
+ghost use Rattle.std.specs.Io.KnownBytes.{Consumes, IsAtEnd, Keeps};
+ghost use Rattle.nbd_wire.specs.Request.{Message};
+ghost use Rattle.negotiation.specs.Session.{Fills, IsBehind, IsSaid, end_of, room_of};
 ghost use Rattle.negotiation.specs.declared.end.End.{End};
-ghost use Rattle.session.specs.Hearing.{Hearing};
+ghost use Rattle.session.specs.Hearing.{Hearing, as_outcome};
 ghost use Rattle.session.specs.Streams.{IsEarly};
 
 use crate::serve::write_due;
-use byte_streams::read_some;
+use byte_streams::{StreamFault, read_some};
 use nbd_wire::Request;
 use negotiation::{End, Session};
-use std::io::{Read, Write};
+use std::io::{ErrorKind, Read, Write};
 
 /// Says the greeting and answers options until the handshake of a session is over, and hands out the requests that came with its last piece.
 /// Refusals 0 (no memory), 19 (peer closed), 20 (protocol end) and 21 (stream fault).
@@ -90,11 +92,45 @@ pub fn hear<R: Read, W: Write>(
     if !requests.is_empty() {
         return Ok(requests);
     }
+    if session.room() > piece.len() {
+        fill(input, session)?;
+        return Ok(requests);
+    }
     let count = read_some(input, piece)?;
     if count == 0 {
         return Err(End::PeerClosed);
     }
     take(session, &piece[..count], output, due)
+}
+
+// Reads into the room of the data at hand, where so much is missing that a piece wouldn't end them.
+fn fill<R: Read>(input: &mut R, session: &mut Session) -> Result<(), End>
+    requires { 1 < room_of session.old.standing }
+    ensures hearing { (output : Option (List ℕ)) (given : Vec Message) → given.items ≡ []
+        → Hearing session.old (Consumes (R.remaining input.old) (R.remaining input.new)) output output (as_outcome given result) session.new }
+    ensures closed { IsErrOf result End.PeerClosed → IsAtEnd (R.remaining input.new) }
+    ensures said { IsSaid session.new.standing }
+{
+    if fill_some(input, session)? == 0 {
+        return Err(End::PeerClosed);
+    }
+    Ok(())
+}
+
+// A read that was interrupted is begun again.
+fn fill_some<R: Read>(input: &mut R, session: &mut Session) -> Result<usize, StreamFault>
+    requires { 1 < room_of session.old.standing }
+    ensures ok { IfOk result (λ count. Fills session.old (R.remaining input.old) (R.remaining input.new) count session.new) }
+    ensures err { OnErr result ((session.new ≡ session.old) × Keeps (R.remaining input.old) (R.remaining input.new)) }
+{
+    for _ in 0..u64::MAX {
+        match session.fill(input) {
+            Ok(count) => return Ok(count),
+            Err(error) if error.kind() == ErrorKind::Interrupted => {}
+            Err(_) => break,
+        }
+    }
+    Err(StreamFault)
 }
 
 // Feeds a piece to a session, and writes what is due for it.

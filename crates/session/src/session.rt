@@ -10,7 +10,7 @@ use std::alloc::{AllocError, Global};
 use std::io::{Read, Write};
 
 // The most bytes that one read takes: 256 KiB, which lie in a cache until they are copied out.
-const PIECE_BYTES: usize = 262_144;
+const PIECE_BYTES: usize = 65_536;
 
 /// Serves one connection from its first byte on: the handshake, and then each request in turn, over an export that keeps
 /// `pass` of the connection.

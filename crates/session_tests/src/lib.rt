@@ -3,7 +3,13 @@
 #![tactic(auto)]
 
 #[cfg(test)]
+mod block_tests;
+#[cfg(test)]
 mod export;
+#[cfg(test)]
+mod interrupted;
+#[cfg(test)]
+mod room_tests;
 #[cfg(test)]
 mod stream_tests;
 #[cfg(test)]

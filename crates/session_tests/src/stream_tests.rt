@@ -1,7 +1,8 @@
 use crate::export::{serve, serve_over};
+use crate::interrupted::Interrupted;
 use negotiation::End;
 use std::alloc::{AllocError, Global};
-use std::io::{self, ErrorKind, Read, Write};
+use std::io::Read;
 use std::process::Abort;
 use std::test::Fail;
 use stream_fakes::{FakeReader, FakeWriter, bytes_of};
@@ -83,51 +84,6 @@ fn a_whole_session_is_served_in_any_pieces(rt: HostRuntime) -> Result<(), Fail> 
     }
     is_whole(&rt, rt.alloc(), 1, 1)?;
     is_whole(&rt, rt.alloc(), MANY, 1)
-}
-
-// A stream of which every other call is interrupted, the first among them.
-#[derive(Drop)]
-struct Interrupted<S> {
-    stream: S,
-    is_done: bool,
-}
-
-impl<S> Interrupted<S> {
-    fn new(stream: S) -> Interrupted<S> {
-        Interrupted {
-            stream,
-            is_done: false,
-        }
-    }
-
-    // Whether this call is interrupted.
-    fn is_now(&mut self) -> bool {
-        let now = !self.is_done;
-        self.is_done = now;
-        now
-    }
-}
-
-impl Read for Interrupted<FakeReader<'_>> {
-    fn read(&mut self, buf: &mut [u8]) -> io::Result<usize> {
-        if self.is_now() {
-            return Err(io::Error::from(ErrorKind::Interrupted));
-        }
-        self.stream.read(buf)
-    }
-}
-
-impl Write for Interrupted<FakeWriter> {
-    fn write(&mut self, buf: &[u8]) -> io::Result<usize> {
-        if self.is_now() {
-            return Err(io::Error::from(ErrorKind::Interrupted));
-        }
-        self.stream.write(buf)
-    }
-
-    fn flush(&mut self) -> io::Result<()> {
-        self.stream.flush()
-    }
 }
 
 #[test]
@@ -234,10 +190,20 @@ fn a_wrong_magic_ends_a_session(rt: HostRuntime) -> Result<(), Fail> {
     Ok(())
 }
 
+// A client that sends this ends its session so, and what comes behind it isn't read.
+fn is_left(rt: &impl Abort, alloc: Global, row: &str, end: Result<(), End>) -> Result<(), Fail> {
+    let first = bytes_of(alloc, row)?;
+    let behind = [0x25; 100];
+    let mut reader = first.as_slice().chain(behind.as_slice());
+    let mut writer = FakeWriter::new(alloc, MANY, MANY);
+    let (told, _) = serve_over(alloc, &mut reader, &mut writer)?;
+    assert!(rt; told == end, "{row}");
+    assert!(rt; reader.get_ref().1.len() == 100, "{row}");
+    Ok(())
+}
+
 #[test]
 fn nothing_is_read_behind_an_end(rt: HostRuntime) -> Result<(), Fail> {
-    let alloc = rt.alloc();
-    let greeting = bytes_of(alloc, "4e42444d41474943 49484156454f5054 0003")?;
     for (row, end) in [
         ("00000003 49484156454f5054 00000002 00000000", Ok(())),
         ("00000007", Err(End::ProtocolEnd)),
@@ -245,18 +211,18 @@ fn nothing_is_read_behind_an_end(rt: HostRuntime) -> Result<(), Fail> {
             "00000003 49484156454f5054 00000001 00000000",
             Err(End::ProtocolEnd),
         ),
+        (
+            "00000003 49484156454f5054 00000007 00000008 00000000 0001 0003
+             25609513 0000 0002 0000000000000001 0000000000000000 00000000",
+            Ok(()),
+        ),
+        (
+            "00000003 49484156454f5054 00000007 00000008 00000000 0001 0003
+             25609513 0000 0001 0000000000000001 0000000000000000 02000001",
+            Err(End::ProtocolEnd),
+        ),
     ] {
-        // Behind its bytes the input fails.
-        let input = bytes_of(alloc, row)?;
-        let served = serve(
-            alloc,
-            FakeReader::new(&input, 1, true),
-            FakeWriter::new(alloc, MANY, MANY),
-        )?;
-        assert!(rt;
-            served.end == end && served.output.taken().starts_with(&greeting),
-            "{row}"
-        );
+        is_left(&rt, rt.alloc(), row, end)?;
     }
     Ok(())
 }

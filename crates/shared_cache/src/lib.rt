@@ -5,8 +5,6 @@ mod cache;
 mod fault;
 mod held;
 mod index;
-#[cfg(test)]
-mod tests;
 
 pub use cache::Cache;
 pub use fault::{KeepFault, Missing};

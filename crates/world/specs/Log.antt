@@ -1,9 +1,12 @@
 -- What the log of a run must be. A request is known by the place in the log where it was sent; what was sent and what was
 -- answered, read in the log's order, is the transcript.
-use Rattle.std.specs.Prelude.{◌≡◌, ◌≢◌, ℕ, ◌<◌, ◌/◌, ◌==◌, Bool, true, Some, List, length, slice_get, bit_and}
-use Rattle.image_model.specs.Change.{Change, Written}
+use Rattle.std.specs.Prelude.{◌≡◌, ◌≢◌, ℕ, ◌<◌, ◌/◌, ◌==◌, ◌&&◌, ◌||◌, if◌then◌else◌, Bool, true, Some, List, length, slice_get, bit_and}
+use Rattle.image_model.specs.Change.{Change, Written, Cleared}
+use Rattle.image_model.specs.declared.command.Kind.{Kind}
+use Rattle.image_model.specs.declared.command.Kind.TheVariants.{Zero, Hole}
 use Rattle.nbd_wire.specs.Request.{Message}
 use Rattle.nbd_wire.specs.declared.error.Errno.{Errno}
+use Rattle.nbd_wire.specs.declared.head.RequestHead.{RequestHead}
 use Rattle.nbd_wire.specs.declared.error.Errno.TheVariants.{Io}
 use Rattle.world.specs.declared.event.Event.{Event}
 use Rattle.world.specs.declared.event.Event.TheVariants.{Sent, Answered}
@@ -23,12 +26,22 @@ pub record IsAnswered (log : List Event) (connection place : ℕ) (request : Mes
   pub answered : StandsAt log answer (Answered connection outcome)
   pub first : (between : ℕ) (other : Answer) → place < between → between < answer → StandsAt log between (Answered connection other) → ⊥
 
--- a request that asks for a write command, and that command ("Request types" of NBD's proto.md)
+-- the types of write commands: WRITE, TRIM and WRITE_ZEROES ("Request types" of NBD's proto.md)
+abbrev pub is_write_type : ℕ → Bool
+is_write_type kind = (kind == 1) || (kind == 4) || (kind == 6)
+
+-- what becomes of the blocks of a TRIM or a WRITE_ZEROES: allocated zero where a WRITE_ZEROES has NO_HOLE, else holes
+abbrev pub cleared_as : RequestHead → Kind
+cleared_as head = if (head.kind == 6) && (bit_and head.flags 2 == 2) then Zero else Hole
+
+-- a request that asks for a write command, and that command
 abbrev pub is_write : Message → Bool
-is_write request = request.head.kind == 1
+is_write request = is_write_type request.head.kind
 
 abbrev pub command_of : Message → Change
-command_of request = Written (request.head.offset / 4096) request.bytes
+command_of request =
+    if request.head.kind == 1 then Written (request.head.offset / 4096) request.bytes
+    else Cleared (request.head.offset / 4096) (request.head.length / 4096) (cleared_as request.head)
 
 abbrev pub is_flush : Message → Bool
 is_flush request = request.head.kind == 3

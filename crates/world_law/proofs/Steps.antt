@@ -20,7 +20,7 @@ use Rattle.nbd_wire.specs.declared.message.Answer.TheVariants.{Done, Refused, By
 use Rattle.world.specs.declared.step.Step.{Step}
 use Rattle.world.specs.declared.step.Step.TheVariants as steps
 use Rattle.image_model.specs.Bodies.{bodies_bytes, body_limit, longest}
-use Rattle.world.specs.Log.{command_of, is_write, is_flush, waits_for_store, IsAnswered}
+use Rattle.world.specs.Log.{command_of, is_write, is_write_type, is_flush, waits_for_store, IsAnswered}
 use Rattle.world.specs.Serve.{Failure, Nothing, OutOfMemory, DeviceFailure, logged, held, moved, ready, ordered, state_after, accepted, write_served, passed, judged, serve, answer}
 use Rattle.world.specs.Checkpoint.{can_rotate, can_copy, can_map, can_finish, can_clean, is_full, rotated, finished}
 use Rattle.world.specs.Step.{staged, send, sealed_more, seal, put_back, faulted, written, stored_more, append, publish, in_time, with_generation, without_memory, clean, after_step}
@@ -79,14 +79,14 @@ passes disc unknown flagged false flush context unaligned long beyond other errn
     let h = past beyond (Err errno) _ (Ok Serve) g.1 (err_unlike errno) in
     (past other (Err Invalid) _ (Ok Serve) h.1 (err_unlike Invalid)).0
 
--- a request that passes judgement and isn't a FLUSH is a WRITE
+-- a request that passes judgement and isn't a FLUSH asks for a write command
 pub passes_write : (head : RequestHead) (geometry : Geometry) (flags : SessionFlags) → verdict head geometry flags ≡ Ok Serve
-    → (head.kind == 3) ≡ false → (head.kind == 1) ≡ true
-passes_write head geometry flags is no_flush = not-false (head.kind == 1)
+    → (head.kind == 3) ≡ false → is_write_type head.kind ≡ true
+passes_write head geometry flags is no_flush = not-false (is_write_type head.kind)
     (passes (head.kind == 2) (not (is_known head.kind)) (not (bit_and head.flags (allowed_flags head.kind flags.structured) == head.flags))
     ((head.kind == 3) && (head.offset == 0) && (head.length == 0)) (head.kind == 3) ((head.kind == 7) && not (flags.structured && flags.context))
     (is_unaligned head) (((head.kind == 0) || (head.kind == 1)) && nat_lt 1048576 head.length) (nat_lt (4096 * geometry.blocks) (head.offset + head.length))
-    (not (head.kind == 1)) (past_end head.kind)
+    (not (is_write_type head.kind)) (past_end head.kind)
     (λ all. (and_parts (head.kind == 3) (head.offset == 0) (and_parts ((head.kind == 3) && (head.offset == 0)) (head.length == 0) all).0).0)
     is no_flush)
 

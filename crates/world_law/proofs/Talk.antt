@@ -11,7 +11,7 @@ use Rattle.world.specs.declared.connection.Connection.TheVariants.{Idle, Request
 use Rattle.world.specs.declared.event.Event.TheVariants.{Sent, Answered}
 use Rattle.nbd_wire.specs.declared.message.Answer.{Answer}
 use Rattle.nbd_wire.specs.declared.message.Answer.TheVariants.{Done, Refused}
-use Rattle.world.specs.Log.{StandsAt, is_write, is_flush, waits_for_store}
+use Rattle.world.specs.Log.{StandsAt, is_write, is_write_type, is_flush, waits_for_store}
 use Rattle.world.specs.Serve.{logged, moved, answered}
 use Rattle.world.specs.World.{World, put}
 use Rattle.world_law.proofs.Events.{IsLast, get_split, get_last}
@@ -135,8 +135,11 @@ cases_side a b unlike = by_case (cases_lt a b)
 pub flush_no_write : (request : Message) → is_flush request ≡ true → is_write request ≡ true → ⊥
 flush_no_write request flush write =
     let three = eqb-true request.head.kind 3 flush in
-    let one = eqb-true request.head.kind 1 write in
-    omega (arith, three, one)
+    let others = subst (λ (kind : ℕ). is_write_type kind ≡ true) three write in
+    unlike others
+  where
+    unlike : is_write_type 3 ≡ true → ⊥
+    unlike is = cc
 
 -- the answers that the states of a connection lead to are ones that its request may have
 pub allowed_ready_done : (world : World) (c : ℕ) → (right : IsRight (facts_of world) c (world.places c) (Ready Done)) → IsAllowed world (world.places c) right.0 Done

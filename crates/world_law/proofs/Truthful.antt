@@ -19,7 +19,7 @@ use Rattle.nbd_wire.specs.declared.message.Answer.TheVariants.{Done, Refused}
 use Rattle.world.specs.declared.event.StepFault.TheVariants as fault
 use Rattle.world.specs.declared.step.Step.{Step}
 use Rattle.world.specs.declared.step.Step.TheVariants as steps
-use Rattle.world.specs.Log.{StandsAt, command_of, is_flush}
+use Rattle.world.specs.Log.{StandsAt, command_of, is_flush, is_write_type}
 use Rattle.world.specs.Run.{IsReached, Fresh, After}
 use Rattle.world.specs.Serve.{Failure, Nothing, OutOfMemory, DeviceFailure, logged, held, moved, ready, ordered, state_after, accepted, passed, judged, serve, answered, answer}
 use Rattle.world.specs.Checkpoint.{can_rotate, can_copy, can_map, can_finish, can_clean, is_full, rotated, finished}
@@ -116,7 +116,7 @@ verdict_unlike head geometry flags is =
     no_rule (head.kind == 2) (not (is_known head.kind)) (not (bit_and head.flags (allowed_flags head.kind flags.structured) == head.flags))
     ((head.kind == 3) && (head.offset == 0) && (head.length == 0)) (head.kind == 3) ((head.kind == 7) && not (flags.structured && flags.context))
     (is_unaligned head) (((head.kind == 0) || (head.kind == 1)) && nat_lt 1048576 head.length) (nat_lt (4096 * geometry.blocks) (head.offset + head.length))
-    (not (head.kind == 1)) (past_end head.kind) (past_unlike head.kind) is
+    (not (is_write_type head.kind)) (past_end head.kind) (past_unlike head.kind) is
 
 refused_inside : (errno : Errno) → Ready (Refused errno) ≡ Ready (Refused Io) → errno ≡ Io
 refused_inside errno is = cc

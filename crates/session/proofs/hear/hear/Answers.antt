@@ -26,6 +26,37 @@ returns-then-not-is_empty-clause-hearing g c =
     heard_then old old input input output output (heard_none old input output c.requires.said) c.take.new.session input (g.W.Write.contents c.take.new.output) (λ bytes. bytes ≡ []) (Ok c.in_ok-requests.requests) c.in_ok-requests.ensures.hearing
     (consumes_nothing input)
 
+pub returns-in_err-fill-clause-hearing : goal.returns-in_err-fill-clause-hearing
+returns-in_err-fill-clause-hearing g c =
+    let input = g.R.Read.remaining c.args.input.now in
+    let left = g.R.Read.remaining c.fill.new.input in
+    let output = g.W.Write.contents c.args.output.now in
+    let made = g.W.Write.contents c.take.new.output in
+    let old = c.args.session.now in
+    let now = c.take.new.session in
+    let new = c.fill.new.session in
+    let given = c.in_ok-requests.requests in
+    let zero : vec_len given ≡ 0 = search rules in
+    let none = items_none given zero in
+    let heard = went_on old now (λ bytes. bytes ≡ []) input input output made given c.in_ok-requests.ensures.hearing (consumes_nothing input) none (λ some. omega (arith, zero, some)) c.in_ok-requests.ensures.said in
+    let end = c.in_err-fill.field-0.0 in
+    as_error (λ (r : Result (Vec Message) End). Hearing old (Consumes input left) output made r new) end c.from_residual-in_err-fill.result c.from_residual-in_err-fill.ensures.1
+    (heard_then old now input input output made heard new left made (Consumes input left) (Err end) (c.in_err-fill.ensures.hearing made given none) (λ bytes read. read))
+
+pub returns-then-room-len-clause-hearing : goal.returns-then-room-len-clause-hearing
+returns-then-room-len-clause-hearing g c =
+    let input = g.R.Read.remaining c.args.input.now in
+    let left = g.R.Read.remaining c.fill.new.input in
+    let output = g.W.Write.contents c.args.output.now in
+    let made = g.W.Write.contents c.take.new.output in
+    let old = c.args.session.now in
+    let now = c.take.new.session in
+    let given = c.in_ok-requests.requests in
+    let zero : vec_len given ≡ 0 = search rules in
+    let none = items_none given zero in
+    let heard = went_on old now (λ bytes. bytes ≡ []) input input output made given c.in_ok-requests.ensures.hearing (consumes_nothing input) none (λ some. omega (arith, zero, some)) c.in_ok-requests.ensures.said in
+    heard_then old now input input output made heard c.fill.new.session left made (Consumes input left) (Ok given) (c.in_ok-fill.ensures.hearing made given none) (λ bytes read. read)
+
 pub returns-in_err-count-clause-hearing : goal.returns-in_err-count-clause-hearing
 returns-in_err-count-clause-hearing g c =
     let input = g.R.Read.remaining c.args.input.now in

@@ -1,0 +1,35 @@
+-- What is read straight into the room of a request's data.
+use Rattle.std.proofs.Common.{ℕ, List, [], Option, refl, ap}
+use Rattle.std.specs.Option.{option_map}
+use Rattle.nbd_wire.specs.Stream.{Fills as FillsReader, Reader}
+use Rattle.nbd_wire.specs.declared.message.SessionFlags.{SessionFlags}
+use Rattle.negotiation.specs.Dialog.{Standing, in_requests}
+use Rattle.negotiation.specs.Ends.{end_for}
+use Rattle.negotiation.specs.Session.{Fills, HandsNone}
+use Rattle.negotiation.proofs.Dialogs.{session_at}
+use Rattle.negotiation.proofs.Requests.{hands_none}
+use Rattle.negotiation.proofs.Sessions.{fed_behind}
+
+pub hands_filled : (old new : Reader) (input left : Option (List ℕ)) (count : ℕ) → FillsReader old input left count new → HandsNone (in_requests old) input left count (in_requests new)
+hands_filled old new input left count fills = record {
+  piece = fills.piece;
+  len = fills.len;
+  read = fills.read;
+  hands = hands_none old new fills.piece [] fills.feeds refl;
+  was = tt;
+  said = tt;
+  going = ap (option_map end_for) fills.going;
+  end = fills.end;
+}
+
+pub fills_session : (size : ℕ) (flags : SessionFlags) (old new : Standing) (input left : Option (List ℕ)) (count : ℕ) → HandsNone old input left count new → Fills (session_at size flags old) input left count (session_at size flags new)
+fills_session size flags old new input left count fills = record {
+  piece = fills.piece;
+  len = fills.len;
+  read = fills.read;
+  feeds = fed_behind size flags old new [] [] fills.piece [] fills.was refl fills.hands;
+  size = refl;
+  said = fills.said;
+  going = fills.going;
+  end = fills.end;
+}

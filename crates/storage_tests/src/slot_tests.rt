@@ -1,0 +1,93 @@
+//! Headers by hand, written to a simulated device, changed and read again.
+use disk_model::{DeviceFault, Disk, SimDisk};
+use header_slots::{
+    Areas, Header, HeaderChange, HeaderFault, change_header, fill_slot, open_gate, read_current,
+};
+use image_model::{Geometry, Side};
+use std::process::Abort;
+use std::test::Fail;
+
+// Slot 0 of a device of 16 blocks once it was made, and in its third generation.
+const FRESH: [u8; 40] = [
+    1, 0x4e, 0x42, 0x44, 0x4a, 0x52, 0x4e, 0x4c, 0x31, 0, 0, 0, 0, 0, 0, 0, 1, 0, 0, 0, 0, 0, 0, 0,
+    16, 0, 0x20, 0, 0, 0, 0, 0, 0, 0, 0, 0, 0, 0, 0, 0,
+];
+
+const THIRD: [u8; 40] = [
+    1, 0x4e, 0x42, 0x44, 0x4a, 0x52, 0x4e, 0x4c, 0x31, 0, 0, 0, 0, 0, 0, 0, 3, 0, 0, 0, 0, 0, 0, 0,
+    16, 0, 0x20, 0, 0, 0, 1, 1, 0, 0, 0, 0, 0, 0, 0, 1,
+];
+
+// The first 40 bytes of slot 0.
+fn slot_zero(rt: &impl Abort, disk: &mut SimDisk) -> Result<[u8; 40], DeviceFault> {
+    assert!(rt; disk.size() == 4_276_224);
+    let mut bytes = [0; 40];
+    disk.read(0, &mut bytes)?;
+    Ok(bytes)
+}
+
+fn put(rt: &impl Abort, disk: &mut SimDisk, header: &Header) -> Result<(), DeviceFault> {
+    assert!(rt; disk.size() == 4_276_224);
+    fill_slot(disk, Side::Zero, header)?;
+    open_gate(disk, Side::Zero)
+}
+
+// Puts the next header in the place of the one in this slot, and answers which is in force then.
+fn replaced(
+    rt: &impl Abort,
+    disk: &mut SimDisk,
+    slot: Side,
+    header: &Header,
+) -> Result<(Header, Side), HeaderFault> {
+    assert!(rt; disk.size() == 4_276_224);
+    change_header(disk, slot, header)?;
+    read_current(disk)
+}
+
+// A header of a device of 16 blocks.
+fn header(geometry: Geometry, generation: u64, areas: Areas, side: Side, base: u64) -> Header {
+    Header {
+        generation,
+        geometry,
+        areas,
+        first_area: side,
+        map_slot: side,
+        base,
+    }
+}
+
+#[test]
+fn headers_of_three_generations(rt: HostRuntime) -> Result<(), Fail> {
+    let geometry = Geometry::new(16, 2_097_152).expect(&rt, "sizes within their limits");
+    let mut disk = SimDisk::new(rt.alloc(), 4_276_224)?;
+    assert_eq!(rt; read_current(&mut disk), Err(HeaderFault::NoHeader));
+    let fresh = header(geometry, 1, Areas::One, Side::Zero, 0);
+    assert_eq!(rt; put(&rt, &mut disk, &fresh), Ok(()));
+    assert_eq!(rt; slot_zero(&rt, &mut disk), Ok(FRESH));
+    assert_eq!(rt; read_current(&mut disk), Ok((fresh, Side::Zero)));
+    let second = header(geometry, 2, Areas::Two, Side::Zero, 0);
+    let in_force = replaced(&rt, &mut disk, Side::Zero, &second);
+    assert_eq!(rt; in_force, Ok((second, Side::One)));
+    assert_eq!(rt; slot_zero(&rt, &mut disk), Ok(FRESH));
+    let third = header(geometry, 3, Areas::One, Side::One, 1);
+    let in_force = replaced(&rt, &mut disk, Side::One, &third);
+    assert_eq!(rt; in_force, Ok((third, Side::Zero)));
+    assert_eq!(rt; slot_zero(&rt, &mut disk), Ok(THIRD));
+    Ok(())
+}
+
+#[test]
+fn next_header_is_one_generation_on(rt: HostRuntime) {
+    let geometry = Geometry::new(16, 2_097_152).expect(&rt, "sizes within their limits");
+    let change = HeaderChange {
+        areas: Areas::Two,
+        first_area: Side::Zero,
+        map_slot: Side::Zero,
+        base: 0,
+    };
+    let fresh = header(geometry, 1, Areas::One, Side::Zero, 0);
+    let second = header(geometry, 2, Areas::Two, Side::Zero, 0);
+    assert_eq!(rt; fresh.next(&change), Some(second));
+    let last = header(geometry, u64::MAX, Areas::One, Side::Zero, 0);
+    assert_eq!(rt; last.next(&change), None);
+}
