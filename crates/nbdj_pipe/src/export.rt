@@ -132,7 +132,6 @@ impl<D: Disk> Export<D> {
             (Trusts trusted (D.honest self.new.keeper.disk)) (D.state self.old.keeper.disk) (D.state self.new.keeper.disk)
             × MatchResult result (λ done. IsDone world (after_step world step failure)) (λ refusal. HasCause refusal world (after_step world step failure)) }
     {
-        schedule_law();
         let event = self.store_step(step);
         turned(&event)
     }
@@ -174,7 +173,6 @@ impl<D: Disk> Export<D> {
             × MatchResult result (λ done. OrStopped HasCopiedAll world next) (λ refusal. HasCause refusal world next) }
     {
         leads_law::<D>();
-        schedule_law();
         loop {
             match self.copy_some() {
                 Ok(_) => {}
