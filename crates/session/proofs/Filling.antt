@@ -1,13 +1,13 @@
 -- What is heard of bytes that are read straight into the room of a request's data.
-use Rattle.std.proofs.Common.{◌≡◌, ℕ, ◌<◌, List, [], ◌++◌, Option, Some, None, Result, Ok, Err, inl, inr, refl, sym, subst, ◌∙◌, arith}
+use Rattle.std.proofs.Common.{◌≡◌, ℕ, ◌<◌, List, [], ◌++◌, Option, Result, Ok, Err, refl, sym, subst, arith}
 use Rattle.std.specs.Global.{Vec}
 use Rattle.std.specs.Io.KnownBytes.{Consumes, Keeps}
 use Rattle.std.specs.Prelude.{IsErrAnd}
 use Rattle.nbd_wire.specs.Request.{Message}
 use Rattle.negotiation.specs.Dialog.{Standing, broken, ended, exhausted, in_discard, in_flags, in_head, in_option, in_requests, silent}
-use Rattle.negotiation.specs.Session.{Fills, IsSaid, SessionState, end_of, room_of}
+use Rattle.negotiation.specs.Session.{IsSaid, SessionState, room_of}
 use Rattle.negotiation.specs.declared.end.End.{End}
-use Rattle.negotiation.specs.declared.end.End.TheVariants.{IoFault, NoMemory, PeerClosed}
+use Rattle.negotiation.specs.declared.end.End.TheVariants.{IoFault}
 use Rattle.negotiation.proofs.Dialogs.{hears_none}
 use Rattle.byte_streams.proofs.Bytes.{appends_none}
 use Rattle.session.specs.Hearing.{Hearing, Tells, as_outcome}

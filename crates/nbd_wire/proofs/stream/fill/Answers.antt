@@ -1,4 +1,4 @@
-use Rattle.std.proofs.Common.{◌≡◌, ◌<◌, ◌-◌, length, subst, arith}
+use Rattle.std.proofs.Common.{◌<◌, ◌-◌, length, subst, arith}
 use Rattle.std.proofs.lemmas.Result.{IfOk-weaker}
 use Rattle.nbd_wire.specs.declared.stream.State.{State}
 use Rattle.nbd_wire.specs.State.{kept}

@@ -1,4 +1,4 @@
-use Rattle.std.proofs.Common.{◌≡◌, ◌<◌, ◌≤◌, ◌+◌, List, ℕ, ◌++◌, length, length-take, take, refl, rules, arith, ◌∙◌}
+use Rattle.std.proofs.Common.{◌≡◌, ◌<◌, ◌≤◌, ◌+◌, List, ℕ, ◌++◌, length, length-take, take, rules, arith, ◌∙◌}
 use Rattle.std.specs.Prelude.{◌-◌, replicate, vec_len}
 use Rattle.nbd_wire.proofs.Filling.{cut_behind, kept_front}
 use Rattle.nbd_wire.proofs.stream.read_behind.Goals as goal
