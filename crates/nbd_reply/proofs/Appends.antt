@@ -15,11 +15,6 @@ pub in_two : (out a b one two first last : List ℕ) → one ≡ out ++ a → a 
 in_two out a b one two first last p p' q q' =
     q ∙ ap (λ (t : List ℕ). t ++ b) p ∙ append_assoc out a b ∙ (λ i. out ++ (p' i ++ q' i))
 
--- a text that was appended by a call that may fail
-pub appended : {E : Type 0} (r : Result (Unit {0}) E) (out new bytes text : List ℕ) → new ≡ (if is_ok r then out ++ bytes else out) → bytes ≡ text → OnOk r (new ≡ out ++ text)
-appended (Ok done) out new bytes text made same = made ∙ ap (λ (t : List ℕ). out ++ t) same
-appended (Err error) out new bytes text made same = tt
-
 pub on_err : {T E : Type 0} (r : Result T E) (P : Type 0) → P → OnErr r P
 on_err (Ok x) P p = tt
 on_err (Err e) P p = p

@@ -168,24 +168,28 @@ fn encode_plain(reply: &Reply, out: &mut Vec<u8>) -> Result<(), AllocError>
         < vec_len out.old + length (simple_text reply.now.cookie reply.now.answer)) }
 {
     match &reply.answer {
-        Answer::Done => out.extend_from_slice(&encode_simple(0, reply.cookie)),
-        Answer::Refused(errno) => {
-            out.extend_from_slice(&encode_simple(errno.number(), reply.cookie))
-        }
-        Answer::Bytes(read) => append_read(out, reply.cookie, read),
+        Answer::Done => encode_simple_reply(0, reply.cookie, &[], out),
+        Answer::Refused(errno) => encode_simple_reply(errno.number(), reply.cookie, &[], out),
+        Answer::Bytes(read) => encode_simple_reply(0, reply.cookie, read.bytes(), out),
         Answer::States(_) => unreachable!(),
     }
 }
 
-// The simple reply to a READ that succeeded.
-fn append_read(out: &mut Vec<u8>, cookie: u64, read: &ReadBytes) -> Result<(), AllocError>
-    ensures ok { OnOk result (out.new.items ≡ out.old.items ++ simple_reply 0 cookie read.now.bytes) }
+/// Appends the simple reply with this error, 0 for none, and the bytes of a READ that succeeded.
+pub fn encode_simple_reply(
+    error: u32,
+    cookie: u64,
+    bytes: &[u8],
+    out: &mut Vec<u8>,
+) -> Result<(), AllocError>
+    ensures ok { OnOk result (out.new.items ≡ out.old.items ++ simple_reply error cookie bytes.now) }
+
+    // It fails only where there is no room for the reply.
     ensures err { OnErr result (out.new.items ≡ out.old.items) }
-    ensures full { OnErr result (vec_capacity out.old < vec_len out.old + length (simple_reply 0 cookie read.now.bytes)) }
+    ensures full { OnErr result (vec_capacity out.old < vec_len out.old + length (simple_reply error cookie bytes.now)) }
 {
-    let bytes = read.bytes();
     out.reserve(SIMPLE_LEN + bytes.len())?;
-    put(out, &encode_simple(0, cookie));
+    put(out, &encode_simple(error, cookie));
     put(out, bytes);
     Ok(())
 }

@@ -25,7 +25,7 @@ use Rattle.world.specs.declared.step.Step.TheVariants as steps
 use Rattle.world.specs.Checkpoint.{can_clean, can_copy, can_finish, can_map, can_rotate, finished, is_full, is_turned, last_turned, rotated}
 use Rattle.world.specs.Log.{cleared_as, command_of}
 use Rattle.world.specs.Run.{IsReached, IsRun}
-use Rattle.world.specs.Serve.{Failure, Nothing, OutOfMemory, DeviceFailure}
+use Rattle.world.specs.Serve.{Failure, Nothing, OutOfMemory, DeviceFailure, Misread}
 use Rattle.world.specs.Step.{after_step, clean, copy_block, finish, in_time, rotate, seal, sealed_more, with_generation, without_memory, write_map, written}
 use Rattle.world.specs.World.{Setting, Stage, World, dirty_behind, has_room, last_number}
 use Rattle.world_law.specs.Law.{Grows, IsRising, IsWithin}
@@ -111,6 +111,7 @@ module _ (world : World) (event : Event) where
   ends_written OutOfMemory is_time stage now = λ log fine. absurd (fine.0 (sym (last_same world.log (Failed fault.NoMemory) event log)))
   ends_written Nothing is_time stage now = λ log fine. inr (inl (now, sym (last_same world.log Took event log), refl))
   ends_written DeviceFailure is_time stage now = λ log fine. inl refl
+  ends_written (Misread image) is_time stage now = λ log fine. inr (inl (now, sym (last_same world.log Took event log), refl))
 
   ends_header : (is_time : Bool) (stage : Stage) (next : World) → Ends is_time stage next → Ends is_time stage (with_generation world next)
   ends_header is_time stage next is = of_test (Ends is_time stage) (is_full world.stage) _ _ (λ full log fine. absurd (fine.1 (sym (last_same world.log (Failed fault.NumbersFull) event log)))) (λ left. is)
@@ -374,6 +375,7 @@ empty_takes world failure empty level = of_test (λ (w : World). HasFullArea w �
     more OutOfMemory full = none full.hand
     more Nothing full = too_large full.full
     more DeviceFailure full = too_large full.full
+    more (Misread image) full = too_large full.full
 
 -- a write of so many blocks makes so many dirty at most
 len_with : (dirty : Dirty) (number first count : ℕ) → len (with_blocks dirty number first count) ≤ len dirty + count
@@ -419,6 +421,6 @@ emptied_has_room first world request within emptied durable few frames lacks = b
         omega (arith, own, blocks, none_dirty, emptied.clean, frames)
 
 -- what a request is judged to be stays so as long as the device isn't opened again
-pub judged_as : (request : Message) (outcome : Result (Unit {0}) Refusal) (old new : Setting) (state : Connection) → new ≡ old → OnOk outcome (IsJudged (verdict_on request.head new.geometry new.flags) state)
-    → OnOk outcome (IsJudged (verdict_on request.head old.geometry old.flags) state)
-judged_as request outcome old new state same = subst (λ (s : Setting). OnOk outcome (IsJudged (verdict_on request.head s.geometry s.flags) state)) same
+pub judged_as : (request : Message) (outcome : Result (Unit {0}) Refusal) (old new : Setting) (state : Connection) → new ≡ old → OnOk outcome (IsJudged request.head (verdict_on request.head new.geometry new.flags) state)
+    → OnOk outcome (IsJudged request.head (verdict_on request.head old.geometry old.flags) state)
+judged_as request outcome old new state same = subst (λ (s : Setting). OnOk outcome (IsJudged request.head (verdict_on request.head s.geometry s.flags) state)) same

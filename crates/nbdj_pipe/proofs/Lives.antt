@@ -16,9 +16,11 @@ use Rattle.nbd_wire.specs.declared.error.Errno.TheVariants.{Io}
 use Rattle.nbd_wire.specs.declared.message.Answer.TheVariants.{Refused}
 use Rattle.nbd_wire.specs.declared.message.SessionFlags.{SessionFlags}
 use Rattle.order_book.specs.Order.{OrderState, new_order}
+use Rattle.order_book.specs.Shown.{ShowsImage}
 use Rattle.request_core.specs.Bench.{ConnectionsState, new_connections}
 use Rattle.request_core.specs.Life.{LeadsLaw, Trusts, first_world}
 use Rattle.request_core.specs.Parts.{IsExportOf, StandsAfter}
+use Rattle.world.specs.Fits.{ReadsFit}
 use Rattle.world.specs.Log.{StandsAt}
 use Rattle.world.specs.Run.{IsReached, Fresh}
 use Rattle.world.specs.World.{Setting, World}
@@ -78,13 +80,17 @@ starved_opening state keeper before found opening =
     }
 
 module _ {D : Type 0} (state : D → State) (faults : D → ℕ) (honest : D → Type 0) (law : LeadsLaw state faults honest) (truth : (world : World) → IsReached world → TellsTruth world) (within : (world : World) → IsReached world → IsWithin world)
+    (fits_law : (world : World) → IsReached world → world.stage.setting.trusted ≡ true → ReadsFit world.log world.stage.order world.paired world.shown world.stage.setting.image)
     (fresh_law : (trusted : Bool) (keeper : KeeperState D) (found : Image) (states : List Kind) (frames connections : ℕ) (flags : SessionFlags) (mode : Mode) → IsRecovered keeper → length states ≡ keeper.geometry.blocks → keeper.count < 18446744073709551616
     → (Trusts trusted (honest keeper.disk) → Keeps keeper (state keeper.disk) found keeper.count)
-    → IsExportOf (first_world keeper found (faults keeper.disk) frames connections flags mode) (new_order states keeper.count frames keeper.geometry.area)
+    → (Trusts trusted (honest keeper.disk) → ShowsImage found (new_order states keeper.count frames keeper.geometry.area).cache) → (trusted ≡ true → honest keeper.disk)
+    → IsExportOf (first_world trusted keeper found (faults keeper.disk) frames connections flags mode) (new_order states keeper.count frames keeper.geometry.area)
     keeper (faults keeper.disk) (new_connections connections flags mode) (Trusts trusted (honest keeper.disk)) (state keeper.disk))
     (start : D) (keeper keeper' keeper'' : KeeperState D) (order' order'' : OrderState) (connections' connections'' : ConnectionsState) (frames : ℕ) (enough : 512 ≤ frames) (mode : Mode)
     (states : List Kind) (recovered : IsRecovered keeper) (blocks : length states ≡ keeper.geometry.blocks) (few : keeper.count < 18446744073709551616) (count_same : faults keeper.disk ≡ faults start)
     (found : honest start → (content : List ℕ) × IsOpening (state start) state (Ok keeper) content)
+    (shows_of : (image : Image) → Keeps keeper (state keeper.disk) image keeper.count → ShowsImage image (new_order states keeper.count frames keeper.geometry.area).cache)
+    (opened_on : honest start → honest keeper.disk)
     (back : honest keeper''.disk → honest keeper'.disk) (on : honest start → honest keeper''.disk)
     (end outcome : Result (Unit {0}) Refusal) (exchanges : List Exchange) (last : Option Message)
     (runs : Runs state faults honest (new_order states keeper.count frames keeper.geometry.area) keeper (new_connections 1 plain mode) order' keeper' connections' exchanges last end)
@@ -105,7 +111,7 @@ module _ {D : Type 0} (state : D → State) (faults : D → ℕ) (honest : D →
   trusts_of false is given = cc
 
   found_of : (trusted : Bool) (given : trusted ≡ true → honest start) → trusted ≡ true
-      → IsFound ((first_world keeper (image_of trusted given) (faults keeper.disk) frames 1 plain mode).stage.setting) (state start) (state keeper.disk)
+      → IsFound ((first_world trusted keeper (image_of trusted given) (faults keeper.disk) frames 1 plain mode).stage.setting) (state start) (state keeper.disk)
   found_of true given is =
       let (content, opening) = found (given refl) in
       let (image, stands, keeps, base) = opening.outcome in
@@ -121,12 +127,13 @@ module _ {D : Type 0} (state : D → State) (faults : D → ℕ) (honest : D →
     image = image_of trusted given
 
     abbrev first : World
-    first = first_world keeper image (faults keeper.disk) frames 1 plain mode
+    first = first_world trusted keeper image (faults keeper.disk) frames 1 plain mode
 
     begun : (next : World) × HasTalked first next exchanges last × Follows first next (talk_to exchanges last) order' keeper' (faults keeper'.disk) connections' (Trusts trusted (honest keeper'.disk)) (state keeper.disk) (state keeper'.disk)
         × IfErr end (λ refusal. HasCause refusal first next)
     begun =
-        runs first trusted (fresh_law trusted keeper image states frames 1 plain mode recovered blocks few (keeps_of trusted given)) (record { idle = refl; flags = refl; frames = enough })
+        runs first trusted (fresh_law trusted keeper image states frames 1 plain mode recovered blocks few (keeps_of trusted given)
+        (λ is. shows_of image (keeps_of trusted given is)) (λ is. opened_on (given is))) (record { idle = refl; flags = refl; frames = enough })
 
     abbrev mid : World
     mid = begun.0
@@ -208,6 +215,8 @@ module _ {D : Type 0} (state : D → State) (faults : D → ℕ) (honest : D →
       quiet = λ is. none_since (works_on is);
       broken = λ is. settled_stage (broken_on is);
       cause = shown settled.2;
+      shows = λ is. subst (ReadsFit next.log next.stage.order next.paired next.shown) (ap (λ (s : Setting). s.image) whole.setting)
+          (fits_law next whole.leads.of_export.reached (ap (λ (s : Setting). s.trusted) whole.setting ∙ is));
       found = found_of trusted given;
       leaves = all_reached;
       durable = λ is. law.durable first next trusted whole.steps order'' keeper'' connections'' keeper.disk (Fresh first.stage.setting) whole.leads (trusts_of trusted is given);

@@ -1,5 +1,5 @@
 -- how steps of an export follow one another
-use Rattle.std.proofs.Common.{◌≡◌, ◌⊎◌, inl, inr, ℕ, ◌+◌, ◌*◌, ◌<◌, ◌==◌, ◌&&◌, ◌||◌, not, bit_and, Bool, true, false, if◌then◌else◌, nat_le, nat_lt, Option, Some, None, Result, Ok, Err, IfOk, IsErrAnd, List, [], ◌∷◌, ◌++◌, append_assoc, append-nil, length, sym, ◌∙◌, ap, subst, refl}
+use Rattle.std.proofs.Common.{◌≡◌, ◌⊎◌, inl, inr, ℕ, zero, suc, ◌+◌, ◌*◌, ◌<◌, ◌==◌, ◌&&◌, ◌||◌, not, bit_and, Bool, true, false, if◌then◌else◌, nat_le, nat_lt, Option, Some, None, Result, Ok, Err, IfOk, IsErrAnd, List, [], ◌∷◌, ◌++◌, append_assoc, append-nil, length, sym, ◌∙◌, ap, subst, refl}
 use Rattle.device_image.specs.Keeper.{KeeperState}
 use Rattle.disk_model.specs.Disk.{State}
 use Rattle.nbd_wire.specs.Request.{Message}
@@ -9,9 +9,11 @@ use Rattle.nbd_wire.specs.declared.head.RequestHead.{RequestHead}
 use Rattle.nbd_wire.specs.declared.message.SessionFlags.{SessionFlags}
 use Rattle.image_model.specs.declared.geometry.Geometry.{Geometry}
 use Rattle.world.specs.Verdict.{allowed_flags, first_of_rules, is_known, is_unaligned, past_end}
-use Rattle.std.proofs.lemmas.Bool.{eqb-true, leb-false}
+use Rattle.std.proofs.lemmas.Bool.{both_ways, eqb-false, eqb-true, leb-false}
 use Rattle.nbd_wire.specs.declared.message.Answer.{Answer}
-use Rattle.nbd_wire.specs.declared.message.Answer.TheVariants.{Done, Refused}
+use Rattle.nbd_wire.specs.declared.message.Answer.TheVariants.{Done, Refused, States}
+use Rattle.nbd_wire.specs.declared.message.Run.{Run}
+use Rattle.image_model.specs.Image.{Image}
 use Rattle.order_book.specs.Order.{OrderState}
 use Rattle.request_core.specs.Bench.{ConnectionsState}
 use Rattle.request_core.specs.Life.{LeadsLaw, Trusts}
@@ -25,13 +27,14 @@ use Rattle.world.specs.declared.event.Event.TheVariants.{Sent, Answered, Numbere
 use Rattle.world.specs.declared.step.Step.{Step}
 use Rattle.world.specs.declared.step.Step.TheVariants as steps
 use Rattle.world.specs.declared.step.Step.TheVariants.{Send, Serve, Seal, Append, Publish, Rotate, Copy, Map, Finish, Clean}
-use Rattle.world.specs.Log.{command_of, is_flush, is_write_type}
-use Rattle.world.specs.Serve.{Failure, Nothing, OutOfMemory, DeviceFailure, accepted, answer, answered, held, judged, logged, moved, ordered, passed, ready, state_after}
+use Rattle.world.specs.Log.{command_of, is_flush, is_write}
+use Rattle.world.specs.Serve.{Failure, Nothing, OutOfMemory, DeviceFailure, Misread, accepted, answer, answered, held, image_shown, judged, logged, moved, ordered, passed, read_served, ready, shown, state_after, status_served}
+use Rattle.world.specs.Shown.{bytes_from, shown_by}
 use Rattle.world.specs.Step.{after_step, append, publish, seal, sealed_more, stored_more, clean, in_time, with_generation, without_memory, written}
 use Rattle.world.specs.World.{World, fits, has_room, last_number, put, Stage}
 use Rattle.nbdj_pipe.specs.Export.{AwaitsAnswer, Follows, IsGiven, IsJudged, IsStoring, HasAnswer, Settles, said_of, told_by}
 use Rattle.nbdj_pipe.specs.declared.refusal.Refusal.{Refusal}
-use Rattle.nbdj_pipe.specs.Talk.{plain, spoken, verdict_on}
+use Rattle.nbdj_pipe.specs.Talk.{IsAnswerOf, plain, spoken, verdict_on}
 use Rattle.world.specs.Checkpoint.{can_clean, can_copy, can_finish, can_map, can_rotate, is_full}
 
 pub spoken_on : (log more : List Event) → spoken (log ++ more) ≡ spoken log ++ spoken more
@@ -90,6 +93,21 @@ pub of_test : {X : Type 0} (P : X → Type 0) (test : Bool) (x y : X) → (test 
 of_test P true x y here there = here refl
 of_test P false x y here there = there refl
 
+length-bytes_from : (image : Image) (place count : ℕ) → length (bytes_from image place count) ≡ count
+unfolding bytes_from
+length-bytes_from image place zero = refl
+length-bytes_from image place (suc count) = ap suc (length-bytes_from image (place + 1) count)
+
+-- what an image shows is an answer of a READ, and of a BLOCK_STATUS
+shown_fits : (image : Image) (head : RequestHead) → (head.kind ≡ 0) ⊎ (head.kind ≡ 7) → IsAnswerOf head (shown_by image head)
+shown_fits image head kind = of_test (IsAnswerOf head) (head.kind == 0) _ _
+    (λ read. (eqb-true head.kind 0 read, refl, length-bytes_from image head.offset head.length))
+    (λ other. status kind (eqb-false head.kind 0 other))
+  where
+    status : (head.kind ≡ 0) ⊎ (head.kind ≡ 7) → (head.kind ≡ 0 → ⊥) → head.kind ≡ 7
+    status (inl read) other = absurd (other read)
+    status (inr is) other = is
+
 -- a step of order and keeper leaves the connections as they are
 module _ (world : World) where
   -- nothing is said by an event that neither sends nor answers
@@ -103,6 +121,7 @@ module _ (world : World) where
   still_sealed OutOfMemory = (refl, (_, refl, refl))
   still_sealed Nothing = (refl, (Took, refl, refl))
   still_sealed DeviceFailure = (refl, (Took, refl, refl))
+  still_sealed (Misread image) = (refl, (Took, refl, refl))
 
   still_seal : (failure : Failure) → IsStill (seal failure world)
   still_seal failure = of_test IsStill (nat_lt world.stage.sealed (length world.stage.order) && (world.stage.sealed == world.stage.durable)) _ _ (λ is. still_sealed failure) (λ is. still_held)
@@ -111,6 +130,7 @@ module _ (world : World) where
   still_stored OutOfMemory = (refl, (_, refl, refl))
   still_stored Nothing = (refl, (Took, refl, refl))
   still_stored DeviceFailure = (refl, (_, refl, refl))
+  still_stored (Misread image) = (refl, (Took, refl, refl))
 
   still_append : (failure : Failure) → IsStill (append failure world)
   still_append failure = of_test IsStill (nat_lt world.stage.stored world.stage.sealed) _ _
@@ -125,6 +145,7 @@ module _ (world : World) where
   still_written OutOfMemory stage = (refl, (_, refl, refl))
   still_written Nothing stage = (refl, (Took, refl, refl))
   still_written DeviceFailure stage = (refl, (_, refl, refl))
+  still_written (Misread image) stage = (refl, (Took, refl, refl))
 
   still_in_time : (is_time : Bool) (next : World) → IsStill next → IsStill (in_time is_time world next)
   still_in_time is_time next is = of_test IsStill world.stage.stopped _ _ (λ stopped. (refl, (_, refl, refl))) (λ works. of_test IsStill is_time _ _ (λ now. is) (λ late. still_held))
@@ -150,8 +171,8 @@ module _ (world : World) where
 
   -- what serving a request comes to: nothing, where there is no room for its command, or what the verdict on it says
   abbrev pub IsServedAs : Message → Result Action Errno → World → Type 0
-  IsServedAs request given next = ((next ≡ held world) × (given ≡ Ok Action.Serve) × (world.stage.stopped ≡ false) × (is_flush request ≡ false) × (has_room world (command_of request) ≡ false))
-      ⊎ (IsJudged given (next.connections 0) × ((event : Event) × (next.log ≡ world.log ++ event ∷ []) × (spoken (event ∷ []) ≡ []) × (event ≡ Held → ⊥)))
+  IsServedAs request given next = ((next ≡ held world) × (given ≡ Ok Action.Serve) × (world.stage.stopped ≡ false) × (is_write request ≡ true) × (has_room world (command_of request) ≡ false))
+      ⊎ (IsJudged request.head given (next.connections 0) × ((event : Event) × (next.log ≡ world.log ++ event ∷ []) × (spoken (event ∷ []) ≡ []) × (event ≡ Held → ⊥)))
 
   put_here : (state : Connection) → put world.connections 0 state 0 ≡ state
   put_here state = refl
@@ -162,46 +183,77 @@ module _ (world : World) where
   numbered_apart : (c number : ℕ) → Numbered c number ≡ Held → ⊥
   numbered_apart c number is = cc
 
-  served_waits : (request : Message) (waits : Bool) (number : ℕ) → IsServedAs request (Ok Action.Serve) (logged (moved (ordered world 0 request) 0 (state_after waits number)) (Numbered 0 number))
-  served_waits request true number = inr (tt, (Numbered 0 number, refl, refl, numbered_apart 0 number))
-  served_waits request false number = inr (inl refl, (Numbered 0 number, refl, refl, numbered_apart 0 number))
+  served_waits : (request : Message) (waits : Bool) (number : ℕ) → IsAnswerOf request.head Done
+      → IsServedAs request (Ok Action.Serve) (logged (moved (ordered world 0 request) 0 (state_after waits number)) (Numbered 0 number))
+  served_waits request true number done = inr (done, (Numbered 0 number, refl, refl, numbered_apart 0 number))
+  served_waits request false number done = inr (done, (Numbered 0 number, refl, refl, numbered_apart 0 number))
 
   served_refused : (request : Message) (errno : Errno) → IsServedAs request (Ok Action.Serve) (ready world 0 (Refused errno))
-  served_refused request errno = inr (inr (errno, refl), (Took, refl, refl, took_apart))
+  served_refused request errno = inr (tt, (Took, refl, refl, took_apart))
 
-  served_accepted : (failure : Failure) (request : Message) → IsServedAs request (Ok Action.Serve) (accepted failure world 0 request)
-  served_accepted OutOfMemory request = served_refused request NoMemory
-  served_accepted Nothing request = served_waits request _ _
-  served_accepted DeviceFailure request = served_waits request _ _
+  served_accepted : (failure : Failure) (request : Message) → IsAnswerOf request.head Done → IsServedAs request (Ok Action.Serve) (accepted failure world 0 request)
+  served_accepted OutOfMemory request done = served_refused request NoMemory
+  served_accepted Nothing request done = served_waits request _ _ done
+  served_accepted DeviceFailure request done = served_waits request _ _ done
+  served_accepted (Misread image) request done = served_waits request _ _ done
 
-  served_passed : (failure : Failure) (request : Message) → IsServedAs request (Ok Action.Serve) (passed failure world 0 request)
-  served_passed failure request =
+  served_shown : (image : Image) (request : Message) → (request.head.kind ≡ 0) ⊎ (request.head.kind ≡ 7) → IsServedAs request (Ok Action.Serve) (shown image world 0 request)
+  served_shown image request kind = inr (shown_fits image request.head kind, (Took, refl, refl, took_apart))
+
+  served_read : (failure : Failure) (request : Message) → request.head.kind ≡ 0 → IsServedAs request (Ok Action.Serve) (read_served failure world 0 request)
+  served_read OutOfMemory request kind = served_refused request NoMemory
+  served_read DeviceFailure request kind = inr (tt, (Took, refl, refl, took_apart))
+  served_read Nothing request kind = served_shown (image_shown Nothing world.stage) request (inl kind)
+  served_read (Misread image) request kind = served_shown (image_shown (Misread image) world.stage) request (inl kind)
+
+  served_status : (failure : Failure) (request : Message) → request.head.kind ≡ 7 → IsServedAs request (Ok Action.Serve) (status_served failure world 0 request)
+  served_status OutOfMemory request kind = served_refused request NoMemory
+  served_status Nothing request kind = served_shown (image_shown Nothing world.stage) request (inr kind)
+  served_status DeviceFailure request kind = served_shown (image_shown DeviceFailure world.stage) request (inr kind)
+  served_status (Misread image) request kind = served_shown (image_shown (Misread image) world.stage) request (inr kind)
+
+  served_flush : (request : Message) → request.head.kind ≡ 3 → IsServedAs request (Ok Action.Serve) (logged (moved world 0 (Waiting (last_number world))) Took)
+  served_flush request kind = inr ((λ read. unlike 0 (λ is. cc) read, λ status. unlike 7 (λ is. cc) status), (Took, refl, refl, took_apart))
+    where
+      unlike : (other : ℕ) → (3 ≡ other → ⊥) → request.head.kind ≡ other → ⊥
+      unlike other apart is = apart (sym kind ∙ is)
+
+  -- a request that asks for a write command where it is none of the others
+  abbrev pub AsksElse : Message → Type 0
+  AsksElse request = (request.head.kind == 3) ≡ false → (request.head.kind == 0) ≡ false → (request.head.kind == 7) ≡ false → is_write request ≡ true
+
+  served_passed : (failure : Failure) (request : Message) → AsksElse request → IsServedAs request (Ok Action.Serve) (passed failure world 0 request)
+  served_passed failure request writes =
       let Served : World → Type 0 = IsServedAs request (Ok Action.Serve) in
       of_test Served world.stage.stopped _ _ (λ stopped. served_refused request Io)
-      (λ works. of_test Served (is_flush request) _ _ (λ flush. inr (tt, (Took, refl, refl, took_apart)))
-      (λ other. of_test Served (last_number world == 18446744073709551615) _ _ (λ full. served_refused request NoSpace)
-      (λ left. of_test Served (has_room world (command_of request)) _ _ (λ room. served_accepted failure request) (λ none. inl (refl, refl, works, other, none)))))
+      (λ works. of_test Served (is_flush request) _ _ (λ flush. served_flush request (eqb-true request.head.kind 3 flush))
+      (λ other. of_test Served (request.head.kind == 0) _ _ (λ read. served_read failure request (eqb-true request.head.kind 0 read))
+      (λ no_read. of_test Served (request.head.kind == 7) _ _ (λ status. served_status failure request (eqb-true request.head.kind 7 status))
+      (λ no_status. of_test Served (last_number world == 18446744073709551615) _ _ (λ full. served_refused request NoSpace)
+      (λ left. of_test Served (has_room world (command_of request)) _ _
+      (λ room. served_accepted failure request (eqb-false request.head.kind 0 no_read, eqb-false request.head.kind 7 no_status))
+      (λ none. inl (refl, refl, works, writes other no_read no_status, none)))))))
 
-  pub served_as : (failure : Failure) (request : Message) (given : Result Action Errno) → IsServedAs request given (judged given failure world 0 request)
-  served_as failure request (Ok End) = inr (refl, (Took, refl, refl, took_apart))
-  served_as failure request (Ok Action.Serve) = served_passed failure request
-  served_as failure request (Err errno) = inr (refl, (Took, refl, refl, took_apart))
+  pub served_as : (failure : Failure) (request : Message) (given : Result Action Errno) → (given ≡ Ok Action.Serve → AsksElse request) → IsServedAs request given (judged given failure world 0 request)
+  served_as failure request (Ok End) writes = inr (refl, (Took, refl, refl, took_apart))
+  served_as failure request (Ok Action.Serve) writes = served_passed failure request (writes refl)
+  served_as failure request (Err errno) writes = inr (refl, (Took, refl, refl, took_apart))
 
   -- what answering comes to: nothing, where the number isn't durable, or the answer that is given
   abbrev pub IsAnsweredAs : Connection → World → Type 0
   IsAnsweredAs state next = ((next ≡ held world) × (world.stage.stopped ≡ false) × ((number : ℕ) × (state ≡ Waiting number) × (world.stage.setting.opening + world.stage.durable < number)))
       ⊎ ((given : Answer) × (next ≡ answered world 0 given) × IsGiven state given)
 
-  pub answered_as : (state : Connection) → AwaitsAnswer state → IsAnsweredAs state (answer world 0 state)
-  answered_as Idle awaits = absurd awaits
-  answered_as (Requested request) awaits = absurd awaits
-  answered_as (Waiting number) awaits =
+  pub answered_as : (head : RequestHead) (state : Connection) → AwaitsAnswer head state → IsAnsweredAs state (answer world 0 state)
+  answered_as head Idle awaits = absurd awaits
+  answered_as head (Requested request) awaits = absurd awaits
+  answered_as head (Waiting number) awaits =
       let durable = world.stage.setting.opening + world.stage.durable in
       of_test (IsAnsweredAs (Waiting number)) (nat_le number durable) _ _ (λ reached. inr (Done, refl, inl refl))
       (λ above. of_test (IsAnsweredAs (Waiting number)) world.stage.stopped _ _ (λ stopped. inr (Refused Io, refl, inr (Io, refl)))
       (λ works. inl (refl, works, (number, refl, leb-false number durable above))))
-  answered_as (Ready given) awaits = inr (given, refl, refl)
-  answered_as Closed awaits = absurd awaits
+  answered_as head (Ready given) awaits = inr (given, refl, refl)
+  answered_as head Closed awaits = absurd awaits
 
 -- an answer that is a refusal
 pub no_ok : {T E : Type 0} (Q : E → Type 0) (P : T → Type 0) (answer : Result T E) → IsErrAnd answer Q → IfOk answer P
@@ -221,10 +273,10 @@ said_err Q (Ok value) is = absurd is
 said_err Q (Err error) is = refl
 
 -- a request that isn't a DISC, once it is judged, awaits its answer
-pub judged_awaits : (given : Result Action Errno) (state : Connection) → IsJudged given state → (given ≡ Ok End → ⊥) → AwaitsAnswer state
-judged_awaits (Ok End) state is other = absurd (other refl)
-judged_awaits (Ok Action.Serve) state is other = is
-judged_awaits (Err errno) state is other = subst AwaitsAnswer (sym is) (inr (errno, refl))
+pub judged_awaits : (head : RequestHead) (given : Result Action Errno) (state : Connection) → IsJudged head given state → (given ≡ Ok End → ⊥) → AwaitsAnswer head state
+judged_awaits head (Ok End) state is other = absurd (other refl)
+judged_awaits head (Ok Action.Serve) state is other = is
+judged_awaits head (Err errno) state is other = subst (AwaitsAnswer head) (sym is) tt
 
 -- a rule that ends nothing leaves the rest
 past_error : (test : Bool) (errno : Errno) (rest : Result Action Errno) → (if test then Err errno else rest) ≡ Ok End → rest ≡ Ok End
@@ -238,14 +290,14 @@ past_served true rest is = absurd (apart is)
     apart is = cc
 past_served false rest is = is
 
-no_end : (disc unknown flagged empty flush context unaligned long beyond other : Bool) (errno : Errno) → disc ≡ false
+no_end : (disc unknown flagged empty flush context unaligned long beyond : Bool) (errno : Errno) → disc ≡ false
     → first_of_rules ((disc, Ok End) ∷ (unknown, Err Invalid) ∷ (flagged, Err Invalid) ∷ (empty, Ok Action.Serve) ∷ (flush, Err Invalid) ∷ (context, Err Invalid) ∷ [])
-    (first_of_rules ((unaligned, Err Invalid) ∷ (long, Err Invalid) ∷ (beyond, Err errno) ∷ (other, Err Invalid) ∷ []) (Ok Action.Serve)) ≡ Ok End → ⊥
-no_end true unknown flagged empty flush context unaligned long beyond other errno no_disc is = absurd (apart no_disc)
+    (first_of_rules ((unaligned, Err Invalid) ∷ (long, Err Invalid) ∷ (beyond, Err errno) ∷ []) (Ok Action.Serve)) ≡ Ok End → ⊥
+no_end true unknown flagged empty flush context unaligned long beyond errno no_disc is = absurd (apart no_disc)
   where
     apart : true ≡ false → ⊥
     apart is = cc
-no_end false unknown flagged empty flush context unaligned long beyond other errno no_disc is =
+no_end false unknown flagged empty flush context unaligned long beyond errno no_disc is =
     let b = past_error unknown Invalid _ is in
     let c = past_error flagged Invalid _ b in
     let d = past_served empty _ c in
@@ -253,8 +305,7 @@ no_end false unknown flagged empty flush context unaligned long beyond other err
     let f = past_error context Invalid _ e in
     let g = past_error unaligned Invalid _ f in
     let h = past_error long Invalid _ g in
-    let i = past_error beyond errno _ h in
-    serve_apart (past_error other Invalid _ i)
+    serve_apart (past_error beyond errno _ h)
   where
     serve_apart : (let result : Result Action Errno = Ok Action.Serve in result ≡ Ok End) → ⊥
     serve_apart is = cc
@@ -270,28 +321,59 @@ end_kind head geometry flags is = by_kind (head.kind == 2) refl
         absurd (no_end (head.kind == 2) (not (is_known head.kind)) (not (bit_and head.flags (allowed_flags head.kind flags.structured) == head.flags))
         ((head.kind == 3) && (head.offset == 0) && (head.length == 0)) (head.kind == 3) ((head.kind == 7) && not (flags.structured && flags.context))
         (is_unaligned head) (((head.kind == 0) || (head.kind == 1)) && nat_lt 1048576 head.length) (nat_lt (4096 * geometry.blocks) (head.offset + head.length))
-        (not (is_write_type head.kind)) (past_end head.kind) at is)
+        (past_end head.kind) at is)
+
+-- the rules of judgement refuse a request whose context wasn't agreed on
+no_context : (disc unknown flagged empty flush context : Bool) (rest : Result Action Errno) → disc ≡ false → empty ≡ false → context ≡ true
+    → first_of_rules ((disc, Ok End) ∷ (unknown, Err Invalid) ∷ (flagged, Err Invalid) ∷ (empty, Ok Action.Serve) ∷ (flush, Err Invalid) ∷ (context, Err Invalid) ∷ []) rest ≡ Err Invalid
+no_context disc unknown flagged empty flush context rest no_disc some none =
+    let Refuses : Result Action Errno → Type 0 = λ given. given ≡ Err Invalid in
+    of_test Refuses disc _ _ (λ is. absurd (both_ways disc no_disc is))
+    (λ a. of_test Refuses unknown _ _ (λ is. refl)
+    (λ b. of_test Refuses flagged _ _ (λ is. refl)
+    (λ d. of_test Refuses empty _ _ (λ is. absurd (both_ways empty some is))
+    (λ e. of_test Refuses flush _ _ (λ is. refl)
+    (λ f. of_test Refuses context _ _ (λ is. refl) (λ is. absurd (both_ways context is none)))))))
+
+-- so a BLOCK_STATUS is refused without a handshake
+plain_status : (head : RequestHead) (geometry : Geometry) → head.kind ≡ 7 → verdict_on head geometry plain ≡ Err Invalid
+unfolding verdict_on
+plain_status head geometry is =
+    no_context (head.kind == 2) (not (is_known head.kind)) (not (bit_and head.flags (allowed_flags head.kind false) == head.flags))
+    ((head.kind == 3) && (head.offset == 0) && (head.length == 0)) (head.kind == 3) ((head.kind == 7) && not (false && false)) _
+    (ap (λ (k : ℕ). k == 2) is) (ap (λ (k : ℕ). (k == 3) && (head.offset == 0) && (head.length == 0)) is) (ap (λ (k : ℕ). (k == 7) && not (false && false)) is)
 
 -- the answer that was given is one that the request may have
 pub has_answer : (world next : World) (request : Message) (given : Answer) (state : Connection) → (request.head.kind ≡ 2 → ⊥) → world.stage.setting.flags ≡ plain
-    → IsJudged (verdict_on request.head world.stage.setting.geometry world.stage.setting.flags) state → AwaitsAnswer state → IsGiven state given → next.connections 0 ≡ Idle
+    → IsJudged request.head (verdict_on request.head world.stage.setting.geometry world.stage.setting.flags) state → AwaitsAnswer request.head state → IsGiven state given → next.connections 0 ≡ Idle
     → HasAnswer world next request (Some given)
 has_answer world next request given state kind flags judged awaits fits idle = (
   record {
     no_disc = kind;
-    short = is_short state awaits fits;
-    judged = λ errno refused. is_error errno
-        (subst (λ (r : Result Action Errno). IsJudged r state) (ap (verdict_on request.head world.stage.setting.geometry) flags ∙ refused) judged);
+    fits = is_fit;
+    stateless = λ runs is. refused_unlike runs (sym (judged_error Invalid (plain_status request.head world.stage.setting.geometry (subst (IsAnswerOf request.head) is is_fit))) ∙ is);
+    judged = judged_error;
   },
   idle,
 )
   where
-    is_short : (state : Connection) → AwaitsAnswer state → IsGiven state given → (given ≡ Done) ⊎ ((errno : Errno) × (given ≡ Refused errno))
-    is_short Idle awaits fits = absurd awaits
-    is_short (Requested other) awaits fits = absurd awaits
-    is_short (Waiting number) awaits fits = fits
-    is_short (Ready own) awaits fits = subst (λ (a : Answer). (a ≡ Done) ⊎ ((errno : Errno) × (a ≡ Refused errno))) (sym fits) awaits
-    is_short Closed awaits fits = absurd awaits
+    fit : (state : Connection) → AwaitsAnswer request.head state → IsGiven state given → IsAnswerOf request.head given
+    fit Idle awaits fits = absurd awaits
+    fit (Requested other) awaits fits = absurd awaits
+    fit (Waiting number) awaits (inl done) = subst (IsAnswerOf request.head) (sym done) awaits
+    fit (Waiting number) awaits (inr (errno, refused)) = subst (IsAnswerOf request.head) (sym refused) tt
+    fit (Ready own) awaits fits = subst (IsAnswerOf request.head) (sym fits) awaits
+    fit Closed awaits fits = absurd awaits
+
+    is_fit : IsAnswerOf request.head given
+    is_fit = fit state awaits fits
 
     is_error : (errno : Errno) → state ≡ Ready (Refused errno) → given ≡ Refused errno
     is_error errno is = subst (λ (s : Connection). IsGiven s given) is fits
+
+    judged_error : (errno : Errno) → (let result : Result Action Errno = Err errno in verdict_on request.head world.stage.setting.geometry plain ≡ result) → given ≡ Refused errno
+    judged_error errno refused = is_error errno
+        (subst (λ (r : Result Action Errno). IsJudged request.head r state) (ap (verdict_on request.head world.stage.setting.geometry) flags ∙ refused) judged)
+
+    refused_unlike : (runs : List Run) → (let refused : Answer = Refused Invalid in refused ≡ States runs) → ⊥
+    refused_unlike runs is = cc

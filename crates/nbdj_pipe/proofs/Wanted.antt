@@ -6,7 +6,7 @@ use Rattle.world.specs.declared.event.StepFault.TheVariants as fault
 use Rattle.world.specs.declared.step.Step.{Step}
 use Rattle.world.specs.declared.step.Step.TheVariants.{Send, Serve, Answer, Seal, Append, Publish, Rotate, Copy, Map, Finish, Clean}
 use Rattle.world.specs.Checkpoint.{can_clean, can_copy, can_finish, can_map, can_rotate, finished, is_full, rotated}
-use Rattle.world.specs.Serve.{Failure, Nothing, OutOfMemory, DeviceFailure}
+use Rattle.world.specs.Serve.{Failure, Nothing, OutOfMemory, DeviceFailure, Misread}
 use Rattle.world.specs.Step.{after_step, append_in_hand, in_time, sealed_more, with_generation, without_memory, written}
 use Rattle.image_model.specs.Bodies.{bodies_bytes}
 use Rattle.world.specs.World.{Stage, World, fits, in_hand}
@@ -45,11 +45,13 @@ module _ (world : World) where
   by_written Nothing stage = took
   by_written OutOfMemory stage = starved
   by_written DeviceFailure stage = faulty
+  by_written (Misread image) stage = took
 
   by_seal : (failure : Failure) → Shows (sealed_more failure world)
   by_seal Nothing = took
   by_seal OutOfMemory = starved
   by_seal DeviceFailure = took
+  by_seal (Misread image) = took
 
   by_append : (failure : Failure) → Shows (append_in_hand failure world)
   by_append failure = of_test Shows world.stage.stopped _ _ (λ is. failed_before) (λ is. of_test Shows (fits world) _ _ (λ here. by_written failure (record world.stage { stored = world.stage.sealed; at = world.stage.at + 17 + bodies_bytes (in_hand world) })) (λ late. held_so))

@@ -3,7 +3,7 @@ use Rattle.std.specs.Prelude.{◌≡◌, ◌⊎◌, true, false, List, Ok}
 use Rattle.nbd_wire.specs.Request.{Message}
 use Rattle.world.specs.declared.action.Action.TheVariants.{Serve}
 use Rattle.world.specs.declared.step.Step.{Step}
-use Rattle.world.specs.Log.{command_of, is_flush}
+use Rattle.world.specs.Log.{command_of, is_write}
 use Rattle.world.specs.Run.{IsRun}
 use Rattle.world.specs.Checkpoint.{can_finish, can_rotate, is_full}
 use Rattle.world.specs.World.{World, has_room}
@@ -26,11 +26,11 @@ pub record HasNoGeneration (world : World) : Type 0 where
   pub wanted : (can_rotate world.stage ≡ true) ⊎ (can_finish world.stage ≡ true)
   pub full : is_full world.stage ≡ true
 
--- The device works, and there is no room for the command of this request, which passes judgement and isn't a FLUSH.
+-- The device works, and there is no room for the command of this request, which passes judgement and asks for one.
 pub record LacksRoom (world : World) (request : Message) : Type 0 where
   pub works : world.stage.stopped ≡ false
   pub judged : verdict_on request.head world.stage.setting.geometry world.stage.setting.flags ≡ Ok Serve
-  pub other : is_flush request ≡ false
+  pub write : is_write request ≡ true
   pub full : has_room world (command_of request) ≡ false
 
 -- What a run says of a refusal that ends its session: that a header was wanted and no generation is left for it. No area stays full, for no command is there

@@ -4,6 +4,7 @@ use Rattle.device_image.specs.Keeper.{KeeperState}
 use Rattle.disk_model.specs.Disk.{State}
 use Rattle.nbd_wire.specs.Request.{Message}
 use Rattle.nbd_wire.specs.declared.error.Errno.{Errno}
+use Rattle.nbd_wire.specs.declared.head.RequestHead.{RequestHead}
 use Rattle.nbd_wire.specs.declared.message.Answer.{Answer}
 use Rattle.nbd_wire.specs.declared.message.Answer.TheVariants.{Done, Refused}
 use Rattle.order_book.specs.Order.{OrderState}
@@ -23,7 +24,7 @@ use Rattle.world.specs.declared.event.StepFault.{StepFault}
 use Rattle.nbdj_pipe.specs.declared.refusal.Refusal.{Refusal}
 use Rattle.nbdj_pipe.specs.declared.refusal.Refusal.TheVariants.{NoMemory}
 use Rattle.nbdj_pipe.specs.Checkpoint.{IsUnfit}
-use Rattle.nbdj_pipe.specs.Talk.{IsAnswered, spoken}
+use Rattle.nbdj_pipe.specs.Talk.{IsAnswerOf, IsAnswered, spoken}
 
 -- Steps lead from one world to another, and this was said on the way.
 pub record Follows {D : Type 0} (world next : World) (said : List Event) (order : OrderState) (keeper : KeeperState D) (failures : ℕ) (connections : ConnectionsState)
@@ -82,20 +83,20 @@ IsStoring Map = Unit {0}
 IsStoring Finish = Unit {0}
 IsStoring Clean = Unit {0}
 
--- a state in which an answer is due, or may come to be due
-abbrev pub AwaitsAnswer : Connection → Type 0
-AwaitsAnswer Idle = ⊥
-AwaitsAnswer (Requested request) = ⊥
-AwaitsAnswer (Waiting number) = Unit {0}
-AwaitsAnswer (Ready answer) = (answer ≡ Done) ⊎ ((errno : Errno) × (answer ≡ Refused errno))
-AwaitsAnswer Closed = ⊥
+-- a state in which an answer to the request is due, or may come to be due
+abbrev pub AwaitsAnswer : RequestHead → Connection → Type 0
+AwaitsAnswer head Idle = ⊥
+AwaitsAnswer head (Requested request) = ⊥
+AwaitsAnswer head (Waiting number) = IsAnswerOf head Done
+AwaitsAnswer head (Ready answer) = IsAnswerOf head answer
+AwaitsAnswer head Closed = ⊥
 
 -- What a request that was served came to, by the verdict on it: a DISC closes the connection, one that is refused is
 -- ready with that error, and any other awaits its answer.
-abbrev pub IsJudged : Result Action Errno → Connection → Type 0
-IsJudged (Ok End) state = state ≡ Closed
-IsJudged (Ok Action.Serve) state = AwaitsAnswer state
-IsJudged (Err errno) state = state ≡ Ready (Refused errno)
+abbrev pub IsJudged : RequestHead → Result Action Errno → Connection → Type 0
+IsJudged head (Ok End) state = state ≡ Closed
+IsJudged head (Ok Action.Serve) state = AwaitsAnswer head state
+IsJudged head (Err errno) state = state ≡ Ready (Refused errno)
 
 -- an answer that is given in a state
 abbrev pub IsGiven : Connection → Answer → Type 0

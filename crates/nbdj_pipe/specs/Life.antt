@@ -10,6 +10,7 @@ use Rattle.nbd_wire.specs.declared.error.Errno.TheVariants.{Io}
 use Rattle.nbd_wire.specs.declared.message.Answer.TheVariants.{Refused}
 use Rattle.request_core.specs.Life.{IsDurable}
 use Rattle.request_core.specs.Parts.{StandsAfter}
+use Rattle.world.specs.Fits.{ReadsFit}
 use Rattle.world.specs.Run.{IsRun}
 use Rattle.world.specs.World.{Setting, World, fresh}
 use Rattle.world.specs.declared.step.Mode.{Mode}
@@ -60,13 +61,14 @@ pub record IsLife {D : Type 0} (state : D → State) (faults : D → ℕ) (frame
   pub broken : outcome ≡ Err StreamFault → (next.stage.stopped ≡ true) ⊎ (next.stage.durable ≡ length next.stage.order)
   -- the run shows why the session ended before its input did
   pub cause : IfErr outcome (λ refusal. HasCause refusal (fresh setting) next)
-  -- on an honest device
+  -- on an honest device: each READ is answered the bytes of the image after some first commands of the order
+  pub shows : trusted ≡ true → ReadsFit next.log next.stage.order next.paired next.shown setting.image
   pub found : trusted ≡ true → IsFound setting (state start) (state opened)
   pub durable : trusted ≡ true → IsDurable (fresh setting) next (state opened) (state end)
   -- whatever a crash at the end may leave reaches all that is durable by then, covered or not
   pub leaves : trusted ≡ true → (content : List ℕ) → MayLeave (state end) content → StandsAfter next.stage.order setting.image setting.opening next.stage.durable content
 
--- the run of a pipe, on any device, and with what its content keeps on an honest one
+-- the run of a pipe, on any device, and with what its content keeps and what reads of it show on an honest one
 abbrev pub IsLived : {D : Type 0} → (D → State) → (D → ℕ) → (D → Type 0) → ℕ → Mode → D → D → List Exchange → Option Message → Result (Unit {0}) Refusal → Type 0
 IsLived state faults honest frames mode start end exchanges last outcome =
     (trusted : Bool) → (trusted ≡ true → honest start) → IsLife state faults frames mode start end outcome trusted exchanges last

@@ -1,5 +1,5 @@
 -- What a connection and its export say to one another, in a log and as bytes.
-use Rattle.std.specs.Prelude.{ℕ, ◌≡◌, ◌≢◌, ◌⊎◌, false, Option, Some, None, Result, Err, List, [], ◌∷◌, ◌++◌}
+use Rattle.std.specs.Prelude.{ℕ, ◌≡◌, ◌≢◌, false, Option, Some, None, Result, Err, List, [], ◌∷◌, ◌++◌, length}
 use Rattle.std.specs.List.{AllByRecursion}
 use Rattle.image_model.specs.declared.geometry.Geometry.{Geometry}
 use Rattle.nbd_wire.specs.Errno.{errno_number}
@@ -9,6 +9,7 @@ use Rattle.nbd_wire.specs.declared.error.Errno.{Errno}
 use Rattle.nbd_wire.specs.declared.head.RequestHead.{RequestHead}
 use Rattle.nbd_wire.specs.declared.message.Answer.{Answer}
 use Rattle.nbd_wire.specs.declared.message.Answer.TheVariants.{Done, Refused, Bytes, States}
+use Rattle.nbd_wire.specs.declared.message.Run.{Run}
 use Rattle.nbd_wire.specs.declared.message.SessionFlags.{SessionFlags}
 use Rattle.world.specs.declared.action.Action.{Action}
 use Rattle.world.specs.declared.event.Event.{Event}
@@ -52,9 +53,16 @@ error_of (Refused errno) = errno_number errno
 error_of (Bytes read) = 0
 error_of (States runs) = 0
 
--- an answer as a simple reply without data
+-- the bytes that an answer hands over
+abbrev pub data_of : Answer → List ℕ
+data_of Done = []
+data_of (Refused errno) = []
+data_of (Bytes read) = read.bytes
+data_of (States runs) = []
+
+-- an answer as a simple reply
 unfoldable pub reply_to : ℕ → Answer → List ℕ
-reply_to cookie answer = simple_reply (error_of answer) cookie []
+reply_to cookie answer = simple_reply (error_of answer) cookie (data_of answer)
 
 -- the text of the replies, one to each request in their order
 abbrev pub dialog : List Exchange → List ℕ
@@ -69,10 +77,20 @@ plain = record { structured = false; context = false }
 unfoldable pub verdict_on : RequestHead → Geometry → SessionFlags → Result Action Errno
 verdict_on head geometry flags = verdict head geometry flags
 
--- a request that isn't a DISC, and its answer: one that the rules of judgement refuse has that error
+-- What a request may be answered: to a READ as many bytes as it asked for, from where it asked for them, states to a
+-- BLOCK_STATUS, to any other nothing more than that it is done, and an error to each.
+abbrev pub IsAnswerOf : RequestHead → Answer → Type 0
+IsAnswerOf head Done = (head.kind ≢ 0) × (head.kind ≢ 7)
+IsAnswerOf head (Refused errno) = Unit {0}
+IsAnswerOf head (Bytes read) = (head.kind ≡ 0) × (read.offset ≡ head.offset) × (length read.bytes ≡ head.length)
+IsAnswerOf head (States runs) = head.kind ≡ 7
+
+-- A request that isn't a DISC, and its answer: one that the rules of judgement refuse has that error, as each BLOCK_STATUS has,
+-- since no context was agreed on.
 pub record IsAnswered (geometry : Geometry) (exchange : Exchange) : Type 0 where
   pub no_disc : exchange.request.head.kind ≢ 2
-  pub short : (exchange.answer ≡ Done) ⊎ ((errno : Errno) × (exchange.answer ≡ Refused errno))
+  pub fits : IsAnswerOf exchange.request.head exchange.answer
+  pub stateless : (runs : List Run) → exchange.answer ≢ States runs
   pub judged : (errno : Errno) → (let result : Result Action Errno = Err errno in verdict_on exchange.request.head geometry plain ≡ result)
       → exchange.answer ≡ Refused errno
 

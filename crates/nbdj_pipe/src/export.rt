@@ -1,6 +1,7 @@
 ghost use Rattle.std.specs.Prelude.{◌≡◌, ◌≤◌, ◌+◌, ◌↔◌, ◌++◌, Bool, [], ◌∷◌, length, IfErr, IfOk, IfSome, IsTrue, MatchBool, MatchOption, MatchResult, OnOk};
 ghost use Rattle.checkpoint.specs.Steps.{left_in};
 ghost use Rattle.nbd_wire.specs.Request.{Message};
+ghost use Rattle.nbd_wire.specs.declared.head.RequestHead.{RequestHead};
 ghost use Rattle.nbdj_pipe.specs.Causes.{HasCause, LacksRoom};
 ghost use Rattle.nbdj_pipe.specs.Checkpoint.{EndsBy, HasCopiedAll, IsCopied, IsDone, IsEmptied, IsFinished, OrStopped};
 ghost use Rattle.nbdj_pipe.specs.Export.{AwaitsAnswer, CameTo, Follows, GetsOn, HasAnswer, IsGiven, IsJudged, IsOfKind, IsSettled, IsStoring, IsWaiting, Settles, StoredBy, said_of, told, told_by};
@@ -317,7 +318,7 @@ impl<D: Disk> Export<D> {
         ensures honest { D.honest self.new.keeper.disk ↔ D.honest self.old.keeper.disk }
         ensures world { (world : World) (trusted : Bool) (request : Message) → IsExportOf world self.old.order self.old.keeper (D.faults self.old.keeper.disk) self.old.connections (Trusts trusted (D.honest self.old.keeper.disk)) (D.state self.old.keeper.disk)
             → world.connections 0 ≡ Connection.Requested request
-            → (next : World) × MatchBool result (IsJudged (verdict_on request.head world.stage.setting.geometry world.stage.setting.flags) (next.connections 0))
+            → (next : World) × MatchBool result (IsJudged request.head (verdict_on request.head world.stage.setting.geometry world.stage.setting.flags) (next.connections 0))
             ((next.connections ≡ world.connections) × (next.stage ≡ world.stage) × LacksRoom world request)
             × Follows world next [] self.new.order self.new.keeper (D.faults self.new.keeper.disk) self.new.connections
             (Trusts trusted (D.honest self.new.keeper.disk)) (D.state self.old.keeper.disk) (D.state self.new.keeper.disk) }
@@ -339,7 +340,7 @@ impl<D: Disk> Export<D> {
         ensures early { IfErr result IsOfExport }
         ensures world { (world : World) (trusted : Bool) (request : Message) → IsExportOf world self.old.order self.old.keeper (D.faults self.old.keeper.disk) self.old.connections (Trusts trusted (D.honest self.old.keeper.disk)) (D.state self.old.keeper.disk)
             → world.connections 0 ≡ Connection.Requested request → length request.bytes ≤ 1048576 → 512 ≤ world.stage.setting.frames
-            → (next : World) × OnOk result (IsJudged (verdict_on request.head world.stage.setting.geometry world.stage.setting.flags) (next.connections 0))
+            → (next : World) × OnOk result (IsJudged request.head (verdict_on request.head world.stage.setting.geometry world.stage.setting.flags) (next.connections 0))
             × Follows world next [] self.new.order self.new.keeper (D.faults self.new.keeper.disk) self.new.connections
             (Trusts trusted (D.honest self.new.keeper.disk)) (D.state self.old.keeper.disk) (D.state self.new.keeper.disk)
             × IfErr result (λ refusal. HasCause refusal world next) }
@@ -366,7 +367,7 @@ impl<D: Disk> Export<D> {
         ensures early { IfErr result IsOfExport }
         ensures world { (world : World) (trusted : Bool) (request : Message) → IsExportOf world self.old.order self.old.keeper (D.faults self.old.keeper.disk) self.old.connections (Trusts trusted (D.honest self.old.keeper.disk)) (D.state self.old.keeper.disk)
             → world.connections 0 ≡ Connection.Requested request → length request.bytes ≤ 1048576 → 512 ≤ world.stage.setting.frames
-            → (next : World) × OnOk result (IsJudged (verdict_on request.head world.stage.setting.geometry world.stage.setting.flags) (next.connections 0))
+            → (next : World) × OnOk result (IsJudged request.head (verdict_on request.head world.stage.setting.geometry world.stage.setting.flags) (next.connections 0))
             × Follows world next [] self.new.order self.new.keeper (D.faults self.new.keeper.disk) self.new.connections
             (Trusts trusted (D.honest self.new.keeper.disk)) (D.state self.old.keeper.disk) (D.state self.new.keeper.disk)
             × IfErr result (λ refusal. HasCause refusal world next) }
@@ -385,8 +386,8 @@ impl<D: Disk> Export<D> {
         ensures group { IfSome self.new.connections.group (IsInHand self.new.order) }
         ensures extent { D.extent self.new.keeper.disk ≡ D.extent self.old.keeper.disk }
         ensures honest { D.honest self.new.keeper.disk ↔ D.honest self.old.keeper.disk }
-        ensures world { (world : World) (trusted : Bool) → IsExportOf world self.old.order self.old.keeper (D.faults self.old.keeper.disk) self.old.connections (Trusts trusted (D.honest self.old.keeper.disk)) (D.state self.old.keeper.disk)
-            → AwaitsAnswer (world.connections 0)
+        ensures world { (world : World) (trusted : Bool) (head : RequestHead) → IsExportOf world self.old.order self.old.keeper (D.faults self.old.keeper.disk) self.old.connections (Trusts trusted (D.honest self.old.keeper.disk)) (D.state self.old.keeper.disk)
+            → AwaitsAnswer head (world.connections 0)
             → (next : World) × MatchOption result ((next.connections ≡ world.connections) × IsWaiting world) (λ answer. (next.connections 0 ≡ Connection.Idle) × IsGiven (world.connections 0) answer)
             × Follows world next (told result) self.new.order self.new.keeper (D.faults self.new.keeper.disk) self.new.connections
             (Trusts trusted (D.honest self.new.keeper.disk)) (D.state self.old.keeper.disk) (D.state self.new.keeper.disk) }
@@ -404,8 +405,8 @@ impl<D: Disk> Export<D> {
         ensures extent { D.extent self.new.keeper.disk ≡ D.extent self.old.keeper.disk }
         ensures honest { D.honest self.new.keeper.disk ↔ D.honest self.old.keeper.disk }
         ensures early { IfErr result IsOfExport }
-        ensures world { (world : World) (trusted : Bool) → IsExportOf world self.old.order self.old.keeper (D.faults self.old.keeper.disk) self.old.connections (Trusts trusted (D.honest self.old.keeper.disk)) (D.state self.old.keeper.disk)
-            → AwaitsAnswer (world.connections 0)
+        ensures world { (world : World) (trusted : Bool) (head : RequestHead) → IsExportOf world self.old.order self.old.keeper (D.faults self.old.keeper.disk) self.old.connections (Trusts trusted (D.honest self.old.keeper.disk)) (D.state self.old.keeper.disk)
+            → AwaitsAnswer head (world.connections 0)
             → (next : World) × IfOk result (λ answer. (next.connections 0 ≡ Connection.Idle) × IsGiven (world.connections 0) answer)
             × Follows world next (told_by result) self.new.order self.new.keeper (D.faults self.new.keeper.disk) self.new.connections
             (Trusts trusted (D.honest self.new.keeper.disk)) (D.state self.old.keeper.disk) (D.state self.new.keeper.disk)

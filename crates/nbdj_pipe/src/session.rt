@@ -1,4 +1,4 @@
-ghost use Rattle.std.specs.Prelude.{◌≡◌, ◌↔◌, ◌⊎◌, ◌<◌, [], Bool, List, false, length, vec_len, IfErr, IfOk, IfSome, IsErrOf, Ok, Err, OnErr, OnOk};
+ghost use Rattle.std.specs.Prelude.{◌≡◌, ◌↔◌, ◌⊎◌, ◌<◌, ◌++◌, [], Bool, List, false, length, vec_len, IfErr, IfOk, IfSome, IsErrOf, Ok, Err, OnErr, OnOk};
 ghost use Rattle.byte_streams.specs.Streams.{WritesPart};
 ghost use Rattle.disk_model.specs.Faults.{HasRisen};
 ghost use Rattle.nbdj_pipe.specs.Export.{IsSettled, Settles};
@@ -6,10 +6,13 @@ ghost use Rattle.nbdj_pipe.specs.Life.{IsLived};
 ghost use Rattle.nbdj_pipe.specs.Pipe.{IsOrderly, IsPiped, IsUnopened};
 ghost use Rattle.nbdj_pipe.specs.Refusals.{IsOfExport};
 ghost use Rattle.nbdj_pipe.specs.Session.{IsEndOr, IsEndShown, IsFed, Runs, Serves, StaysOpen, Takes};
-ghost use Rattle.nbdj_pipe.specs.Talk.{error_of, plain, reply_to};
+ghost use Rattle.nbdj_pipe.specs.Talk.{data_of, error_of, plain, reply_to};
 ghost use Rattle.nbdj_pipe.specs.declared.refusal.Refusal.TheVariants as Refusal;
+ghost use Rattle.device_image.specs.Holds.{Holds};
+ghost use Rattle.image_model.specs.Image.{Image};
 ghost use Rattle.image_model.specs.declared.command.Kind.{Kind};
 ghost use Rattle.order_book.specs.Order.{IsInHand, new_order};
+ghost use Rattle.order_book.specs.Shown.{ShowsImage};
 ghost use Rattle.request_core.specs.Bench.{new_connections};
 ghost use Rattle.request_core.specs.Life.{Trusts};
 ghost use Rattle.request_core.specs.Parts.{IsExportOf};
@@ -20,10 +23,12 @@ use crate::options::PipeOptions;
 use crate::refusal::Refusal;
 use byte_streams::{StreamFault, read_some, write_whole};
 use checkpoint::Keeper;
+use device_image::keeper_laws;
 use disk_model::Disk;
-use nbd_wire::{Answer, Request, SessionFlags, StreamReader, encode_simple, one_reading};
+use nbd_reply::encode_simple_reply;
+use nbd_wire::{Answer, Request, SessionFlags, StreamReader, one_reading};
 use order_book::Order;
-use request_core::{Connections, fresh_parts_law, leads_law};
+use request_core::{Connections, fresh_order, fresh_parts_law, leads_law};
 use std::alloc::{AllocError, Global};
 use std::io::{Read, Write};
 use world_law::schedule_law;
@@ -59,6 +64,7 @@ pub fn pipe<D: Disk, R: Read, W: Write>(
         (IsLived D.state D.faults D.honest options.frames options.mode disk result.1) }
     ensures device { IsErrOf result.0 Refusal.DeviceFault → HasRisen (D.faults disk) (D.faults result.1) }
 {
+    keeper_laws::<D>();
     leads_law::<D>();
     fresh_parts_law::<D>();
     schedule_law();
@@ -93,17 +99,11 @@ fn fresh_parts<D: Disk>(
 ) -> Result<(Order, Connections), AllocError>
     ensures order { IfOk result (λ parts. (states : List Kind) × (length states ≡ keeper.now.geometry.blocks)
         × (parts.0 ≡ new_order states keeper.now.count options.frames keeper.now.geometry.area)) }
+    ensures image { (image : Image) → Holds keeper.now (D.state keeper.now.disk) image [] [] → IfOk result (λ parts. ShowsImage image parts.0.cache) }
     ensures connections { IfOk result (λ parts. parts.1 ≡ new_connections 1 plain options.mode) }
     ensures few { OnOk result (keeper.now.count < 18446744073709551616) }
 {
-    let map = keeper.map(alloc)?;
-    let order = Order::new(
-        alloc,
-        map,
-        keeper.count(),
-        options.frames,
-        keeper.geometry().area,
-    )?;
+    let order = fresh_order(alloc, keeper, options.frames)?;
     let connections = Connections::new(alloc, 1, PLAIN, options.mode)?;
     Ok((order, connections))
 }
@@ -215,7 +215,7 @@ impl<D: Disk> Session<D> {
         match self.export.serve(request)? {
             None => Ok(Flow::Ended),
             Some(answer) => {
-                self.replies.extend_from_slice(&reply(cookie, &answer))?;
+                append_reply(cookie, &answer, &mut self.replies)?;
                 Ok(Flow::Open)
             }
         }
@@ -279,11 +279,12 @@ fn outcome(
     }
 }
 
-// The simple reply to the request with this cookie.
-fn reply(cookie: u64, answer: &Answer) -> [u8; 16]
-    ensures { result ≡ reply_to cookie answer.now }
+// Appends the simple reply to the request with this cookie.
+fn append_reply(cookie: u64, answer: &Answer, replies: &mut Vec<u8>) -> Result<(), AllocError>
+    ensures ok { OnOk result (replies.new.items ≡ replies.old.items ++ reply_to cookie answer.now) }
+    ensures err { OnErr result (replies.new.items ≡ replies.old.items) }
 {
-    encode_simple(error_number(answer), cookie)
+    encode_simple_reply(error_number(answer), cookie, data(answer), replies)
 }
 
 // The number of an answer's error on the wire, 0 for none.
@@ -293,6 +294,16 @@ fn error_number(answer: &Answer) -> u32
     match answer {
         Answer::Refused(errno) => errno.number(),
         Answer::Done | Answer::Bytes(_) | Answer::States(_) => 0,
+    }
+}
+
+// The bytes that an answer hands over.
+fn data(answer: &Answer) -> &[u8]
+    ensures { result.now ≡ data_of answer.now }
+{
+    match answer {
+        Answer::Bytes(read) => read.bytes(),
+        Answer::Done | Answer::Refused(_) | Answer::States(_) => &[],
     }
 }
 

@@ -93,6 +93,8 @@ module _ {D : Type 0} (keeper : KeeperState D) (disk : D) (state : State) where
           flags = parts.flags;
           mode = parts.mode;
           reached = parts.reached;
+          shows = parts.shows;
+          sure = parts.sure;
           disk = λ is. record { holds = λ works. holds_with _ _ _ ((parts.disk is).holds works); leaves = (parts.disk is).leaves };
         };
         log = of.log;

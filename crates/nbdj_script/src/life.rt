@@ -1,4 +1,4 @@
-ghost use Rattle.std.specs.Prelude.{◌≡◌, ◌↔◌, ◌<◌, ◌≤◌, ◌*◌, ◌^◌, ℕ, true, List, [], ◌∷◌, length, take, vec_len, IfErr, IfOk, OnOk};
+ghost use Rattle.std.specs.Prelude.{◌≡◌, ◌≢◌, ◌↔◌, ◌<◌, ◌≤◌, ◌*◌, ◌^◌, ℕ, true, List, [], ◌∷◌, length, take, vec_len, IfErr, IfOk, OnOk};
 ghost use Rattle.std.specs.Option.{ForSome};
 ghost use Rattle.checkpoint.specs.Recovery.{IsRecovered};
 ghost use Rattle.device_image.specs.Holds.{Holds};
@@ -7,22 +7,23 @@ ghost use Rattle.image_model.specs.Image.{Image};
 ghost use Rattle.image_model.specs.declared.command.Kind.{Kind};
 ghost use Rattle.nbdj_script.specs.Life.{FindsNoMore, IsLifeOf, IsOpened, LeavesNoMore};
 ghost use Rattle.order_book.specs.Order.{IsInHand, new_order};
+ghost use Rattle.order_book.specs.Shown.{ShowsImage};
 ghost use Rattle.request_core.specs.Bench.{new_bench};
 ghost use Rattle.request_core.specs.Life.{IsRehearsed};
 ghost use Rattle.world.specs.World.{World};
 
-use crate::script_line::{BlockClear, BlockWrite, CONNECTIONS, Setup};
+use crate::script_line::{BlockRange, BlockWrite, CONNECTIONS, Cleared, Setup};
 use bitflags::Flags;
 use checkpoint::{Keeper, KeeperFault};
 use device_image::keeper_laws;
 use disk_model::{CallKind, Disk, SimDisk};
 use image_model::{BLOCK_BYTES, Kind};
 use nbd_wire::{
-    Answer, CommandFlags, Errno, FLUSH, MAX_PAYLOAD, Request, RequestHead, SessionFlags, TRIM,
-    WRITE, WRITE_ZEROES,
+    Answer, BLOCK_STATUS, CommandFlags, FLUSH, MAX_PAYLOAD, READ, Request, RequestHead,
+    SessionFlags, TRIM, WRITE, WRITE_ZEROES,
 };
 use order_book::Order;
-use request_core::{Bench, Event, Step, StepFault, fresh_parts_law, rehearse};
+use request_core::{Bench, Event, Step, StepFault, fresh_order, fresh_parts_law, rehearse};
 use std::alloc::{AllocError, Global};
 
 // What a script's connections have agreed on.
@@ -38,7 +39,8 @@ pub enum Told {
     Held,
     /// The refusal.
     Failed(StepFault),
-    Answered(Result<(), Errno>),
+    /// A connection was answered ([`Life::last_answer`]).
+    Answered,
 }
 
 /// Neighbouring blocks of one state that begin with the same byte.
@@ -123,12 +125,11 @@ fn first_parts<D: Disk>(
 ) -> Result<(Order, Bench), AllocError>
     ensures order { IfOk result (λ parts. (states : List Kind) × (length states ≡ keeper.now.geometry.blocks)
         × (parts.0 ≡ new_order states keeper.now.count setup.frames keeper.now.geometry.area)) }
+    ensures image { (image : Image) → Holds keeper.now (D.state keeper.now.disk) image [] [] → IfOk result (λ parts. ShowsImage image parts.0.cache) }
     ensures bench { IfOk result (λ parts. parts.1 ≡ new_bench 16 (record { structured = true; context = true }) setup.mode) }
     ensures count { IfOk result (λ parts. keeper.now.count < 2 ^ 64) }
 {
-    let geometry = keeper.geometry();
-    let map = keeper.map(alloc)?;
-    let order = Order::new(alloc, map, keeper.count(), setup.frames, geometry.area)?;
+    let order = fresh_order(alloc, keeper, setup.frames)?;
     let bench = Bench::new(alloc, CONNECTIONS, FLAGS, setup.mode)?;
     Ok((order, bench))
 }
@@ -140,6 +141,7 @@ impl<D: Disk> Life<D> {
         requires keeps { D.honest keeper.disk → (image : Image) × Keeps keeper (D.state keeper.disk) image keeper.count }
         ensures { IfOk result (λ life. life.keeper ≡ keeper) }
     {
+        keeper_laws::<D>();
         fresh_parts_law::<D>();
         match first_parts(alloc, &keeper, setup) {
             Ok((order, bench)) => Ok(Life {
@@ -169,6 +171,14 @@ impl<D: Disk> Life<D> {
         ensures { result ≡ self.now.keeper.count }
     {
         self.keeper.count()
+    }
+
+    /// The answer that was given last; none where the last step gave none.
+    pub fn last_answer(&self) -> Option<&Answer> {
+        match self.bench.log().last() {
+            Some(Event::Answered(_, answer)) => Some(answer),
+            _ => None,
+        }
     }
 
     /// Carries out one step, which is one of the world.
@@ -227,8 +237,7 @@ fn last_event(log: &[Event]) -> Told {
     match log.last() {
         Some(Event::Held) | None => Told::Held,
         Some(Event::Failed(fault)) => Told::Failed(*fault),
-        Some(Event::Answered(_, Answer::Refused(errno))) => Told::Answered(Err(*errno)),
-        Some(Event::Answered(_, _)) => Told::Answered(Ok(())),
+        Some(Event::Answered(..)) => Told::Answered,
         Some(Event::Sent(..) | Event::Numbered(..) | Event::Took) => Told::Done,
     }
 }
@@ -263,23 +272,41 @@ pub fn write(alloc: Global, cookie: u64, put: BlockWrite) -> Result<Request, All
 }
 
 /// A TRIM, or a WRITE_ZEROES with NO_HOLE.
-pub fn clear(alloc: Global, cookie: u64, clear: BlockClear) -> Request {
-    let fua = if clear.fua {
+pub fn clear(alloc: Global, cookie: u64, cleared: Cleared, range: BlockRange) -> Request {
+    match cleared {
+        Cleared::Hole => ranged(alloc, cookie, TRIM, 0, range),
+        Cleared::Zero => {
+            let no_hole = CommandFlags::NO_HOLE.bits();
+            ranged(alloc, cookie, WRITE_ZEROES, no_hole, range)
+        }
+    }
+}
+
+/// A READ.
+pub fn read(alloc: Global, cookie: u64, range: BlockRange) -> Request {
+    ranged(alloc, cookie, READ, 0, range)
+}
+
+/// A BLOCK_STATUS.
+pub fn status(alloc: Global, cookie: u64, range: BlockRange) -> Request {
+    ranged(alloc, cookie, BLOCK_STATUS, 0, range)
+}
+
+// A request that carries no data, with these flags besides FUA.
+fn ranged(alloc: Global, cookie: u64, kind: u16, flags: u16, range: BlockRange) -> Request
+    requires { kind ≢ 1 }
+{
+    let fua = if range.fua {
         CommandFlags::FUA.bits()
     } else {
         0
     };
-    let (kind, no_hole) = if clear.no_hole {
-        (WRITE_ZEROES, CommandFlags::NO_HOLE.bits())
-    } else {
-        (TRIM, 0)
-    };
     let head = RequestHead {
-        flags: fua | no_hole,
+        flags: fua | flags,
         kind,
         cookie,
-        offset: clear.first * BLOCK_BYTES,
-        length: (clear.blocks * BLOCK_BYTES) as u32,
+        offset: range.first * BLOCK_BYTES,
+        length: (range.blocks * BLOCK_BYTES) as u32,
     };
     Request::new(head, Vec::new(alloc))
 }

@@ -6,7 +6,8 @@ ghost use Rattle.nbdj_script.specs.Life.{IsFoundFrom, IsLifeOf};
 ghost use Rattle.request_core.specs.Life.{IsNextLife};
 ghost use Rattle.world.specs.World.{World};
 
-use crate::life::{BlockRun, Life, Told, clear, flush, open, write};
+use crate::answer_line::AnswerLine;
+use crate::life::{BlockRun, Life, Told, clear, flush, open, read, status, write};
 use crate::script_line::{Line, Setup, StepLine, parse};
 use checkpoint::{Keeper, KeeperFault};
 use disk_model::{CrashChoice, Disk, SimDisk};
@@ -200,15 +201,21 @@ impl Rehearsal {
             (Told::Failed(fault), _) => {
                 self.print(output, format_args!("failed {}", number_of(fault)))
             }
-            (Told::Answered(Ok(())), StepLine::Answer(connection)) => {
-                self.print(output, format_args!("answer {} ok", name_of(connection)))
-            }
-            (Told::Answered(Err(errno)), StepLine::Answer(connection)) => self.print(
-                output,
-                format_args!("answer {} error {}", name_of(connection), errno.number()),
-            ),
-            (Told::Held | Told::Answered(_), _) => self.print(output, "held"),
+            (Told::Answered, StepLine::Answer(connection)) => self.print_answer(output, connection),
+            (Told::Held | Told::Answered, _) => self.print(output, "held"),
         }
+    }
+
+    // Prints the answer that was given last, to this connection.
+    fn print_answer<W: Write>(self, output: &mut W, connection: usize) -> Result<Rehearsal, End> {
+        let printed = match self.life.last_answer() {
+            Some(answer) => {
+                let connection = name_of(connection);
+                print(output, AnswerLine { connection, answer })
+            }
+            None => print(output, "held"),
+        };
+        self.printed(printed)
     }
 
     // The device crashes and is opened again. The next life begins with what the one before it covers, and more at most.
@@ -251,7 +258,12 @@ impl Rehearsal {
     }
 
     fn print<W: Write, T: Display + Drop>(self, output: &mut W, line: T) -> Result<Rehearsal, End> {
-        match print(output, line) {
+        let printed = print(output, line);
+        self.printed(printed)
+    }
+
+    fn printed(self, printed: Result<(), Refusal>) -> Result<Rehearsal, End> {
+        match printed {
             Ok(()) => Ok(self),
             Err(refusal) => {
                 self.end();
@@ -355,7 +367,13 @@ fn print_opened<W: Write>(count: u64, runs: &[BlockRun], output: &mut W) -> Resu
 fn step_of(alloc: Global, line: StepLine, cookie: u64) -> Result<Step, AllocError> {
     Ok(match line {
         StepLine::Put(connection, put) => Step::Send(connection, write(alloc, cookie, put)?),
-        StepLine::Clear(connection, range) => Step::Send(connection, clear(alloc, cookie, range)),
+        StepLine::Clear(connection, cleared, range) => {
+            Step::Send(connection, clear(alloc, cookie, cleared, range))
+        }
+        StepLine::Read(connection, range) => Step::Send(connection, read(alloc, cookie, range)),
+        StepLine::Status(connection, range) => {
+            Step::Send(connection, status(alloc, cookie, range))
+        }
         StepLine::Flush(connection) => Step::Send(connection, flush(alloc, cookie)),
         StepLine::Serve(connection) => Step::Serve(connection),
         StepLine::Answer(connection) => Step::Answer(connection),

@@ -14,7 +14,7 @@ pub const CONNECTIONS: usize = 16;
 const MOST_BLOCKS: u64 = 8192;
 
 // The most blocks that any request may name, whose length has 32 bits.
-const MOST_CLEARED: u64 = 1_048_575;
+const MOST_NAMED: u64 = 1_048_575;
 
 /// A line of a script, by `docs/SCRIPTS.md`.
 #[derive(Clone, Copy, Debug)]
@@ -36,7 +36,11 @@ pub enum StepLine {
     /// A connection sends a WRITE.
     Put(usize, BlockWrite),
     /// A connection sends a TRIM, or a WRITE_ZEROES with NO_HOLE.
-    Clear(usize, BlockClear),
+    Clear(usize, Cleared, BlockRange),
+    /// A connection sends a READ.
+    Read(usize, BlockRange),
+    /// A connection sends a BLOCK_STATUS.
+    Status(usize, BlockRange),
     /// A connection sends a FLUSH.
     Flush(usize),
     Serve(usize),
@@ -73,15 +77,23 @@ pub struct BlockWrite {
     ghost blocks_fit: { blocks ≤ 8192 },
 }
 
-/// A TRIM of blocks, which become holes, or a WRITE_ZEROES with NO_HOLE, which become allocated zero.
+/// A range of blocks, of a request that carries no data.
 #[derive(Clone, Copy, Debug)]
-pub struct BlockClear {
+pub struct BlockRange {
     pub first: u64,
     pub blocks: u64,
-    pub no_hole: bool,
     pub fua: bool,
     ghost first_fits: { first * 4096 < 2 ^ 64 },
     ghost blocks_fit: { blocks ≤ 1048575 },
+}
+
+/// What becomes of blocks that are cleared.
+#[derive(Clone, Copy, Debug, PartialEq, Eq)]
+pub enum Cleared {
+    /// Holes, by a TRIM.
+    Hole,
+    /// Allocated zero, by a WRITE_ZEROES with NO_HOLE.
+    Zero,
 }
 
 /// The line that a text is; none where it is no step.
@@ -117,12 +129,28 @@ fn step_of(words: &[&str]) -> Option<StepLine> {
             Some(StepLine::Put(connection_of(connection)?, write))
         }
         ["send", connection, "clear", kind, first, blocks] => {
-            let clear = clear_of(kind, first, blocks, false)?;
-            Some(StepLine::Clear(connection_of(connection)?, clear))
+            let range = range_of(first, blocks, false)?;
+            clear_of(connection, kind, range)
         }
         ["send", connection, "clear", kind, first, blocks, "fua"] => {
-            let clear = clear_of(kind, first, blocks, true)?;
-            Some(StepLine::Clear(connection_of(connection)?, clear))
+            let range = range_of(first, blocks, true)?;
+            clear_of(connection, kind, range)
+        }
+        ["send", connection, "read", first, blocks] => {
+            let range = range_of(first, blocks, false)?;
+            Some(StepLine::Read(connection_of(connection)?, range))
+        }
+        ["send", connection, "read", first, blocks, "fua"] => {
+            let range = range_of(first, blocks, true)?;
+            Some(StepLine::Read(connection_of(connection)?, range))
+        }
+        ["send", connection, "status", first, blocks] => {
+            let range = range_of(first, blocks, false)?;
+            Some(StepLine::Status(connection_of(connection)?, range))
+        }
+        ["send", connection, "status", first, blocks, "fua"] => {
+            let range = range_of(first, blocks, true)?;
+            Some(StepLine::Status(connection_of(connection)?, range))
         }
         ["send", connection, "flush"] => Some(StepLine::Flush(connection_of(connection)?)),
         ["serve", connection] => Some(StepLine::Serve(connection_of(connection)?)),
@@ -165,23 +193,22 @@ fn write_of(first: &str, blocks: &str, byte: &str, fua: bool) -> Option<BlockWri
     })
 }
 
-fn clear_of(kind: &str, first: &str, blocks: &str, fua: bool) -> Option<BlockClear> {
-    let no_hole = match kind {
-        "hole" => false,
-        "zero" => true,
+fn clear_of(connection: &str, kind: &str, range: BlockRange) -> Option<StepLine> {
+    let cleared = match kind {
+        "hole" => Cleared::Hole,
+        "zero" => Cleared::Zero,
         _ => return None,
     };
+    Some(StepLine::Clear(connection_of(connection)?, cleared, range))
+}
+
+fn range_of(first: &str, blocks: &str, fua: bool) -> Option<BlockRange> {
     let first = number_of(first)?;
     let blocks = number_of(blocks)?;
-    if first >= 1 << 52 || blocks > MOST_CLEARED {
+    if first >= 1 << 52 || blocks > MOST_NAMED {
         return None;
     }
-    Some(BlockClear {
-        first,
-        blocks,
-        no_hole,
-        fua,
-    })
+    Some(BlockRange { first, blocks, fua })
 }
 
 // A number in decimal digits, without a sign.

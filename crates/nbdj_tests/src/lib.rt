@@ -2,7 +2,15 @@
 #![tactic(auto)]
 
 #[cfg(test)]
+mod draws;
+#[cfg(test)]
 mod layout;
+#[cfg(test)]
+mod random_scripts;
+#[cfg(test)]
+mod random_sessions;
+#[cfg(test)]
+mod reads;
 #[cfg(test)]
 mod runs;
 #[cfg(test)]
@@ -11,5 +19,7 @@ mod schedule_tests;
 mod schedules;
 #[cfg(test)]
 mod scripts;
+#[cfg(test)]
+mod states;
 #[cfg(test)]
 mod tests;

@@ -1,7 +1,7 @@
 -- the dirty blocks of a cache as a map, and its frames
 use Rattle.std.proofs.Common.{◌≡◌, ℕ, ◌+◌, ◌-◌, ◌≤◌, ◌==◌, ◌||◌, ◌↔◌, inl, inr, zero, suc, Bool, true, false, cond, not, nat_eq, nat_lt, nat_le, if◌then◌else◌, Option, Some, None, List, [], ◌∷◌, ◌++◌, length, map, filter, sym, ap, ◌∙◌, refl, arith, length-append, length-drop}
 use Rattle.std.specs.Bool.{IsTrue}
-use Rattle.std.specs.FinMap.{len, from_entries}
+use Rattle.std.specs.FinMap.{get, len, from_entries}
 use Rattle.std.specs.List.{All, AllByRecursion, IsDistinct, list_any}
 use Rattle.std.specs.Map.{lookup, keys_of}
 use Rattle.std.specs.Option.{is_some}
@@ -21,7 +21,7 @@ use Rattle.image_model.proofs.DirtyMaps.{with_blocks_none}
 use Rattle.shared_cache.specs.Blocks.{BlocksState, DirtyBlock, IsOnce, as_clean, at_hand, cleaned, count_missing, dirty_outside, is_dirty, times_in, with_put, with_puts, without}
 use Rattle.shared_cache.proofs.Once.{times_in-append}
 use Rattle.shared_cache.proofs.Ranges.{at_hand_put, clean_le, count_put, outside_le, outside_less}
-use Rattle.order_book.proofs.Maps.{Entries, len-entries, len-with_blocks_step, made-clean_through, made-with_blocks, made-without_blocks, all_kept}
+use Rattle.order_book.proofs.Maps.{Entries, get-entries, len-entries, len-with_blocks_step, made-clean_through, made-with_blocks, made-without_blocks, all_kept}
 
 -- the blocks of some frames and their numbers
 abbrev pub pairs : List DirtyBlock → Entries
@@ -157,6 +157,15 @@ is_dirty-pairs block (held ∷ dirty) = λ i. turned_round block held.block i ||
   where
     turned_round : (a b : ℕ) → nat_eq a b ≡ eqb b a
     turned_round a b = grind (arith, nat_tests)
+
+-- a block that isn't dirty has no number
+pub not_dirty_get : (block : ℕ) (s : BlocksState) → is_dirty block s ≡ false → get (from_entries {R = nat_cmp} (pairs s.dirty)) block ≡ None
+not_dirty_get block s is =
+    get-entries (pairs s.dirty) block ∙ none_of (lookup (nat_eq block) (pairs s.dirty)) (is_some-lookup (nat_eq block) (pairs s.dirty) ∙ is_dirty-pairs block s.dirty ∙ is)
+  where
+    none_of : (found : Option ℕ) → is_some found ≡ false → found ≡ None
+    none_of None is = refl
+    none_of (Some number) is = cc
 
 abbrev missing_one : BlocksState → ℕ → ℕ
 missing_one s block = if is_dirty block s then 0 else 1

@@ -12,8 +12,10 @@ use Rattle.image_model.specs.declared.command.Kind.TheVariants.{Data}
 use Rattle.shared_cache.specs.Blocks.{BlocksState, is_clean, is_dirty, is_held}
 use Rattle.shared_cache.specs.Cache.{CacheState, bytes_seen}
 use Rattle.shared_cache.proofs.Views.{missing_seen}
+use Rattle.order_book.specs.Cached.{dirty_of}
 use Rattle.order_book.specs.Reading.{IsCleanAt, ShowsRead, block_of}
 use Rattle.order_book.specs.Shown.{ShowsImage}
+use Rattle.order_book.proofs.Frames.{not_dirty_get}
 
 -- a block that isn't held isn't dirty
 or_none : (one other : Bool) → (one || other) ≡ false → other ≡ false
@@ -24,7 +26,7 @@ not_dirty : (block : ℕ) (s : BlocksState) → is_held block s ≡ false → is
 not_dirty block s is = or_none (is_clean block s) (is_dirty block s) is
 
 -- bytes that are in memory, or come from the base
-pub bytes_read : (base image : Image) (front : List Change) (cache : CacheState) (block k byte : ℕ) → ShowsImage image cache → IsCleanAt base front image cache → k < 4096
+pub bytes_read : (base image : Image) (front : List Change) (cache : CacheState) (block k byte : ℕ) → ShowsImage image cache → IsCleanAt base front image (dirty_of cache) → k < 4096
     → ((bytes : List ℕ) → bytes_seen cache block ≡ Some bytes → byte ≡ get_or bytes k 0)
     → (bytes_seen cache block ≡ None → base.kind block ≡ Data → is_written block front ≡ false → byte ≡ base.byte (4096 * block + k))
     → byte ≡ image.byte (4096 * block + k)
@@ -34,8 +36,9 @@ bytes_read base image front cache block k byte shows clean inside held read = by
     by (Some bytes) is = held bytes is ∙ shows.bytes block bytes is k inside
     by None is =
         let missing = missing_seen cache block is in
-        let no = not_dirty block cache.blocks missing.1 in
-        read is (clean.kinds block missing.0 no) (clean.unwritten block missing.0 no) ∙ clean.bytes block missing.0 no k inside
+        let is_data = sym (shows.states block) ∙ missing.0 in
+        let no = not_dirty_get block cache.blocks (not_dirty block cache.blocks missing.1) in
+        read is (clean.kinds block is_data no) (clean.unwritten block is_data no) ∙ clean.bytes block is_data no k inside
 
 some_same : (seen : Option (List ℕ)) (one other : List ℕ) → seen ≡ Some one → seen ≡ Some other → one ≡ other
 some_same seen one other is also = ap (λ (o : Option (List ℕ)). unwrap_or o one) (sym is ∙ also)

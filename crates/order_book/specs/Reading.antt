@@ -1,8 +1,9 @@
 -- what a read that goes to the device makes of what is in memory of an image
 use Rattle.std.specs.Prelude.{ℕ, ◌≡◌, ◌+◌, ◌*◌, ◌<◌, ◌⊎◌, false, List, length, take, drop, Some, None}
-use Rattle.alloc_map.specs.Codes.{state_at}
+use Rattle.std.specs.FinMap.{get}
 use Rattle.device_image.specs.Holds.{is_written}
 use Rattle.image_model.specs.Change.{Change}
+use Rattle.image_model.specs.Dirty.{Dirty}
 use Rattle.image_model.specs.Image.{Image}
 use Rattle.image_model.specs.declared.command.Kind.TheVariants.{Data}
 use Rattle.order_book.specs.Cached.{frames_of}
@@ -34,8 +35,8 @@ pub record ShowsRead (first : ℕ) (bytes : List ℕ) (old new : CacheState) : T
 
 -- Blocks of the image that are data and not dirty are at the base as the image has them, and no command in front of the last area
 -- writes one.
-pub record IsCleanAt (base : Image) (front : List Change) (image : Image) (cache : CacheState) : Type 0 where
-  pub kinds : (block : ℕ) → state_at cache.states block ≡ Data → is_dirty block cache.blocks ≡ false → base.kind block ≡ Data
-  pub unwritten : (block : ℕ) → state_at cache.states block ≡ Data → is_dirty block cache.blocks ≡ false → is_written block front ≡ false
-  pub bytes : (block : ℕ) → state_at cache.states block ≡ Data → is_dirty block cache.blocks ≡ false
+pub record IsCleanAt (base : Image) (front : List Change) (image : Image) (dirty : Dirty) : Type 0 where
+  pub kinds : (block : ℕ) → image.kind block ≡ Data → get dirty block ≡ None → base.kind block ≡ Data
+  pub unwritten : (block : ℕ) → image.kind block ≡ Data → get dirty block ≡ None → is_written block front ≡ false
+  pub bytes : (block : ℕ) → image.kind block ≡ Data → get dirty block ≡ None
       → (k : ℕ) → k < 4096 → base.byte (4096 * block + k) ≡ image.byte (4096 * block + k)

@@ -26,7 +26,7 @@ use crate::reading::{keep_blocks, read_blocks};
 use alloc_map::{AllocMap, Run};
 use checkpoint::{Keeper, KeeperFault};
 use disk_model::Disk;
-use image_model::Command;
+use image_model::{Command, Kind};
 use journal::{Group, MOST_BODY_BYTES};
 use shared_cache::{Cache, Missing};
 use std::alloc::{AllocError, Global};
@@ -140,6 +140,14 @@ impl Order {
         ensures { result ≡ length self.now.cache.states }
     {
         self.cache.map().blocks()
+    }
+
+    /// The state of a block, as all that was accepted left it.
+    pub fn state(&self, block: u64) -> Kind
+        requires { block < length self.now.cache.states }
+        ensures { result ≡ state_at self.now.cache.states block }
+    {
+        self.cache.map().state(block)
     }
 
     /// The last number before the first command.
@@ -357,10 +365,10 @@ impl Order {
 
         // So they are those of the image, where the base has what is data and not dirty, and the image is shown still.
         ensures image { D.honest keeper.old.disk → (base image : Image) (front last : List Change) → Holds keeper.old (D.state keeper.old.disk) base front last
-            → ShowsImage image self.old.cache → IsCleanAt base front image self.old.cache
+            → ShowsImage image self.old.cache → IsCleanAt base front image self.old.dirty
             → OnOk result ((j k : ℕ) → 4096 * j < length into.new → k < 4096 → slice_index into.new (4096 * j + k) ≡ image.byte (4096 * (first + j) + k)) }
         ensures shown { D.honest keeper.old.disk → (base image : Image) (front last : List Change) → Holds keeper.old (D.state keeper.old.disk) base front last
-            → ShowsImage image self.old.cache → IsCleanAt base front image self.old.cache → OnOk result (ShowsImage image self.new.cache) }
+            → ShowsImage image self.old.cache → IsCleanAt base front image self.old.dirty → OnOk result (ShowsImage image self.new.cache) }
 
         // The device is read alone, and the keeper holds what it held.
         ensures size { length into.new ≡ length into.old }

@@ -15,16 +15,16 @@ use Rattle.image_model.specs.Image.{Image, apply_all}
 use Rattle.journal.specs.Group.{Numbered}
 use Rattle.order_book.specs.Order.{OrderState, with_group}
 use Rattle.request_core.specs.Steps.{IsAppended}
-use Rattle.request_core.specs.Parts.{IsDiskOf, IsKeeperOf, IsOrderOf, StandsAfter, image_after, first_commands, last_commands, turned_at}
+use Rattle.request_core.specs.Parts.{IsDiskOf, IsKeeperOf, IsOrderOf, StandsAfter, first_commands, last_commands, turned_at}
 use Rattle.request_core.specs.Storing.{IsKept, event_of, hand_after, order_after}
 use Rattle.request_core.proofs.Lives.{either_stands, group_takes, image_grows, number_grows, IsOrdered, keeps_of, last_grows, ordered}
 use Rattle.request_core.proofs.Stored.{goes_failed, goes_full, goes_none, goes_on_to, kept_back, kept_faulted, kept_held, kept_out_of_memory, kept_stored, not_true_is}
 use Rattle.world.specs.declared.event.Event.{Event}
 use Rattle.world.specs.declared.event.Event.TheVariants.{Took, Held, Failed}
 use Rattle.world.specs.declared.event.StepFault.TheVariants.{NoMemory, DeviceFault, FailedBefore}
-use Rattle.world.specs.Serve.{Failure, Nothing, OutOfMemory, DeviceFailure, held, logged}
-use Rattle.world.specs.Step.{append, faulted, put_back, out_of_memory, stored_more}
-use Rattle.world.specs.World.{World}
+use Rattle.world.specs.Serve.{Failure, Nothing, OutOfMemory, DeviceFailure, held, logged, faulted}
+use Rattle.world.specs.Step.{append, put_back, out_of_memory, stored_more}
+use Rattle.world.specs.World.{World, image_after}
 use Rattle.world_law.specs.Law.{IsWithin}
 use Rattle.device_image.specs.Holds.{Holds}
 use Rattle.device_image.specs.Remembers.{Remembers}

@@ -20,8 +20,8 @@ use Rattle.world.specs.declared.step.Step.{Step}
 use Rattle.world.specs.declared.step.Step.TheVariants.{Copy}
 use Rattle.world.specs.Checkpoint.{is_turned}
 use Rattle.world.specs.Run.{IsReached, IsRun}
-use Rattle.world.specs.Serve.{Nothing, held, logged}
-use Rattle.world.specs.Step.{after_step, staged}
+use Rattle.world.specs.Serve.{Nothing, held, logged, staged}
+use Rattle.world.specs.Step.{after_step}
 use Rattle.world.specs.World.{World}
 use Rattle.world_law.specs.Law.{IsWithin}
 
@@ -56,12 +56,12 @@ copied_run (suc count) world = (Nothing, copied_run count (after_step world Copy
 
 -- what was copied leads there
 pub leads_copied : {D : Type 0} (world : World) (count : ℕ) (order : OrderState) (old new : KeeperState D) (old_failures failures : ℕ) (connections : ConnectionsState) (old_honest old_trusts trusts : Type 0) (before after : State)
-    → (old_trusts → old_honest) → (trusts → old_trusts) → IsWithin world → ((next : World) → IsRun world (replicate count Copy) next → IsReached next)
+    → (old_trusts → old_honest) → (trusts → old_trusts) → (old_trusts → trusts) → IsWithin world → ((next : World) → IsRun world (replicate count Copy) next → IsReached next)
     → world.stage.stopped ≡ false → is_turned world.stage.turned ≡ true → world.stage.mapped ≡ false → count ≤ world.stage.left
     → IsExportOf world order old old_failures connections old_trusts before
     → IsAppended world (logged (staged world (record world.stage { left = world.stage.left - count })) Took) Took order connections.group old new failures old_honest before after
     → Leads world (copied world count) (replicate count Copy) order new failures connections trusts before after
-leads_copied world count order old new old_failures failures connections old_honest old_trusts trusts before after trusting was within reached works turned unmapped fits of leaves =
+leads_copied world count order old new old_failures failures connections old_honest old_trusts trusts before after trusting was stays within reached works turned unmapped fits of leaves =
     let same = copied_is count world works turned unmapped fits in
     subst (λ (next : World). Leads world next (replicate count Copy) order new failures connections trusts before after) (sym same) (record {
       run = subst (IsRun world (replicate count Copy)) same (copied_run count world);
@@ -73,6 +73,8 @@ leads_copied world count order old new old_failures failures connections old_hon
         mode = of.mode;
         reached = reached (with_copies world count) (subst (IsRun world (replicate count Copy)) same (copied_run count world));
         disk = λ is. (leaves.disk (trusting (was is)) (of.disk (was is))).0;
+        shows = λ is. let shown = of.shows (was is) in record { states = shown.states; bytes = shown.bytes };
+        sure = λ trusted. stays (of.sure trusted);
       };
       crash = λ is. weakens (leaves.disk (trusting (was is)) (of.disk (was is))).1 (λ content stands.
           stands_less world.stage.order world.stage.setting.image world.stage.setting.opening world.stage.stored world.stage.durable content within.durable stands);

@@ -1,5 +1,5 @@
 -- the parts that a life begins with
-use Rattle.std.proofs.Common.{◌≡◌, ◌⊎◌, inl, inr, ℕ, ◌+◌, ◌<◌, ◌≤◌, Bool, false, List, [], length, if◌then◌else◌, nat_lt, get_or, replicate, sym, ◌∙◌, ap, subst, refl, arith}
+use Rattle.std.proofs.Common.{◌≡◌, ◌⊎◌, inl, inr, ℕ, ◌+◌, ◌<◌, ◌≤◌, Bool, true, false, List, [], length, if◌then◌else◌, nat_lt, get_or, replicate, sym, ◌∙◌, ap, subst, refl, arith}
 use Rattle.std.proofs.lemmas.Bool.{cases_lt, le-ltb, lt-ltb}
 use Rattle.std.proofs.lemmas.List.{get_or-replicate, length-replicate}
 use Rattle.std.proofs.Math.ListN.{get_or-eq_default}
@@ -13,6 +13,7 @@ use Rattle.image_model.specs.Image.{Image}
 use Rattle.image_model.specs.declared.command.Kind.{Kind}
 use Rattle.nbd_wire.specs.declared.message.SessionFlags.{SessionFlags}
 use Rattle.order_book.specs.Order.{new_order}
+use Rattle.order_book.specs.Shown.{ShowsImage}
 use Rattle.request_core.specs.Bench.{new_connections}
 use Rattle.request_core.specs.Life.{first_world}
 use Rattle.request_core.specs.Parts.{IsExportOf}
@@ -30,12 +31,12 @@ idle_here count connection = by_case (cases_lt connection count)
         let long = length-replicate count Idle in
         get_or-eq_default (replicate count Idle) Closed (omega (arith, long, outside)) ∙ sym (ap (λ (b : Bool). if b then Idle else Closed) (le-ltb connection count outside))
 
-pub fresh_parts : {D : Type 0} (keeper : KeeperState D) (found : Image) (states : List Kind) (failures frames connections : ℕ) (flags : SessionFlags) (mode : Mode) (honest : Type 0) (state : State)
+pub fresh_parts : {D : Type 0} (trusted : Bool) (keeper : KeeperState D) (found : Image) (states : List Kind) (failures frames connections : ℕ) (flags : SessionFlags) (mode : Mode) (honest : Type 0) (state : State)
     → ((number : ℕ) (content : List ℕ) → Keeps keeper state found number → MayLeave state content → StandsFor content found number)
     → length states ≡ keeper.geometry.blocks → keeper.failed ≡ false → keeper.phase ≡ One → keeper.used ≡ 0 → keeper.base ≡ keeper.count → keeper.turned ≡ keeper.base → Remembers keeper []
-    → keeper.count < 18446744073709551616 → (honest → Holds keeper state found [] [])
-    → IsExportOf (first_world keeper found failures frames connections flags mode) (new_order states keeper.count frames keeper.geometry.area) keeper failures (new_connections connections flags mode) honest state
-fresh_parts keeper found states failures frames connections flags mode honest state crash blocks works one unused based turned remembers fits holds = record {
+    → keeper.count < 18446744073709551616 → (honest → Holds keeper state found [] []) → (honest → ShowsImage found (new_order states keeper.count frames keeper.geometry.area).cache) → (trusted ≡ true → honest)
+    → IsExportOf (first_world trusted keeper found failures frames connections flags mode) (new_order states keeper.count frames keeper.geometry.area) keeper failures (new_connections connections flags mode) honest state
+fresh_parts trusted keeper found states failures frames connections flags mode honest state crash blocks works one unused based turned remembers fits holds shows sure = record {
   of_order = record {
     opening = refl;
     durable = omega arith;
@@ -70,6 +71,8 @@ fresh_parts keeper found states failures frames connections flags mode honest st
   flags = refl;
   mode = refl;
   reached = Fresh _;
+  shows = λ is_honest. let shown = shows is_honest in record { states = shown.states; bytes = shown.bytes };
+  sure = sure;
   disk = λ is_honest. record {
     holds = λ going. holds is_honest;
     leaves = λ content left. record {

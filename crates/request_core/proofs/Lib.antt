@@ -1,4 +1,6 @@
 pub mod Appended
+pub mod Asked
+pub mod Clean
 pub mod Copied
 pub mod Fresh
 pub mod Lifted
@@ -7,7 +9,9 @@ pub mod Orders
 pub mod Performed
 pub mod Runs
 pub mod Serves
+pub mod Steady
 pub mod Stored
 pub mod Talks
 pub mod Times
 pub mod Turns
+pub mod Opened

@@ -11,8 +11,8 @@ use Rattle.image_model.specs.Image.{Image, apply, apply_all}
 use Rattle.image_model.specs.declared.geometry.Geometry.{Geometry}
 use Rattle.journal.specs.Group.{Numbered}
 use Rattle.order_book.specs.Order.{OrderState}
-use Rattle.request_core.specs.Parts.{IsDiskOf, IsKeeperOf, IsOrderOf, StandsAfter, image_after, first_commands, last_commands, part, turned_at}
-use Rattle.world.specs.World.{Stage, World}
+use Rattle.request_core.specs.Parts.{IsDiskOf, IsKeeperOf, IsOrderOf, StandsAfter, first_commands, last_commands, part, turned_at}
+use Rattle.world.specs.World.{Stage, World, image_after}
 use Rattle.request_core.proofs.Orders.{commands_length, hand_is}
 use Rattle.device_image.specs.Holds.{Holds}
 use Rattle.std.proofs.Math.Seq.{take-add}

@@ -1,19 +1,20 @@
 -- what a step of each kind makes of all the parts
-use Rattle.std.proofs.Common.{◌≡◌, ℕ, ◌&&◌, ◌==◌, Bool, true, false, if◌then◌else◌, nat_lt, List, [], ◌∷◌, ◌++◌, length, sym, ◌∙◌, ap, subst, arith}
+use Rattle.std.proofs.Common.{◌≡◌, inl, inr, Option, ℕ, ◌&&◌, ◌==◌, Bool, true, false, if◌then◌else◌, nat_lt, List, [], ◌∷◌, ◌++◌, length, sym, ◌∙◌, ap, subst, arith}
 use Rattle.device_image.specs.Keeper.{KeeperState}
 use Rattle.disk_model.specs.Disk.{State, IsSound}
 use Rattle.disk_model.proofs.Moments.{begins}
 use Rattle.image_model.specs.Change.{Change, AreChanges}
+use Rattle.journal.specs.Group.{Numbered}
 use Rattle.order_book.specs.Order.{OrderState}
 use Rattle.request_core.specs.Bench.{ConnectionsState}
-use Rattle.request_core.specs.Steps.{IsAppended, IsPerformed}
-use Rattle.request_core.specs.Parts.{AreConnectionsOf, IsDiskOf, IsKeeperOf, IsOrderOf}
+use Rattle.request_core.specs.Steps.{IsAnyTalked, IsAppended, IsPerformed}
+use Rattle.request_core.specs.Parts.{AreConnectionsOf, IsDiskOf, IsKeeperOf, IsOrderOf, Shows}
 use Rattle.request_core.specs.Serving.{IsTalked, with_commands}
 use Rattle.request_core.specs.Storing.{IsKept}
 use Rattle.request_core.proofs.Lives.{all_both, disk_grows, IsOrdered, last_stay, ordered}
 use Rattle.world.specs.declared.connection.Connection.{Connection}
 use Rattle.world.specs.declared.event.Event.{Event}
-use Rattle.world.specs.Serve.{Failure, Nothing, OutOfMemory, DeviceFailure}
+use Rattle.world.specs.Serve.{Failure, Nothing, OutOfMemory, DeviceFailure, Misread}
 use Rattle.world.specs.Checkpoint.{can_clean}
 use Rattle.world.specs.Step.{after_step, clean, publish, seal, sealed_more}
 use Rattle.world.specs.declared.step.Step.{Step}
@@ -44,35 +45,37 @@ keeper_grows stage commands keeper failures is takes of = record {
 
 module _ {D : Type 0} (extent : ℕ) (honest : Type 0) (state : State) (sound : honest → IsSound extent state) (world : World) (keeper : KeeperState D) (failures : ℕ) (within : IsWithin world) where
   -- a step that doesn't call the device
-  without_device : (next : World) (event : Event) (order : OrderState) (connections : ConnectionsState) → AreConnectionsOf next connections.states → next.log ≡ world.log ++ event ∷ []
+  without_device : (next : World) (event : Event) (first order : OrderState) (connections : ConnectionsState) → AreConnectionsOf next connections.states → next.log ≡ world.log ++ event ∷ []
       → IsOrderOf next.stage order connections.group → IsKeeperOf next.stage keeper failures
-      → (IsDiskOf world.stage keeper state → IsDiskOf next.stage keeper state)
-      → IsPerformed world next event order connections keeper keeper failures honest state state
-  without_device next event order connections states log of_order of_keeper here = record {
+      → (IsDiskOf world.stage keeper state → IsDiskOf next.stage keeper state) → (Shows world.stage first → Shows next.stage order)
+      → IsPerformed world next event first order connections keeper keeper failures honest state state
+  without_device next event first order connections states log of_order of_keeper here shows = record {
     of_states = states;
     log = log;
     of_order = of_order;
     of_keeper = of_keeper;
     disk = λ is_honest disk. (here disk, begins (sound is_honest) disk.leaves);
+    shows = λ is_honest disk shown. shows shown;
   }
 
-  pub performed_talked : (next : World) (event : Event) (order : OrderState) (connections : ConnectionsState) → IsKeeperOf world.stage keeper failures
-      → IsTalked world next connections.states event order connections.group → IsPerformed world next event order connections keeper keeper failures honest state state
-  performed_talked next event order connections of_keeper talked =
+  pub performed_talked : (next : World) (event : Event) (first order : OrderState) (connections : ConnectionsState) → IsKeeperOf world.stage keeper failures
+      → IsTalked world next connections.states event order connections.group → (Shows world.stage first → Shows next.stage order)
+      → IsPerformed world next event first order connections keeper keeper failures honest state state
+  performed_talked next event first order connections of_keeper talked shows =
       let grown = talked.grown in
-      without_device next event order connections talked.of_connections talked.log talked.of_order
+      without_device next event first order connections talked.of_connections talked.log talked.of_order
       (subst (λ (s : Stage). IsKeeperOf s keeper failures) (sym grown.is) (keeper_grows world.stage grown.commands keeper failures (ordered world within) grown.takes of_keeper))
       (λ disk. subst (λ (s : Stage). IsDiskOf s keeper state) (sym grown.is)
-      (disk_grows world.stage (ordered world within) grown.commands world.stage.sealed world.stage.durable keeper state disk))
+      (disk_grows world.stage (ordered world within) grown.commands world.stage.sealed world.stage.durable keeper state disk)) shows
 
   kept_connections : (next : World) (connections : List Connection) → next.connections ≡ world.connections → AreConnectionsOf world connections → AreConnectionsOf next connections
   kept_connections next connections same are = λ c. are c ∙ sym (ap (λ (f : ℕ → Connection). f c) same)
 
-  pub performed_kept : (next : World) (event : Event) (order : OrderState) (connections : ConnectionsState) → AreConnectionsOf world connections.states
-      → (IsDiskOf world.stage keeper state → IsDiskOf next.stage keeper state)
-      → IsKept world next event order connections.group keeper failures → IsPerformed world next event order connections keeper keeper failures honest state state
-  performed_kept next event order connections are here kept =
-      without_device next event order connections (kept_connections next connections.states kept.connections are) kept.log kept.of_order kept.of_keeper here
+  pub performed_kept : (next : World) (event : Event) (first order : OrderState) (connections : ConnectionsState) → AreConnectionsOf world connections.states
+      → (IsDiskOf world.stage keeper state → IsDiskOf next.stage keeper state) → (Shows world.stage first → Shows next.stage order)
+      → IsKept world next event order connections.group keeper failures → IsPerformed world next event first order connections keeper keeper failures honest state state
+  performed_kept next event first order connections are here shows kept =
+      without_device next event first order connections (kept_connections next connections.states kept.connections are) kept.log kept.of_order kept.of_keeper here shows
 
   numbers_here : (sealed durable : ℕ) → IsDiskOf world.stage keeper state
       → IsDiskOf (record world.stage { sealed = sealed; durable = durable }) keeper state
@@ -85,6 +88,7 @@ module _ {D : Type 0} (extent : ℕ) (honest : Type 0) (state : State) (sound : 
       by_failure OutOfMemory = disk
       by_failure Nothing = numbers_here _ _ disk
       by_failure DeviceFailure = numbers_here _ _ disk
+      by_failure (Misread image) = numbers_here _ _ disk
 
   pub disk_publishes : IsDiskOf world.stage keeper state → IsDiskOf (publish world).stage keeper state
   disk_publishes disk = of_either (λ (next : World). IsDiskOf next.stage keeper state) (nat_lt world.stage.durable world.stage.stored) _ _ (numbers_here _ _ disk) disk
@@ -93,20 +97,42 @@ module _ {D : Type 0} (extent : ℕ) (honest : Type 0) (state : State) (sound : 
   disk_cleans disk = of_either (λ (next : World). IsDiskOf next.stage keeper state) (can_clean world.stage) _ _ (record { holds = disk.holds; leaves = disk.leaves }) disk
 
 -- a group that was appended, or wasn't
-pub performed_appended : {D : Type 0} (honest : Type 0) (before after : State) (world next : World) (event : Event) (order : OrderState) (connections : ConnectionsState) (old new : KeeperState D) (failures : ℕ)
-    → AreConnectionsOf world connections.states → IsAppended world next event order connections.group old new failures honest before after
-    → IsPerformed world next event order connections old new failures honest before after
-performed_appended honest before after world next event order connections old new failures are appended = record {
+pub performed_appended : {D : Type 0} (honest : Type 0) (before after : State) (world next : World) (event : Event) (first order : OrderState) (connections : ConnectionsState) (old new : KeeperState D) (failures : ℕ)
+    → AreConnectionsOf world connections.states → (Shows world.stage first → Shows next.stage order) → IsAppended world next event order connections.group old new failures honest before after
+    → IsPerformed world next event first order connections old new failures honest before after
+performed_appended honest before after world next event first order connections old new failures are shows appended = record {
   of_states = λ c. are c ∙ sym (ap (λ (f : ℕ → Connection). f c) appended.kept.connections);
   log = appended.kept.log;
   of_order = appended.kept.of_order;
   of_keeper = appended.kept.of_keeper;
   disk = appended.disk;
+  shows = λ is_honest disk shown. shows shown;
+}
+
+-- a connection that was served, with or without the device
+pub performed_any : {D : Type 0} (extent : ℕ) (honest : Type 0) (before after : State) (sound : honest → IsSound extent before) (world next : World) (event : Event) (first order : OrderState) (hand : Option Numbered)
+    (connections : ConnectionsState) (old new : KeeperState D) (failures level : ℕ) → IsWithin world → (new ≡ old → (after ≡ before) × (level ≡ failures)) → IsKeeperOf world.stage old failures
+    → IsAnyTalked world next connections.states event first order hand connections.group old new level honest before after
+    → IsPerformed world next event first order connections old new level honest before after
+performed_any extent honest before after sound world next event first order hand connections old new failures level within same kept (inl (still, group_is, talked, shows)) =
+    let alike = same still in
+    subst (λ (k : KeeperState _). IsPerformed world next event first order connections old k level honest before after) (sym still)
+    (subst (λ (s : State). IsPerformed world next event first order connections old old level honest before s) (sym alike.0)
+    (subst (λ (n : ℕ). IsPerformed world next event first order connections old old n honest before before) (sym alike.1)
+    (performed_talked extent honest before sound world old failures within next event first order connections kept
+    (subst (λ (g : Option Numbered). IsTalked world next connections.states event order g) (sym group_is) talked) shows)))
+performed_any extent honest before after sound world next event first order hand connections old new failures level within same kept (inr performed) = record {
+  of_states = performed.of_states;
+  log = performed.log;
+  of_order = performed.of_order;
+  of_keeper = performed.of_keeper;
+  disk = performed.disk;
+  shows = performed.shows;
 }
 
 -- the same of a step that is this one
-pub of_step : {D : Type 0} {world : World} {event : Event} {order : OrderState} {connections : ConnectionsState} {old new : KeeperState D} {failures : ℕ} {honest : Type 0} {before after : State}
-    (failure : Failure) (step this : Step) → step ≡ this → IsPerformed world (after_step world this failure) event order connections old new failures honest before after
-    → IsPerformed world (after_step world step failure) event order connections old new failures honest before after
-of_step {world = world} {event = event} {order = order} {connections = connections} {old = old} {new = new} {failures = failures} {honest = honest} {before = before} {after = after} failure step this is performed =
-    subst (λ (s : Step). IsPerformed world (after_step world s failure) event order connections old new failures honest before after) (sym is) performed
+pub of_step : {D : Type 0} {world : World} {event : Event} {first order : OrderState} {connections : ConnectionsState} {old new : KeeperState D} {failures : ℕ} {honest : Type 0} {before after : State}
+    (failure : Failure) (step this : Step) → step ≡ this → IsPerformed world (after_step world this failure) event first order connections old new failures honest before after
+    → IsPerformed world (after_step world step failure) event first order connections old new failures honest before after
+of_step {world = world} {event = event} {first = first} {order = order} {connections = connections} {old = old} {new = new} {failures = failures} {honest = honest} {before = before} {after = after} failure step this is performed =
+    subst (λ (s : Step). IsPerformed world (after_step world s failure) event first order connections old new failures honest before after) (sym is) performed

@@ -19,6 +19,7 @@ use Rattle.world.specs.declared.connection.Connection.TheVariants.{Idle}
 use Rattle.world.specs.declared.step.Step.{Step}
 use Rattle.world.specs.declared.step.Step.TheVariants.{Send}
 use Rattle.world.specs.Covered.{Covers}
+use Rattle.world.specs.Fits.{ReadsFit}
 use Rattle.world.specs.Log.{IsLegal}
 use Rattle.world.specs.Run.{IsReached, IsRun, After}
 use Rattle.world.specs.Serve.{Failure, Nothing}
@@ -31,6 +32,10 @@ pub trusted_honest : (trusted : Bool) (honest : Type 0) → Trusts trusted hones
 trusted_honest true honest is = is
 trusted_honest false honest is = absurd is
 
+pub trusts_true : (trusted : Bool) (honest : Type 0) → trusted ≡ true → honest → Trusts trusted honest
+trusts_true true honest is given = given
+trusts_true false honest is given = cc
+
 pub trusts_as : (trusted : Bool) (this other : Type 0) → (this → other) → Trusts trusted this → Trusts trusted other
 trusts_as true this other so is = so is
 trusts_as false this other so is = is
@@ -39,10 +44,10 @@ trusts_as false this other so is = is
 pub stepped : {D : Type 0} (world : World) (step : Step) (failure : Failure) (event : Event) (order order' : OrderState) (connections connections' : ConnectionsState) (old new : KeeperState D)
     (before_failures failures : ℕ) (old_honest trusting honest : Type 0) (before after : State) → (honest → trusting) → (trusting → old_honest)
     → IsExportOf world order old before_failures connections trusting before
-    → IsPerformed world (after_step world step failure) event order' connections' old new failures old_honest before after → Grows world (after_step world step failure)
+    → IsPerformed world (after_step world step failure) event order order' connections' old new failures old_honest before after → (trusting → honest) → Grows world (after_step world step failure)
     → connections'.flags ≡ connections.flags → connections'.mode ≡ connections.mode
     → IsStepped world (after_step world step failure) event order' new failures connections' honest before after
-stepped world step failure event order order' connections connections' old new before_failures failures old_honest trusting honest before after was trusts of performed grows flags mode = record {
+stepped world step failure event order order' connections connections' old new before_failures failures old_honest trusting honest before after was trusts of performed stays grows flags mode = record {
   of_export = record {
     of_order = performed.of_order;
     of_keeper = performed.of_keeper;
@@ -51,6 +56,8 @@ stepped world step failure event order order' connections connections' old new b
     mode = mode ∙ (of.mode ∙ ap (λ (s : Setting). s.mode) (sym grows.setting));
     reached = After step failure of.reached;
     disk = λ is_honest. (performed.disk (trusts (was is_honest)) (of.disk (was is_honest))).0;
+    shows = λ is_honest. performed.shows (trusts (was is_honest)) (of.disk (was is_honest)) (of.shows (was is_honest));
+    sure = λ trusted. stays (of.sure (sym (ap (λ (s : Setting). s.trusted) grows.setting) ∙ trusted));
   };
   log = performed.log;
   crash = λ is_honest. (performed.disk (trusts (was is_honest)) (of.disk (was is_honest))).1;
@@ -99,6 +106,8 @@ leads_sent world c request order keeper failures connections extent honest state
     mode = of.mode;
     reached = subst IsReached (sym run_is) (After (Send c request) Nothing of.reached);
     disk = λ is_honest. let disk = of.disk is_honest in record { holds = disk.holds; leaves = disk.leaves };
+    shows = of.shows;
+    sure = of.sure;
   };
   crash = λ is_honest. let disk = of.disk is_honest in
       begins (sound is_honest) (λ content left. stands_less world.stage.order world.stage.setting.image world.stage.setting.opening world.stage.stored world.stage.durable content within.durable (disk.leaves content left));
@@ -149,10 +158,12 @@ durable_at_end world next done order keeper failures connections extent honest b
 pub rehearsed : {D : Type 0} (world next : World) (done : List Step) (order : OrderState) (keeper : KeeperState D) (failures : ℕ) (bench : BenchState) (extent : ℕ) (honest : Type 0) (before after : State)
     → Leads world next done order keeper failures bench.connections honest before after → bench.log ≡ next.log → (honest → IsSound extent after) → Grows world next → IsWithin next
     → Covers world world.stage.durable → Covers next next.stage.durable → IsLegal next.log next.stage.order next.paired
+    → (next.stage.setting.trusted ≡ true → ReadsFit next.log next.stage.order next.paired next.shown next.stage.setting.image)
     → IsRehearsed world next done order keeper failures bench honest before after
-rehearsed world next done order keeper failures bench extent honest before after leads log sound grows within covers covers_now legal = record {
+rehearsed world next done order keeper failures bench extent honest before after leads log sound grows within covers covers_now legal fits = record {
   run = leads.run;
   of_world = record { of_export = leads.of_export; log = log };
   legal = subst (λ (l : List Event). IsLegal l next.stage.order next.paired) (sym log) legal;
+  fits = λ trusted. subst (λ (l : List Event). ReadsFit l next.stage.order next.paired next.shown next.stage.setting.image) (sym log) (fits trusted);
   durable = λ is_honest. durable_at_end world next done order keeper failures bench.connections extent honest before after leads is_honest (sound is_honest) grows within covers covers_now;
 }

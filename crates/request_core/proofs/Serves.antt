@@ -6,7 +6,7 @@ use Rattle.image_model.specs.declared.geometry.Geometry.{Geometry}
 use Rattle.nbd_wire.specs.declared.head.RequestHead.{RequestHead}
 use Rattle.world.specs.declared.step.Mode.{Mode}
 use Rattle.world.specs.declared.step.Mode.TheVariants.{Writeback, Writethrough}
-use Rattle.world.specs.Verdict.{IsServedCommand}
+use Rattle.world.specs.Verdict.{IsServedRange}
 use Rattle.image_model.specs.Change.{Change, Cleared, IsChange, IsCleared, Written, change_of}
 use Rattle.image_model.specs.declared.command.Kind.TheVariants.{Zero, Hole}
 use Rattle.journal.specs.Group.{Numbered}
@@ -150,10 +150,10 @@ waits_same Writeback head request is = ap (λ (h : RequestHead). bit_and h.flags
 pub put_command : (request : Message) → request.head.kind ≡ 1 → command_of request ≡ Written (request.head.offset / 4096) request.bytes
 put_command request is = ap (λ (b : Bool). if b then Written (request.head.offset / 4096) request.bytes else Cleared (request.head.offset / 4096) (request.head.length / 4096) (cleared_as request.head)) (eq-eqb request.head.kind 1 is)
 
-pub put_change : (request : Message) (geometry : Geometry) → request.head.kind ≡ 1 → IsServedCommand request.head geometry → length request.bytes ≡ request.head.length
+pub put_change : (request : Message) (geometry : Geometry) → request.head.kind ≡ 1 → IsServedRange request.head geometry → length request.bytes ≡ request.head.length
     → IsChange geometry.blocks (command_of request)
 put_change request geometry kind served whole =
-    let some = served.some in let most = served.most kind in let from_block = served.from_block in let whole_blocks = served.whole_blocks in let inside = served.inside in
+    let some = served.some in let most = served.most_written kind in let from_block = served.from_block in let whole_blocks = served.whole_blocks in let inside = served.inside in
     subst (IsChange geometry.blocks) (sym (put_command request kind)) (request.head.length / 4096, omega arith, omega arith, omega arith, omega arith)
 
 -- that of a TRIM or a WRITE_ZEROES
@@ -167,7 +167,7 @@ cleared_kind head = by_test ((head.kind == 6) && (bit_and head.flags 2 == 2))
     by_test true = tt
     by_test false = tt
 
-pub clear_change : (request : Message) (geometry : Geometry) → (request.head.kind ≡ 1 → ⊥) → IsServedCommand request.head geometry → request.head.length < 4294967296
+pub clear_change : (request : Message) (geometry : Geometry) → (request.head.kind ≡ 1 → ⊥) → IsServedRange request.head geometry → request.head.length < 4294967296
     → IsChange geometry.blocks (command_of request)
 clear_change request geometry other served few =
     let some = served.some in let from_block = served.from_block in let whole_blocks = served.whole_blocks in let inside = served.inside in

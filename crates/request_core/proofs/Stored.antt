@@ -18,9 +18,9 @@ use Rattle.world.specs.declared.event.Event.{Event}
 use Rattle.world.specs.declared.event.Event.TheVariants.{Took, Held, Failed}
 use Rattle.world.specs.declared.event.StepFault.TheVariants.{NoMemory, DeviceFault, FailedBefore}
 use Rattle.image_model.specs.Bodies.{bodies_bytes}
-use Rattle.world.specs.Serve.{Failure, Nothing, OutOfMemory, held, logged}
+use Rattle.world.specs.Serve.{Failure, Nothing, OutOfMemory, held, logged, faulted}
 use Rattle.world.specs.Checkpoint.{can_clean}
-use Rattle.world.specs.Step.{append, clean, faulted, publish, put_back, seal, out_of_memory, stored_more}
+use Rattle.world.specs.Step.{append, clean, publish, put_back, seal, out_of_memory, stored_more}
 use Rattle.world.specs.World.{World, fits, in_hand, Stage}
 use Rattle.world_law.specs.Law.{IsWithin}
 use Rattle.request_core.proofs.Lives.{last_grows, ordered}

@@ -67,7 +67,7 @@ open_unlike request is = cc
 
 module _ (world : World) (items new : List Connection) (c : ℕ) (event : Event) (order : OrderState) (group : Option Numbered)
     (of : IsOrderOf world.stage order group) (same : AreConnectionsOf world items) where
-  talked_held : new ≡ items → event ≡ Held → IsTalked world (held world) new event order group
+  pub talked_held : new ≡ items → event ≡ Held → IsTalked world (held world) new event order group
   talked_held new_is event_is = record {
     of_connections = λ d. ap (λ (l : List Connection). get_or l d Closed) new_is ∙ same d;
     log = ap (λ (e : Event). world.log ++ e ∷ []) (sym event_is);

@@ -22,7 +22,7 @@ use Rattle.image_model.proofs.DirtyCounts.{dirty_count}
 use Rattle.journal.specs.Group.{Numbered}
 use Rattle.order_book.specs.Order.{OrderState, with_group}
 use Rattle.request_core.specs.Steps.{IsAppended}
-use Rattle.request_core.specs.Parts.{IsDiskOf, IsKeeperOf, IsOrderOf, StandsAfter, first_commands, image_after, last_commands, part, phase_at, turned_at}
+use Rattle.request_core.specs.Parts.{IsDiskOf, IsKeeperOf, IsOrderOf, StandsAfter, first_commands, last_commands, part, phase_at, turned_at}
 use Rattle.request_core.specs.Storing.{hand_refused, order_refused, step_event, stopped_with}
 use Rattle.request_core.proofs.Lives.{IsOrdered, apply_append, keeps_of, ordered, take_part}
 use Rattle.request_core.proofs.Orders.{order_puts_back, order_stops}
@@ -32,9 +32,9 @@ use Rattle.world.specs.Checkpoint.{can_copy, can_finish, can_map, can_rotate, fi
 use Rattle.world.specs.declared.event.Event.{Event}
 use Rattle.world.specs.declared.event.Event.TheVariants.{Took, Held, Failed}
 use Rattle.world.specs.declared.event.StepFault.TheVariants.{NoMemory, DeviceFault, NumbersFull, FailedBefore}
-use Rattle.world.specs.Serve.{Failure, Nothing, OutOfMemory, DeviceFailure, held, logged}
-use Rattle.world.specs.Step.{copy_block, faulted, finish, in_time, out_of_memory, rotate, staged, without_memory, write_map, written}
-use Rattle.world.specs.World.{World, Stage}
+use Rattle.world.specs.Serve.{Failure, Nothing, OutOfMemory, DeviceFailure, held, logged, faulted, staged}
+use Rattle.world.specs.Step.{copy_block, finish, in_time, out_of_memory, rotate, without_memory, write_map, written}
+use Rattle.world.specs.World.{World, Stage, image_after}
 use Rattle.world_law.specs.Law.{IsRising, IsWithin}
 use Rattle.world_law.proofs.Within.{last_of_more, turned_through}
 
@@ -51,7 +51,7 @@ part_none : (order : List Change) (from until : ℕ) → from ≡ until → part
 part_none order from until same = ap (λ (n : ℕ). take n (drop from order)) (let none : until - from ≡ 0 = omega (arith, same) in none)
 
 -- the order where the device has failed
-order_stopped : (stage : Stage) (order : OrderState) (hand : Option Numbered) (failures : ℕ) → IsOrderOf stage order hand
+pub order_stopped : (stage : Stage) (order : OrderState) (hand : Option Numbered) (failures : ℕ) → IsOrderOf stage order hand
     → IsOrderOf (record stage { sealed = stage.stored; stopped = true; faults = failures }) (stopped_with hand order) None
 order_stopped stage order (Some group) failures of =
     order_stops (record stage { sealed = stage.stored }) (with_group order group) None failures (order_puts_back stage order group of)

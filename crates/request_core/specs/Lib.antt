@@ -1,7 +1,9 @@
 pub mod Bench
 pub mod Copies
 pub mod Life
+pub mod Outcomes
 pub mod Parts
+pub mod Reading
 pub mod Serving
 pub mod Steps
 pub mod Storing

@@ -10,7 +10,7 @@ use Rattle.nbd_wire.specs.declared.message.SessionFlags.{SessionFlags}
 use Rattle.order_book.specs.Order.{OrderState}
 use Rattle.request_core.specs.Bench.{BenchState, ConnectionsState}
 use Rattle.request_core.specs.Serving.{sent_state}
-use Rattle.request_core.specs.Parts.{IsExportOf, IsWorldOf, StandsAfter, image_after}
+use Rattle.request_core.specs.Parts.{IsExportOf, IsWorldOf, StandsAfter}
 use Rattle.world.specs.declared.event.Event.{Event}
 use Rattle.world.specs.declared.step.Mode.{Mode}
 use Rattle.nbd_wire.specs.Request.{Message}
@@ -18,15 +18,17 @@ use Rattle.world.specs.declared.connection.Connection.TheVariants.{Idle}
 use Rattle.world.specs.declared.step.Step.{Step}
 use Rattle.world.specs.declared.step.Step.TheVariants.{Send}
 use Rattle.world.specs.Covered.{Covers}
+use Rattle.world.specs.Fits.{ReadsFit}
 use Rattle.world.specs.Log.{IsLegal}
 use Rattle.world.specs.Run.{IsReached, IsRun}
 use Rattle.world.specs.Serve.{Failure, Nothing}
 use Rattle.world.specs.Step.{after_step, sent}
-use Rattle.world.specs.World.{World, fresh}
+use Rattle.world.specs.World.{World, fresh, image_after}
 
--- the world in which a life begins, with a keeper that found this image and whose device counts so many faults
-abbrev pub first_world : {D : Type 0} → KeeperState D → Image → ℕ → ℕ → ℕ → SessionFlags → Mode → World
-first_world keeper found faults most count given kept =
+-- the world in which a life begins, with a keeper that found this image and whose device counts so many faults; whether it trusts
+-- that device comes first
+abbrev pub first_world : {D : Type 0} → Bool → KeeperState D → Image → ℕ → ℕ → ℕ → SessionFlags → Mode → World
+first_world trusts keeper found faults most count given kept =
     fresh (record {
       geometry = keeper.geometry;
       flags = given;
@@ -37,6 +39,7 @@ first_world keeper found faults most count given kept =
       opening = keeper.count;
       generation = keeper.generation;
       failures = faults;
+      trusted = trusts;
     })
 
 -- What is said of a device's content has its honesty as a premise. Where the device isn't trusted, nothing is said of it,
@@ -76,12 +79,14 @@ pub record IsDurable (world next : World) (before after : State) : Type 0 where
   pub at_end : (content : List ℕ) → MayLeave after content → KeepsCovered next.stage.order next content
 
 -- The steps that are done lead from one world to the next, of which the parts are; the log of the bench is legal, and what
--- it covers is not lost where the device is honest.
+-- it covers is not lost where the device is honest. Where the world trusts the device, each answer to a READ and a BLOCK_STATUS
+-- shows the image after some first commands.
 pub record IsRehearsed {D : Type 0} (world next : World) (done : List Step) (order : OrderState) (keeper : KeeperState D) (failures : ℕ) (bench : BenchState)
     (honest : Type 0) (before after : State) : Type 0 where
   pub run : IsRun world done next
   pub of_world : IsWorldOf next order keeper failures bench honest after
   pub legal : IsLegal bench.log next.stage.order next.paired
+  pub fits : next.stage.setting.trusted ≡ true → ReadsFit bench.log next.stage.order next.paired next.shown next.stage.setting.image
   pub durable : honest → IsDurable world next before after
 
 -- The image and the number with which a next life begins: those after some first commands of the order, all that the log

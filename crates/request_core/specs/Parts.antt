@@ -1,5 +1,5 @@
 -- when the parts of an export are of a world
-use Rattle.std.specs.Prelude.{ℕ, ◌≡◌, ◌+◌, ◌-◌, ◌≤◌, ◌<◌, false, if◌then◌else◌, Option, Some, None, IfSome, List, [], ◌++◌, length, map, drop, take, slice_index_or}
+use Rattle.std.specs.Prelude.{ℕ, ◌≡◌, ◌+◌, ◌-◌, ◌≤◌, ◌<◌, true, false, if◌then◌else◌, Option, Some, None, IfSome, List, [], ◌++◌, length, map, drop, take, slice_index_or}
 use Rattle.device_image.specs.Holds.{Holds}
 use Rattle.device_image.specs.Keeper.{KeeperState, Phase, One, Copying, Mapped}
 use Rattle.device_image.specs.Remembers.{Remembers}
@@ -9,17 +9,14 @@ use Rattle.image_model.specs.Change.{Change, AreChanges, change_of}
 use Rattle.image_model.specs.Image.{Image, apply_all}
 use Rattle.journal.specs.Group.{Numbered}
 use Rattle.order_book.specs.Order.{OrderState}
+use Rattle.order_book.specs.Shown.{ShowsImage}
 use Rattle.request_core.specs.Bench.{BenchState, ConnectionsState}
 use Rattle.world.specs.declared.connection.Connection.{Connection}
 use Rattle.world.specs.declared.connection.Connection.TheVariants.{Closed}
 use Rattle.image_model.specs.Bodies.{body_bytes}
 use Rattle.world.specs.Run.{IsReached}
 use Rattle.world.specs.Checkpoint.{is_turned, last_turned}
-use Rattle.world.specs.World.{World, Stage, dirty_behind}
-
--- the image after the first commands of an order
-abbrev pub image_after : List Change → ℕ → Image → Image
-image_after order count image = apply_all (take count order) image
+use Rattle.world.specs.World.{World, Stage, dirty_behind, image_after}
 
 -- The content stands for the image after some first commands of the order, `least` of them or more, and for the number
 -- of the last of these.
@@ -97,8 +94,12 @@ pub record IsDiskOf {D : Type 0} (stage : Stage) (keeper : KeeperState D) (state
   pub holds : stage.stopped ≡ false → Holds keeper state (image_after stage.order stage.base stage.setting.image) (first_commands stage) (last_commands stage)
   pub leaves : (content : List ℕ) → MayLeave state content → StandsAfter stage.order stage.setting.image stage.setting.opening stage.stored content
 
+-- What the order knows of the image is that after all of its commands.
+abbrev pub Shows : Stage → OrderState → Type 0
+Shows stage order = ShowsImage (image_after stage.order (length stage.order) stage.setting.image) order.cache
+
 -- Order, keeper and connections are of a world that a schedule leads to. Where the keeper's device is honest, it is of
--- that world too, with the world's opening image.
+-- that world too, with the world's opening image, and so is what the order knows of it. A device that the world trusts is.
 pub record IsExportOf {D : Type 0} (world : World) (order : OrderState) (keeper : KeeperState D) (failures : ℕ) (connections : ConnectionsState)
     (honest : Type 0) (state : State) : Type 0 where
   pub of_order : IsOrderOf world.stage order connections.group
@@ -108,6 +109,8 @@ pub record IsExportOf {D : Type 0} (world : World) (order : OrderState) (keeper 
   pub mode : connections.mode ≡ world.stage.setting.mode
   pub reached : IsReached world
   pub disk : honest → IsDiskOf world.stage keeper state
+  pub shows : honest → Shows world.stage order
+  pub sure : world.stage.setting.trusted ≡ true → honest
 
 -- the same, and the log of the bench is the world's
 pub record IsWorldOf {D : Type 0} (world : World) (order : OrderState) (keeper : KeeperState D) (failures : ℕ) (bench : BenchState)

@@ -4,6 +4,7 @@ use Rattle.image_model.specs.Change.{Change, AreChanges, IsChange, change_of}
 use Rattle.image_model.specs.declared.command.Command.{Command}
 use Rattle.image_model.specs.declared.command.Command.TheVariants.{Put, Clear}
 use Rattle.image_model.specs.declared.geometry.Geometry.{Geometry}
+use Rattle.image_model.specs.Image.{Image, apply}
 use Rattle.journal.specs.Group.{Numbered}
 use Rattle.nbd_wire.specs.Request.{Message, handed_len}
 use Rattle.nbd_wire.specs.declared.error.Errno.{Errno}
@@ -12,6 +13,7 @@ use Rattle.nbd_wire.specs.declared.error.Errno.TheVariants.{Io}
 use Rattle.nbd_wire.specs.declared.head.RequestHead.{RequestHead}
 use Rattle.nbd_wire.specs.declared.message.SessionFlags.{SessionFlags}
 use Rattle.order_book.specs.Order.{OrderState, has_room, with_command}
+use Rattle.order_book.specs.Shown.{ShowsImage}
 use Rattle.request_core.specs.declared.serving.Served.{Served}
 use Rattle.request_core.specs.declared.serving.Served.TheVariants as served
 use Rattle.request_core.specs.Parts.{AreConnectionsOf, IsOrderOf}
@@ -52,7 +54,8 @@ abbrev pub IsCommandServed : Message → Mode → Command → OrderState → Ord
 IsCommandServed request kept command old new result =
     ((has_room old command ≡ false) × (new ≡ old) × (result ≡ served.NoRoom request))
     ⊎ ((has_room old command ≡ true) × (new ≡ old) × (result ≡ ready_for request.head.cookie (Refused errno.NoMemory)))
-    ⊎ ((has_room old command ≡ true) × (new ≡ with_command old command) × (result ≡ served_after (waits_for_store kept request) request.head.cookie (old.mark + 1)))
+    ⊎ ((has_room old command ≡ true) × (new ≡ with_command old command) × (result ≡ served_after (waits_for_store kept request) request.head.cookie (old.mark + 1))
+    × ((image : Image) → ShowsImage image old.cache → ShowsImage (apply (change_of command) image) new.cache))
 
 -- what a WRITE that passes judgement makes of an order that isn't stopped
 abbrev pub IsWriteServed : Message → Geometry → Mode → OrderState → OrderState → Served → Type 0
@@ -60,19 +63,6 @@ IsWriteServed request geometry kept old new result =
     ((old.mark ≡ 18446744073709551615) × (new ≡ old) × (result ≡ ready_for request.head.cookie (Refused errno.NoSpace)))
     ⊎ ((command : Command) × (change_of command ≡ command_of request) × IsChange geometry.blocks (command_of request) × (old.mark < 18446744073709551615)
     × IsCommandServed request kept command old new result)
-
--- What a request that passes judgement makes of an order: after a device fault EIO, a FLUSH waits for the last number.
-abbrev pub IsPassed : Message → Geometry → Mode → OrderState → OrderState → Served → Type 0
-IsPassed request geometry kept old new result =
-    ((old.stopped ≡ true) × (new ≡ old) × (result ≡ ready_for request.head.cookie (Refused Io)))
-    ⊎ ((old.stopped ≡ false) × (is_flush request ≡ true) × (new ≡ old) × (result ≡ served.Wait old.mark))
-    ⊎ ((old.stopped ≡ false) × (is_flush request ≡ false) × IsWriteServed request geometry kept old new result)
-
--- what a request on which this is the verdict makes of an order, and what it comes to
-abbrev pub IsServedBy : Result Action Errno → Message → Geometry → Mode → OrderState → OrderState → Served → Type 0
-IsServedBy (Ok Action.End) request geometry kept old new result = ⊥
-IsServedBy (Ok Action.Serve) request geometry kept old new result = IsPassed request geometry kept old new result
-IsServedBy (Err errno) request geometry kept old new result = (new ≡ old) × (result ≡ ready_for request.head.cookie (Refused errno))
 
 -- what a connection comes to whose request was served
 abbrev pub state_of : Served → Connection

@@ -5,7 +5,7 @@ ghost use Rattle.request_core.specs.Copies.{copied};
 ghost use Rattle.request_core.specs.Life.{IsStepped, Leads, Trusts};
 ghost use Rattle.request_core.specs.Parts.{AreConnectionsOf, IsExportOf, IsKeeperOf, IsOrderOf};
 ghost use Rattle.request_core.specs.Serving.{is_idle, sent_state};
-ghost use Rattle.request_core.specs.Steps.{IsPerformed};
+ghost use Rattle.request_core.specs.Steps.{IsPerformed, IsSure};
 ghost use Rattle.world.specs.Serve.{Failure};
 ghost use Rattle.world.specs.Step.{after_step};
 ghost use Rattle.world.specs.World.{World};
@@ -120,7 +120,8 @@ fn perform<D: Disk>(
     ensures world { (world : World) → IsWithin world → IsOrderOf world.stage order.old connections.old.group
         → IsKeeperOf world.stage keeper.old (D.faults keeper.old.disk) → AreConnectionsOf world connections.old.states
         → connections.old.flags ≡ world.stage.setting.flags → connections.old.mode ≡ world.stage.setting.mode
-        → (failure : Failure) × IsPerformed world (after_step world step.now failure) result order.new connections.new keeper.old keeper.new (D.faults keeper.new.disk)
+        → IsSure world order.old keeper.old (D.honest keeper.old.disk) (D.state keeper.old.disk)
+        → (failure : Failure) × IsPerformed world (after_step world step.now failure) result order.old order.new connections.new keeper.old keeper.new (D.faults keeper.new.disk)
         (D.honest keeper.old.disk) (D.state keeper.old.disk) (D.state keeper.new.disk) }
 {
     let terms = Terms {
@@ -135,7 +136,15 @@ fn perform<D: Disk>(
             *connection,
             request,
         ),
-        Step::Serve(connection) => serve(&mut connections.states, *connection, order, terms),
+        Step::Serve(connection) => serve(
+            alloc,
+            &mut connections.states,
+            *connection,
+            &mut connections.group,
+            order,
+            keeper,
+            terms,
+        ),
         Step::Answer(connection) => answer(&mut connections.states, *connection, order),
         Step::Seal => seal(&mut connections.group, order),
         Step::Append => append(&mut connections.group, order, keeper),

@@ -1,6 +1,5 @@
 ghost use Rattle.std.specs.Prelude.{◌≡◌, ◌≢◌, ◌==◌, ◌||◌, ◌&&◌, not, nat_lt, ◌+◌, ◌*◌};
-ghost use Rattle.world.specs.Verdict.{verdict, is_known, allowed_flags, range_verdict, IsServedCommand};
-ghost use Rattle.world.specs.Log.{is_write_type};
+ghost use Rattle.world.specs.Verdict.{verdict, is_known, allowed_flags, range_verdict, IsServedRange};
 
 use bitflags::Flags;
 use image_model::{BLOCK_BYTES, Geometry};
@@ -14,7 +13,7 @@ use world::Action;
 pub fn judge(head: &RequestHead, geometry: &Geometry, flags: &SessionFlags) -> Result<Action, Errno>
     ensures verdict { result ≡ verdict head.now geometry.now flags.now }
     ensures end { result ≡ Ok Action.End → head.now.kind ≡ 2 }
-    ensures write { result ≡ Ok Action.Serve → head.now.kind ≢ 3 → IsServedCommand head.now geometry.now }
+    ensures range { result ≡ Ok Action.Serve → head.now.kind ≢ 3 → IsServedRange head.now geometry.now }
 {
     if head.kind == DISCONNECT {
         return Ok(Action::End);
@@ -46,13 +45,6 @@ fn is_served(kind: u16) -> bool
     )
 }
 
-// Whether the type is that of a write command.
-fn is_write(kind: u16) -> bool
-    ensures { result ≡ is_write_type kind }
-{
-    matches!(kind, WRITE | TRIM | WRITE_ZEROES)
-}
-
 // The flags that a request of this type may have.
 fn allowed(kind: u16, structured: bool) -> u16
     ensures { result ≡ allowed_flags kind structured }
@@ -68,7 +60,7 @@ fn allowed(kind: u16, structured: bool) -> u16
 // Judges the range of a request that names one.
 fn judge_range(head: &RequestHead, geometry: &Geometry) -> Result<Action, Errno>
     ensures verdict { result ≡ range_verdict head.now geometry.now }
-    ensures write { result ≡ Ok Action.Serve → IsServedCommand head.now geometry.now }
+    ensures range { result ≡ Ok Action.Serve → IsServedRange head.now geometry.now }
 {
     let blocks = BLOCK_BYTES as u32;
     if head.length == 0 || head.offset % BLOCK_BYTES != 0 || head.length % blocks != 0 {
@@ -84,10 +76,5 @@ fn judge_range(head: &RequestHead, geometry: &Geometry) -> Result<Action, Errno>
             _ => Errno::Invalid,
         });
     }
-    // A READ and a BLOCK_STATUS aren't carried out so far.
-    if is_write(head.kind) {
-        Ok(Action::Serve)
-    } else {
-        Err(Errno::Invalid)
-    }
+    Ok(Action::Serve)
 }

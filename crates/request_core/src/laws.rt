@@ -1,4 +1,4 @@
-ghost use Rattle.std.specs.Prelude.{◌≡◌, ◌<◌, ℕ, Bool, List, length};
+ghost use Rattle.std.specs.Prelude.{◌≡◌, ◌<◌, ℕ, Bool, List, length, true};
 ghost use Rattle.checkpoint.specs.Recovery.{IsRecovered};
 ghost use Rattle.image_model.specs.declared.command.Kind.{Kind};
 ghost use Rattle.device_image.specs.Keeper.{KeeperState};
@@ -7,6 +7,7 @@ ghost use Rattle.device_image.specs.Stands.{StandsFor};
 ghost use Rattle.disk_model.specs.Disk.{MayLeave};
 ghost use Rattle.image_model.specs.Image.{Image};
 ghost use Rattle.nbd_wire.specs.declared.message.SessionFlags.{SessionFlags};
+ghost use Rattle.order_book.specs.Shown.{ShowsImage};
 ghost use Rattle.order_book.specs.Order.{OrderState, new_order};
 ghost use Rattle.request_core.specs.Bench.{ConnectionsState, new_connections};
 ghost use Rattle.request_core.specs.Life.{IsNextLife, LeadsLaw, Trusts, first_world};
@@ -23,7 +24,8 @@ use world_law::schedule_law;
 pub fn fresh_parts_law<D: Disk>()
     ensures { (trusted : Bool) (keeper : KeeperState D) (found : Image) (states : List Kind) (frames connections : ℕ) (flags : SessionFlags) (mode : Mode) → IsRecovered keeper → length states ≡ keeper.geometry.blocks
         → keeper.count < 18446744073709551616 → (Trusts trusted (D.honest keeper.disk) → Keeps keeper (D.state keeper.disk) found keeper.count)
-        → IsExportOf (first_world keeper found (D.faults keeper.disk) frames connections flags mode) (new_order states keeper.count frames keeper.geometry.area)
+        → (Trusts trusted (D.honest keeper.disk) → ShowsImage found (new_order states keeper.count frames keeper.geometry.area).cache) → (trusted ≡ true → D.honest keeper.disk)
+        → IsExportOf (first_world trusted keeper found (D.faults keeper.disk) frames connections flags mode) (new_order states keeper.count frames keeper.geometry.area)
         keeper (D.faults keeper.disk) (new_connections connections flags mode) (Trusts trusted (D.honest keeper.disk)) (D.state keeper.disk) }
 {
     keeper_laws::<D>();

@@ -1,24 +1,32 @@
-ghost use Rattle.std.specs.Prelude.{◌≡◌, ◌≢◌, ◌<◌, ℕ, false, [], Some, IfSome, MatchOption, IfNone, Option, Result, length, slice_index_or, slice_set, vec_len};
+ghost use Rattle.std.specs.Prelude.{◌≡◌, ◌≢◌, ◌<◌, ◌↔◌, ℕ, false, [], Some, IfSome, MatchOption, IfNone, Option, Result, length, slice_index_or, slice_set, vec_len};
 ghost use Rattle.journal.specs.Group.{Numbered};
 ghost use Rattle.nbd_wire.specs.Request.{Message};
 ghost use Rattle.nbd_wire.specs.declared.error.Errno.{Errno};
-ghost use Rattle.request_core.specs.Parts.{AreConnectionsOf, IsOrderOf};
-ghost use Rattle.request_core.specs.Serving.{AreTermsOf, IsAnsweredBy, IsHandedBack, IsSameHand, IsSentBy, IsServed, IsServedBy, IsTalked, IsWriteServed, answer_due, event_for, is_idle, ready_for, request_again, request_in, sent_state, served_after, state_of};
+ghost use Rattle.order_book.specs.Order.{IsInHand};
+ghost use Rattle.request_core.specs.Outcomes.{IsServedBy, IsServedWith};
+ghost use Rattle.request_core.specs.Parts.{AreConnectionsOf, IsKeeperOf, IsOrderOf};
+ghost use Rattle.request_core.specs.Steps.{IsAnyServed, IsAnyTalked, IsSure};
+ghost use Rattle.request_core.specs.Serving.{AreTermsOf, IsAnsweredBy, IsHandedBack, IsSentBy, IsWriteServed, answer_due, event_for, is_idle, ready_for, request_again, request_in, sent_state, served_after, state_of};
 ghost use Rattle.world.specs.Log.{cleared_as, waits_for_store};
 ghost use Rattle.world.specs.Serve.{Failure, answer as answer_of, serve as serve_of};
 ghost use Rattle.world.specs.Step.{send as send_of};
-ghost use Rattle.world.specs.Verdict.{IsServedCommand, verdict};
+ghost use Rattle.world.specs.Verdict.{IsServedRange, verdict};
 ghost use Rattle.world.specs.declared.action.Action.{Action};
 ghost use Rattle.world.specs.World.{World};
 ghost use Rattle.world.specs.declared.connection.Connection.TheVariants as Connection;
 ghost use Rattle.world_law.specs.Law.{IsWithin};
 
 use crate::judgement::judge;
+use crate::reading::{serve_read, serve_status};
+use crate::turning::stop;
 use bitflags::Flags;
+use checkpoint::Keeper;
+use disk_model::Disk;
 use image_model::{BLOCK_BYTES, Command, Geometry, Kind};
+use journal::Group;
 use nbd_wire::{
-    Answer, CommandFlags, DISCONNECT, Errno, FLUSH, Reply, Request, RequestHead, SessionFlags,
-    WRITE, WRITE_ZEROES,
+    Answer, BLOCK_STATUS, CommandFlags, DISCONNECT, Errno, FLUSH, READ, Reply, Request,
+    RequestHead, SessionFlags, WRITE, WRITE_ZEROES,
 };
 use order_book::{Order, OrderFault};
 use std::alloc::Global;
@@ -92,23 +100,33 @@ pub(crate) fn send(
 }
 
 // Serves the request of a connection, where it has sent one that wasn't served yet.
-pub(crate) fn serve(
+pub(crate) fn serve<D: Disk>(
+    alloc: Global,
     states: &mut Vec<Connection>,
     connection: usize,
+    hand: &mut Option<Group>,
     order: &mut Order,
+    keeper: &mut Keeper<D>,
     terms: Terms,
 ) -> Event
+    requires hand { IfSome hand.old (IsInHand order.old) }
     requires blocks { length order.old.cache.states ≡ terms.geometry.blocks }
+    requires device { terms.geometry ≡ keeper.old.geometry }
+    ensures hand { IfSome hand.new (IsInHand order.new) }
     ensures blocks { length order.new.cache.states ≡ length order.old.cache.states }
-    ensures hand { IsSameHand order.old order.new }
-    ensures world { (world : World) (group : Option Numbered) → IsWithin world → IsOrderOf world.stage order.old group
+    ensures geometry { keeper.new.geometry ≡ keeper.old.geometry }
+    ensures extent { D.extent keeper.new.disk ≡ D.extent keeper.old.disk }
+    ensures honest { D.honest keeper.new.disk ↔ D.honest keeper.old.disk }
+    ensures world { (world : World) → IsWithin world → IsOrderOf world.stage order.old hand.old → IsKeeperOf world.stage keeper.old (D.faults keeper.old.disk)
         → AreTermsOf world terms.geometry terms.flags terms.mode → AreConnectionsOf world states.old.items
-        → (failure : Failure) × IsTalked world (serve_of failure world connection (world.connections connection)) states.new.items result order.new group }
+        → IsSure world order.old keeper.old (D.honest keeper.old.disk) (D.state keeper.old.disk)
+        → (failure : Failure) × IsAnyTalked world (serve_of failure world connection (world.connections connection)) states.new.items result order.old order.new hand.old hand.new
+        keeper.old keeper.new (D.faults keeper.new.disk) (D.honest keeper.old.disk) (D.state keeper.old.disk) (D.state keeper.new.disk) }
 {
     let Some(request) = take_request(states, connection) else {
         return Event::Held;
     };
-    let (state, event) = serve_request(connection, request, order, terms);
+    let (state, event) = serve_request(alloc, connection, request, hand, order, keeper, terms);
     states[connection] = state;
     event
 }
@@ -133,26 +151,65 @@ fn take_request(states: &mut Vec<Connection>, connection: usize) -> Option<Reque
 }
 
 // What a connection comes to when its request is served, and the event.
-fn serve_request(
+fn serve_request<D: Disk>(
+    alloc: Global,
     connection: usize,
     request: Request,
+    hand: &mut Option<Group>,
     order: &mut Order,
+    keeper: &mut Keeper<D>,
     terms: Terms,
 ) -> (Connection, Event)
+    requires hand { IfSome hand.old (IsInHand order.old) }
     requires blocks { length order.old.cache.states ≡ terms.geometry.blocks }
+    requires device { terms.geometry ≡ keeper.old.geometry }
+    ensures hand { IfSome hand.new (IsInHand order.new) }
     ensures blocks { length order.new.cache.states ≡ length order.old.cache.states }
-    ensures hand { IsSameHand order.old order.new }
-    ensures world { (world : World) (group : Option Numbered) → IsWithin world → IsOrderOf world.stage order.old group
+    ensures geometry { keeper.new.geometry ≡ keeper.old.geometry }
+    ensures extent { D.extent keeper.new.disk ≡ D.extent keeper.old.disk }
+    ensures honest { D.honest keeper.new.disk ↔ D.honest keeper.old.disk }
+    ensures world { (world : World) → IsWithin world → IsOrderOf world.stage order.old hand.old → IsKeeperOf world.stage keeper.old (D.faults keeper.old.disk)
         → AreTermsOf world terms.geometry terms.flags terms.mode → world.connections connection ≡ Connection.Requested request
-        → (failure : Failure) × IsServed world (serve_of failure world connection (Connection.Requested request)) connection result.0 result.1 order.new group }
+        → IsSure world order.old keeper.old (D.honest keeper.old.disk) (D.state keeper.old.disk)
+        → (failure : Failure) × IsAnyServed world (serve_of failure world connection (Connection.Requested request)) connection result.0 result.1 order.old order.new hand.old hand.new
+        keeper.old keeper.new (D.faults keeper.new.disk) (D.honest keeper.old.disk) (D.state keeper.old.disk) (D.state keeper.new.disk) }
 {
     if request.head().kind == DISCONNECT {
         return (Connection::Closed, Event::Took);
     }
     let before = order.mark();
-    let served = serve_held(request, order, terms);
+    let served = serve_or_stop(alloc, request, hand, order, keeper, terms);
     let event = event_of(connection, before, order.mark(), &served);
     (state_of(served), event)
+}
+
+// Serves a request that isn't a DISC; where a call of the device fails in it the group in hand is pending again.
+fn serve_or_stop<D: Disk>(
+    alloc: Global,
+    request: Request,
+    hand: &mut Option<Group>,
+    order: &mut Order,
+    keeper: &mut Keeper<D>,
+    terms: Terms,
+) -> Served
+    requires kind { request.head.kind ≢ 2 }
+    requires hand { IfSome hand.old (IsInHand order.old) }
+    requires blocks { length order.old.cache.states ≡ terms.geometry.blocks }
+    requires device { terms.geometry ≡ keeper.old.geometry }
+    ensures hand { IfSome hand.new (IsInHand order.new) }
+    ensures blocks { length order.new.cache.states ≡ length order.old.cache.states }
+    ensures geometry { keeper.new.geometry ≡ keeper.old.geometry }
+    ensures extent { D.extent keeper.new.disk ≡ D.extent keeper.old.disk }
+    ensures honest { D.honest keeper.new.disk ↔ D.honest keeper.old.disk }
+    ensures serves { (given : Result Action Errno) × (given ≡ verdict request.head terms.geometry terms.flags)
+        × IsServedWith D.state D.faults D.honest given request terms.geometry terms.mode order.old order.new keeper.old keeper.new hand.old hand.new result }
+{
+    let works = !order.stopped();
+    let served = serve_held(alloc, request, order, keeper, terms);
+    if works && order.stopped() {
+        stop(hand, order);
+    }
+    served
 }
 
 // The event of a request that was served, where the last number of the order went from `before` to `after`.
@@ -179,15 +236,27 @@ fn state_of(served: Served) -> Connection
     }
 }
 
-/// Serves a request that isn't a DISC: it is judged, and a command gets its place in the order.
+/// Serves a request that isn't a DISC: it is judged, and a command gets its place in the order; a READ and a BLOCK_STATUS
+/// show the image after all of the order.
 ///
-/// A write command for which there is no room comes back. No request needs the device so far.
-pub fn serve_held(request: Request, order: &mut Order, terms: Terms) -> Served
+/// A write command for which there is no room comes back. The device is asked by a READ alone, for blocks that aren't in
+/// memory; where a call of it fails the order is stopped, and a group in hand is the caller's to put back.
+pub fn serve_held<D: Disk>(
+    alloc: Global,
+    request: Request,
+    order: &mut Order,
+    keeper: &mut Keeper<D>,
+    terms: Terms,
+) -> Served
     requires kind { request.head.kind ≢ 2 }
     requires blocks { length order.old.cache.states ≡ terms.geometry.blocks }
+    requires device { terms.geometry ≡ keeper.old.geometry }
     ensures blocks { length order.new.cache.states ≡ length order.old.cache.states }
+    ensures geometry { keeper.new.geometry ≡ keeper.old.geometry }
+    ensures extent { D.extent keeper.new.disk ≡ D.extent keeper.old.disk }
+    ensures honest { D.honest keeper.new.disk ↔ D.honest keeper.old.disk }
     ensures serves { (given : Result Action Errno) × (given ≡ verdict request.head terms.geometry terms.flags)
-        × IsServedBy given request terms.geometry terms.mode order.old order.new result }
+        × IsServedBy D.state D.faults D.honest given request terms.geometry terms.mode order.old order.new keeper.old keeper.new result }
 {
     let head = request.head();
     let last = order.mark();
@@ -196,12 +265,14 @@ pub fn serve_held(request: Request, order: &mut Order, terms: Terms) -> Served
         Err(errno) => refused(head.cookie, errno),
         Ok(Action::Serve) if order.stopped() => refused(head.cookie, Errno::Io),
         Ok(Action::Serve) if head.kind == FLUSH => Served::Wait(last),
+        Ok(Action::Serve) if head.kind == READ => serve_read(alloc, &head, order, keeper),
+        Ok(Action::Serve) if head.kind == BLOCK_STATUS => serve_status(alloc, &head, order),
         Ok(Action::Serve) if head.kind == WRITE => serve_put(request, order, terms),
         Ok(Action::Serve) => serve_clear(request, order, terms),
     }
 }
 
-fn refused(cookie: u64, errno: Errno) -> Served
+pub(crate) fn refused(cookie: u64, errno: Errno) -> Served
     ensures { result ≡ ready_for cookie (Answer.Refused errno) }
 {
     Served::Ready(Reply {
@@ -213,7 +284,7 @@ fn refused(cookie: u64, errno: Errno) -> Served
 // Gives a WRITE that passes judgement its place in the order, which isn't stopped.
 fn serve_put(request: Request, order: &mut Order, terms: Terms) -> Served
     requires kind { request.head.kind ≡ 1 }
-    requires write { IsServedCommand request.head terms.geometry }
+    requires write { IsServedRange request.head terms.geometry }
     requires works { order.old.stopped ≡ false }
     requires fits { order.old.mark < 18446744073709551616 }
     requires blocks { length order.old.cache.states ≡ terms.geometry.blocks }
@@ -237,7 +308,7 @@ fn serve_put(request: Request, order: &mut Order, terms: Terms) -> Served
 // Gives a TRIM or a WRITE_ZEROES that passes judgement its place in the order, which isn't stopped.
 fn serve_clear(request: Request, order: &mut Order, terms: Terms) -> Served
     requires kind { request.head.kind ≢ 1 }
-    requires write { IsServedCommand request.head terms.geometry }
+    requires write { IsServedRange request.head terms.geometry }
     requires works { order.old.stopped ≡ false }
     requires fits { order.old.mark < 18446744073709551616 }
     requires blocks { length order.old.cache.states ≡ terms.geometry.blocks }

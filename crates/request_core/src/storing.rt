@@ -31,6 +31,7 @@ pub(crate) fn seal(hand: &mut Option<Group>, order: &mut Order) -> Event
     requires { IfSome hand.old (IsInHand order.old) }
     ensures hand { IfSome hand.new (IsInHand order.new) }
     ensures blocks { length order.new.cache.states ≡ length order.old.cache.states }
+    ensures cache { order.new.cache ≡ order.old.cache }
     ensures seals { SealsBy hand.old order.old order.new hand.new result }
 {
     if hand.is_some() {
@@ -56,6 +57,7 @@ pub(crate) fn append<D: Disk>(
     requires { IfSome hand.old (IsInHand order.old) }
     ensures hand { IfSome hand.new (IsInHand order.new) }
     ensures blocks { length order.new.cache.states ≡ length order.old.cache.states }
+    ensures cache { order.new.cache ≡ order.old.cache }
     ensures geometry { keeper.new.geometry ≡ keeper.old.geometry }
     ensures extent { D.extent keeper.new.disk ≡ D.extent keeper.old.disk }
     ensures honest { D.honest keeper.new.disk ↔ D.honest keeper.old.disk }
@@ -115,6 +117,7 @@ fn give_back(hand: &mut Option<Group>, order: &mut Order, fault: KeeperFault, gr
 pub(crate) fn publish<D: Disk>(order: &mut Order, keeper: &Keeper<D>) -> Event
     ensures hand { IsSameHand order.old order.new }
     ensures blocks { length order.new.cache.states ≡ length order.old.cache.states }
+    ensures cache { order.new.cache ≡ order.old.cache }
     ensures publishes { PublishesBy keeper.now.count order.old order.new result }
 {
     if order.durable() >= keeper.count() {

@@ -1,5 +1,7 @@
 //! The steps of a checkpoint, and of letting frames go.
 ghost use Rattle.std.specs.Prelude.{◌≡◌, ◌↔◌, IfSome, None, length};
+ghost use Rattle.image_model.specs.Image.{Image};
+ghost use Rattle.order_book.specs.Shown.{ShowsImage};
 ghost use Rattle.order_book.specs.Order.{IsInHand};
 ghost use Rattle.request_core.specs.Parts.{IsKeeperOf, IsOrderOf};
 ghost use Rattle.request_core.specs.Serving.{IsSameHand};
@@ -26,6 +28,7 @@ pub(crate) fn rotate<D: Disk>(
     requires { IfSome hand.old (IsInHand order.old) }
     ensures hand { IfSome hand.new (IsInHand order.new) }
     ensures blocks { length order.new.cache.states ≡ length order.old.cache.states }
+    ensures cache { order.new.cache ≡ order.old.cache }
     ensures geometry { keeper.new.geometry ≡ keeper.old.geometry }
     ensures extent { D.extent keeper.new.disk ≡ D.extent keeper.old.disk }
     ensures honest { D.honest keeper.new.disk ↔ D.honest keeper.old.disk }
@@ -50,6 +53,7 @@ pub(crate) fn copy<D: Disk>(
     requires { IfSome hand.old (IsInHand order.old) }
     ensures hand { IfSome hand.new (IsInHand order.new) }
     ensures blocks { length order.new.cache.states ≡ length order.old.cache.states }
+    ensures cache { order.new.cache ≡ order.old.cache }
     ensures geometry { keeper.new.geometry ≡ keeper.old.geometry }
     ensures extent { D.extent keeper.new.disk ≡ D.extent keeper.old.disk }
     ensures honest { D.honest keeper.new.disk ↔ D.honest keeper.old.disk }
@@ -74,6 +78,7 @@ pub(crate) fn write_map<D: Disk>(
     requires { IfSome hand.old (IsInHand order.old) }
     ensures hand { IfSome hand.new (IsInHand order.new) }
     ensures blocks { length order.new.cache.states ≡ length order.old.cache.states }
+    ensures cache { order.new.cache ≡ order.old.cache }
     ensures geometry { keeper.new.geometry ≡ keeper.old.geometry }
     ensures extent { D.extent keeper.new.disk ≡ D.extent keeper.old.disk }
     ensures honest { D.honest keeper.new.disk ↔ D.honest keeper.old.disk }
@@ -98,6 +103,7 @@ pub(crate) fn finish<D: Disk>(
     requires { IfSome hand.old (IsInHand order.old) }
     ensures hand { IfSome hand.new (IsInHand order.new) }
     ensures blocks { length order.new.cache.states ≡ length order.old.cache.states }
+    ensures cache { order.new.cache ≡ order.old.cache }
     ensures geometry { keeper.new.geometry ≡ keeper.old.geometry }
     ensures extent { D.extent keeper.new.disk ≡ D.extent keeper.old.disk }
     ensures honest { D.honest keeper.new.disk ↔ D.honest keeper.old.disk }
@@ -118,6 +124,7 @@ pub(crate) fn refused(hand: &mut Option<Group>, order: &mut Order, fault: Keeper
     requires { IfSome hand.old (IsInHand order.old) }
     ensures event { result ≡ step_event fault }
     ensures order { order.new ≡ order_refused fault hand.old order.old }
+    ensures cache { order.new.cache ≡ order.old.cache }
     ensures hand { hand.new ≡ hand_refused fault hand.old }
 {
     match fault {
@@ -139,9 +146,10 @@ pub(crate) fn refused(hand: &mut Option<Group>, order: &mut Order, fault: Keeper
 }
 
 // Stops the order, with a group in hand put back.
-fn stop(hand: &mut Option<Group>, order: &mut Order)
+pub(crate) fn stop(hand: &mut Option<Group>, order: &mut Order)
     requires { IfSome hand.old (IsInHand order.old) }
     ensures order { order.new ≡ stopped_with hand.old order.old }
+    ensures cache { order.new.cache ≡ order.old.cache }
     ensures hand { hand.new ≡ None }
 {
     match hand.take() {
@@ -157,6 +165,7 @@ fn stop(hand: &mut Option<Group>, order: &mut Order)
 pub(crate) fn clean<D: Disk>(order: &mut Order, keeper: &Keeper<D>) -> Event
     ensures hand { IsSameHand order.old order.new }
     ensures blocks { length order.new.cache.states ≡ length order.old.cache.states }
+    ensures image { (image : Image) → ShowsImage image order.old.cache → ShowsImage image order.new.cache }
     ensures cleans { CleansBy keeper.now.base order.old order.new result }
 {
     if order.clean(keeper) {

@@ -1,8 +1,10 @@
 pub mod Checkpoint
 pub mod Covered
+pub mod Fits
 pub mod Log
 pub mod Run
 pub mod Serve
+pub mod Shown
 pub mod Step
 pub mod Verdict
 pub mod World

@@ -43,6 +43,13 @@ command_of request =
     if request.head.kind == 1 then Written (request.head.offset / 4096) request.bytes
     else Cleared (request.head.offset / 4096) (request.head.length / 4096) (cleared_as request.head)
 
+-- a READ or a BLOCK_STATUS, which are answered with what an image holds
+abbrev pub is_read_type : ℕ → Bool
+is_read_type kind = (kind == 0) || (kind == 7)
+
+abbrev pub is_read : Message → Bool
+is_read request = is_read_type request.head.kind
+
 abbrev pub is_flush : Message → Bool
 is_flush request = request.head.kind == 3
 

@@ -1,5 +1,7 @@
 -- How serving a connection changes the world. Each step changes the world and adds its event to the log.
 use Rattle.std.specs.Prelude.{ℕ, ◌+◌, Bool, true, false, ◌==◌, nat_le, if◌then◌else◌, Result, Ok, Err, [], ◌∷◌, ◌++◌, length}
+use Rattle.disk_model.specs.Faults.{counted}
+use Rattle.image_model.specs.Image.{Image}
 use Rattle.nbd_wire.specs.Request.{Message}
 use Rattle.nbd_wire.specs.declared.error.Errno.{Errno}
 use Rattle.nbd_wire.specs.declared.error.Errno.TheVariants.{Io, NoMemory, NoSpace}
@@ -13,14 +15,24 @@ use Rattle.nbd_wire.specs.declared.message.Answer.{Answer}
 use Rattle.nbd_wire.specs.declared.message.Answer.TheVariants.{Done, Refused}
 use Rattle.world.specs.Log.{command_of, is_flush, waits_for_store}
 use Rattle.world.specs.Verdict.{verdict}
-use Rattle.world.specs.World.{World, put, last_number, has_room}
+use Rattle.world.specs.Shown.{shown_by}
+use Rattle.world.specs.World.{World, Stage, put, last_number, has_room, image_after}
 
--- What fails in a step: nothing, a growth of memory, which is refused, or a call of the device. Nothing else in a step
--- is free.
+-- What fails in a step: nothing, a growth of memory, which is refused, or a call of the device; and a device that isn't trusted
+-- may show another image. Nothing else in a step is free.
 pub data Failure : Type 0 where
   Nothing : Failure
   OutOfMemory : Failure
   DeviceFailure : Failure
+  Misread : (image : Image) → Failure
+
+-- the world in which order and keeper come to this
+abbrev pub staged : World → Stage → World
+staged world stage = record world { stage = stage }
+
+-- what a call of the device that fails leaves: no command is accepted any more, and the group in hand is pending again
+abbrev pub faulted : World → World
+faulted world = staged world (record world.stage { sealed = world.stage.stored; stopped = true; faults = counted world.stage.faults })
 
 abbrev pub logged : World → Event → World
 logged world event = record world { log = world.log ++ event ∷ [] }
@@ -61,12 +73,38 @@ write_served failure world connection request =
     if last_number world == 18446744073709551615 then ready world connection (Refused NoSpace)
     else (if has_room world (command_of request) then accepted failure world connection request else held world)
 
--- a request that passes judgement: EIO after a device fault, a FLUSH waits for the last number
+-- what a READ or a BLOCK_STATUS shows: the image after all of the order, but where the device isn't trusted and shows another
+abbrev pub image_shown : Failure → Stage → Image
+image_shown (Misread image) stage = if stage.setting.trusted then image_after stage.order (length stage.order) stage.setting.image else image
+image_shown Nothing stage = image_after stage.order (length stage.order) stage.setting.image
+image_shown OutOfMemory stage = image_after stage.order (length stage.order) stage.setting.image
+image_shown DeviceFailure stage = image_after stage.order (length stage.order) stage.setting.image
+
+-- it is answered with that, and it is kept of how many commands the image is
+abbrev pub shown : Image → World → ℕ → Message → World
+shown image world connection request =
+    ready (record world { shown = put world.shown (world.places connection) (length world.stage.order) }) connection (shown_by image request.head)
+
+-- a READ, for which the device may be needed: EIO where a call of it fails
+abbrev pub read_served : Failure → World → ℕ → Message → World
+read_served OutOfMemory world connection request = ready world connection (Refused NoMemory)
+read_served DeviceFailure world connection request = ready (faulted world) connection (Refused Io)
+read_served failure world connection request = shown (image_shown failure world.stage) world connection request
+
+-- a BLOCK_STATUS, which needs no device
+abbrev pub status_served : Failure → World → ℕ → Message → World
+status_served OutOfMemory world connection request = ready world connection (Refused NoMemory)
+status_served failure world connection request = shown (image_shown failure world.stage) world connection request
+
+-- a request that passes judgement: EIO after a device fault, a FLUSH waits for the last number, a READ and a BLOCK_STATUS show the
+-- image
 abbrev pub passed : Failure → World → ℕ → Message → World
 passed failure world connection request =
     if world.stage.stopped then ready world connection (Refused Io)
     else (if is_flush request then logged (moved world connection (Waiting (last_number world))) Took
-    else write_served failure world connection request)
+    else (if request.head.kind == 0 then read_served failure world connection request
+    else (if request.head.kind == 7 then status_served failure world connection request
+    else write_served failure world connection request)))
 
 -- a request that is judged: DISC closes the connection
 abbrev pub judged : Result Action Errno → Failure → World → ℕ → Message → World

@@ -1,6 +1,5 @@
 -- how each step changes the world
 use Rattle.std.specs.Prelude.{ℕ, ◌+◌, ◌-◌, Bool, true, ◌&&◌, ◌==◌, nat_lt, if◌then◌else◌, length, drop}
-use Rattle.disk_model.specs.Faults.{counted}
 use Rattle.image_model.specs.Bodies.{bodies_bytes, body_limit, longest}
 use Rattle.nbd_wire.specs.Request.{Message}
 use Rattle.world.specs.declared.connection.Connection.{Connection}
@@ -10,12 +9,8 @@ use Rattle.world.specs.declared.event.StepFault.TheVariants.{NoMemory, DeviceFau
 use Rattle.world.specs.declared.step.Step.{Step}
 use Rattle.world.specs.declared.step.Step.TheVariants.{Send, Serve, Answer, Seal, Append, Publish, Rotate, Copy, Map, Finish, Clean}
 use Rattle.world.specs.Checkpoint.{can_rotate, can_copy, can_map, can_finish, can_clean, is_full, rotated, finished}
-use Rattle.world.specs.Serve.{Failure, Nothing, OutOfMemory, DeviceFailure, logged, held, moved, serve, answer}
+use Rattle.world.specs.Serve.{Failure, Nothing, OutOfMemory, DeviceFailure, Misread, logged, held, moved, staged, faulted, serve, answer}
 use Rattle.world.specs.World.{World, Stage, put, in_hand, fits}
-
--- the world in which order and keeper come to this
-abbrev pub staged : World → Stage → World
-staged world stage = record world { stage = stage }
 
 -- a growth of memory was refused, and nothing else has changed
 abbrev pub out_of_memory : World → World
@@ -52,15 +47,12 @@ seal failure world =
 abbrev pub put_back : World → World
 put_back world = staged world (record world.stage { sealed = world.stage.stored })
 
--- what a call of the device that fails leaves: no command is accepted any more, and the group in hand is pending again
-abbrev pub faulted : World → World
-faulted world = staged world (record world.stage { sealed = world.stage.stored; stopped = true; faults = counted world.stage.faults })
-
 -- a step that writes the device, and what order and keeper come to where nothing fails
 abbrev pub written : Failure → World → Stage → World
 written Nothing world stage = logged (staged world stage) Took
 written OutOfMemory world stage = out_of_memory world
 written DeviceFailure world stage = logged (faulted world) (Failed DeviceFault)
+written (Misread image) world stage = logged (staged world stage) Took
 
 -- the group in hand is stored
 abbrev pub stored_more : Failure → World → World
@@ -106,6 +98,7 @@ abbrev pub without_memory : Failure → Failure
 without_memory Nothing = Nothing
 without_memory OutOfMemory = Nothing
 without_memory DeviceFailure = DeviceFailure
+without_memory (Misread image) = Nothing
 
 -- the first area is no longer in use
 abbrev pub finish : Failure → World → World

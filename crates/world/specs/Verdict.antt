@@ -1,5 +1,5 @@
 -- what becomes of a request before anything is done for it, by docs/FORMATS.md, "Judgement": the first rule that applies
-use Rattle.std.specs.Prelude.{ℕ, ◌≡◌, ◌<◌, ◌≤◌, ◌+◌, ◌%◌, ◌*◌, Bool, ◌==◌, ◌||◌, ◌&&◌, true, not, nat_lt, if◌then◌else◌, Result, Ok, Err, bit_and, List, [], ◌∷◌}
+use Rattle.std.specs.Prelude.{ℕ, ◌≡◌, ◌<◌, ◌≤◌, ◌+◌, ◌%◌, ◌*◌, Bool, ◌==◌, ◌||◌, ◌&&◌, not, nat_lt, if◌then◌else◌, Result, Ok, Err, bit_and, List, [], ◌∷◌}
 use Rattle.nbd_wire.specs.declared.error.Errno.{Errno}
 use Rattle.nbd_wire.specs.declared.error.Errno.TheVariants.{Invalid, NoSpace}
 use Rattle.nbd_wire.specs.declared.head.RequestHead.{RequestHead}
@@ -7,7 +7,6 @@ use Rattle.nbd_wire.specs.declared.message.SessionFlags.{SessionFlags}
 use Rattle.image_model.specs.declared.geometry.Geometry.{Geometry}
 use Rattle.world.specs.declared.action.Action.{Action}
 use Rattle.world.specs.declared.action.Action.TheVariants.{End, Serve}
-use Rattle.world.specs.Log.{is_write_type}
 
 -- what the first rule that applies decides, or else the last word
 abbrev pub first_of_rules : {X : Type 0} → List (Bool × X) → X → X
@@ -38,8 +37,6 @@ range_verdict head geometry = first_of_rules (
     (is_unaligned head, Err Invalid)
     ∷ (((head.kind == 0) || (head.kind == 1)) && nat_lt 1048576 head.length, Err Invalid)
     ∷ (nat_lt (4096 * geometry.blocks) (head.offset + head.length), Err (past_end head.kind))
-    -- a READ and a BLOCK_STATUS aren't carried out so far
-    ∷ (not (is_write_type head.kind), Err Invalid)
     ∷ []) (Ok Serve)
 
 abbrev pub verdict : RequestHead → Geometry → SessionFlags → Result Action Errno
@@ -52,11 +49,11 @@ verdict head geometry flags = first_of_rules (
     ∷ ((head.kind == 7) && not (flags.structured && flags.context), Err Invalid)
     ∷ []) (range_verdict head geometry)
 
--- a write command of whole blocks inside the image, a WRITE of at most 1,048,576 bytes
-pub record IsServedCommand (head : RequestHead) (geometry : Geometry) : Type 0 where
-  pub write : is_write_type head.kind ≡ true
+-- whole blocks inside the image, of a READ or a WRITE at most 1,048,576 bytes
+pub record IsServedRange (head : RequestHead) (geometry : Geometry) : Type 0 where
   pub some : 0 < head.length
-  pub most : head.kind ≡ 1 → head.length ≤ 1048576
+  pub most_read : head.kind ≡ 0 → head.length ≤ 1048576
+  pub most_written : head.kind ≡ 1 → head.length ≤ 1048576
   pub from_block : head.offset % 4096 ≡ 0
   pub whole_blocks : head.length % 4096 ≡ 0
   pub inside : head.offset + head.length ≤ 4096 * geometry.blocks

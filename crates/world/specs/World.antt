@@ -3,7 +3,7 @@ use Rattle.std.specs.Prelude.{ℕ, ◌+◌, ◌-◌, ◌&&◌, ◌==◌, Bool, f
 use Rattle.image_model.specs.Bodies.{body_bytes, bodies_bytes}
 use Rattle.image_model.specs.Change.{Change}
 use Rattle.image_model.specs.Dirty.{Dirty, dirty_blocks, frames_suffice}
-use Rattle.image_model.specs.Image.{Image}
+use Rattle.image_model.specs.Image.{Image, apply_all}
 use Rattle.image_model.specs.declared.geometry.Geometry.{Geometry}
 use Rattle.nbd_wire.specs.declared.message.SessionFlags.{SessionFlags}
 use Rattle.world.specs.declared.connection.Connection.{Connection}
@@ -26,6 +26,8 @@ pub record Setting : Type 0 where
   pub generation : ℕ
   -- how many faults the device had counted when it was opened
   pub failures : ℕ
+  -- whether the device is trusted to follow the disk model
+  pub trusted : Bool
 
 -- What an order and a keeper show of a world. Commands are counted from the opening on: the number of the first is the
 -- opening's and one.
@@ -61,7 +63,14 @@ pub record World : Type 0 where
   -- of each connection the place in the log where it sent its last request, of each command that of its request
   pub places : ℕ → ℕ
   pub paired : ℕ → ℕ
+  -- of each READ and BLOCK_STATUS that was answered with what an image holds, by the place in the log where it was sent, how many
+  -- commands that image is after
+  pub shown : ℕ → ℕ
   pub connections : ℕ → Connection
+
+-- the image after the first so many commands of an order
+abbrev pub image_after : List Change → ℕ → Image → Image
+image_after order count image = apply_all (take count order) image
 
 -- the function with another value at one place
 abbrev pub put : {X : Type 0} → (ℕ → X) → ℕ → X → ℕ → X
@@ -89,6 +98,7 @@ fresh given = record {
   log = [];
   places = λ connection. 0;
   paired = λ command. 0;
+  shown = λ place. 0;
   connections = λ connection. if nat_lt connection given.connections then Idle else Closed;
 }
 

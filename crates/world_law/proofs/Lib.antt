@@ -3,6 +3,7 @@ pub mod Logged
 pub mod Ordered
 pub mod Parts
 pub mod Reached
+pub mod Shown
 pub mod Sound
 pub mod Steps
 pub mod Talk

@@ -76,9 +76,8 @@ IsRight facts connection place (Ready Done) =
     × (waits_for_store facts.mode request ≡ false) × HasPlace facts.order facts.paired place
 IsRight facts connection place (Ready (Refused errno)) =
     (request : Message) × IsOpen facts.log connection place request × IsUnpaired facts.order facts.paired place
--- nothing is answered bytes or states
-IsRight facts connection place (Ready (Bytes read)) = ⊥
-IsRight facts connection place (Ready (States runs)) = ⊥
+IsRight facts connection place (Ready (Bytes read)) = (request : Message) × IsOpen facts.log connection place request
+IsRight facts connection place (Ready (States runs)) = (request : Message) × IsOpen facts.log connection place request
 IsRight facts connection place Closed = Unit {0}
 
 pub record IsSound (world : World) : Type 0 where
@@ -161,6 +160,6 @@ module _ (facts : Facts) (event : Event) where
       by_state (Waiting number) is = (is.0, open_more is.0 is.1, awaits_more number is.0 is.1 is.2)
       by_state (Ready Done) is = (is.0, open_more is.0 is.1, is.2, is.3, is.4)
       by_state (Ready (Refused errno)) is = (is.0, open_more is.0 is.1, is.2)
-      by_state (Ready (Bytes read)) is = is
-      by_state (Ready (States runs)) is = is
+      by_state (Ready (Bytes read)) is = (is.0, open_more is.0 is.1)
+      by_state (Ready (States runs)) is = (is.0, open_more is.0 is.1)
       by_state Closed is = tt

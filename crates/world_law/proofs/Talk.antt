@@ -73,6 +73,18 @@ sound_sent world c request sound all = record {
         (subst (λ (p : ℕ). IsRight (facts_of (sent_by world c request)) d p (world.connections d)) (sym (put_other world.places c (length world.log) d other))
         (right_more (facts_of world) (Sent c request) d (world.places d) (world.connections d) (λ outcome is. cc) (λ r is. other (cc)) (sound.right d)))
 
+-- the request that an answer more to a connection answers is the open one
+pub own_place : (world : World) (c : ℕ) (request : Message) (outcome : Answer) → IsSound world → IsOpen world.log c (world.places c) request
+    → (place answer : ℕ) (other : Message) (given : Answer) → IsLast world.log (Answered c outcome) c place other answer given → place ≡ world.places c
+own_place world c request outcome sound is_open place answer other given last = by_case (cases_eq place (world.places c))
+  where
+    by_case : (place ≡ world.places c) ⊎ (place ≡ world.places c → ⊥) → place ≡ world.places c
+    by_case (inl is) = is
+    by_case (inr unlike) =
+        let at_most = is_open.last place other last.sent in
+        let found = sound.legal.one_open c place (world.places c) other request (omega (arith, at_most, unlike)) last.sent is_open.sent in
+        absurd (last.first found.0 found.1 found.2 found.4)
+
 -- An answer to a connection whose request is open, where it is one that the request may have.
 pub sound_answered : (world : World) (c : ℕ) (request : Message) (outcome : Answer) → IsSound world → IsOpen world.log c (world.places c) request
     → IsAllowed world (world.places c) request outcome → IsSound (answered world c outcome)
@@ -82,17 +94,6 @@ sound_answered world c request outcome sound is_open is_allowed = record {
   right = λ d. by_place d (cases_eq d c);
 }
   where
-    -- the request that the event answers is the open one
-    own_place : (place answer : ℕ) (other : Message) (given : Answer) → IsLast world.log (Answered c outcome) c place other answer given → place ≡ world.places c
-    own_place place answer other given last = by_case (cases_eq place (world.places c))
-      where
-        by_case : (place ≡ world.places c) ⊎ (place ≡ world.places c → ⊥) → place ≡ world.places c
-        by_case (inl is) = is
-        by_case (inr unlike) =
-            let at_most = is_open.last place other last.sent in
-            let found = sound.legal.one_open c place (world.places c) other request (omega (arith, at_most, unlike)) last.sent is_open.sent in
-            absurd (last.first found.0 found.1 found.2 found.4)
-
     allowed : (connection place answer : ℕ) (other : Message) (given : Answer)
         → IsLast world.log (Answered c outcome) connection place other answer given → IsAllowed world place other given
     allowed connection place answer other given last =
@@ -100,7 +101,7 @@ sound_answered world c request outcome sound is_open is_allowed = record {
         let connection_is : c ≡ connection = cc in
         let given_is : outcome ≡ given = cc in
         let mine = subst (λ (e : ℕ). IsLast world.log (Answered c outcome) e place other answer given) (sym connection_is) last in
-        let place_is = own_place place answer other given mine in
+        let place_is = own_place world c request outcome sound is_open place answer other given mine in
         let same = one_event world.log place (Sent c other) (Sent c request) mine.sent (subst (λ (p : ℕ). StandsAt world.log p (Sent c request)) (sym place_is) is_open.sent) in
         let other_is : other ≡ request = cc in
         subst (λ (o : Answer). IsAllowed world place other o) given_is
@@ -165,6 +166,16 @@ allowed_fault world c request = record {
   refused = λ other is unlike. let same : Io ≡ other = cc in absurd (unlike (sym same));
   forced = λ is write waits k below own. absurd (cc);
   flushed = λ is flush k below confirmed before. absurd (cc);
+}
+
+-- an answer that is neither Ok nor an error
+pub allowed_other : (world : World) (c : ℕ) (request : Message) (outcome : Answer) → (outcome ≡ Done → ⊥) → ((errno : Errno) → outcome ≡ Refused errno → ⊥)
+    → IsAllowed world (world.places c) request outcome
+allowed_other world c request outcome not_done not_refused = record {
+  done = λ is write. absurd (not_done is);
+  refused = λ errno is unlike. absurd (not_refused errno is);
+  forced = λ is write waits k below own. absurd (not_done is);
+  flushed = λ is flush k below confirmed before. absurd (not_done is);
 }
 
 pub allowed_waiting : (world : World) (c number : ℕ) (request : Message) → IsSound world → number ≤ world.stage.setting.opening + world.stage.durable

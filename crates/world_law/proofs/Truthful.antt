@@ -21,10 +21,12 @@ use Rattle.world.specs.declared.step.Step.{Step}
 use Rattle.world.specs.declared.step.Step.TheVariants as steps
 use Rattle.world.specs.Log.{StandsAt, command_of, is_flush, is_write_type}
 use Rattle.world.specs.Run.{IsReached, Fresh, After}
-use Rattle.world.specs.Serve.{Failure, Nothing, OutOfMemory, DeviceFailure, logged, held, moved, ready, ordered, state_after, accepted, passed, judged, serve, answered, answer}
+use Rattle.world.specs.Serve.{Failure, Nothing, OutOfMemory, DeviceFailure, logged, held, moved, ready, ordered, state_after, accepted, passed, judged, serve, answered, answer, staged, faulted, Misread, image_shown, shown, read_served, status_served}
 use Rattle.world.specs.Checkpoint.{can_rotate, can_copy, can_map, can_finish, can_clean, is_full, rotated, finished}
-use Rattle.world.specs.Step.{staged, send, sent, sealed_more, put_back, faulted, written, append, publish, in_time, with_generation, without_memory, after_step}
+use Rattle.world.specs.Step.{send, sent, sealed_more, put_back, written, append, publish, in_time, with_generation, without_memory, after_step}
 use Rattle.world.specs.Verdict.{verdict, first_of_rules, is_known, allowed_flags, is_unaligned, past_end}
+use Rattle.image_model.specs.Image.{Image}
+use Rattle.world.specs.Shown.{bytes_from, most_runs, read_status_of, runs_from, shown_by, status_of}
 use Rattle.world.specs.World.{World, Stage, Setting, fresh, put, last_number, has_room, in_hand, fits}
 use Rattle.world_law.specs.Law.{HasFailed, TellsFault, TellsTruth}
 use Rattle.world_law.proofs.Events.{get_split}
@@ -90,10 +92,10 @@ invalid_unlike : Invalid ≡ Io → ⊥
 invalid_unlike is = cc
 
 -- no rule of judgement answers EIO
-no_rule : (disc unknown flagged empty flush context unaligned long beyond other : Bool) (errno : Errno) → (errno ≡ Io → ⊥)
+no_rule : (disc unknown flagged empty flush context unaligned long beyond : Bool) (errno : Errno) → (errno ≡ Io → ⊥)
     → first_of_rules ((disc, Ok End) ∷ (unknown, Err Invalid) ∷ (flagged, Err Invalid) ∷ (empty, Ok Serve) ∷ (flush, Err Invalid) ∷ (context, Err Invalid) ∷ [])
-    (first_of_rules ((unaligned, Err Invalid) ∷ (long, Err Invalid) ∷ (beyond, Err errno) ∷ (other, Err Invalid) ∷ []) (Ok Serve)) ≡ Err Io → ⊥
-no_rule disc unknown flagged empty flush context unaligned long beyond other errno unlike is =
+    (first_of_rules ((unaligned, Err Invalid) ∷ (long, Err Invalid) ∷ (beyond, Err errno) ∷ []) (Ok Serve)) ≡ Err Io → ⊥
+no_rule disc unknown flagged empty flush context unaligned long beyond errno unlike is =
     let a = pass disc End _ is in
     let b = skip unknown Invalid _ invalid_unlike a in
     let c = skip flagged Invalid _ invalid_unlike b in
@@ -103,7 +105,7 @@ no_rule disc unknown flagged empty flush context unaligned long beyond other err
     let g = skip unaligned Invalid _ invalid_unlike f in
     let h = skip long Invalid _ invalid_unlike g in
     let i = skip beyond errno _ unlike h in
-    ok_unlike (skip other Invalid _ invalid_unlike i)
+    ok_unlike i
   where
     ok_unlike : (let result : Result Action Errno = Ok Serve in result ≡ Err Io) → ⊥
     ok_unlike is = cc
@@ -116,7 +118,7 @@ verdict_unlike head geometry flags is =
     no_rule (head.kind == 2) (not (is_known head.kind)) (not (bit_and head.flags (allowed_flags head.kind flags.structured) == head.flags))
     ((head.kind == 3) && (head.offset == 0) && (head.length == 0)) (head.kind == 3) ((head.kind == 7) && not (flags.structured && flags.context))
     (is_unaligned head) (((head.kind == 0) || (head.kind == 1)) && nat_lt 1048576 head.length) (nat_lt (4096 * geometry.blocks) (head.offset + head.length))
-    (not (is_write_type head.kind)) (past_end head.kind) (past_unlike head.kind) is
+    (past_end head.kind) (past_unlike head.kind) is
 
 refused_inside : (errno : Errno) → Ready (Refused errno) ≡ Ready (Refused Io) → errno ≡ Io
 refused_inside errno is = cc
@@ -169,6 +171,21 @@ module _ (world : World) (true_so_far : IsTruthful world) where
       by_case (inl is) there = here (sym (put_same world.connections c state) ∙ (sym (ap (put world.connections c state) is) ∙ there))
       by_case (inr other) there = true_so_far.due d (sym (put_other world.connections c state d other) ∙ there)
 
+  -- a fault more is counted, if the count isn't at its end
+  rises : (world.stage.setting.failures ≤ world.stage.faults) ⊎ (18446744073709551615 ≤ world.stage.faults)
+      → HasFailed (faulted world).stage
+  rises (inl more) = by_room (cases_lt world.stage.faults 18446744073709551615)
+    where
+      by_room : (world.stage.faults < 18446744073709551615) ⊎ (18446744073709551615 ≤ world.stage.faults) → HasFailed (faulted world).stage
+      by_room (inl room) = inl (omega (arith, more, room))
+      by_room (inr full) = inr (omega (arith, full))
+  rises (inr most) = inr (omega (arith, most))
+
+  risen_since : HasFailed (faulted world).stage
+      → ((faulted world).stage.setting.failures ≤ (faulted world).stage.faults) ⊎ (18446744073709551615 ≤ (faulted world).stage.faults)
+  risen_since (inl more) = inl (omega (arith, more))
+  risen_since (inr most) = inr most
+
   module _ (c : ℕ) where
     calm_moved : (state : Connection) (event : Event) → IsBacked world.stage event → (state ≡ Ready (Refused Io) → world.stage.stopped ≡ true)
         → IsTruthful (logged (moved world c state) event)
@@ -181,6 +198,7 @@ module _ (world : World) (true_so_far : IsTruthful world) where
     calm_sent OutOfMemory request = calm_failed
     calm_sent Nothing request = calm (sent Nothing world c request) (Sent c request) refl refl refl refl (λ is. is) tt (due_put c (Requested request) (λ is. cc))
     calm_sent DeviceFailure request = calm (sent DeviceFailure world c request) (Sent c request) refl refl refl refl (λ is. is) tt (due_put c (Requested request) (λ is. cc))
+    calm_sent (Misread image) request = calm (sent (Misread image) world c request) (Sent c request) refl refl refl refl (λ is. is) tt (due_put c (Requested request) (λ is. cc))
 
     calm_send : (failure : Failure) (request : Message) (state : Connection) → IsTruthful (send failure world c request state)
     calm_send failure request Idle = calm_sent failure request
@@ -207,12 +225,43 @@ module _ (world : World) (true_so_far : IsTruthful world) where
     calm_accepted OutOfMemory request = calm_ready NoMemory (λ is. absurd (memory_unlike is))
     calm_accepted Nothing request = calm_numbered request _ _
     calm_accepted DeviceFailure request = calm_numbered request _ _
+    calm_accepted (Misread image) request = calm_numbered request _ _
+
+    shown_unlike : (image : Image) (head : RequestHead) → Ready (shown_by image head) ≡ Ready (Refused Io) → ⊥
+    shown_unlike image head = of_either (λ (outcome : Answer). Ready outcome ≡ Ready (Refused Io) → ⊥) (head.kind == 0) _ _ (λ read is. cc) (λ status is. cc)
+
+    calm_shown : (image : Image) (request : Message) → IsTruthful (shown image world c request)
+    calm_shown image request = calm (shown image world c request) Took refl refl refl refl (λ is. is) tt
+        (due_put c (Ready (shown_by image request.head)) (λ is. absurd (shown_unlike image request.head is)))
+
+    fault_read : IsTruthful (ready (faulted world) c (Refused Io))
+    fault_read = record {
+      told = told_more (faulted world).stage Took (λ is. refl) (λ is. is) tt;
+      due = λ connection is. refl;
+      failed = λ is. rises true_so_far.since;
+      since = risen_since (rises true_so_far.since);
+      quiet = λ works. cc;
+    }
+
+    calm_read : (failure : Failure) (request : Message) → IsTruthful (read_served failure world c request)
+    calm_read OutOfMemory request = calm_ready NoMemory (λ is. absurd (memory_unlike is))
+    calm_read DeviceFailure request = fault_read
+    calm_read Nothing request = calm_shown (image_shown Nothing world.stage) request
+    calm_read (Misread image) request = calm_shown (image_shown (Misread image) world.stage) request
+
+    calm_status : (failure : Failure) (request : Message) → IsTruthful (status_served failure world c request)
+    calm_status OutOfMemory request = calm_ready NoMemory (λ is. absurd (memory_unlike is))
+    calm_status DeviceFailure request = calm_shown (image_shown DeviceFailure world.stage) request
+    calm_status Nothing request = calm_shown (image_shown Nothing world.stage) request
+    calm_status (Misread image) request = calm_shown (image_shown (Misread image) world.stage) request
 
     calm_passed : (failure : Failure) (request : Message) → IsTruthful (passed failure world c request)
     calm_passed failure request = of_either IsTruthful world.stage.stopped _ _ (λ stopped. calm_ready Io (λ is. stopped))
         (λ works. of_either IsTruthful (is_flush request) _ _ (λ flush. calm_moved (Waiting (last_number world)) Took tt (λ is. cc))
-        (λ other. of_either IsTruthful (last_number world == 18446744073709551615) _ _ (λ full. calm_ready NoSpace (λ is. absurd (space_unlike is)))
-        (λ left. of_either IsTruthful (has_room world (command_of request)) _ _ (λ room. calm_accepted failure request) (λ none. calm_held))))
+        (λ other. of_either IsTruthful (request.head.kind == 0) _ _ (λ read. calm_read failure request)
+        (λ no_read. of_either IsTruthful (request.head.kind == 7) _ _ (λ status. calm_status failure request)
+        (λ no_status. of_either IsTruthful (last_number world == 18446744073709551615) _ _ (λ full. calm_ready NoSpace (λ is. absurd (space_unlike is)))
+        (λ left. of_either IsTruthful (has_room world (command_of request)) _ _ (λ room. calm_accepted failure request) (λ none. calm_held))))))
 
     calm_judged : (result : Result Action Errno) → (result ≡ Err Io → ⊥) → (failure : Failure) (request : Message) → IsTruthful (judged result failure world c request)
     calm_judged (Ok End) unlike failure request = calm_moved Closed Took tt (λ is. cc)
@@ -254,26 +303,13 @@ module _ (world : World) (true_so_far : IsTruthful world) where
   calm_sealed OutOfMemory = calm_failed
   calm_sealed Nothing = calm_grouped
   calm_sealed DeviceFailure = calm_grouped
-
-  -- a fault more is counted, if the count isn't at its end
-  rises : (world.stage.setting.failures ≤ world.stage.faults) ⊎ (18446744073709551615 ≤ world.stage.faults)
-      → HasFailed (faulted world).stage
-  rises (inl more) = by_room (cases_lt world.stage.faults 18446744073709551615)
-    where
-      by_room : (world.stage.faults < 18446744073709551615) ⊎ (18446744073709551615 ≤ world.stage.faults) → HasFailed (faulted world).stage
-      by_room (inl room) = inl (omega (arith, more, room))
-      by_room (inr full) = inr (omega (arith, full))
-  rises (inr most) = inr (omega (arith, most))
-
-  risen_since : HasFailed (faulted world).stage
-      → ((faulted world).stage.setting.failures ≤ (faulted world).stage.faults) ⊎ (18446744073709551615 ≤ (faulted world).stage.faults)
-  risen_since (inl more) = inl (omega (arith, more))
-  risen_since (inr most) = inr most
+  calm_sealed (Misread image) = calm_grouped
 
   calm_written : (failure : Failure) (stage : Stage) → (is_full world.stage ≡ true → is_full stage ≡ true)
       → IsTruthful (written failure world (record stage { setting = world.stage.setting; stopped = world.stage.stopped; faults = world.stage.faults }))
   calm_written OutOfMemory stage full = calm_failed
   calm_written Nothing stage full = calm_staged stage Took full tt
+  calm_written (Misread image) stage full = calm_staged stage Took full tt
   calm_written DeviceFailure stage full = record {
     told = told_more (faulted world).stage (Failed fault.DeviceFault) (λ is. refl) (λ is. is) refl;
     due = λ connection is. refl;

@@ -13,10 +13,12 @@ use Rattle.world.specs.declared.step.Step.TheVariants as steps
 use Rattle.image_model.specs.Bodies.{bodies_bytes}
 use Rattle.world.specs.Log.{command_of, is_flush, waits_for_store}
 use Rattle.world.specs.Run.{IsReached, Fresh, After}
-use Rattle.world.specs.Serve.{Failure, Nothing, OutOfMemory, DeviceFailure, accepted, answer, judged, passed, serve, state_after}
+use Rattle.world.specs.Serve.{Failure, Nothing, OutOfMemory, DeviceFailure, accepted, answer, judged, passed, serve, state_after, Misread, image_shown, shown, read_served, status_served}
 use Rattle.world.specs.Checkpoint.{can_rotate, can_copy, can_map, can_finish, can_clean, is_full, rotated, finished}
 use Rattle.world.specs.Step.{after_step, append, in_time, with_generation, sealed_more, send, sent, without_memory, written}
 use Rattle.world.specs.Verdict.{verdict}
+use Rattle.image_model.specs.Image.{Image}
+use Rattle.world.specs.Shown.{bytes_from, most_runs, read_status_of, runs_from, shown_by, status_of}
 use Rattle.world.specs.World.{World, Stage, Setting, fits, fresh, has_room, in_hand, last_number, put}
 use Rattle.world_law.proofs.Steps.{of_either}
 
@@ -50,6 +52,7 @@ module _ (world : World) (all : AllWait world) where
   wait_sent OutOfMemory c request = all
   wait_sent Nothing c request = wait_moved c (Requested request) tt
   wait_sent DeviceFailure c request = wait_moved c (Requested request) tt
+  wait_sent (Misread image) c request = wait_moved c (Requested request) tt
 
   wait_send : (failure : Failure) (c : ℕ) (request : Message) (state : Connection) → AllWait (send failure world c request state)
   wait_send failure c request Idle = wait_sent failure c request
@@ -75,12 +78,30 @@ module _ (world : World) (all : AllWait world) where
   wait_accepted OutOfMemory c request = wait_moved c (Ready (Refused NoMemory)) tt
   wait_accepted Nothing c request = wait_ordered c request
   wait_accepted DeviceFailure c request = wait_ordered c request
+  wait_accepted (Misread image) c request = wait_ordered c request
+
+  wait_shown : (image : Image) (c : ℕ) (request : Message) → AllWait (shown image world c request)
+  wait_shown image c request = wait_moved c (Ready (shown_by image request.head)) tt
+
+  wait_read : (failure : Failure) (c : ℕ) (request : Message) → AllWait (read_served failure world c request)
+  wait_read OutOfMemory c request = wait_moved c (Ready (Refused NoMemory)) tt
+  wait_read DeviceFailure c request = wait_moved c (Ready (Refused Io)) tt
+  wait_read Nothing c request = wait_shown (image_shown Nothing world.stage) c request
+  wait_read (Misread image) c request = wait_shown (image_shown (Misread image) world.stage) c request
+
+  wait_status : (failure : Failure) (c : ℕ) (request : Message) → AllWait (status_served failure world c request)
+  wait_status OutOfMemory c request = wait_moved c (Ready (Refused NoMemory)) tt
+  wait_status DeviceFailure c request = wait_shown (image_shown DeviceFailure world.stage) c request
+  wait_status Nothing c request = wait_shown (image_shown Nothing world.stage) c request
+  wait_status (Misread image) c request = wait_shown (image_shown (Misread image) world.stage) c request
 
   wait_passed : (failure : Failure) (c : ℕ) (request : Message) → AllWait (passed failure world c request)
   wait_passed failure c request = of_either AllWait world.stage.stopped _ _ (λ stopped. wait_moved c (Ready (Refused Io)) tt)
       (λ works. of_either AllWait (is_flush request) _ _ (λ flush. wait_moved c (Waiting (last_number world)) (omega arith))
-      (λ other. of_either AllWait (last_number world == 18446744073709551615) _ _ (λ full. wait_moved c (Ready (Refused NoSpace)) tt)
-      (λ left. of_either AllWait (has_room world (command_of request)) _ _ (λ room. wait_accepted failure c request) (λ none. all))))
+      (λ other. of_either AllWait (request.head.kind == 0) _ _ (λ read. wait_read failure c request)
+      (λ no_read. of_either AllWait (request.head.kind == 7) _ _ (λ status. wait_status failure c request)
+      (λ no_status. of_either AllWait (last_number world == 18446744073709551615) _ _ (λ full. wait_moved c (Ready (Refused NoSpace)) tt)
+      (λ left. of_either AllWait (has_room world (command_of request)) _ _ (λ room. wait_accepted failure c request) (λ none. all))))))
 
   wait_judged : (given : Result Action Errno) (failure : Failure) (c : ℕ) (request : Message) → AllWait (judged given failure world c request)
   wait_judged (Ok End) failure c request = wait_moved c Closed tt
@@ -106,11 +127,13 @@ module _ (world : World) (all : AllWait world) where
   wait_sealed OutOfMemory = all
   wait_sealed Nothing = all
   wait_sealed DeviceFailure = all
+  wait_sealed (Misread image) = all
 
   wait_written : (failure : Failure) (stage : Stage) → AllWait (written failure world (record stage { setting = world.stage.setting; order = world.stage.order }))
   wait_written OutOfMemory stage = all
   wait_written Nothing stage = all
   wait_written DeviceFailure stage = all
+  wait_written (Misread image) stage = all
 
   wait_append : (failure : Failure) → AllWait (append failure world)
   wait_append failure = of_either AllWait (nat_lt world.stage.stored world.stage.sealed) _ _

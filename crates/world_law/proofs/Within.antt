@@ -16,9 +16,11 @@ use Rattle.world.specs.declared.step.Step.TheVariants as steps
 use Rattle.world.specs.Checkpoint.{can_clean, can_copy, can_finish, can_map, can_rotate, finished, is_full, is_turned, last_turned, left_behind, rotated, to_copy}
 use Rattle.world.specs.Log.{command_of, is_flush}
 use Rattle.world.specs.Run.{IsReached, Fresh, After}
-use Rattle.world.specs.Serve.{Failure, Nothing, OutOfMemory, DeviceFailure, accepted, answer, judged, logged, passed, serve}
-use Rattle.world.specs.Step.{after_step, append, in_time, with_generation, sealed_more, send, sent, staged, without_memory, written}
+use Rattle.world.specs.Serve.{Failure, Nothing, OutOfMemory, DeviceFailure, accepted, answer, judged, logged, passed, serve, staged, Misread, image_shown, shown, read_served, status_served, faulted}
+use Rattle.world.specs.Step.{after_step, append, in_time, with_generation, sealed_more, send, sent, without_memory, written}
 use Rattle.world.specs.Verdict.{verdict}
+use Rattle.image_model.specs.Image.{Image}
+use Rattle.world.specs.Shown.{bytes_from, most_runs, read_status_of, runs_from, shown_by, status_of}
 use Rattle.world.specs.World.{World, Stage, Setting, fits, fresh, has_room, last_number}
 use Rattle.world_law.specs.Law.{IsRising, IsWithin}
 use Rattle.world_law.proofs.Parts.{copied_same}
@@ -76,21 +78,25 @@ rotated_mapped : (stage : Stage) (turned : List ℕ) → (is_turned turned ≡ t
 rotated_mapped stage [] is = absurd (both_ways false refl is.0)
 rotated_mapped stage (first ∷ rest) is = is
 
+-- whatever log and connections come to
+elsewhere : (world : World) (log : List Event) (places paired shown : ℕ → ℕ) (connections : ℕ → Connection) → IsWithin world
+    → IsWithin (record world { log = log; places = places; paired = paired; shown = shown; connections = connections })
+elsewhere world log places paired shown connections within = record {
+  durable = within.durable;
+  stored = within.stored;
+  sealed = within.sealed;
+  cleaned = within.cleaned;
+  rising = within.rising;
+  areas = within.areas;
+  taken = within.taken;
+  left = within.left;
+  mapped = within.mapped;
+}
+
 module _ (world : World) (within : IsWithin world) where
-  -- whatever log and connections come to
-  within_elsewhere : (log : List Event) (places paired : ℕ → ℕ) (connections : ℕ → Connection)
-      → IsWithin (record world { log = log; places = places; paired = paired; connections = connections })
-  within_elsewhere log places paired connections = record {
-    durable = within.durable;
-    stored = within.stored;
-    sealed = within.sealed;
-    cleaned = within.cleaned;
-    rising = within.rising;
-    areas = within.areas;
-    taken = within.taken;
-    left = within.left;
-    mapped = within.mapped;
-  }
+  within_elsewhere : (log : List Event) (places paired shown : ℕ → ℕ) (connections : ℕ → Connection)
+      → IsWithin (record world { log = log; places = places; paired = paired; shown = shown; connections = connections })
+  within_elsewhere log places paired shown connections = elsewhere world log places paired shown connections within
 
   within_ordered : (commands : List Change) (log : List Event) (paired : ℕ → ℕ) (connections : ℕ → Connection)
       → IsWithin (record world { stage = record world.stage { order = world.stage.order ++ commands }; log = log; paired = paired; connections = connections })
@@ -148,47 +154,63 @@ module _ (world : World) (within : IsWithin world) where
   }
 
   within_sent : (failure : Failure) (c : ℕ) (request : Message) → IsWithin (sent failure world c request)
-  within_sent OutOfMemory c request = within_elsewhere _ _ _ _
-  within_sent Nothing c request = within_elsewhere _ _ _ _
-  within_sent DeviceFailure c request = within_elsewhere _ _ _ _
+  within_sent OutOfMemory c request = within_elsewhere _ _ _ _ _
+  within_sent Nothing c request = within_elsewhere _ _ _ _ _
+  within_sent DeviceFailure c request = within_elsewhere _ _ _ _ _
+  within_sent (Misread image) c request = within_elsewhere _ _ _ _ _
 
   within_send : (failure : Failure) (c : ℕ) (request : Message) (state : Connection) → IsWithin (send failure world c request state)
   within_send failure c request Idle = within_sent failure c request
-  within_send failure c request (Requested other) = within_elsewhere _ _ _ _
-  within_send failure c request (Waiting number) = within_elsewhere _ _ _ _
-  within_send failure c request (Ready outcome) = within_elsewhere _ _ _ _
-  within_send failure c request Closed = within_elsewhere _ _ _ _
+  within_send failure c request (Requested other) = within_elsewhere _ _ _ _ _
+  within_send failure c request (Waiting number) = within_elsewhere _ _ _ _ _
+  within_send failure c request (Ready outcome) = within_elsewhere _ _ _ _ _
+  within_send failure c request Closed = within_elsewhere _ _ _ _ _
 
   within_accepted : (failure : Failure) (c : ℕ) (request : Message) → IsWithin (accepted failure world c request)
-  within_accepted OutOfMemory c request = within_elsewhere _ _ _ _
+  within_accepted OutOfMemory c request = within_elsewhere _ _ _ _ _
   within_accepted Nothing c request = within_ordered _ _ _ _
   within_accepted DeviceFailure c request = within_ordered _ _ _ _
+  within_accepted (Misread image) c request = within_ordered _ _ _ _
+
+  within_read : (failure : Failure) (c : ℕ) (request : Message) → IsWithin (read_served failure world c request)
+  within_read OutOfMemory c request = within_elsewhere _ _ _ _ _
+  within_read DeviceFailure c request = elsewhere (logged (faulted world) Took) _ _ _ _ _ (within_back _ _ _)
+  within_read Nothing c request = within_elsewhere _ _ _ _ _
+  within_read (Misread image) c request = within_elsewhere _ _ _ _ _
+
+  within_status : (failure : Failure) (c : ℕ) (request : Message) → IsWithin (status_served failure world c request)
+  within_status OutOfMemory c request = within_elsewhere _ _ _ _ _
+  within_status DeviceFailure c request = within_elsewhere _ _ _ _ _
+  within_status Nothing c request = within_elsewhere _ _ _ _ _
+  within_status (Misread image) c request = within_elsewhere _ _ _ _ _
 
   within_passed : (failure : Failure) (c : ℕ) (request : Message) → IsWithin (passed failure world c request)
-  within_passed failure c request = of_either IsWithin world.stage.stopped _ _ (λ stopped. within_elsewhere _ _ _ _)
-      (λ works. of_either IsWithin (is_flush request) _ _ (λ flush. within_elsewhere _ _ _ _)
-      (λ other. of_either IsWithin (last_number world == 18446744073709551615) _ _ (λ full. within_elsewhere _ _ _ _)
-      (λ left. of_either IsWithin (has_room world (command_of request)) _ _ (λ room. within_accepted failure c request) (λ none. within_elsewhere _ _ _ _))))
+  within_passed failure c request = of_either IsWithin world.stage.stopped _ _ (λ stopped. within_elsewhere _ _ _ _ _)
+      (λ works. of_either IsWithin (is_flush request) _ _ (λ flush. within_elsewhere _ _ _ _ _)
+      (λ other. of_either IsWithin (request.head.kind == 0) _ _ (λ read. within_read failure c request)
+      (λ no_read. of_either IsWithin (request.head.kind == 7) _ _ (λ status. within_status failure c request)
+      (λ no_status. of_either IsWithin (last_number world == 18446744073709551615) _ _ (λ full. within_elsewhere _ _ _ _ _)
+      (λ left. of_either IsWithin (has_room world (command_of request)) _ _ (λ room. within_accepted failure c request) (λ none. within_elsewhere _ _ _ _ _))))))
 
   within_judged : (given : Result Action Errno) (failure : Failure) (c : ℕ) (request : Message) → IsWithin (judged given failure world c request)
-  within_judged (Ok End) failure c request = within_elsewhere _ _ _ _
+  within_judged (Ok End) failure c request = within_elsewhere _ _ _ _ _
   within_judged (Ok Serve) failure c request = within_passed failure c request
-  within_judged (Err errno) failure c request = within_elsewhere _ _ _ _
+  within_judged (Err errno) failure c request = within_elsewhere _ _ _ _ _
 
   within_serve : (failure : Failure) (c : ℕ) (state : Connection) → IsWithin (serve failure world c state)
   within_serve failure c (Requested request) = within_judged (verdict request.head world.stage.setting.geometry world.stage.setting.flags) failure c request
-  within_serve failure c Idle = within_elsewhere _ _ _ _
-  within_serve failure c (Waiting number) = within_elsewhere _ _ _ _
-  within_serve failure c (Ready outcome) = within_elsewhere _ _ _ _
-  within_serve failure c Closed = within_elsewhere _ _ _ _
+  within_serve failure c Idle = within_elsewhere _ _ _ _ _
+  within_serve failure c (Waiting number) = within_elsewhere _ _ _ _ _
+  within_serve failure c (Ready outcome) = within_elsewhere _ _ _ _ _
+  within_serve failure c Closed = within_elsewhere _ _ _ _ _
 
   within_answer : (c : ℕ) (state : Connection) → IsWithin (answer world c state)
-  within_answer c (Ready outcome) = within_elsewhere _ _ _ _
-  within_answer c (Waiting number) = of_either IsWithin (nat_le number (world.stage.setting.opening + world.stage.durable)) _ _ (λ reached. within_elsewhere _ _ _ _)
-      (λ above. of_either IsWithin world.stage.stopped _ _ (λ stopped. within_elsewhere _ _ _ _) (λ works. within_elsewhere _ _ _ _))
-  within_answer c Idle = within_elsewhere _ _ _ _
-  within_answer c (Requested request) = within_elsewhere _ _ _ _
-  within_answer c Closed = within_elsewhere _ _ _ _
+  within_answer c (Ready outcome) = within_elsewhere _ _ _ _ _
+  within_answer c (Waiting number) = of_either IsWithin (nat_le number (world.stage.setting.opening + world.stage.durable)) _ _ (λ reached. within_elsewhere _ _ _ _ _)
+      (λ above. of_either IsWithin world.stage.stopped _ _ (λ stopped. within_elsewhere _ _ _ _ _) (λ works. within_elsewhere _ _ _ _ _))
+  within_answer c Idle = within_elsewhere _ _ _ _ _
+  within_answer c (Requested request) = within_elsewhere _ _ _ _ _
+  within_answer c Closed = within_elsewhere _ _ _ _ _
 
   within_grouped : IsWithin (sealed_more Nothing world)
   within_grouped =
@@ -198,14 +220,16 @@ module _ (world : World) (within : IsWithin world) where
       within_counts _ _ _ _ _ _ _ within.durable (omega arith) (omega (arith, stored)) (omega (arith, most, rest, sealed)) within.taken
 
   within_sealed : (failure : Failure) → IsWithin (sealed_more failure world)
-  within_sealed OutOfMemory = within_elsewhere _ _ _ _
+  within_sealed OutOfMemory = within_elsewhere _ _ _ _ _
   within_sealed Nothing = within_grouped
   within_sealed DeviceFailure = within_grouped
+  within_sealed (Misread image) = within_grouped
 
   within_written : (failure : Failure) (stage : Stage) → IsWithin (logged (staged world stage) Took) → IsWithin (written failure world stage)
   within_written Nothing stage is = is
-  within_written OutOfMemory stage is = within_elsewhere _ _ _ _
+  within_written OutOfMemory stage is = within_elsewhere _ _ _ _ _
   within_written DeviceFailure stage is = within_back _ _ _
+  within_written (Misread image) stage is = is
 
   -- a group takes some of the last area
   more_taken : nat_lt world.stage.stored world.stage.sealed ≡ true → (bodies : ℕ) → (world.stage.at + 17 + bodies ≡ 0) ↔ (world.stage.sealed ≡ last_turned world.stage.base world.stage.turned)
@@ -220,14 +244,14 @@ module _ (world : World) (within : IsWithin world) where
       (λ works. of_either IsWithin (fits world) _ _
       (λ fit. let durable = within.durable in let stored = within.stored in
       within_written failure _ (within_counts _ _ _ _ _ _ _ (omega (arith, durable, stored)) stored (omega arith) within.sealed (more_taken hand _)))
-      (λ full. within_back _ _ _))) (λ none. within_elsewhere _ _ _ _)
+      (λ full. within_back _ _ _))) (λ none. within_elsewhere _ _ _ _ _)
 
   within_in_time : (is_time : Bool) (next : World) → (is_time ≡ true → IsWithin next) → IsWithin (in_time is_time world next)
-  within_in_time is_time next is = of_either IsWithin world.stage.stopped _ _ (λ stopped. within_elsewhere _ _ _ _)
-      (λ works. of_either IsWithin is_time next _ is (λ not_now. within_elsewhere _ _ _ _))
+  within_in_time is_time next is = of_either IsWithin world.stage.stopped _ _ (λ stopped. within_elsewhere _ _ _ _ _)
+      (λ works. of_either IsWithin is_time next _ is (λ not_now. within_elsewhere _ _ _ _ _))
 
   within_full : (next : World) → IsWithin next → IsWithin (with_generation world next)
-  within_full next is = of_either IsWithin (is_full world.stage) _ next (λ full. within_elsewhere _ _ _ _) (λ room. is)
+  within_full next is = of_either IsWithin (is_full world.stage) _ next (λ full. within_elsewhere _ _ _ _ _) (λ room. is)
 
   within_rotated : can_rotate world.stage ≡ true → IsWithin (logged (staged world (rotated world.stage)) Took)
   within_rotated now =
@@ -240,7 +264,7 @@ module _ (world : World) (within : IsWithin world) where
       (λ is. rotated_mapped world.stage world.stage.turned (within.mapped is))
 
   within_finished : (turned : List ℕ) → world.stage.turned ≡ turned → IsWithin (logged (staged world (finished world.stage turned)) Took)
-  within_finished [] is = within_elsewhere _ _ _ _
+  within_finished [] is = within_elsewhere _ _ _ _ _
   within_finished (first ∷ rest) is =
       let rising = subst (λ (turned : List ℕ). IsRising world.stage.base turned world.stage.stored) is within.rising in
       let above = rising.0 in let cleaned = within.cleaned in
@@ -263,16 +287,16 @@ module _ (world : World) (within : IsWithin world) where
   within_step (steps.Serve c) failure = within_serve failure c (world.connections c)
   within_step (steps.Answer c) failure = within_answer c (world.connections c)
   within_step steps.Seal failure = of_either IsWithin (nat_lt world.stage.sealed (length world.stage.order) && (world.stage.sealed == world.stage.durable)) _ _
-      (λ pending. within_sealed failure) (λ none. within_elsewhere _ _ _ _)
+      (λ pending. within_sealed failure) (λ none. within_elsewhere _ _ _ _ _)
   within_step steps.Append failure = within_append failure
   within_step steps.Publish failure = of_either IsWithin (nat_lt world.stage.durable world.stage.stored) _ _
-      (λ more. within_counts _ _ _ _ _ _ _ (omega arith) (omega arith) within.stored within.sealed within.taken) (λ none. within_elsewhere _ _ _ _)
+      (λ more. within_counts _ _ _ _ _ _ _ (omega arith) (omega arith) within.stored within.sealed within.taken) (λ none. within_elsewhere _ _ _ _ _)
   within_step steps.Rotate failure = within_in_time (can_rotate world.stage) _ (λ now. within_full _ (within_written failure _ (within_rotated now)))
   within_step steps.Copy failure = within_in_time (can_copy world.stage) _ (λ now. within_written failure _ (within_turned _ _ _ _ _ _ _ _ within.cleaned within.rising within.areas within.taken (let left = within.left in omega (arith, left)) (copying now)))
   within_step steps.Map failure = within_in_time (can_map world.stage) _ (λ now. within_written failure _ (within_turned _ _ _ _ _ _ _ _ within.cleaned within.rising within.areas within.taken within.left (λ is. mapping now)))
   within_step steps.Finish failure = within_in_time (can_finish world.stage) _ (λ now. within_full _ (within_written (without_memory failure) _ (within_finished world.stage.turned refl)))
   within_step steps.Clean failure = of_either IsWithin (can_clean world.stage) _ _
-      (λ more. within_turned _ _ _ _ _ _ _ _ (omega arith) within.rising within.areas within.taken within.left within.mapped) (λ none. within_elsewhere _ _ _ _)
+      (λ more. within_turned _ _ _ _ _ _ _ _ (omega arith) within.rising within.areas within.taken within.left within.mapped) (λ none. within_elsewhere _ _ _ _ _)
 
 within_fresh : (setting : Setting) → IsWithin (fresh setting)
 within_fresh setting = record {

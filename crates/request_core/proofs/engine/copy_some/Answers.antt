@@ -12,6 +12,7 @@ use Rattle.request_core.specs.Storing.{hand_refused, order_refused}
 use Rattle.request_core.proofs.Copied.{copied_fewer, leads_copied, told_never, told_same}
 use Rattle.request_core.proofs.Performed.{performed_appended}
 use Rattle.request_core.proofs.Runs.{stepped, trusted_honest, trusts_as}
+use Rattle.request_core.proofs.Steady.{shows_still, steady_copy}
 use Rattle.request_core.proofs.Stored.{not_true_is}
 use Rattle.request_core.proofs.Times.{copying_is}
 use Rattle.request_core.proofs.Turns.{as_told, copied_leaves, copy_refused, count_unlike, not_false}
@@ -35,7 +36,7 @@ returns-in-Ok-clause-world g c = λ world trusted of.
     let leaves = copied_leaves g.D.Disk.state g.D.Disk.faults g.D.Disk.extent g.D.Disk.honest g.met.D.Disk.sound world c.args.order.now c.args.connections.now.group old within of.of_order of.of_keeper
     new c.keeper_laws.ensures.left works call.faults_ok call.any_moment blocks call.ok.2 call.remembered call.held now in
     leads_copied world blocks c.args.order.now old new (g.D.Disk.faults old.disk) (g.D.Disk.faults new.disk) c.args.connections.now was (Trusts trusted was) (Trusts trusted is) (g.D.Disk.state old.disk) (g.D.Disk.state new.disk)
-    (trusted_honest trusted was) (trusts_as trusted is was c.copy_some.ensures.honest.0) within (λ next run. c.schedule_law.ensures.reached world next _ run of.reached)
+    (trusted_honest trusted was) (trusts_as trusted is was c.copy_some.ensures.honest.0) (trusts_as trusted was is c.copy_some.ensures.honest.1) within (λ next run. c.schedule_law.ensures.reached world next _ run of.reached)
     (sym of.of_keeper.failed ∙ works) time.1 time.2 time.3 of leaves
 
 pub returns-in-Err-clause-world : goal.returns-in-Err-clause-world
@@ -60,8 +61,9 @@ returns-in-Err-clause-world g c = λ world trusted of.
       step.0,
       stepped world Copy step.0 c.refused.result c.args.order.now c.refused.new.order c.args.connections.now bench old new (g.D.Disk.faults old.disk) (g.D.Disk.faults new.disk)
           was (Trusts trusted was) (Trusts trusted is) (g.D.Disk.state old.disk) (g.D.Disk.state new.disk) (trusts_as trusted is was c.copy_some.ensures.honest.0) (trusted_honest trusted was)
-          of (performed_appended was (g.D.Disk.state old.disk) (g.D.Disk.state new.disk) world (after_step world Copy step.0) c.refused.result c.refused.new.order bench old new (g.D.Disk.faults new.disk) here done)
-          grows (ap (λ (b : ConnectionsState). b.flags) view) (ap (λ (b : ConnectionsState). b.mode) view),
+          of (performed_appended was (g.D.Disk.state old.disk) (g.D.Disk.state new.disk) world (after_step world Copy step.0) c.refused.result c.args.order.now c.refused.new.order bench old new (g.D.Disk.faults new.disk) here
+          (shows_still world.stage _ c.args.order.now c.refused.new.order (steady_copy world step.0) c.refused.ensures.cache) done)
+          (trusts_as trusted was is c.copy_some.ensures.honest.1) grows (ap (λ (b : ConnectionsState). b.flags) view) (ap (λ (b : ConnectionsState). b.mode) view),
     )
 
 pub returns-in-Ok-clause-fewer : goal.returns-in-Ok-clause-fewer

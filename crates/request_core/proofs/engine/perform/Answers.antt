@@ -1,10 +1,12 @@
-use Rattle.std.proofs.Common.{Option, sym, ◌∙◌, ap, subst}
+use Rattle.std.proofs.Common.{Option, refl, sym, ◌∙◌, ap, subst}
 use Rattle.journal.specs.Group.{Numbered}
 use Rattle.request_core.specs.Bench.{ConnectionsState}
 use Rattle.request_core.specs.Parts.{AreConnectionsOf, IsOrderOf}
 use Rattle.request_core.specs.Serving.{AreTermsOf}
 use Rattle.request_core.proofs.Talks.{talked_answer, talked_send}
-use Rattle.request_core.proofs.Performed.{disk_cleans, disk_publishes, disk_seals, of_step, performed_appended, performed_kept, performed_talked}
+use Rattle.request_core.proofs.Performed.{disk_cleans, disk_publishes, disk_seals, of_step, performed_any, performed_appended, performed_kept, performed_talked}
+use Rattle.request_core.proofs.Steady.{shows_after, shows_still, steady_answer, steady_append, steady_clean, steady_copy, steady_finish, steady_map, steady_publish, steady_rotate, steady_seal, steady_send}
+use Rattle.device_image.specs.Keeper.{KeeperState}
 use Rattle.request_core.proofs.Stored.{kept_clean_by, kept_publish_by, kept_seal_by}
 use Rattle.world.specs.Serve.{Nothing, answer, serve}
 use Rattle.world.specs.Step.{append, clean, copy_block, finish, publish, rotate, seal, send, write_map}
@@ -12,7 +14,7 @@ use Rattle.world.specs.declared.step.Step.TheVariants as steps
 use Rattle.request_core.proofs.engine.perform.Goals as goal
 
 pub returns-in-Send-clause-world : goal.returns-in-Send-clause-world
-returns-in-Send-clause-world g c = λ world within of kept are flags mode.
+returns-in-Send-clause-world g c = λ world within of kept are flags mode sure.
     let inside = c.connections.inside in
     let view = c.connections.view_is in
     let order = c.args.order.now in
@@ -26,11 +28,12 @@ returns-in-Send-clause-world g c = λ world within of kept are flags mode.
       talked.0,
       of_step talked.0 c.args.step.now (steps.Send c.in-Send.connection c.in-Send.request) c.in-Send.is
           (performed_talked (g.D.Disk.extent keeper.disk) (g.D.Disk.honest keeper.disk) (g.D.Disk.state keeper.disk) (g.met.D.Disk.sound keeper.disk) world keeper faults within
-          (send talked.0 world c.in-Send.connection c.in-Send.request (world.connections c.in-Send.connection)) c.send.result order bench kept talked.1),
+          (send talked.0 world c.in-Send.connection c.in-Send.request (world.connections c.in-Send.connection)) c.send.result order order bench kept talked.1
+          (shows_still world.stage _ order order (steady_send world talked.0 c.in-Send.connection c.in-Send.request (world.connections c.in-Send.connection)) refl)),
     )
 
 pub returns-in-Serve-clause-world : goal.returns-in-Serve-clause-world
-returns-in-Serve-clause-world g c = λ world within of kept are flags mode.
+returns-in-Serve-clause-world g c = λ world within of kept are flags mode sure.
     let inside = c.connections.inside in
     let view = c.connections.view_is in
     let order = c.args.order.now in
@@ -39,21 +42,23 @@ returns-in-Serve-clause-world g c = λ world within of kept are flags mode.
     let items = inside.states.items in
     let here = subst (AreConnectionsOf world) (sym (ap (λ (b : ConnectionsState). b.states) view)) are in
     let hand = subst (λ (group : Option Numbered). IsOrderOf world.stage order group) (sym (ap (λ (b : ConnectionsState). b.group) view)) of in
-    let bench : ConnectionsState = record { flags = inside.flags; mode = inside.mode; states = c.serve.new.states.items; group = c.connections.inside.group } in
+    let bench : ConnectionsState = record { flags = inside.flags; mode = inside.mode; states = c.serve.new.states.items; group = c.serve.new.hand } in
     let terms : AreTermsOf world c.geometry.result inside.flags inside.mode = record {
       geometry_is = c.geometry.ensures ∙ kept.geometry;
       flags_is = ap (λ (b : ConnectionsState). b.flags) view ∙ flags;
       mode_is = ap (λ (b : ConnectionsState). b.mode) view ∙ mode;
     } in
-    let talked = c.serve.ensures.world world inside.group within hand terms here in (
-      talked.0,
-      of_step talked.0 c.args.step.now (steps.Serve c.in-Serve.connection) c.in-Serve.is
-          (performed_talked (g.D.Disk.extent keeper.disk) (g.D.Disk.honest keeper.disk) (g.D.Disk.state keeper.disk) (g.met.D.Disk.sound keeper.disk) world keeper faults within
-          (serve talked.0 world c.in-Serve.connection (world.connections c.in-Serve.connection)) c.serve.result c.serve.new.order bench kept talked.1),
+    let next = c.serve.new.keeper in
+    let done = c.serve.ensures.world world within hand kept terms here sure in (
+      done.0,
+      of_step done.0 c.args.step.now (steps.Serve c.in-Serve.connection) c.in-Serve.is
+          (performed_any (g.D.Disk.extent keeper.disk) (g.D.Disk.honest keeper.disk) (g.D.Disk.state keeper.disk) (g.D.Disk.state next.disk) (g.met.D.Disk.sound keeper.disk) world
+          (serve done.0 world c.in-Serve.connection (world.connections c.in-Serve.connection)) c.serve.result order c.serve.new.order inside.group bench keeper next faults (g.D.Disk.faults next.disk) within
+          (λ same. (ap (λ (k : KeeperState _). g.D.Disk.state k.disk) same, ap (λ (k : KeeperState _). g.D.Disk.faults k.disk) same)) kept done.1),
     )
 
 pub returns-in-Answer-clause-world : goal.returns-in-Answer-clause-world
-returns-in-Answer-clause-world g c = λ world within of kept are flags mode.
+returns-in-Answer-clause-world g c = λ world within of kept are flags mode sure.
     let inside = c.connections.inside in
     let view = c.connections.view_is in
     let order = c.args.order.now in
@@ -67,11 +72,12 @@ returns-in-Answer-clause-world g c = λ world within of kept are flags mode.
       Nothing,
       of_step Nothing c.args.step.now (steps.Answer c.in-Answer.connection) c.in-Answer.is
           (performed_talked (g.D.Disk.extent keeper.disk) (g.D.Disk.honest keeper.disk) (g.D.Disk.state keeper.disk) (g.met.D.Disk.sound keeper.disk) world keeper faults within
-          (answer world c.in-Answer.connection (world.connections c.in-Answer.connection)) c.answer.result order bench kept talked),
+          (answer world c.in-Answer.connection (world.connections c.in-Answer.connection)) c.answer.result order order bench kept talked
+          (shows_still world.stage _ order order (steady_answer world c.in-Answer.connection (world.connections c.in-Answer.connection)) refl)),
     )
 
 pub returns-in-Seal-clause-world : goal.returns-in-Seal-clause-world
-returns-in-Seal-clause-world g c = λ world within of kept are flags mode.
+returns-in-Seal-clause-world g c = λ world within of kept are flags mode sure.
     let inside = c.connections.inside in
     let view = c.connections.view_is in
     let order = c.args.order.now in
@@ -85,12 +91,13 @@ returns-in-Seal-clause-world g c = λ world within of kept are flags mode.
       sealed.0,
       of_step sealed.0 c.args.step.now steps.Seal c.in-Seal.is
           (performed_kept (g.D.Disk.extent keeper.disk) (g.D.Disk.honest keeper.disk) (g.D.Disk.state keeper.disk) (g.met.D.Disk.sound keeper.disk) world keeper faults within
-          (seal sealed.0 world) c.seal.result c.seal.new.order bench here
-          (disk_seals (g.D.Disk.extent keeper.disk) (g.D.Disk.honest keeper.disk) (g.D.Disk.state keeper.disk) (g.met.D.Disk.sound keeper.disk) world keeper faults within sealed.0) sealed.1),
+          (seal sealed.0 world) c.seal.result order c.seal.new.order bench here
+          (disk_seals (g.D.Disk.extent keeper.disk) (g.D.Disk.honest keeper.disk) (g.D.Disk.state keeper.disk) (g.met.D.Disk.sound keeper.disk) world keeper faults within sealed.0)
+          (shows_still world.stage _ order c.seal.new.order (steady_seal world sealed.0) c.seal.ensures.cache) sealed.1),
     )
 
 pub returns-in-Append-clause-world : goal.returns-in-Append-clause-world
-returns-in-Append-clause-world g c = λ world within of kept are flags mode.
+returns-in-Append-clause-world g c = λ world within of kept are flags mode sure.
     let inside = c.connections.inside in
     let view = c.connections.view_is in
     let order = c.args.order.now in
@@ -103,12 +110,13 @@ returns-in-Append-clause-world g c = λ world within of kept are flags mode.
     let stored = c.append.ensures.world world within hand kept in (
       stored.0,
       of_step stored.0 c.args.step.now steps.Append c.in-Append.is
-          (performed_appended (g.D.Disk.honest keeper.disk) (g.D.Disk.state keeper.disk) (g.D.Disk.state c.append.new.keeper.disk) world (append stored.0 world) c.append.result c.append.new.order bench
-          keeper c.append.new.keeper (g.D.Disk.faults c.append.new.keeper.disk) here stored.1),
+          (performed_appended (g.D.Disk.honest keeper.disk) (g.D.Disk.state keeper.disk) (g.D.Disk.state c.append.new.keeper.disk) world (append stored.0 world) c.append.result order c.append.new.order bench
+          keeper c.append.new.keeper (g.D.Disk.faults c.append.new.keeper.disk) here
+          (shows_still world.stage _ order c.append.new.order (steady_append world stored.0) c.append.ensures.cache) stored.1),
     )
 
 pub returns-in-Publish-clause-world : goal.returns-in-Publish-clause-world
-returns-in-Publish-clause-world g c = λ world within of kept are flags mode.
+returns-in-Publish-clause-world g c = λ world within of kept are flags mode sure.
     let order = c.args.order.now in
     let keeper = c.args.keeper.now in
     let faults = g.D.Disk.faults keeper.disk in
@@ -117,12 +125,13 @@ returns-in-Publish-clause-world g c = λ world within of kept are flags mode.
       Nothing,
       of_step Nothing c.args.step.now steps.Publish c.in-Publish.is
           (performed_kept (g.D.Disk.extent keeper.disk) (g.D.Disk.honest keeper.disk) (g.D.Disk.state keeper.disk) (g.met.D.Disk.sound keeper.disk) world keeper faults within
-          (publish world) c.publish.result c.publish.new.order bench are
-          (disk_publishes (g.D.Disk.extent keeper.disk) (g.D.Disk.honest keeper.disk) (g.D.Disk.state keeper.disk) (g.met.D.Disk.sound keeper.disk) world keeper faults within) published),
+          (publish world) c.publish.result order c.publish.new.order bench are
+          (disk_publishes (g.D.Disk.extent keeper.disk) (g.D.Disk.honest keeper.disk) (g.D.Disk.state keeper.disk) (g.met.D.Disk.sound keeper.disk) world keeper faults within)
+          (shows_still world.stage _ order c.publish.new.order (steady_publish world) c.publish.ensures.cache) published),
     )
 
 pub returns-in-Rotate-clause-world : goal.returns-in-Rotate-clause-world
-returns-in-Rotate-clause-world g c = λ world within of kept are flags mode.
+returns-in-Rotate-clause-world g c = λ world within of kept are flags mode sure.
     let inside = c.connections.inside in
     let view = c.connections.view_is in
     let order = c.args.order.now in
@@ -135,12 +144,13 @@ returns-in-Rotate-clause-world g c = λ world within of kept are flags mode.
     let stored = c.rotate.ensures.world world within hand kept in (
       stored.0,
       of_step stored.0 c.args.step.now steps.Rotate c.in-Rotate.is
-          (performed_appended (g.D.Disk.honest keeper.disk) (g.D.Disk.state keeper.disk) (g.D.Disk.state c.rotate.new.keeper.disk) world (rotate stored.0 world) c.rotate.result c.rotate.new.order bench
-          keeper c.rotate.new.keeper (g.D.Disk.faults c.rotate.new.keeper.disk) here stored.1),
+          (performed_appended (g.D.Disk.honest keeper.disk) (g.D.Disk.state keeper.disk) (g.D.Disk.state c.rotate.new.keeper.disk) world (rotate stored.0 world) c.rotate.result order c.rotate.new.order bench
+          keeper c.rotate.new.keeper (g.D.Disk.faults c.rotate.new.keeper.disk) here
+          (shows_still world.stage _ order c.rotate.new.order (steady_rotate world stored.0) c.rotate.ensures.cache) stored.1),
     )
 
 pub returns-in-Copy-clause-world : goal.returns-in-Copy-clause-world
-returns-in-Copy-clause-world g c = λ world within of kept are flags mode.
+returns-in-Copy-clause-world g c = λ world within of kept are flags mode sure.
     let inside = c.connections.inside in
     let view = c.connections.view_is in
     let order = c.args.order.now in
@@ -153,12 +163,13 @@ returns-in-Copy-clause-world g c = λ world within of kept are flags mode.
     let stored = c.copy.ensures.world world within hand kept in (
       stored.0,
       of_step stored.0 c.args.step.now steps.Copy c.in-Copy.is
-          (performed_appended (g.D.Disk.honest keeper.disk) (g.D.Disk.state keeper.disk) (g.D.Disk.state c.copy.new.keeper.disk) world (copy_block stored.0 world) c.copy.result c.copy.new.order bench
-          keeper c.copy.new.keeper (g.D.Disk.faults c.copy.new.keeper.disk) here stored.1),
+          (performed_appended (g.D.Disk.honest keeper.disk) (g.D.Disk.state keeper.disk) (g.D.Disk.state c.copy.new.keeper.disk) world (copy_block stored.0 world) c.copy.result order c.copy.new.order bench
+          keeper c.copy.new.keeper (g.D.Disk.faults c.copy.new.keeper.disk) here
+          (shows_still world.stage _ order c.copy.new.order (steady_copy world stored.0) c.copy.ensures.cache) stored.1),
     )
 
 pub returns-in-Map-clause-world : goal.returns-in-Map-clause-world
-returns-in-Map-clause-world g c = λ world within of kept are flags mode.
+returns-in-Map-clause-world g c = λ world within of kept are flags mode sure.
     let inside = c.connections.inside in
     let view = c.connections.view_is in
     let order = c.args.order.now in
@@ -171,12 +182,13 @@ returns-in-Map-clause-world g c = λ world within of kept are flags mode.
     let stored = c.write_map.ensures.world world within hand kept in (
       stored.0,
       of_step stored.0 c.args.step.now steps.Map c.in-Map.is
-          (performed_appended (g.D.Disk.honest keeper.disk) (g.D.Disk.state keeper.disk) (g.D.Disk.state c.write_map.new.keeper.disk) world (write_map stored.0 world) c.write_map.result c.write_map.new.order bench
-          keeper c.write_map.new.keeper (g.D.Disk.faults c.write_map.new.keeper.disk) here stored.1),
+          (performed_appended (g.D.Disk.honest keeper.disk) (g.D.Disk.state keeper.disk) (g.D.Disk.state c.write_map.new.keeper.disk) world (write_map stored.0 world) c.write_map.result order c.write_map.new.order bench
+          keeper c.write_map.new.keeper (g.D.Disk.faults c.write_map.new.keeper.disk) here
+          (shows_still world.stage _ order c.write_map.new.order (steady_map world stored.0) c.write_map.ensures.cache) stored.1),
     )
 
 pub returns-in-Finish-clause-world : goal.returns-in-Finish-clause-world
-returns-in-Finish-clause-world g c = λ world within of kept are flags mode.
+returns-in-Finish-clause-world g c = λ world within of kept are flags mode sure.
     let inside = c.connections.inside in
     let view = c.connections.view_is in
     let order = c.args.order.now in
@@ -189,12 +201,13 @@ returns-in-Finish-clause-world g c = λ world within of kept are flags mode.
     let stored = c.finish.ensures.world world within hand kept in (
       stored.0,
       of_step stored.0 c.args.step.now steps.Finish c.in-Finish.is
-          (performed_appended (g.D.Disk.honest keeper.disk) (g.D.Disk.state keeper.disk) (g.D.Disk.state c.finish.new.keeper.disk) world (finish stored.0 world) c.finish.result c.finish.new.order bench
-          keeper c.finish.new.keeper (g.D.Disk.faults c.finish.new.keeper.disk) here stored.1),
+          (performed_appended (g.D.Disk.honest keeper.disk) (g.D.Disk.state keeper.disk) (g.D.Disk.state c.finish.new.keeper.disk) world (finish stored.0 world) c.finish.result order c.finish.new.order bench
+          keeper c.finish.new.keeper (g.D.Disk.faults c.finish.new.keeper.disk) here
+          (shows_still world.stage _ order c.finish.new.order (steady_finish world stored.0) c.finish.ensures.cache) stored.1),
     )
 
 pub returns-in-Clean-clause-world : goal.returns-in-Clean-clause-world
-returns-in-Clean-clause-world g c = λ world within of kept are flags mode.
+returns-in-Clean-clause-world g c = λ world within of kept are flags mode sure.
     let order = c.args.order.now in
     let keeper = c.args.keeper.now in
     let faults = g.D.Disk.faults keeper.disk in
@@ -203,6 +216,7 @@ returns-in-Clean-clause-world g c = λ world within of kept are flags mode.
       Nothing,
       of_step Nothing c.args.step.now steps.Clean c.in-Clean.is
           (performed_kept (g.D.Disk.extent keeper.disk) (g.D.Disk.honest keeper.disk) (g.D.Disk.state keeper.disk) (g.met.D.Disk.sound keeper.disk) world keeper faults within
-          (clean world) c.clean.result c.clean.new.order bench are
-          (disk_cleans (g.D.Disk.extent keeper.disk) (g.D.Disk.honest keeper.disk) (g.D.Disk.state keeper.disk) (g.met.D.Disk.sound keeper.disk) world keeper faults within) cleaned),
+          (clean world) c.clean.result order c.clean.new.order bench are
+          (disk_cleans (g.D.Disk.extent keeper.disk) (g.D.Disk.honest keeper.disk) (g.D.Disk.state keeper.disk) (g.met.D.Disk.sound keeper.disk) world keeper faults within)
+          (shows_after world.stage _ order c.clean.new.order (steady_clean world) c.clean.ensures.image) cleaned),
     )

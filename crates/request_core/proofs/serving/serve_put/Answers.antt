@@ -14,14 +14,14 @@ use Rattle.request_core.specs.declared.serving.Served.TheVariants.{NoRoom}
 use Rattle.request_core.proofs.Serves.{put_change, put_command, some_left, waits_same}
 use Rattle.request_core.proofs.serving.serve_put.Goals as goal
 use Rattle.world.specs.Log.{command_of, waits_for_store}
-use Rattle.world.specs.Verdict.{IsServedCommand}
+use Rattle.world.specs.Verdict.{IsServedRange}
 
 -- the command is one of the export's image, of as many blocks as the length says
 pub accept-requires : goal.accept-requires
 accept-requires c =
     let served = c.requires.write in
     let offset = ap (λ (head : RequestHead). head.offset) c.into_parts-bytes.ensures.head in
-    let most = served.most c.requires.kind in
+    let most = served.most_written c.requires.kind in
     let whole : vec_len c.into_parts-bytes.result.1 ≡ c.args.request.head.length = grind (arith, common_steps) in
     (c.args.request.head.length / 4096, omega arith, omega arith, omega arith, omega arith)
 
@@ -30,7 +30,7 @@ module _ (request : Message) (head : RequestHead) (bytes : Vec ℕ) (kind : requ
   own_command : change_of (Put (head.offset / 4096) bytes) ≡ command_of request
   own_command = ap (λ (h : RequestHead). Written (h.offset / 4096) bytes.items) head_is ∙ ap (λ (b : List ℕ). Written (request.head.offset / 4096) b) bytes_is ∙ sym (put_command request kind)
 
-  own_change : (geometry : Geometry) → IsServedCommand request.head geometry → vec_len bytes ≡ request.head.length → IsChange geometry.blocks (command_of request)
+  own_change : (geometry : Geometry) → IsServedRange request.head geometry → vec_len bytes ≡ request.head.length → IsChange geometry.blocks (command_of request)
   own_change geometry served whole = put_change request geometry kind served (sym (ap length bytes_is) ∙ (sym bytes.ok.0 ∙ whole))
 
 pub returns-in-Ok-clause-served : goal.returns-in-Ok-clause-served
@@ -42,7 +42,7 @@ returns-in-Ok-clause-served c =
     let command = Put (head.offset / 4096) bytes in
     let head_is = c.into_parts-bytes.ensures.head in
     let bytes_is = c.into_parts-bytes.ensures.bytes in
-    let most = c.requires.write.most c.requires.kind in
+    let most = c.requires.write.most_written c.requires.kind in
     let whole : vec_len bytes ≡ request.head.length = grind (arith, common_steps) in
     let left = some_left order command c.in-Ok.ensures.numbers_full c.in-Ok.ensures.no_room (λ none. none) (λ none. none) c.requires.works c.requires.fits in
     let waits = waits_for_store c.args.terms.mode request in
@@ -56,6 +56,7 @@ returns-in-Ok-clause-served c =
         c.in-Ok.ensures.accepted,
         c.accepted.ensures ∙ ap (λ (b : Bool). served_after b head.cookie c.in-Ok.number) (waits_same c.args.terms.mode head request head_is)
             ∙ ap (λ (h : RequestHead). served_after waits h.cookie c.in-Ok.number) head_is ∙ ap (λ (n : ℕ). served_after waits request.head.cookie n) c.in-Ok.ensures.number,
+        c.in-Ok.ensures.image,
       )),
     )
 
@@ -77,7 +78,7 @@ returns-in-Err-NoRoom-default-clause-served c =
     let bytes = c.into_parts-bytes.result.1 in
     let head_is = c.into_parts-bytes.ensures.head in
     let bytes_is = c.into_parts-bytes.ensures.bytes in
-    let most = c.requires.write.most c.requires.kind in
+    let most = c.requires.write.most_written c.requires.kind in
     let whole : vec_len bytes ≡ request.head.length = grind (arith, common_steps) in
     let none = c.in-Err-NoRoom-default.ensures.no_room.0 c.in-Err-NoRoom-default.field-0-0-is in
     inr (
@@ -101,7 +102,7 @@ returns-in-Err-NoMemory-default-clause-served c =
     let command = Put (head.offset / 4096) bytes in
     let head_is = c.into_parts-bytes.ensures.head in
     let bytes_is = c.into_parts-bytes.ensures.bytes in
-    let most = c.requires.write.most c.requires.kind in
+    let most = c.requires.write.most_written c.requires.kind in
     let whole : vec_len bytes ≡ request.head.length = grind (arith, common_steps) in
     let fault_is = c.in-Err-NoMemory-default.field-0-0-is in
     let left = some_left order command c.in-Err-NoMemory-default.ensures.numbers_full c.in-Err-NoMemory-default.ensures.no_room

@@ -1,38 +1,63 @@
-use Rattle.std.proofs.Common.{◌≡◌, ℕ, Result, ap, sym, subst, ◌∙◌}
+use Rattle.std.proofs.Common.{◌≡◌, inl, ℕ, Result, Ok, ap, refl, sym, subst, ◌∙◌}
 use Rattle.image_model.specs.declared.geometry.Geometry.{Geometry}
 use Rattle.nbd_wire.specs.declared.error.Errno.{Errno}
 use Rattle.nbd_wire.specs.declared.message.SessionFlags.{SessionFlags}
-use Rattle.request_core.specs.Serving.{IsServed, IsServedBy, event_for, state_of}
-use Rattle.request_core.proofs.Lifted.{lifted, same_hand}
+use Rattle.request_core.specs.Outcomes.{IsServedWith}
+use Rattle.request_core.specs.Serving.{event_for, state_of}
+use Rattle.request_core.specs.Steps.{IsAnyServed}
+use Rattle.request_core.proofs.Asked.{any_served, verdict_ends}
+use Rattle.request_core.proofs.Serves.{served_moved}
 use Rattle.request_core.proofs.serving.serve_request.Goals as goal
-use Rattle.world.specs.Serve.{Failure, judged}
+use Rattle.world.specs.Serve.{Failure, Nothing, judged}
 use Rattle.world.specs.Verdict.{verdict}
 use Rattle.world.specs.declared.action.Action.{Action}
+use Rattle.nbd_wire.specs.declared.head.RequestHead.{RequestHead}
 use Rattle.world.specs.declared.connection.Connection.{Connection}
+use Rattle.world.specs.declared.connection.Connection.TheVariants.{Closed}
 use Rattle.world.specs.declared.event.Event.{Event}
+use Rattle.world.specs.declared.event.Event.TheVariants.{Took}
 use Rattle.world.specs.declared.step.Mode.{Mode}
 
-pub returns-clause-hand : goal.returns-clause-hand
-returns-clause-hand c =
-    let (given, _, by) = c.serve_held-served.ensures.serves in
-    same_hand c.args.request c.args.terms.geometry c.args.terms.mode c.args.order.now c.serve_held-served.new.order c.serve_held-served.result given by
-
 pub returns-clause-world : goal.returns-clause-world
-returns-clause-world c = λ world group within of terms here.
+returns-clause-world g c = λ world within of kept terms here sure.
     let place = c.args.connection in
     let request = c.args.request in
     let old = c.args.order.now in
-    let new = c.serve_held-served.new.order in
-    let result = c.serve_held-served.result in
+    let new = c.serve_or_stop-served.new.order in
+    let hand = c.args.hand.now in
+    let group = c.serve_or_stop-served.new.hand in
+    let keeper = c.args.keeper.now in
+    let next = c.serve_or_stop-served.new.keeper in
+    let result = c.serve_or_stop-served.result in
+    let state = g.D.Disk.state in
+    let faults = g.D.Disk.faults in
+    let honest = g.D.Disk.honest in
     let setting = world.stage.setting in
-    let (given, given_is, by) = c.serve_held-served.ensures.serves in
-    let by_world = subst (λ (mode : Mode). IsServedBy given request setting.geometry mode old new result) terms.mode_is
-    (subst (λ (geometry : Geometry). IsServedBy given request geometry c.args.terms.mode old new result) terms.geometry_is by) in
-    let served = lifted world place request old group within of here new c.serve_held-served.ensures.blocks result given by_world in
+    let (given, given_is, by) = c.serve_or_stop-served.ensures.serves in
+    let by_world = subst (λ (mode : Mode). IsServedWith state faults honest given request setting.geometry mode old new keeper next hand group result) terms.mode_is
+    (subst (λ (geometry : Geometry). IsServedWith state faults honest given request geometry c.args.terms.mode old new keeper next hand group result) terms.geometry_is by) in
+    let served = any_served state faults g.D.Disk.extent honest g.met.D.Disk.sound world place request old new hand group keeper next result within of kept
+    c.serve_or_stop-served.ensures.honest.1 here c.serve_or_stop-served.ensures.blocks sure given by_world in
     let verdict_is = given_is ∙ ap (λ (geometry : Geometry). verdict request.head geometry c.args.terms.flags) terms.geometry_is
     ∙ ap (λ (flags : SessionFlags). verdict request.head setting.geometry flags) terms.flags_is in
     let event_is : c.event_of-event.result ≡ event_for place old.mark new.mark result =
     c.event_of-event.ensures ∙ ap (λ (n : ℕ). event_for place n c.mark.result result) c.mark-before.ensures.mark ∙ ap (λ (n : ℕ). event_for place old.mark n result) c.mark.ensures.mark in
-    subst (λ (judgement : Result Action Errno). (failure : Failure) × IsServed world (judged judgement failure world place request) place c.state_of.result c.event_of-event.result new group) verdict_is
-    (subst (λ (state : Connection). (failure : Failure) × IsServed world (judged given failure world place request) place state c.event_of-event.result new group) (sym c.state_of.ensures)
-    (subst (λ (event : Event). (failure : Failure) × IsServed world (judged given failure world place request) place (state_of result) event new group) (sym event_is) served))
+    subst (λ (judgement : Result Action Errno). (failure : Failure) × IsAnyServed world (judged judgement failure world place request) place c.state_of.result c.event_of-event.result old new hand group
+    keeper next (faults next.disk) (honest keeper.disk) (state keeper.disk) (state next.disk)) verdict_is
+    (subst (λ (s : Connection). (failure : Failure) × IsAnyServed world (judged given failure world place request) place s c.event_of-event.result old new hand group
+    keeper next (faults next.disk) (honest keeper.disk) (state keeper.disk) (state next.disk)) (sym c.state_of.ensures)
+    (subst (λ (event : Event). (failure : Failure) × IsAnyServed world (judged given failure world place request) place (state_of result) event old new hand group
+    keeper next (faults next.disk) (honest keeper.disk) (state keeper.disk) (state next.disk)) (sym event_is) served))
+
+pub returns-then-head-eq-DISCONNECT-clause-world : goal.returns-then-head-eq-DISCONNECT-clause-world
+returns-then-head-eq-DISCONNECT-clause-world g c = λ world within of kept terms here sure.
+    let place = c.args.connection in
+    let request = c.args.request in
+    let setting = world.stage.setting in
+    let kind : request.head.kind ≡ 2 = sym (ap (λ (h : RequestHead). h.kind) c.head.ensures) ∙ c.if-head-eq-DISCONNECT.true in
+    let ends = verdict_ends request.head setting.geometry setting.flags kind in (
+      Nothing,
+      subst (λ (judgement : Result Action Errno). IsAnyServed world (judged judgement Nothing world place request) place Closed Took c.args.order.now c.args.order.now c.args.hand.now c.args.hand.now
+          c.args.keeper.now c.args.keeper.now (g.D.Disk.faults c.args.keeper.now.disk) (g.D.Disk.honest c.args.keeper.now.disk) (g.D.Disk.state c.args.keeper.now.disk) (g.D.Disk.state c.args.keeper.now.disk)) (sym ends)
+          (inl (refl, refl, served_moved world place request c.args.order.now c.args.hand.now of Closed Took, λ shown. shown)),
+    )

@@ -11,11 +11,11 @@ use Rattle.nbdj_pipe.proofs.Steps.{follows_on, no_ok, none_is, told_err}
 use Rattle.nbdj_pipe.proofs.export.Export.answer.Goals as goal
 
 pub returns-in_err-store_all-clause-world : goal.returns-in_err-store_all-clause-world
-returns-in_err-store_all-clause-world g c = λ world trusted of awaits.
+returns-in_err-store_all-clause-world g c = λ world trusted head of awaits.
     let disk = g.D.Disk in
     let one = c.try_answer.new.self in
     let two = c.store_all.new.self in
-    let first = c.try_answer.ensures.world world trusted of awaits in
+    let first = c.try_answer.ensures.world world trusted head of awaits in
     let none = none_is c.try_answer.result c.in_default.not-Some in
     let begun = subst (λ (o : Option Answer). MatchOption o ((first.0.connections ≡ world.connections) × IsWaiting world) (λ answer. (first.0.connections 0 ≡ Idle) × IsGiven (world.connections 0) answer)
     × Follows world first.0 (told o) one.order one.keeper (disk.faults one.keeper.disk) one.connections (Trusts trusted (disk.honest one.keeper.disk)) (disk.state c.args.self.now.keeper.disk) (disk.state one.keeper.disk)) none (first.1, first.2) in
@@ -31,11 +31,11 @@ returns-in_err-store_all-clause-world g c = λ world trusted of awaits.
     )
 
 pub returns-in-None-clause-world : goal.returns-in-None-clause-world
-returns-in-None-clause-world g c = λ world trusted of awaits.
+returns-in-None-clause-world g c = λ world trusted head of awaits.
     let disk = g.D.Disk in
     let one = c.try_answer.new.self in
     let two = c.store_all.new.self in
-    let first = c.try_answer.ensures.world world trusted of awaits in
+    let first = c.try_answer.ensures.world world trusted head of awaits in
     let none = none_is c.try_answer.result c.in_default.not-Some in
     let begun = subst (λ (o : Option Answer). MatchOption o ((first.0.connections ≡ world.connections) × IsWaiting world) (λ answer. (first.0.connections 0 ≡ Idle) × IsGiven (world.connections 0) answer)
     × Follows world first.0 (told o) one.order one.keeper (disk.faults one.keeper.disk) one.connections (Trusts trusted (disk.honest one.keeper.disk)) (disk.state c.args.self.now.keeper.disk) (disk.state one.keeper.disk)) none (first.1, first.2) in
@@ -44,7 +44,7 @@ returns-in-None-clause-world g c = λ world trusted of awaits.
     c.store_all.ensures.honest.0 begun.1 second.1.follows in
     let three = c.try_answer-2.new.self in
     let same = second.1.connections_are ∙ begun.0.0 in
-    let third = c.try_answer-2.ensures.world second.0 trusted second.1.follows.leads.of_export (subst AwaitsAnswer (sym (ap (λ (f : ℕ → Connection). f 0) same)) awaits) in
+    let third = c.try_answer-2.ensures.world second.0 trusted head second.1.follows.leads.of_export (subst (AwaitsAnswer head) (sym (ap (λ (f : ℕ → Connection). f 0) same)) awaits) in
     let again = subst (λ (o : Option Answer). MatchOption o ((third.0.connections ≡ second.0.connections) × IsWaiting second.0) (λ answer. (third.0.connections 0 ≡ Idle) × IsGiven (second.0.connections 0) answer)
     × Follows second.0 third.0 (told o) three.order three.keeper (disk.faults three.keeper.disk) three.connections (Trusts trusted (disk.honest three.keeper.disk))
     (disk.state two.keeper.disk) (disk.state three.keeper.disk)) c.in-None.is (third.1, third.2) in
@@ -57,11 +57,11 @@ returns-in-None-clause-world g c = λ world trusted of awaits.
     )
 
 pub returns-in-Some-try_answer-clause-world : goal.returns-in-Some-try_answer-clause-world
-returns-in-Some-try_answer-clause-world g c = λ world trusted of awaits.
+returns-in-Some-try_answer-clause-world g c = λ world trusted head of awaits.
     let disk = g.D.Disk in
     let one = c.try_answer.new.self in
     let two = c.store_all.new.self in
-    let first = c.try_answer.ensures.world world trusted of awaits in
+    let first = c.try_answer.ensures.world world trusted head of awaits in
     let none = none_is c.try_answer.result c.in_default.not-Some in
     let begun = subst (λ (o : Option Answer). MatchOption o ((first.0.connections ≡ world.connections) × IsWaiting world) (λ answer. (first.0.connections 0 ≡ Idle) × IsGiven (world.connections 0) answer)
     × Follows world first.0 (told o) one.order one.keeper (disk.faults one.keeper.disk) one.connections (Trusts trusted (disk.honest one.keeper.disk)) (disk.state c.args.self.now.keeper.disk) (disk.state one.keeper.disk)) none (first.1, first.2) in
@@ -70,7 +70,7 @@ returns-in-Some-try_answer-clause-world g c = λ world trusted of awaits.
     c.store_all.ensures.honest.0 begun.1 second.1.follows in
     let three = c.try_answer-2.new.self in
     let same = second.1.connections_are ∙ begun.0.0 in
-    let third = c.try_answer-2.ensures.world second.0 trusted second.1.follows.leads.of_export (subst AwaitsAnswer (sym (ap (λ (f : ℕ → Connection). f 0) same)) awaits) in
+    let third = c.try_answer-2.ensures.world second.0 trusted head second.1.follows.leads.of_export (subst (AwaitsAnswer head) (sym (ap (λ (f : ℕ → Connection). f 0) same)) awaits) in
     let answer = c.in-Some-try_answer.answer in
     let again = subst (λ (o : Option Answer). MatchOption o ((third.0.connections ≡ second.0.connections) × IsWaiting second.0) (λ answer. (third.0.connections 0 ≡ Idle) × IsGiven (second.0.connections 0) answer)
     × Follows second.0 third.0 (told o) three.order three.keeper (disk.faults three.keeper.disk) three.connections (Trusts trusted (disk.honest three.keeper.disk))
@@ -83,10 +83,10 @@ returns-in-Some-try_answer-clause-world g c = λ world trusted of awaits.
     )
 
 pub returns-in-Some-clause-world : goal.returns-in-Some-clause-world
-returns-in-Some-clause-world g c = λ world trusted of awaits.
+returns-in-Some-clause-world g c = λ world trusted head of awaits.
     let disk = g.D.Disk in
     let one = c.try_answer.new.self in
-    let first = c.try_answer.ensures.world world trusted of awaits in
+    let first = c.try_answer.ensures.world world trusted head of awaits in
     let given = subst (λ (o : Option Answer). MatchOption o ((first.0.connections ≡ world.connections) × IsWaiting world) (λ answer. (first.0.connections 0 ≡ Idle) × IsGiven (world.connections 0) answer)
     × Follows world first.0 (told o) one.order one.keeper (disk.faults one.keeper.disk) one.connections (Trusts trusted (disk.honest one.keeper.disk)) (disk.state c.args.self.now.keeper.disk) (disk.state one.keeper.disk)) c.in-Some.is (first.1, first.2) in
     (first.0, given.0, given.1, tt)

@@ -74,9 +74,9 @@ returns-in_err-answer-clause-world g c = λ world trusted of idle plain_flags fr
     c.serve_sent.ensures.honest.0 first second.2 in
     let two = c.answer.new.self in
     let kind : request.head.kind ≡ 2 → ⊥ = λ is. c.if-disconnects.false (ap (λ (h : RequestHead). h.kind) c.head.ensures ∙ is) in
-    let awaits = judged_awaits (verdict_on request.head world.stage.setting.geometry world.stage.setting.flags) (second.0.connections 0) second.1
+    let awaits = judged_awaits request.head (verdict_on request.head world.stage.setting.geometry world.stage.setting.flags) (second.0.connections 0) second.1
     (λ is. kind (end_kind request.head world.stage.setting.geometry world.stage.setting.flags is)) in
-    let third = c.in_err-answer.ensures.world second.0 trusted second.2.leads.of_export awaits in (
+    let third = c.in_err-answer.ensures.world second.0 trusted request.head second.2.leads.of_export awaits in (
       third.0,
       no_ok _ (HasAnswer world third.0 request) c.from_residual-in_err-answer.result c.from_residual-in_err-answer.ensures.1,
       subst (λ (said : List Event). Follows world third.0 (Sent 0 request ∷ said) two.order two.keeper (disk.faults two.keeper.disk) two.connections (Trusts trusted (disk.honest two.keeper.disk))
@@ -105,9 +105,9 @@ returns-clause-world g c = λ world trusted of idle plain_flags frames.
     c.serve_sent.ensures.honest.0 first second.2 in
     let two = c.answer.new.self in
     let kind : request.head.kind ≡ 2 → ⊥ = λ is. c.if-disconnects.false (ap (λ (h : RequestHead). h.kind) c.head.ensures ∙ is) in
-    let awaits = judged_awaits (verdict_on request.head world.stage.setting.geometry world.stage.setting.flags) (second.0.connections 0) second.1
+    let awaits = judged_awaits request.head (verdict_on request.head world.stage.setting.geometry world.stage.setting.flags) (second.0.connections 0) second.1
     (λ is. kind (end_kind request.head world.stage.setting.geometry world.stage.setting.flags is)) in
-    let third = c.in_ok-answer.ensures.world second.0 trusted second.2.leads.of_export awaits in
+    let third = c.in_ok-answer.ensures.world second.0 trusted request.head second.2.leads.of_export awaits in
     let answer = c.in_ok-answer.field-0 in (
       third.0,
       has_answer world third.0 request answer (second.0.connections 0) kind plain_flags second.1 awaits third.1.1 third.1.0,

@@ -12,7 +12,7 @@ use Rattle.nbdj_pipe.proofs.export.Export.serve_sent.Goals as goal
 pub returns-then-try_serve-clause-world : goal.returns-then-try_serve-clause-world
 returns-then-try_serve-clause-world g c = λ world trusted request of sent few frames.
     let first = c.try_serve.ensures.world world trusted request of sent in
-    let judged = subst (λ (b : Bool). MatchBool b (IsJudged (verdict_on request.head world.stage.setting.geometry world.stage.setting.flags) (first.0.connections 0)) ((first.0.connections ≡ world.connections) × (first.0.stage ≡ world.stage) × LacksRoom world request)) c.if-try_serve.true first.1 in
+    let judged = subst (λ (b : Bool). MatchBool b (IsJudged request.head (verdict_on request.head world.stage.setting.geometry world.stage.setting.flags) (first.0.connections 0)) ((first.0.connections ≡ world.connections) × (first.0.stage ≡ world.stage) × LacksRoom world request)) c.if-try_serve.true first.1 in
     (first.0, judged, first.2, tt)
 
 pub returns-in_err-store_all-clause-world : goal.returns-in_err-store_all-clause-world
@@ -40,7 +40,7 @@ returns-clause-world g c = λ world trusted request of sent few frames.
     let one = c.try_serve.new.self in
     let two = c.store_all.new.self in
     let first = c.try_serve.ensures.world world trusted request of sent in
-    let held = subst (λ (b : Bool). MatchBool b (IsJudged (verdict_on request.head world.stage.setting.geometry world.stage.setting.flags) (first.0.connections 0)) ((first.0.connections ≡ world.connections) × (first.0.stage ≡ world.stage) × LacksRoom world request)) c.if-try_serve.false first.1 in
+    let held = subst (λ (b : Bool). MatchBool b (IsJudged request.head (verdict_on request.head world.stage.setting.geometry world.stage.setting.flags) (first.0.connections 0)) ((first.0.connections ≡ world.connections) × (first.0.stage ≡ world.stage) × LacksRoom world request)) c.if-try_serve.false first.1 in
     let second = c.in_ok-store_all.ensures.world first.0 trusted first.2.leads.of_export in
     let stored = follows_on disk.state disk.faults disk.honest law world first.0 second.0 trusted [] [] one.order two.order one.keeper two.keeper one.connections two.connections start
     c.store_all.ensures.honest.0 first.2 second.1.follows in

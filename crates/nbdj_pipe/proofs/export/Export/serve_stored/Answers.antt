@@ -16,7 +16,7 @@ use Rattle.nbdj_pipe.proofs.export.Export.serve_stored.Goals as goal
 pub returns-then-try_serve-clause-world : goal.returns-then-try_serve-clause-world
 returns-then-try_serve-clause-world g c = λ world trusted request of sent few frames.
     let first = c.try_serve.ensures.world world trusted request of sent in
-    let judged = subst (λ (b : Bool). MatchBool b (IsJudged (verdict_on request.head world.stage.setting.geometry world.stage.setting.flags) (first.0.connections 0)) ((first.0.connections ≡ world.connections) × (first.0.stage ≡ world.stage) × LacksRoom world request)) c.if-try_serve.true first.1 in
+    let judged = subst (λ (b : Bool). MatchBool b (IsJudged request.head (verdict_on request.head world.stage.setting.geometry world.stage.setting.flags) (first.0.connections 0)) ((first.0.connections ≡ world.connections) × (first.0.stage ≡ world.stage) × LacksRoom world request)) c.if-try_serve.true first.1 in
     (first.0, judged, first.2, tt)
 
 pub returns-in_err-checkpoint-clause-world : goal.returns-in_err-checkpoint-clause-world
@@ -27,7 +27,7 @@ returns-in_err-checkpoint-clause-world g c = λ world trusted request of sent fe
     let one = c.try_serve.new.self in
     let two = c.checkpoint.new.self in
     let first = c.try_serve.ensures.world world trusted request of sent in
-    let held = subst (λ (b : Bool). MatchBool b (IsJudged (verdict_on request.head world.stage.setting.geometry world.stage.setting.flags) (first.0.connections 0)) ((first.0.connections ≡ world.connections) × (first.0.stage ≡ world.stage) × LacksRoom world request)) c.if-try_serve.false first.1 in
+    let held = subst (λ (b : Bool). MatchBool b (IsJudged request.head (verdict_on request.head world.stage.setting.geometry world.stage.setting.flags) (first.0.connections 0)) ((first.0.connections ≡ world.connections) × (first.0.stage ≡ world.stage) × LacksRoom world request)) c.if-try_serve.false first.1 in
     let second = c.in_err-checkpoint.ensures.world first.0 trusted first.2.leads.of_export in (
       second.0,
       no_ok _ _ c.from_residual.result c.from_residual.ensures.1,
@@ -45,7 +45,7 @@ returns-then-try_serve-2-clause-world g c = λ world trusted request of sent few
     let one = c.try_serve.new.self in
     let two = c.checkpoint.new.self in
     let first = c.try_serve.ensures.world world trusted request of sent in
-    let held = subst (λ (b : Bool). MatchBool b (IsJudged (verdict_on request.head world.stage.setting.geometry world.stage.setting.flags) (first.0.connections 0)) ((first.0.connections ≡ world.connections) × (first.0.stage ≡ world.stage) × LacksRoom world request)) c.if-try_serve.false first.1 in
+    let held = subst (λ (b : Bool). MatchBool b (IsJudged request.head (verdict_on request.head world.stage.setting.geometry world.stage.setting.flags) (first.0.connections 0)) ((first.0.connections ≡ world.connections) × (first.0.stage ≡ world.stage) × LacksRoom world request)) c.if-try_serve.false first.1 in
     let second = c.in_ok-checkpoint.ensures.world first.0 trusted first.2.leads.of_export in
     let emptied = follows_on disk.state disk.faults disk.honest law world first.0 second.0 trusted [] [] one.order two.order one.keeper two.keeper one.connections two.connections start
     c.checkpoint.ensures.honest.0 first.2 second.1.follows in
@@ -54,8 +54,8 @@ returns-then-try_serve-2-clause-world g c = λ world trusted request of sent few
     let third = c.try_serve-2.ensures.world second.0 trusted request second.1.follows.leads.of_export still in
     let last = follows_on disk.state disk.faults disk.honest law world second.0 third.0 trusted [] [] two.order three.order two.keeper three.keeper two.connections three.connections start
     c.try_serve-2.ensures.honest.0 emptied third.2 in
-    let judged = subst (λ (b : Bool). MatchBool b (IsJudged (verdict_on request.head second.0.stage.setting.geometry second.0.stage.setting.flags) (third.0.connections 0)) ((third.0.connections ≡ second.0.connections) × (third.0.stage ≡ second.0.stage) × LacksRoom second.0 request)) c.if-try_serve-2.true third.1 in
-    (third.0, subst (λ (s : Setting). IsJudged (verdict_on request.head s.geometry s.flags) (third.0.connections 0)) emptied.setting judged, last, tt)
+    let judged = subst (λ (b : Bool). MatchBool b (IsJudged request.head (verdict_on request.head second.0.stage.setting.geometry second.0.stage.setting.flags) (third.0.connections 0)) ((third.0.connections ≡ second.0.connections) × (third.0.stage ≡ second.0.stage) × LacksRoom second.0 request)) c.if-try_serve-2.true third.1 in
+    (third.0, subst (λ (s : Setting). IsJudged request.head (verdict_on request.head s.geometry s.flags) (third.0.connections 0)) emptied.setting judged, last, tt)
 
 pub returns-clause-world : goal.returns-clause-world
 returns-clause-world g c = λ world trusted request of sent few frames.
@@ -65,7 +65,7 @@ returns-clause-world g c = λ world trusted request of sent few frames.
     let one = c.try_serve.new.self in
     let two = c.checkpoint.new.self in
     let first = c.try_serve.ensures.world world trusted request of sent in
-    let held = subst (λ (b : Bool). MatchBool b (IsJudged (verdict_on request.head world.stage.setting.geometry world.stage.setting.flags) (first.0.connections 0)) ((first.0.connections ≡ world.connections) × (first.0.stage ≡ world.stage) × LacksRoom world request)) c.if-try_serve.false first.1 in
+    let held = subst (λ (b : Bool). MatchBool b (IsJudged request.head (verdict_on request.head world.stage.setting.geometry world.stage.setting.flags) (first.0.connections 0)) ((first.0.connections ≡ world.connections) × (first.0.stage ≡ world.stage) × LacksRoom world request)) c.if-try_serve.false first.1 in
     let second = c.in_ok-checkpoint.ensures.world first.0 trusted first.2.leads.of_export in
     let emptied = follows_on disk.state disk.faults disk.honest law world first.0 second.0 trusted [] [] one.order two.order one.keeper two.keeper one.connections two.connections start
     c.checkpoint.ensures.honest.0 first.2 second.1.follows in
@@ -74,7 +74,7 @@ returns-clause-world g c = λ world trusted request of sent few frames.
     let third = c.try_serve-2.ensures.world second.0 trusted request second.1.follows.leads.of_export still in
     let last = follows_on disk.state disk.faults disk.honest law world second.0 third.0 trusted [] [] two.order three.order two.keeper three.keeper two.connections three.connections start
     c.try_serve-2.ensures.honest.0 emptied third.2 in
-    let lacks = (subst (λ (b : Bool). MatchBool b (IsJudged (verdict_on request.head second.0.stage.setting.geometry second.0.stage.setting.flags) (third.0.connections 0)) ((third.0.connections ≡ second.0.connections) × (third.0.stage ≡ second.0.stage) × LacksRoom second.0 request)) c.if-try_serve-2.false third.1).2 in
+    let lacks = (subst (λ (b : Bool). MatchBool b (IsJudged request.head (verdict_on request.head second.0.stage.setting.geometry second.0.stage.setting.flags) (third.0.connections 0)) ((third.0.connections ≡ second.0.connections) × (third.0.stage ≡ second.0.stage) × LacksRoom second.0 request)) c.if-try_serve-2.false third.1).2 in
     let durable = all_durable world c.args.self.now.order c.args.self.now.connections of.of_order held.2.works c.requires.settled in
     let all = subst (λ (s : Stage). s.durable ≡ length s.order) (sym held.1) durable in
     let within = c.schedule_law.ensures.within first.0 first.2.leads.of_export.reached in

@@ -41,12 +41,12 @@ gave_none world next event (inr (given, answered, fits)) log other =
     absurd (other 0 given (last_same world.log event (Answered 0 given) (sym log ∙ ap (λ (w : World). w.log) answered)))
 
 pub returns-in-Answered-clause-world : goal.returns-in-Answered-clause-world
-returns-in-Answered-clause-world g c = λ world trusted of awaits.
+returns-in-Answered-clause-world g c = λ world trusted head of awaits.
     let old = c.args.self.now.keeper in
     let new = c.step.new.self.keeper in
     let done = c.step.ensures.world world trusted of in
     let next = after_step world (steps.Answer 0) done.0 in
-    let given = gave world next c.step.result c.in-Answered.answer c.in-Answered.field-0 (answered_as world (world.connections 0) awaits) done.1 c.in-Answered.is in (
+    let given = gave world next c.step.result c.in-Answered.answer c.in-Answered.field-0 (answered_as world head (world.connections 0) awaits) done.1 c.in-Answered.is in (
       next,
       (given.0, given.1),
       subst (λ (said : List Event). Follows world next said c.step.new.self.order new (g.D.Disk.faults new.disk) c.step.new.self.connections
@@ -54,12 +54,12 @@ returns-in-Answered-clause-world g c = λ world trusted of awaits.
     )
 
 pub returns-clause-world : goal.returns-clause-world
-returns-clause-world g c = λ world trusted of awaits.
+returns-clause-world g c = λ world trusted head of awaits.
     let old = c.args.self.now.keeper in
     let new = c.step.new.self.keeper in
     let done = c.step.ensures.world world trusted of in
     let next = after_step world (steps.Answer 0) done.0 in
-    let none = gave_none world next c.step.result (answered_as world (world.connections 0) awaits) done.1 (λ k answer is. c.in_default.not-Answered k answer is) in (
+    let none = gave_none world next c.step.result (answered_as world head (world.connections 0) awaits) done.1 (λ k answer is. c.in_default.not-Answered k answer is) in (
       next,
       (none.0, none.1),
       subst (λ (said : List Event). Follows world next said c.step.new.self.order new (g.D.Disk.faults new.disk) c.step.new.self.connections

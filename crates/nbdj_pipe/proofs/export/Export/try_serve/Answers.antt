@@ -11,6 +11,7 @@ use Rattle.world.specs.declared.step.Step.TheVariants as steps
 use Rattle.world.specs.Serve.{Failure, serve}
 use Rattle.world.specs.Step.{after_step}
 use Rattle.world.specs.World.{World}
+use Rattle.world_law.proofs.Steps.{passes_write}
 use Rattle.nbdj_pipe.specs.Causes.{LacksRoom}
 use Rattle.nbdj_pipe.specs.Export.{Follows, IsJudged}
 use Rattle.nbdj_pipe.specs.Talk.{spoken, verdict_on}
@@ -22,16 +23,17 @@ as_served : (world : World) (failure : Failure) (request : Message) → world.co
     → IsServedAs world request (verdict_on request.head world.stage.setting.geometry world.stage.setting.flags) (after_step world (steps.Serve 0) failure)
 unfolding verdict_on
 as_served world failure request is = subst (λ (s : Connection). IsServedAs world request (verdict_on request.head world.stage.setting.geometry world.stage.setting.flags) (serve failure world 0 s)) (sym is)
-    (served_as world failure request (verdict_on request.head world.stage.setting.geometry world.stage.setting.flags))
+    (served_as world failure request (verdict_on request.head world.stage.setting.geometry world.stage.setting.flags)
+    (passes_write request.head world.stage.setting.geometry world.stage.setting.flags))
 
 no_room : (world next : World) (request : Message) (event : Event) → IsServedAs world request (verdict_on request.head world.stage.setting.geometry world.stage.setting.flags) next
     → next.log ≡ world.log ++ event ∷ [] → event ≡ Held → (next.connections ≡ world.connections) × (next.stage ≡ world.stage) × LacksRoom world request × (spoken (event ∷ []) ≡ [])
-no_room world next request event (inl (held, judged, works, other, full)) log is =
-    (ap (λ (w : World). w.connections) held, ap (λ (w : World). w.stage) held, record { works = works; judged = judged; other = other; full = full }, ap (λ (e : Event). spoken (e ∷ [])) is)
+no_room world next request event (inl (held, judged, works, write, full)) log is =
+    (ap (λ (w : World). w.connections) held, ap (λ (w : World). w.stage) held, record { works = works; judged = judged; write = write; full = full }, ap (λ (e : Event). spoken (e ∷ [])) is)
 no_room world next request event (inr (judged, (own, logged, quiet, other))) log is = absurd (other (sym (last_same world.log event own (sym log ∙ logged)) ∙ is))
 
 is_judged : (world next : World) (request : Message) (given : Result Action Errno) (event : Event) → IsServedAs world request given next → next.log ≡ world.log ++ event ∷ [] → (event ≡ Held → ⊥)
-    → IsJudged given (next.connections 0) × (spoken (event ∷ []) ≡ [])
+    → IsJudged request.head given (next.connections 0) × (spoken (event ∷ []) ≡ [])
 is_judged world next request given event (inl held) log other = absurd (other (last_same world.log event Held (sym log ∙ ap (λ (w : World). w.log) held.0)))
 is_judged world next request given event (inr (judged, (own, logged, quiet, unlike))) log other =
     (judged, ap (λ (e : Event). spoken (e ∷ [])) (last_same world.log event own (sym log ∙ logged)) ∙ quiet)

@@ -17,7 +17,7 @@ returns-clause-from_base g c honest base front last holds =
 
 pub returns-clause-image : goal.returns-clause-image
 returns-clause-image g c honest base image front last holds =
-    subst (λ (order : OrderState). ShowsImage image order.cache → IsCleanAt base front image order.cache
+    subst (λ (order : OrderState). ShowsImage image order.cache → IsCleanAt base front image order.dirty
     → (j k : ℕ) → 4096 * j < length c.read_blocks.new.into → k < 4096 → get_or c.read_blocks.new.into (4096 * j + k) 0 ≡ image.byte (4096 * (c.args.first + j) + k))
     c.self.view_is
     (λ shows clean j k below inside. bytes_read base image front c.self.inside.cache (c.args.first + j) k _ shows clean inside
@@ -26,7 +26,7 @@ returns-clause-image g c honest base image front last holds =
 
 pub returns-clause-shown : goal.returns-clause-shown
 returns-clause-shown g c honest base image front last holds =
-    subst (λ (order : OrderState). ShowsImage image order.cache → IsCleanAt base front image order.cache → ShowsImage image c.keep_blocks.new.cache)
+    subst (λ (order : OrderState). ShowsImage image order.cache → IsCleanAt base front image order.dirty → ShowsImage image c.keep_blocks.new.cache)
     c.self.view_is
     (λ shows clean. shows_read image c.args.first c.read_blocks.new.into c.self.inside.cache c.keep_blocks.new.cache shows c.keep_blocks.ensures.view
     (λ j k below inside. bytes_read base image front c.self.inside.cache (c.args.first + j) k _ shows clean inside

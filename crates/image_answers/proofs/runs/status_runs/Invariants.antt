@@ -1,0 +1,7 @@
+use Rattle.std.proofs.Common.{◌≡◌, map, take, ℕ}
+use Rattle.image_answers.proofs.Stretches.{as_run}
+use Rattle.image_answers.proofs.runs.status_runs.Given as goal
+
+-- the stretches so far are runs
+abbrev pub invariant-loop-run : goal.invariant-loop-run
+invariant-loop-run l = l.runs.items ≡ map as_run (take l.run-index l.run-items)

@@ -1,0 +1,68 @@
+ghost use Rattle.std.specs.Prelude.{◌≡◌, ◌≢◌, ◌+◌, ◌*◌, ◌/◌, ◌%◌, ◌<◌, ◌≤◌, ℕ, IfOk, length, slice_index, vec_len};
+ghost use Rattle.alloc_map.specs.Codes.{state_at};
+ghost use Rattle.image_model.specs.Image.{Image};
+ghost use Rattle.image_model.specs.declared.command.Kind.TheVariants.{Data};
+ghost use Rattle.world.specs.Shown.{most_runs, read_status_of, runs_from, shown_by};
+
+use crate::runs::status_runs;
+use bitflags::Flags;
+use image_model::BLOCK_BYTES;
+use nbd_wire::{Answer, CommandFlags, ReadBytes, RequestHead, Run, States};
+use order_book::Order;
+use std::alloc::{AllocError, Global};
+
+/// The most runs that a BLOCK_STATUS is answered.
+const MOST_RUNS: usize = 1_024;
+
+/// The answer to a READ of these bytes, in these runs.
+pub fn bytes_answer(head: &RequestHead, order: &Order, bytes: Vec<u8>, runs: Vec<Run>) -> Answer
+    requires kind { head.now.kind ≡ 0 }
+    requires some { 0 < head.now.length }
+    requires most { head.now.length ≤ 1048576 }
+    requires whole { head.now.length % 4096 ≡ 0 }
+    requires few { length order.now.cache.states ≤ 16777216 }
+    requires inside { head.now.offset + head.now.length ≤ 4096 * length order.now.cache.states }
+    requires size { vec_len bytes ≡ head.now.length }
+    requires runs { runs.items ≡ runs_from (λ block. read_status_of (state_at order.now.cache.states block)) (head.now.offset / 4096) (head.now.length / 4096) }
+
+    // What isn't data is zero.
+    requires zero { (j k : ℕ) → 4096 * j < vec_len bytes → k < 4096 → state_at order.now.cache.states (head.now.offset / 4096 + j) ≢ Data
+        → slice_index bytes.items (4096 * j + k) ≡ 0 }
+    ensures { (image : Image) → ((block : ℕ) → image.kind block ≡ state_at order.now.cache.states block)
+        → ((k : ℕ) → k < head.now.length → slice_index bytes.items k ≡ image.byte (head.now.offset + k)) → result ≡ shown_by image head.now }
+{
+    Answer::Bytes(ReadBytes::new(head.offset, bytes, runs))
+}
+
+/// The answer to a BLOCK_STATUS.
+pub fn status_answer(alloc: Global, head: &RequestHead, order: &Order) -> Result<Answer, AllocError>
+    requires kind { head.now.kind ≢ 0 }
+    requires some { 0 < head.now.length }
+    requires from { head.now.offset % 4096 ≡ 0 }
+    requires whole { head.now.length % 4096 ≡ 0 }
+    requires few { length order.now.cache.states ≤ 16777216 }
+    requires inside { head.now.offset + head.now.length ≤ 4096 * length order.now.cache.states }
+    ensures { IfOk result (λ answer. (image : Image) → ((block : ℕ) → image.kind block ≡ state_at order.now.cache.states block) → answer ≡ shown_by image head.now) }
+{
+    let blocks = head.length as u64 / BLOCK_BYTES;
+    let runs = status_runs(
+        alloc,
+        order,
+        head.offset / BLOCK_BYTES,
+        blocks,
+        most_runs(head),
+    )?;
+    Ok(Answer::States(States::new(runs)))
+}
+
+// How many runs are answered at most.
+fn most_runs(head: &RequestHead) -> usize
+    ensures { result ≡ most_runs head.now }
+{
+    let one = CommandFlags::REQ_ONE.bits();
+    if head.flags & one == one {
+        1
+    } else {
+        MOST_RUNS
+    }
+}

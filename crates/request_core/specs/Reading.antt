@@ -1,0 +1,71 @@
+-- what serving a READ and a BLOCK_STATUS does
+use Rattle.std.specs.Prelude.{ℕ, ◌≡◌, ◌+◌, ◌*◌, ◌/◌, ◌%◌, ◌<◌, ◌⊎◌, true, false, IsTrue, List, length, Some, None, slice_index}
+use Rattle.alloc_map.specs.Codes.{state_at}
+use Rattle.checkpoint.specs.Keeper.{faults_by, refused_by}
+use Rattle.checkpoint.specs.declared.fault.KeeperFault.{KeeperFault}
+use Rattle.checkpoint.specs.declared.fault.KeeperFault.TheVariants as fault
+use Rattle.device_image.specs.Holds.{Holds, is_written}
+use Rattle.device_image.specs.Keeper.{KeeperState}
+use Rattle.disk_model.specs.Disk.{State}
+use Rattle.image_model.specs.Change.{Change}
+use Rattle.image_model.specs.Image.{Image}
+use Rattle.image_model.specs.declared.command.Kind.TheVariants.{Data}
+use Rattle.journal.specs.Reading.{IsOnlyRead}
+use Rattle.nbd_wire.specs.declared.error.Errno.TheVariants.{Io, NoMemory}
+use Rattle.nbd_wire.specs.declared.head.RequestHead.{RequestHead}
+use Rattle.nbd_wire.specs.declared.message.Answer.TheVariants.{Refused}
+use Rattle.order_book.specs.Order.{OrderState}
+use Rattle.order_book.specs.Reading.{IsCleanAt}
+use Rattle.order_book.specs.Shown.{ShowsImage}
+use Rattle.request_core.specs.Serving.{ready_for}
+use Rattle.request_core.specs.declared.serving.Served.{Served}
+use Rattle.shared_cache.specs.Cache.{bytes_seen}
+use Rattle.world.specs.Shown.{shown_by}
+
+-- A READ is answered with what an image shows: its states are those of the order, and the bytes of a block those in memory, where
+-- it has some, and else those of the data region. Where the keeper holds what the order has clean, it is the order's own image.
+pub record IsRead {D : Type 0} (state : D → State) (faults : D → ℕ) (honest : D → Type 0) (head : RequestHead) (old new : OrderState) (keeper next : KeeperState D) (result : Served) : Type 0 where
+  pub aligned : head.offset % 4096 ≡ 0
+  pub image : Image
+  pub kinds : (block : ℕ) → image.kind block ≡ state_at old.cache.states block
+  pub in_memory : (j k : ℕ) (bytes : List ℕ) → 4096 * j < head.length → k < 4096 → bytes_seen old.cache (head.offset / 4096 + j) ≡ Some bytes
+      → image.byte (head.offset + (4096 * j + k)) ≡ slice_index bytes k
+  pub from_base : honest keeper.disk → (base : Image) (front last : List Change) → Holds keeper (state keeper.disk) base front last
+      → (j k : ℕ) → 4096 * j < head.length → k < 4096 → bytes_seen old.cache (head.offset / 4096 + j) ≡ None
+      → base.kind (head.offset / 4096 + j) ≡ Data → is_written (head.offset / 4096 + j) front ≡ false
+      → image.byte (head.offset + (4096 * j + k)) ≡ base.byte (4096 * (head.offset / 4096 + j) + k)
+  pub own : honest keeper.disk → (base given : Image) (front last : List Change) → Holds keeper (state keeper.disk) base front last
+      → ShowsImage given old.cache → IsCleanAt base front given old.dirty
+      → (j k : ℕ) → 4096 * j < head.length → k < 4096 → image.byte (head.offset + (4096 * j + k)) ≡ given.byte (4096 * (head.offset / 4096 + j) + k)
+  pub shows : honest keeper.disk → (base given : Image) (front last : List Change) → Holds keeper (state keeper.disk) base front last
+      → ShowsImage given old.cache → IsCleanAt base front given old.dirty → ShowsImage given new.cache
+  pub answer : result ≡ ready_for head.cookie (shown_by image head)
+  -- only what is in memory has changed, and the device was read alone
+  pub order : new ≡ record old { cache = new.cache }
+  pub states : new.cache.states ≡ old.cache.states
+  pub keeper_is : next ≡ record keeper { disk = next.disk }
+  pub level : faults next.disk ≡ faults keeper.disk
+  pub only_read : honest keeper.disk → IsOnlyRead (state keeper.disk) (state next.disk)
+  pub holds : honest keeper.disk → (base : Image) (front last : List Change) → Holds keeper (state keeper.disk) base front last → Holds next (state next.disk) base front last
+
+-- A call of the device failed, or has failed before: the answer is EIO, and the order is stopped.
+pub record IsUnread {D : Type 0} (state : D → State) (faults : D → ℕ) (honest : D → Type 0) (head : RequestHead) (old new : OrderState) (keeper next : KeeperState D) (result : Served) : Type 0 where
+  pub refusal : KeeperFault
+  pub cause : (refusal ≡ fault.DeviceFault) ⊎ ((refusal ≡ fault.Failed) × IsTrue keeper.failed)
+  pub answer : result ≡ ready_for head.cookie (Refused Io)
+  pub order : new ≡ record old { stopped = true }
+  pub keeper_is : next ≡ refused_by refusal keeper next.disk
+  pub level : faults next.disk ≡ faults_by refusal (faults keeper.disk)
+  pub only_read : honest keeper.disk → IsOnlyRead (state keeper.disk) (state next.disk)
+
+-- what serving a READ comes to: memory is refused and nothing has changed, or it is answered
+abbrev pub IsReadServed : {D : Type 0} → (D → State) → (D → ℕ) → (D → Type 0) → RequestHead → OrderState → OrderState → KeeperState D → KeeperState D → Served → Type 0
+IsReadServed state faults honest head old new keeper next result =
+    ((new ≡ old) × (next ≡ keeper) × (result ≡ ready_for head.cookie (Refused NoMemory)))
+    ⊎ (IsRead state faults honest head old new keeper next result ⊎ IsUnread state faults honest head old new keeper next result)
+
+-- what serving a BLOCK_STATUS comes to: memory is refused, or it is answered with what any image shows that has the order's states
+abbrev pub IsStatusServed : RequestHead → OrderState → Served → Type 0
+IsStatusServed head order result =
+    (result ≡ ready_for head.cookie (Refused NoMemory))
+    ⊎ ((image : Image) → ((block : ℕ) → image.kind block ≡ state_at order.cache.states block) → result ≡ ready_for head.cookie (shown_by image head))

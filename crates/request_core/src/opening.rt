@@ -1,0 +1,30 @@
+ghost use Rattle.std.specs.Prelude.{◌≡◌, ◌≤◌, ◌<◌, [], IfOk, List, OnOk, length};
+ghost use Rattle.device_image.specs.Holds.{Holds};
+ghost use Rattle.image_model.specs.Image.{Image};
+ghost use Rattle.image_model.specs.declared.command.Kind.{Kind};
+ghost use Rattle.order_book.specs.Order.{new_order};
+ghost use Rattle.order_book.specs.Shown.{ShowsImage};
+
+use checkpoint::Keeper;
+use disk_model::Disk;
+use order_book::Order;
+use std::alloc::{AllocError, Global};
+
+/// The order with which the life of an opened device begins: over its map, with the number behind the last that it holds,
+/// and with so many frames.
+pub fn fresh_order<D: Disk>(
+    alloc: Global,
+    keeper: &Keeper<D>,
+    frames: u32,
+) -> Result<Order, AllocError>
+    requires { frames ≤ 65536 }
+    ensures order { IfOk result (λ order. (states : List Kind) × (length states ≡ keeper.now.geometry.blocks)
+        × (order ≡ new_order states keeper.now.count frames keeper.now.geometry.area)) }
+    ensures few { OnOk result (keeper.now.count < 18446744073709551616) }
+
+    // Where map and data hold all of an image, the order shows it.
+    ensures image { (image : Image) → Holds keeper.now (D.state keeper.now.disk) image [] [] → IfOk result (λ order. ShowsImage image order.cache) }
+{
+    let map = keeper.map(alloc)?;
+    Order::new(alloc, map, keeper.count(), frames, keeper.geometry().area)
+}

@@ -1,0 +1,35 @@
+-- When the answers of a log that show an image fit the order of commands.
+use Rattle.std.specs.Prelude.{◌≡◌, ◌≢◌, ℕ, ◌<◌, ◌≤◌, true, List, length}
+use Rattle.image_model.specs.Change.{Change}
+use Rattle.image_model.specs.Image.{Image}
+use Rattle.nbd_wire.specs.Request.{Message}
+use Rattle.nbd_wire.specs.declared.error.Errno.{Errno}
+use Rattle.nbd_wire.specs.declared.message.Answer.{Answer}
+use Rattle.nbd_wire.specs.declared.message.Answer.TheVariants.{Done, Refused}
+use Rattle.world.specs.declared.event.Event.{Event}
+use Rattle.world.specs.Log.{IsAnswered, is_read}
+use Rattle.world.specs.Shown.{shown_by}
+use Rattle.world.specs.World.{image_after}
+
+-- A READ or a BLOCK_STATUS that was sent at the place is answered, and not refused.
+pub record IsShown (log : List Event) (place : ℕ) : Type 0 where
+  pub connection : ℕ
+  pub request : Message
+  pub answer : ℕ
+  pub outcome : Answer
+  pub read : is_read request ≡ true
+  pub given : (errno : Errno) → outcome ≢ Refused errno
+  pub answered : IsAnswered log connection place request answer outcome
+
+-- For each such place there is a count of first commands, chosen once for all answers of the log, such that its answer is what
+-- the image after these shows.
+pub record ReadsFit (log : List Event) (order : List Change) (paired shown : ℕ → ℕ) (image : Image) : Type 0 where
+  pub shows : (place : ℕ) (is : IsShown log place) → is.outcome ≡ shown_by (image_after order (shown place) image) is.request.head
+  pub within : (place : ℕ) → shown place ≤ length order
+  -- each command that was answered Ok before the request was sent is among them
+  pub after : (place : ℕ) → IsShown log place → (k connection answer : ℕ) (request : Message) → k < length order
+      → IsAnswered log connection (paired k) request answer Done → answer < place → k < shown place
+  -- each of them was sent before the answer
+  pub before : (place : ℕ) (is : IsShown log place) (k : ℕ) → k < shown place → paired k < is.answer
+  -- the count never falls from an answer to a request that is sent later
+  pub rising : (place later : ℕ) (is : IsShown log place) → IsShown log later → is.answer < later → shown place ≤ shown later
