@@ -1,7 +1,8 @@
 //! Serving of READ and BLOCK_STATUS.
 
-ghost use Rattle.std.specs.Prelude.{◌≡◌, ◌≢◌, ◌↔◌, ◌+◌, ◌*◌, ◌%◌, ◌<◌, ◌≤◌, length};
+ghost use Rattle.std.specs.Prelude.{◌≡◌, ◌≢◌, ◌↔◌, ◌+◌, ◌*◌, ◌/◌, ◌%◌, ◌<◌, ◌≤◌, length};
 ghost use Rattle.request_core.specs.Reading.{IsReadServed, IsStatusServed};
+ghost use Rattle.shared_cache.specs.Cache.{LacksBytes};
 
 use crate::serving::{Served, refused};
 use checkpoint::Keeper;
@@ -28,6 +29,7 @@ pub(crate) fn serve_read<D: Disk>(
     requires inside { head.now.offset + head.now.length ≤ 4096 * length order.old.cache.states }
     requires device { length order.old.cache.states ≡ keeper.old.geometry.blocks }
     ensures read { IsReadServed D.state D.faults D.honest head.now order.old order.new keeper.old keeper.new result }
+    ensures hit { (LacksBytes order.old.cache (head.now.offset / 4096) (head.now.length / 4096) → ⊥) → (order.new ≡ order.old) × (keeper.new ≡ keeper.old) }
     ensures extent { D.extent keeper.new.disk ≡ D.extent keeper.old.disk }
     ensures honest { D.honest keeper.new.disk ↔ D.honest keeper.old.disk }
 {

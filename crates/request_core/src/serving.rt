@@ -1,4 +1,4 @@
-ghost use Rattle.std.specs.Prelude.{◌≡◌, ◌≢◌, ◌<◌, ◌↔◌, ℕ, false, [], Some, IfSome, MatchOption, IfNone, Option, Result, length, slice_index_or, slice_set, vec_len};
+ghost use Rattle.std.specs.Prelude.{◌≡◌, ◌≢◌, ◌/◌, ◌<◌, ◌↔◌, ℕ, false, [], Some, IfSome, MatchOption, IfNone, Option, Result, length, slice_index_or, slice_set, vec_len};
 ghost use Rattle.journal.specs.Group.{Numbered};
 ghost use Rattle.nbd_wire.specs.Request.{Message};
 ghost use Rattle.nbd_wire.specs.declared.error.Errno.{Errno};
@@ -6,6 +6,7 @@ ghost use Rattle.order_book.specs.Order.{IsInHand};
 ghost use Rattle.request_core.specs.Outcomes.{IsServedBy, IsServedWith};
 ghost use Rattle.request_core.specs.Parts.{AreConnectionsOf, IsKeeperOf, IsOrderOf};
 ghost use Rattle.request_core.specs.Steps.{IsAnyServed, IsAnyTalked, IsSure};
+ghost use Rattle.shared_cache.specs.Cache.{LacksBytes};
 ghost use Rattle.request_core.specs.Serving.{AreTermsOf, IsAnsweredBy, IsHandedBack, IsSentBy, IsWriteServed, answer_due, event_for, is_idle, ready_for, request_again, request_in, sent_state, served_after, state_of};
 ghost use Rattle.world.specs.Log.{cleared_as, waits_for_store};
 ghost use Rattle.world.specs.Serve.{Failure, answer as answer_of, serve as serve_of};
@@ -257,6 +258,9 @@ pub fn serve_held<D: Disk>(
     ensures honest { D.honest keeper.new.disk ↔ D.honest keeper.old.disk }
     ensures serves { (given : Result Action Errno) × (given ≡ verdict request.head terms.geometry terms.flags)
         × IsServedBy D.state D.faults D.honest given request terms.geometry terms.mode order.old order.new keeper.old keeper.new result }
+
+    // A READ of blocks that are all in memory doesn't ask the device.
+    ensures hit { request.head.kind ≡ 0 → (LacksBytes order.old.cache (request.head.offset / 4096) (request.head.length / 4096) → ⊥) → (order.new ≡ order.old) × (keeper.new ≡ keeper.old) }
 {
     let head = request.head();
     let last = order.mark();
