@@ -134,7 +134,7 @@ ends 'after the short streams' 0 "$(text 'commands 0')" '' recover d.img
     request 0000 3 8 4096 0
     request 0000 3 9 0 4096
     request 0001 3 10 0 0
-    request 0000 0 11 0 4096
+    request 0000 0 11 61440 8192
     request 0000 5 12 0 0
     request 0000 99 13 0 0
     request 0000 1 14 0 1052672; filled 1052672 A
@@ -185,6 +185,24 @@ data=$((8192 + 2 * 2097152 + 2 * 4096))
 tail -c "+$((data + 1))" d.img >found
 same 'the blocks after the recovery' wanted found
 ends 'a recovered device again' 0 "$(text 'commands 41')" '' recover d.img
+
+# READs of what was written, of a hole with FUA, past the end, with DF, and a BLOCK_STATUS; then of what an opening found.
+fresh 16 2097152
+differing 8192 5 >data
+{
+    request 0000 1 1 4096 8192; cat data
+    request 0000 0 2 8192 4096
+    request 0001 0 3 0 4096
+    request 0000 0 4 61440 8192
+    request 0004 0 5 0 4096
+    request 0000 7 6 0 4096
+    request 0000 2 7 0 0
+} >input
+refused="$(reply 4 22)$(reply 5 22)$(reply 6 22)"
+ends 'reads' 0 "$(reply 1 0)$(reply 2 0)$(part data 4096 4096)$(reply 3 0)$(filled 4096 '\000' | hex)$refused" '' pipe d.img
+{ request 0000 0 1 4096 8192; request 0000 2 2 0 0; } >input
+ends 'reads of an opened device' 0 "$(reply 1 0)$(hex <data)" '' pipe d.img
+: >input
 
 # Of four blocks that were written the second becomes a hole by TRIM, the third allocated zero by WRITE_ZEROES with NO_HOLE, and the
 # fourth a hole by WRITE_ZEROES.

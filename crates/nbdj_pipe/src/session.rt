@@ -1,4 +1,5 @@
-ghost use Rattle.std.specs.Prelude.{◌≡◌, ◌↔◌, ◌⊎◌, ◌<◌, ◌++◌, [], Bool, List, false, length, vec_len, IfErr, IfOk, IfSome, IsErrOf, Ok, Err, OnErr, OnOk};
+ghost use Rattle.std.specs.Prelude.{◌≡◌, ◌↔◌, ◌⊎◌, ◌<◌, ◌≤◌, ◌++◌, [], Bool, List, false, length, vec_len, IfErr, IfOk, IfSome, IsErrOf, Ok, Err, OnErr, OnOk};
+ghost use Rattle.std.specs.Io.KnownBytes.{ReadConsumes};
 ghost use Rattle.byte_streams.specs.Streams.{WritesPart};
 ghost use Rattle.disk_model.specs.Faults.{HasRisen};
 ghost use Rattle.nbdj_pipe.specs.Export.{IsSettled, Settles};
@@ -33,8 +34,10 @@ use std::alloc::{AllocError, Global};
 use std::io::{Read, Write};
 use world_law::schedule_law;
 
-// The most bytes that one read takes.
+// The most bytes that one read takes, and the most of them behind the data at hand: 32 heads of requests.
 const PIECE_BYTES: usize = 65_536;
+
+const HEAD_BYTES: usize = 896;
 
 // What both sides of a pipe agree on without a handshake.
 const PLAIN: SessionFlags = SessionFlags {
@@ -142,9 +145,9 @@ impl<D: Disk> Session<D> {
     {
         leads_law::<D>();
         let mut reader = StreamReader::new(alloc);
-        let mut piece = empty_piece(alloc)?;
+        let mut piece = Vec::new(alloc);
         for _ in 0..u64::MAX {
-            let count = read_some(input, &mut piece)?;
+            let count = read_piece(&reader, input, &mut piece)?;
             if count == 0 {
                 return Err(Refusal::PeerClosed);
             }
@@ -307,9 +310,19 @@ fn data(answer: &Answer) -> &[u8]
     }
 }
 
-// Room for what one read takes.
-fn empty_piece(alloc: Global) -> Result<Vec<u8>, AllocError>
-    ensures { IfOk result (λ piece. 0 < vec_len piece) }
+// Reads what there is, but no more behind the data at hand than the heads of some requests: all of them are answered before
+// the replies are written, and a READ has up to 1 MiB of them.
+fn read_piece<R: Read>(
+    reader: &StreamReader,
+    input: &mut R,
+    piece: &mut Vec<u8>,
+) -> Result<usize, Refusal>
+    ensures some { OnOk result (0 < vec_len piece.new) }
+    ensures within { IfOk result (λ count. count ≤ vec_len piece.new) }
+    ensures bytes { ReadConsumes (R.remaining input.old) (R.remaining input.new) result piece.new.items }
+    ensures unshown { IfErr result (λ refusal. (refusal ≡ Refusal.NoMemory) ⊎ (refusal ≡ Refusal.StreamFault)) }
 {
-    vec![in alloc; 0; PIECE_BYTES]
+    let data = reader.room().min(PIECE_BYTES - HEAD_BYTES);
+    piece.resize(data + HEAD_BYTES, 0)?;
+    Ok(read_some(input, piece)?)
 }

@@ -48,7 +48,7 @@ fn drawn(alloc: Global, draws: &mut Draws, count: usize) -> Result<Vec<u8>, Allo
     let step = 1 + draws.below(97) as usize;
     let mut bytes = Vec::new(alloc);
     for place in 0..count {
-        bytes.push(place.wrapping_mul(step).wrapping_add(seed) as u8)?;
+        bytes.push((place.wrapping_mul(step).wrapping_add(seed) % 256) as u8)?;
     }
     Ok(bytes)
 }

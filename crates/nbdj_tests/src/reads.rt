@@ -33,11 +33,11 @@ const REFUSED: [(u16, u16, u64, u32); 8] = [
 ];
 
 fn ask_refused(stream: &mut Vec<u8>, replies: &mut Vec<u8>) -> Result<(), AllocError> {
-    let mut cookie = 100;
+    let mut cookie = 100u64;
     for (kind, flags, offset, length) in REFUSED {
         ask(stream, kind, flags, cookie, offset, length)?;
         owe(replies, 22, cookie, &[])?;
-        cookie += 1;
+        cookie = cookie.wrapping_add(1);
     }
     Ok(())
 }
@@ -63,7 +63,7 @@ fn of_a_fresh_image(rt: HostRuntime) -> Result<(), Fail> {
 fn differing(alloc: Global, count: usize) -> Result<Vec<u8>, AllocError> {
     let mut bytes = vec![in alloc; 0; count]?;
     for place in 0..bytes.len() {
-        bytes[place] = (place % 251 + place / 4_096) as u8;
+        bytes[place] = (place % 251 + place / 4_096 % 5) as u8;
     }
     Ok(bytes)
 }

@@ -1,4 +1,4 @@
-use Rattle.std.proofs.Common.{◌≡◌, subst, sym, ap, ◌∙◌, take, arith, List, ℕ, Result, Ok, Err, refl}
+use Rattle.std.proofs.Common.{◌≡◌, ◌⊎◌, inl, inr, subst, sym, ap, ◌∙◌, take, arith, List, ℕ, Result, Ok, Err, refl}
 use Rattle.std.specs.Prelude.{◌↔◌, IfSome, IsErrAnd}
 use Rattle.std.specs.Io.KnownBytes.{Consumes}
 use Rattle.order_book.specs.Order.{IsInHand}
@@ -29,18 +29,9 @@ no_fault_of told (Err other) refusal none was is fault = none (was ∙ ap Err (s
     same : (let outcome : Result (Unit {0}) Refusal = Err other in outcome ≡ Err DeviceFault) → other ≡ DeviceFault
     same is = cc
 
-pub returns-in_err-piece-clause-dialog : goal.returns-in_err-piece-clause-dialog
-returns-in_err-piece-clause-dialog g c =
-    let disk = g.D.Disk in
-    let a = c.args.self.now.export in
-    let input = g.R.Read.remaining c.args.input.now in
-    let output = g.W.Write.contents c.args.output.now in
-    stopped (Runs disk.state disk.faults disk.honest a.order a.keeper a.connections a.order a.keeper a.connections) (runs_bare disk.state disk.faults disk.honest a.order a.order a.keeper a.keeper a.connections a.connections) input input output output _ (going_first (Runs disk.state disk.faults disk.honest a.order a.keeper a.connections a.order a.keeper a.connections) input output (runs_none disk.state disk.faults disk.honest c.leads_law.ensures a.order a.keeper a.connections)) input c.from_residual.result (keeps_same input)
-    (err_no_end IsUnshown c.from_residual.result NoMemory c.from_residual.ensures.1 unshown_memory)
-
-pub returns-in_err-piece-clause-early : goal.returns-in_err-piece-clause-early
-returns-in_err-piece-clause-early g c =
-    no_fault c.from_residual.result (err_no_end IsEarly c.from_residual.result NoMemory c.from_residual.ensures.1 unshown_memory.0)
+is_unshown : (refusal : Refusal) → (refusal ≡ NoMemory) ⊎ (refusal ≡ StreamFault) → IsUnshown refusal
+is_unshown refusal (inl is) = subst IsUnshown (sym is) unshown_memory
+is_unshown refusal (inr is) = subst IsUnshown (sym is) unshown_stream
 
 pub returns-in_err-count-clause-dialog : goal.returns-in_err-count-clause-dialog
 returns-in_err-count-clause-dialog g c =
@@ -49,12 +40,13 @@ returns-in_err-count-clause-dialog g c =
     let input = g.R.Read.remaining c.args.input.now in
     let output = g.W.Write.contents c.args.output.now in
     let b = c.loop.self.export in
-    stopped (Runs disk.state disk.faults disk.honest a.order a.keeper a.connections b.order b.keeper b.connections) (runs_bare disk.state disk.faults disk.honest a.order b.order a.keeper b.keeper a.connections b.connections) input (g.R.Read.remaining c.loop.input) output (g.W.Write.contents c.loop.output) c.loop.reader c.loop.invariant.going (g.R.Read.remaining c.read_some.new.input) c.from_residual-in_err-count.result
-    c.in_err-count.ensures.bytes (err_no_end IsUnshown c.from_residual-in_err-count.result StreamFault c.from_residual-in_err-count.ensures.1 unshown_stream)
+    stopped (Runs disk.state disk.faults disk.honest a.order a.keeper a.connections b.order b.keeper b.connections) (runs_bare disk.state disk.faults disk.honest a.order b.order a.keeper b.keeper a.connections b.connections) input (g.R.Read.remaining c.loop.input) output (g.W.Write.contents c.loop.output) c.loop.reader c.loop.invariant.going (g.R.Read.remaining c.read_piece.new.input) c.from_residual.result
+    c.in_err-count.ensures.bytes (err_no_end IsUnshown c.from_residual.result c.in_err-count.field-0.0 c.from_residual.ensures.1 (is_unshown c.in_err-count.field-0.0 c.in_err-count.ensures.unshown))
 
 pub returns-in_err-count-clause-early : goal.returns-in_err-count-clause-early
 returns-in_err-count-clause-early g c =
-    no_fault c.from_residual-in_err-count.result (err_no_end IsEarly c.from_residual-in_err-count.result StreamFault c.from_residual-in_err-count.ensures.1 unshown_stream.0)
+    no_fault c.from_residual.result
+    (err_no_end IsEarly c.from_residual.result c.in_err-count.field-0.0 c.from_residual.ensures.1 (is_unshown c.in_err-count.field-0.0 c.in_err-count.ensures.unshown).0)
 
 pub returns-then-count-eq0-clause-dialog : goal.returns-then-count-eq0-clause-dialog
 returns-then-count-eq0-clause-dialog g c =
@@ -64,11 +56,11 @@ returns-then-count-eq0-clause-dialog g c =
     let output = g.W.Write.contents c.args.output.now in
     let b = c.loop.self.export in
     let mid = g.R.Read.remaining c.loop.input in
-    let left = g.R.Read.remaining c.read_some.new.input in
+    let left = g.R.Read.remaining c.read_piece.new.input in
     let bytes = c.in_ok-count.ensures.bytes in
     closed (Runs disk.state disk.faults disk.honest a.order a.keeper a.connections b.order b.keeper b.connections) (runs_bare disk.state disk.faults disk.honest a.order b.order a.keeper b.keeper a.connections b.connections) input mid output (g.W.Write.contents c.loop.output) c.loop.reader c.loop.invariant.going left
-    (subst (λ (n : ℕ). Consumes mid left (take n c.read_some.new.piece.items)) c.if-count-eq0.true bytes.0)
-    (bytes.1 c.if-count-eq0.true (omega (arith, c.in_ok-count.ensures.same, c.loop.invariant.some)))
+    (subst (λ (n : ℕ). Consumes mid left (take n c.read_piece.new.piece.items)) c.if-count-eq0.true bytes.0)
+    (bytes.1 c.if-count-eq0.true (omega (arith, c.in_ok-count.ensures.some)))
 
 pub returns-in_err-write_replies-clause-dialog : goal.returns-in_err-write_replies-clause-dialog
 returns-in_err-write_replies-clause-dialog g c =
@@ -81,15 +73,15 @@ returns-in_err-write_replies-clause-dialog g c =
     let e = c.write_replies.new.self.export in
     let piece = take c.in_ok-count.count c.deref.result.now in
     let due = c.take-flow.new.self.replies.items in
-    let read = subst (λ (bytes : List ℕ). Consumes (g.R.Read.remaining c.loop.input) (g.R.Read.remaining c.read_some.new.input) (take c.in_ok-count.count bytes)) (sym c.deref.ensures.value) c.in_ok-count.ensures.bytes.0 in
+    let read = subst (λ (bytes : List ℕ). Consumes (g.R.Read.remaining c.loop.input) (g.R.Read.remaining c.read_piece.new.input) (take c.in_ok-count.count bytes)) (sym c.deref.ensures.value) c.in_ok-count.ensures.bytes.0 in
     let begun = subst (λ (before : List ℕ). Takes c.loop.reader piece c.take-flow.new.reader before due c.take-flow.result (Runs disk.state disk.faults disk.honest b.order b.keeper b.connections t.order t.keeper t.connections))
     c.loop.invariant.none_due c.take-flow.ensures.takes in
-    subst (λ x. IsPiped input (g.R.Read.remaining c.read_some.new.input) output (g.W.Write.contents c.write_replies.new.output) c.from_residual-in_err-write_replies.result (Runs disk.state disk.faults disk.honest a.order a.keeper a.connections x.order x.keeper x.connections)) (sym c.write_replies.ensures.same)
+    subst (λ x. IsPiped input (g.R.Read.remaining c.read_piece.new.input) output (g.W.Write.contents c.write_replies.new.output) c.from_residual-in_err-write_replies.result (Runs disk.state disk.faults disk.honest a.order a.keeper a.connections x.order x.keeper x.connections)) (sym c.write_replies.ensures.same)
     (cut (Runs disk.state disk.faults disk.honest a.order a.keeper a.connections b.order b.keeper b.connections) (runs_bare disk.state disk.faults disk.honest a.order b.order a.keeper b.keeper a.connections b.connections) input (g.R.Read.remaining c.loop.input) output (g.W.Write.contents c.loop.output) c.loop.reader c.loop.invariant.going
     (Runs disk.state disk.faults disk.honest b.order b.keeper b.connections t.order t.keeper t.connections) (Runs disk.state disk.faults disk.honest a.order a.keeper a.connections t.order t.keeper t.connections)
     (runs_on disk.state disk.faults disk.honest c.leads_law.ensures a.order b.order t.order a.keeper b.keeper t.keeper a.connections b.connections t.connections c.take-flow.ensures.honest.0)
     (runs_bare disk.state disk.faults disk.honest a.order t.order a.keeper t.keeper a.connections t.connections)
-    (g.R.Read.remaining c.read_some.new.input) (g.W.Write.contents c.write_replies.new.output) piece due c.take-flow.new.reader c.take-flow.result read begun
+    (g.R.Read.remaining c.read_piece.new.input) (g.W.Write.contents c.write_replies.new.output) piece due c.take-flow.new.reader c.take-flow.result read begun
     c.in_err-write_replies.field-0.0 c.from_residual-in_err-write_replies.result c.in_err-write_replies.ensures.written
     (err_no_end IsUnshown c.from_residual-in_err-write_replies.result StreamFault c.from_residual-in_err-write_replies.ensures.1 unshown_stream))
 
@@ -109,15 +101,15 @@ returns-in_err-flow-clause-dialog g c =
     let e = c.write_replies.new.self.export in
     let piece = take c.in_ok-count.count c.deref.result.now in
     let due = c.take-flow.new.self.replies.items in
-    let read = subst (λ (bytes : List ℕ). Consumes (g.R.Read.remaining c.loop.input) (g.R.Read.remaining c.read_some.new.input) (take c.in_ok-count.count bytes)) (sym c.deref.ensures.value) c.in_ok-count.ensures.bytes.0 in
+    let read = subst (λ (bytes : List ℕ). Consumes (g.R.Read.remaining c.loop.input) (g.R.Read.remaining c.read_piece.new.input) (take c.in_ok-count.count bytes)) (sym c.deref.ensures.value) c.in_ok-count.ensures.bytes.0 in
     let begun = subst (λ (before : List ℕ). Takes c.loop.reader piece c.take-flow.new.reader before due c.take-flow.result (Runs disk.state disk.faults disk.honest b.order b.keeper b.connections t.order t.keeper t.connections))
     c.loop.invariant.none_due c.take-flow.ensures.takes in
-    subst (λ x. IsPiped input (g.R.Read.remaining c.read_some.new.input) output (g.W.Write.contents c.write_replies.new.output) c.from_residual-in_err-flow.result (Runs disk.state disk.faults disk.honest a.order a.keeper a.connections x.order x.keeper x.connections)) (sym c.write_replies.ensures.same)
+    subst (λ x. IsPiped input (g.R.Read.remaining c.read_piece.new.input) output (g.W.Write.contents c.write_replies.new.output) c.from_residual-in_err-flow.result (Runs disk.state disk.faults disk.honest a.order a.keeper a.connections x.order x.keeper x.connections)) (sym c.write_replies.ensures.same)
     (refused (Runs disk.state disk.faults disk.honest a.order a.keeper a.connections b.order b.keeper b.connections) (runs_bare disk.state disk.faults disk.honest a.order b.order a.keeper b.keeper a.connections b.connections) input (g.R.Read.remaining c.loop.input) output (g.W.Write.contents c.loop.output) c.loop.reader c.loop.invariant.going
     (Runs disk.state disk.faults disk.honest b.order b.keeper b.connections t.order t.keeper t.connections) (Runs disk.state disk.faults disk.honest a.order a.keeper a.connections t.order t.keeper t.connections)
     (runs_on disk.state disk.faults disk.honest c.leads_law.ensures a.order b.order t.order a.keeper b.keeper t.keeper a.connections b.connections t.connections c.take-flow.ensures.honest.0)
     (runs_bare disk.state disk.faults disk.honest a.order t.order a.keeper t.keeper a.connections t.connections)
-    (g.R.Read.remaining c.read_some.new.input) (g.W.Write.contents c.write_replies.new.output) piece due c.take-flow.new.reader c.take-flow.result read begun
+    (g.R.Read.remaining c.read_piece.new.input) (g.W.Write.contents c.write_replies.new.output) piece due c.take-flow.new.reader c.take-flow.result read begun
     c.in_ok-write_replies.ensures.written c.in_err-flow.field-0.0 c.from_residual-in_err-flow.result c.in_err-flow.was c.from_residual-in_err-flow.ensures.1)
 
 pub returns-in_err-flow-clause-early : goal.returns-in_err-flow-clause-early
@@ -135,15 +127,15 @@ returns-in-Ended-clause-dialog g c =
     let e = c.write_replies.new.self.export in
     let piece = take c.in_ok-count.count c.deref.result.now in
     let due = c.take-flow.new.self.replies.items in
-    let read = subst (λ (bytes : List ℕ). Consumes (g.R.Read.remaining c.loop.input) (g.R.Read.remaining c.read_some.new.input) (take c.in_ok-count.count bytes)) (sym c.deref.ensures.value) c.in_ok-count.ensures.bytes.0 in
+    let read = subst (λ (bytes : List ℕ). Consumes (g.R.Read.remaining c.loop.input) (g.R.Read.remaining c.read_piece.new.input) (take c.in_ok-count.count bytes)) (sym c.deref.ensures.value) c.in_ok-count.ensures.bytes.0 in
     let begun = subst (λ (before : List ℕ). Takes c.loop.reader piece c.take-flow.new.reader before due c.take-flow.result (Runs disk.state disk.faults disk.honest b.order b.keeper b.connections t.order t.keeper t.connections))
     c.loop.invariant.none_due c.take-flow.ensures.takes in
-    subst (λ x. IsPiped input (g.R.Read.remaining c.read_some.new.input) output (g.W.Write.contents c.write_replies.new.output) (Ok tt) (Runs disk.state disk.faults disk.honest a.order a.keeper a.connections x.order x.keeper x.connections)) (sym c.write_replies.ensures.same)
+    subst (λ x. IsPiped input (g.R.Read.remaining c.read_piece.new.input) output (g.W.Write.contents c.write_replies.new.output) (Ok tt) (Runs disk.state disk.faults disk.honest a.order a.keeper a.connections x.order x.keeper x.connections)) (sym c.write_replies.ensures.same)
     (ended (Runs disk.state disk.faults disk.honest a.order a.keeper a.connections b.order b.keeper b.connections) (runs_bare disk.state disk.faults disk.honest a.order b.order a.keeper b.keeper a.connections b.connections) input (g.R.Read.remaining c.loop.input) output (g.W.Write.contents c.loop.output) c.loop.reader c.loop.invariant.going
     (Runs disk.state disk.faults disk.honest b.order b.keeper b.connections t.order t.keeper t.connections) (Runs disk.state disk.faults disk.honest a.order a.keeper a.connections t.order t.keeper t.connections)
     (runs_on disk.state disk.faults disk.honest c.leads_law.ensures a.order b.order t.order a.keeper b.keeper t.keeper a.connections b.connections t.connections c.take-flow.ensures.honest.0)
     (runs_bare disk.state disk.faults disk.honest a.order t.order a.keeper t.keeper a.connections t.connections)
-    (g.R.Read.remaining c.read_some.new.input) (g.W.Write.contents c.write_replies.new.output) piece due c.take-flow.new.reader c.take-flow.result read begun
+    (g.R.Read.remaining c.read_piece.new.input) (g.W.Write.contents c.write_replies.new.output) piece due c.take-flow.new.reader c.take-flow.result read begun
     c.in_ok-write_replies.ensures.written (c.in_ok-flow.was ∙ ap Ok c.in-Ended.is))
 
 pub loop-preserved : goal.loop-preserved
@@ -157,23 +149,22 @@ loop-preserved g c =
     let e = c.write_replies.new.self.export in
     let piece = take c.in_ok-count.count c.deref.result.now in
     let due = c.take-flow.new.self.replies.items in
-    let read = subst (λ (bytes : List ℕ). Consumes (g.R.Read.remaining c.loop.input) (g.R.Read.remaining c.read_some.new.input) (take c.in_ok-count.count bytes)) (sym c.deref.ensures.value) c.in_ok-count.ensures.bytes.0 in
+    let read = subst (λ (bytes : List ℕ). Consumes (g.R.Read.remaining c.loop.input) (g.R.Read.remaining c.read_piece.new.input) (take c.in_ok-count.count bytes)) (sym c.deref.ensures.value) c.in_ok-count.ensures.bytes.0 in
     let begun = subst (λ (before : List ℕ). Takes c.loop.reader piece c.take-flow.new.reader before due c.take-flow.result (Runs disk.state disk.faults disk.honest b.order b.keeper b.connections t.order t.keeper t.connections))
     c.loop.invariant.none_due c.take-flow.ensures.takes in
     let same = c.write_replies.ensures.same in
-    let going = subst (λ x. IsGoing input (g.R.Read.remaining c.read_some.new.input) output (g.W.Write.contents c.write_replies.new.output) c.take-flow.new.reader (Runs disk.state disk.faults disk.honest a.order a.keeper a.connections x.order x.keeper x.connections)) (sym same)
+    let going = subst (λ x. IsGoing input (g.R.Read.remaining c.read_piece.new.input) output (g.W.Write.contents c.write_replies.new.output) c.take-flow.new.reader (Runs disk.state disk.faults disk.honest a.order a.keeper a.connections x.order x.keeper x.connections)) (sym same)
     (goes_on (Runs disk.state disk.faults disk.honest a.order a.keeper a.connections b.order b.keeper b.connections) (runs_bare disk.state disk.faults disk.honest a.order b.order a.keeper b.keeper a.connections b.connections) input (g.R.Read.remaining c.loop.input) output (g.W.Write.contents c.loop.output) c.loop.reader c.loop.invariant.going
     (Runs disk.state disk.faults disk.honest b.order b.keeper b.connections t.order t.keeper t.connections) (Runs disk.state disk.faults disk.honest a.order a.keeper a.connections t.order t.keeper t.connections)
     (runs_on disk.state disk.faults disk.honest c.leads_law.ensures a.order b.order t.order a.keeper b.keeper t.keeper a.connections b.connections t.connections c.take-flow.ensures.honest.0)
     (runs_bare disk.state disk.faults disk.honest a.order t.order a.keeper t.keeper a.connections t.connections)
-    (g.R.Read.remaining c.read_some.new.input) (g.W.Write.contents c.write_replies.new.output) piece due c.take-flow.new.reader c.take-flow.result read begun
+    (g.R.Read.remaining c.read_piece.new.input) (g.W.Write.contents c.write_replies.new.output) piece due c.take-flow.new.reader c.take-flow.result read begun
     c.in_ok-write_replies.ensures.written (c.in_ok-flow.was ∙ ap Ok c.in-Open.is) c.take-flow.ensures.is_open) in
     record {
       group = subst (λ x. IfSome x.connections.group (IsInHand x.order)) (sym same) c.take-flow.ensures.group;
       extent = ap (λ x. disk.extent x.keeper.disk) same ∙ (c.take-flow.ensures.extent ∙ c.loop.invariant.extent);
       honest = subst (λ x. disk.honest x.keeper.disk ↔ disk.honest a.keeper.disk) (sym same)
           (λ is. c.loop.invariant.honest.0 (c.take-flow.ensures.honest.0 is), λ is. c.take-flow.ensures.honest.1 (c.loop.invariant.honest.1 is));
-      some = omega (arith, c.in_ok-count.ensures.same, c.loop.invariant.some);
       none_due = c.in_ok-write_replies.ensures.none;
       going = going;
     }
@@ -198,7 +189,6 @@ loop-init g c =
       group = c.requires.group;
       extent = refl;
       honest = (λ is. is, λ is. is);
-      some = c.in_ok-piece.ensures;
       none_due = c.requires.none_due;
       going = subst (λ (r : Reader). IsGoing input input output output r (Runs disk.state disk.faults disk.honest a.order a.keeper a.connections a.order a.keeper a.connections)) (sym c.new-reader.ensures)
           (going_first (Runs disk.state disk.faults disk.honest a.order a.keeper a.connections a.order a.keeper a.connections) input output
