@@ -14,10 +14,19 @@ use std::alloc::{AllocError, Global};
 use std::marker::Model;
 
 /// The states of an image's blocks, kept in the bytes of a map slot.
-#[derive(Drop)]
 pub struct AllocMap {
     blocks: u64,
     bytes: Vec<u8>,
+}
+
+// Written out, it is proved once, and not again in each function that lets a map go.
+impl Drop for AllocMap {
+    fn drop(self) {
+        let AllocMap {
+            blocks: _,
+            bytes: _,
+        } = self;
+    }
 }
 
 // In contracts a map is the list of the states, block after block.

@@ -16,7 +16,6 @@ use std::alloc::{AllocError, Global};
 /// It keeps a record of its writes and syncs since the last crash, with the bytes that each write replaced. A write or
 /// a sync for which the record can't grow is a fault, and changes nothing. No other call takes memory. A write that is
 /// made to fail writes its bytes nevertheless: reads give them, and they are unsynced.
-#[derive(Drop)]
 pub struct SimDisk {
     alloc: Global,
     bytes: Vec<u8>,
@@ -27,6 +26,19 @@ pub struct SimDisk {
     ghost failures_fit: { failures < 2 ^ 64 },
     ghost are_bytes: { (place : ℕ) → slice_index bytes.items place < 256 },
     ghost inside: { IsInside history.items (length bytes.items) },
+}
+
+// Written out, it is proved once, and not again in each function that lets a device go.
+impl Drop for SimDisk {
+    fn drop(self) {
+        let SimDisk {
+            alloc: _,
+            bytes: _,
+            history: _,
+            plan: _,
+            failures: _,
+        } = self;
+    }
 }
 
 // What a write answers that came out so, where a fault was due or not.

@@ -29,7 +29,6 @@ const MOST_KEPT_BYTES: usize = 1_048_576;
 ///
 /// Behind the last group stands a gate that isn't open. A group is written behind that gate, with the next gate closed;
 /// its own gate is opened when the group is stable.
-#[derive(Drop)]
 pub struct Area {
     from: u64,
     bytes: u32,
@@ -38,6 +37,21 @@ pub struct Area {
     gate: u32,
     touched: Vec<TouchedRange>,
     buffer: Vec<u8>,
+}
+
+// Written out, it is proved once, and not again in each function that lets an area go.
+impl Drop for Area {
+    fn drop(self) {
+        let Area {
+            from: _,
+            bytes: _,
+            blocks: _,
+            next: _,
+            gate: _,
+            touched: _,
+            buffer: _,
+        } = self;
+    }
 }
 
 impl Model for Area {
