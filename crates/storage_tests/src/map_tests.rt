@@ -16,19 +16,35 @@ fn slot(alloc: Global, first: u8, last: u8) -> Result<Vec<u8>, AllocError>
     Ok(bytes)
 }
 
+// The map of these bytes.
+fn map_of(alloc: Global, blocks: u64, first: u8, last: u8) -> Result<AllocMap, Fail>
+    requires some { 1 ≤ blocks }
+    requires few { blocks ≤ 4 }
+{
+    let bytes = slot(alloc, first, last)?;
+    Ok(AllocMap::from_bytes(blocks, bytes).ok().ok_or("no map")?)
+}
+
+// The states of four blocks.
+fn states(map: &AllocMap) -> Option<[Kind; 4]> {
+    if map.blocks() != 4 {
+        return None;
+    }
+    Some([map.state(0), map.state(1), map.state(2), map.state(3)])
+}
+
+// Whether a map and its copy have these bytes.
+fn has_bytes(alloc: Global, map: &AllocMap, bytes: &[u8]) -> Result<bool, AllocError> {
+    let copy = map.copy(alloc)?;
+    Ok(map.to_bytes(alloc)?.as_slice() == bytes && copy.bytes() == bytes)
+}
+
 #[test]
 fn four_blocks(rt: HostRuntime) -> Result<(), Fail> {
-    let want = slot(rt.alloc(), 0x06, 0)?;
-    let Ok(map) = AllocMap::from_bytes(4, slot(rt.alloc(), 0x06, 0)?) else {
-        return Err(Fail::from(AllocError));
-    };
-    assert_eq!(rt; map.blocks(), 4);
-    assert_eq!(rt; map.state(0), Kind::Data);
-    assert_eq!(rt; map.state(1), Kind::Zero);
-    assert_eq!(rt; map.state(2), Kind::Hole);
-    assert_eq!(rt; map.state(3), Kind::Hole);
-    assert!(rt; map.to_bytes(rt.alloc())?.as_slice() == want.as_slice());
-    assert!(rt; map.copy(rt.alloc())?.bytes() == want.as_slice());
+    let map = map_of(rt.alloc(), 4, 0x06, 0)?;
+    assert!(rt; states(&map) == Some([Kind::Data, Kind::Zero, Kind::Hole, Kind::Hole]));
+    let wanted = slot(rt.alloc(), 0x06, 0)?;
+    assert!(rt; has_bytes(rt.alloc(), &map, &wanted)?);
     Ok(())
 }
 
@@ -54,29 +70,45 @@ fn bytes_that_are_no_map(rt: HostRuntime) -> Result<(), Fail> {
 }
 
 // 100 blocks, of which those from 30 to 70 are data and the next one is zero.
-#[test]
-fn ranges_over_words(rt: HostRuntime) -> Result<(), Fail> {
-    let mut map = AllocMap::new(rt.alloc(), 100)?;
+fn of_a_hundred(alloc: Global) -> Result<AllocMap, AllocError>
+    ensures { IfOk result (λ map. length map ≡ 100) }
+{
+    let mut map = AllocMap::new(alloc, 100)?;
     map.set_range(30, 41, Kind::Data);
     map.set_range(71, 1, Kind::Zero);
+    Ok(map)
+}
+
+// The first three runs from block 1 on.
+const RUNS: [Run; 3] = [
+    Run {
+        blocks: 29,
+        kind: Kind::Hole,
+    },
+    Run {
+        blocks: 41,
+        kind: Kind::Data,
+    },
+    Run {
+        blocks: 1,
+        kind: Kind::Zero,
+    },
+];
+
+// How many blocks are in each state.
+fn counts(map: &AllocMap) -> [u64; 3] {
+    [
+        map.count(Kind::Hole),
+        map.count(Kind::Data),
+        map.count(Kind::Zero),
+    ]
+}
+
+#[test]
+fn ranges_over_words(rt: HostRuntime) -> Result<(), Fail> {
+    let map = of_a_hundred(rt.alloc())?;
     let runs = map.runs(rt.alloc(), 1, 100, 3)?;
-    let want = [
-        Run {
-            blocks: 29,
-            kind: Kind::Hole,
-        },
-        Run {
-            blocks: 41,
-            kind: Kind::Data,
-        },
-        Run {
-            blocks: 1,
-            kind: Kind::Zero,
-        },
-    ];
-    assert!(rt; runs.as_slice() == want.as_slice());
-    assert_eq!(rt; map.count(Kind::Hole), 58);
-    assert_eq!(rt; map.count(Kind::Data), 41);
-    assert_eq!(rt; map.count(Kind::Zero), 1);
+    assert!(rt; runs.as_slice() == RUNS.as_slice());
+    assert!(rt; counts(&map) == [58, 41, 1]);
     Ok(())
 }

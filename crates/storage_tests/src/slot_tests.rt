@@ -56,23 +56,37 @@ fn header(geometry: Geometry, generation: u64, areas: Areas, side: Side, base: u
     }
 }
 
+// The first header of a device.
+fn check_first(rt: &impl Abort, disk: &mut SimDisk, fresh: &Header) {
+    assert!(rt; read_current(disk) == Err(HeaderFault::NoHeader));
+    assert!(rt; put(rt, disk, fresh) == Ok(()));
+    assert!(rt; read_current(disk) == Ok((*fresh, Side::Zero)));
+}
+
+// A header in the place of the one in this slot, and what slot 0 holds then.
+fn check_change(
+    rt: &impl Abort,
+    disk: &mut SimDisk,
+    slot: Side,
+    header: &Header,
+    slot_zero_then: [u8; 40],
+) {
+    let in_force = replaced(rt, disk, slot, header);
+    assert!(rt; in_force == Ok((*header, slot.other())));
+    assert!(rt; slot_zero(rt, disk) == Ok(slot_zero_then));
+}
+
 #[test]
 fn headers_of_three_generations(rt: HostRuntime) -> Result<(), Fail> {
     let geometry = Geometry::new(16, 2_097_152).expect(&rt, "sizes within their limits");
     let mut disk = SimDisk::new(rt.alloc(), 4_276_224)?;
-    assert_eq!(rt; read_current(&mut disk), Err(HeaderFault::NoHeader));
     let fresh = header(geometry, 1, Areas::One, Side::Zero, 0);
-    assert_eq!(rt; put(&rt, &mut disk, &fresh), Ok(()));
-    assert_eq!(rt; slot_zero(&rt, &mut disk), Ok(FRESH));
-    assert_eq!(rt; read_current(&mut disk), Ok((fresh, Side::Zero)));
+    check_first(&rt, &mut disk, &fresh);
+    assert!(rt; slot_zero(&rt, &mut disk) == Ok(FRESH));
     let second = header(geometry, 2, Areas::Two, Side::Zero, 0);
-    let in_force = replaced(&rt, &mut disk, Side::Zero, &second);
-    assert_eq!(rt; in_force, Ok((second, Side::One)));
-    assert_eq!(rt; slot_zero(&rt, &mut disk), Ok(FRESH));
+    check_change(&rt, &mut disk, Side::Zero, &second, FRESH);
     let third = header(geometry, 3, Areas::One, Side::One, 1);
-    let in_force = replaced(&rt, &mut disk, Side::One, &third);
-    assert_eq!(rt; in_force, Ok((third, Side::Zero)));
-    assert_eq!(rt; slot_zero(&rt, &mut disk), Ok(THIRD));
+    check_change(&rt, &mut disk, Side::One, &third, THIRD);
     Ok(())
 }
 
