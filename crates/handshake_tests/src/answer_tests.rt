@@ -25,7 +25,7 @@ const SELECTED: SessionFlags = SessionFlags {
 };
 
 // What is agreed on behind an option, and what comes.
-#[derive(Clone, Copy, Debug, PartialEq, Eq)]
+#[derive(Clone, Copy, PartialEq, Eq)]
 struct Wanted {
     flags: SessionFlags,
     next: Next,
@@ -62,235 +62,283 @@ fn all_answer(
             flags: *flags,
             next: *next,
         };
-        assert_eq!(rt; told, Some(wanted), "option {code} with {data}");
+        assert!(rt; told == Some(wanted), "option {code} with {data}");
     }
     Ok(())
 }
 
+const STRUCTURED_ACK: &str = "0003e889045565a9 00000008 00000001 00000000";
+
+const EXPORTS: &str =
+    "0003e889045565a9 00000003 00000002 00000004 00000000 0003e889045565a9 00000003 00000001 00000000";
+
+// Options that ask for nothing more.
+const NOTHING_MORE: [(u32, &str, SessionFlags, &str, SessionFlags, Next); 8] = [
+    (EXPORT_NAME, "", PLAIN, "", PLAIN, Next::Fault),
+    (
+        ABORT,
+        "07",
+        SELECTED,
+        "0003e889045565a9 00000002 00000001 00000000",
+        SELECTED,
+        Next::End,
+    ),
+    (LIST, "", STRUCTURED, EXPORTS, STRUCTURED, Next::Option),
+    (
+        LIST,
+        "00",
+        PLAIN,
+        "0003e889045565a9 00000003 80000003 00000000",
+        PLAIN,
+        Next::Option,
+    ),
+    (
+        STARTTLS,
+        "",
+        PLAIN,
+        "0003e889045565a9 00000005 80000001 00000000",
+        PLAIN,
+        Next::Option,
+    ),
+    (
+        STRUCTURED_REPLY,
+        "",
+        PLAIN,
+        STRUCTURED_ACK,
+        STRUCTURED,
+        Next::Option,
+    ),
+    (
+        STRUCTURED_REPLY,
+        "",
+        SELECTED,
+        STRUCTURED_ACK,
+        SELECTED,
+        Next::Option,
+    ),
+    (
+        11,
+        "ff",
+        SELECTED,
+        "0003e889045565a9 0000000b 80000001 00000000",
+        SELECTED,
+        Next::Option,
+    ),
+];
+
 #[test]
 fn options_that_ask_for_nothing_more(rt: HostRuntime) -> Result<(), Fail> {
-    let ack = "0003e889045565a9 00000008 00000001 00000000";
-    let list =
-        "0003e889045565a9 00000003 00000002 00000004 00000000 0003e889045565a9 00000003 00000001 00000000";
-    let rows = [
-        (EXPORT_NAME, "", PLAIN, "", PLAIN, Next::Fault),
-        (
-            ABORT,
-            "07",
-            SELECTED,
-            "0003e889045565a9 00000002 00000001 00000000",
-            SELECTED,
-            Next::End,
-        ),
-        (LIST, "", STRUCTURED, list, STRUCTURED, Next::Option),
-        (
-            LIST,
-            "00",
-            PLAIN,
-            "0003e889045565a9 00000003 80000003 00000000",
-            PLAIN,
-            Next::Option,
-        ),
-        (
-            STARTTLS,
-            "",
-            PLAIN,
-            "0003e889045565a9 00000005 80000001 00000000",
-            PLAIN,
-            Next::Option,
-        ),
-        (STRUCTURED_REPLY, "", PLAIN, ack, STRUCTURED, Next::Option),
-        (STRUCTURED_REPLY, "", SELECTED, ack, SELECTED, Next::Option),
-        (
-            11,
-            "ff",
-            SELECTED,
-            "0003e889045565a9 0000000b 80000001 00000000",
-            SELECTED,
-            Next::Option,
-        ),
-    ];
-    all_answer(&rt, rt.alloc(), &rows)
+    all_answer(&rt, rt.alloc(), &NOTHING_MORE)
 }
+
+const GO_TOLD: &str =
+    "0003e889045565a9 00000007 00000003 0000000c 0000 0000000000010000 01ed 0003e889045565a9 00000007 00000003 0000000e 0003 00001000 00001000 00100000 0003e889045565a9 00000007 00000001 00000000";
+
+const INFO_TOLD: &str =
+    "0003e889045565a9 00000006 00000003 0000000c 0000 0000000000010000 016d 0003e889045565a9 00000006 00000003 0000000e 0003 00001000 00001000 00100000 0003e889045565a9 00000006 00000001 00000000";
+
+const SIZES_REQUIRED: &str =
+    "0003e889045565a9 00000007 00000003 0000000e 0003 00001000 00001000 00100000 0003e889045565a9 00000007 80000008 00000000";
+
+// Options that ask for information, and one that begins transmission.
+const GOES: [(u32, &str, SessionFlags, &str, SessionFlags, Next); 5] = [
+    (
+        GO,
+        "00000000 0001 0003",
+        STRUCTURED,
+        GO_TOLD,
+        STRUCTURED,
+        Next::Transmission,
+    ),
+    (
+        INFO,
+        "00000000 0002 0101 0003",
+        PLAIN,
+        INFO_TOLD,
+        PLAIN,
+        Next::Option,
+    ),
+    (
+        GO,
+        "00000000 0002 0000 0001",
+        SELECTED,
+        SIZES_REQUIRED,
+        SELECTED,
+        Next::Option,
+    ),
+    (
+        GO,
+        "00000001 78 0001 0003",
+        PLAIN,
+        "0003e889045565a9 00000007 80000006 00000000",
+        PLAIN,
+        Next::Option,
+    ),
+    (
+        GO,
+        "00000005 0000",
+        PLAIN,
+        "0003e889045565a9 00000007 80000003 00000000",
+        PLAIN,
+        Next::Option,
+    ),
+];
 
 #[test]
 fn a_go_begins_transmission(rt: HostRuntime) -> Result<(), Fail> {
-    let told =
-        "0003e889045565a9 00000007 00000003 0000000c 0000 0000000000010000 01ed 0003e889045565a9 00000007 00000003 0000000e 0003 00001000 00001000 00100000 0003e889045565a9 00000007 00000001 00000000";
-    let plain =
-        "0003e889045565a9 00000006 00000003 0000000c 0000 0000000000010000 016d 0003e889045565a9 00000006 00000003 0000000e 0003 00001000 00001000 00100000 0003e889045565a9 00000006 00000001 00000000";
-    let required =
-        "0003e889045565a9 00000007 00000003 0000000e 0003 00001000 00001000 00100000 0003e889045565a9 00000007 80000008 00000000";
-    let rows = [
-        (
-            GO,
-            "00000000 0001 0003",
-            STRUCTURED,
-            told,
-            STRUCTURED,
-            Next::Transmission,
-        ),
-        (
-            INFO,
-            "00000000 0002 0101 0003",
-            PLAIN,
-            plain,
-            PLAIN,
-            Next::Option,
-        ),
-        (
-            GO,
-            "00000000 0002 0000 0001",
-            SELECTED,
-            required,
-            SELECTED,
-            Next::Option,
-        ),
-        (
-            GO,
-            "00000001 78 0001 0003",
-            PLAIN,
-            "0003e889045565a9 00000007 80000006 00000000",
-            PLAIN,
-            Next::Option,
-        ),
-        (
-            GO,
-            "00000005 0000",
-            PLAIN,
-            "0003e889045565a9 00000007 80000003 00000000",
-            PLAIN,
-            Next::Option,
-        ),
-    ];
-    all_answer(&rt, rt.alloc(), &rows)
+    all_answer(&rt, rt.alloc(), &GOES)
 }
+
+const SELECT_ALLOCATION: &str = "00000000 00000001 0000000f 626173653a616c6c6f636174696f6e";
+
+const SELECTED_ALLOCATION: &str =
+    "0003e889045565a9 0000000a 00000004 00000013 00000001 626173653a616c6c6f636174696f6e 0003e889045565a9 0000000a 00000001 00000000";
+
+const SELECTION_ACK: &str = "0003e889045565a9 0000000a 00000001 00000000";
+
+const SELECTION_INVALID: &str = "0003e889045565a9 0000000a 80000003 00000000";
+
+const SELECTION_UNKNOWN: &str = "0003e889045565a9 0000000a 80000006 00000000";
+
+// Selections of contexts.
+const SELECTIONS: [(u32, &str, SessionFlags, &str, SessionFlags, Next); 7] = [
+    (
+        SET_META_CONTEXT,
+        SELECT_ALLOCATION,
+        PLAIN,
+        SELECTION_INVALID,
+        PLAIN,
+        Next::Option,
+    ),
+    (
+        SET_META_CONTEXT,
+        SELECT_ALLOCATION,
+        STRUCTURED,
+        SELECTED_ALLOCATION,
+        SELECTED,
+        Next::Option,
+    ),
+    (
+        SET_META_CONTEXT,
+        SELECT_ALLOCATION,
+        SELECTED,
+        SELECTED_ALLOCATION,
+        SELECTED,
+        Next::Option,
+    ),
+    (
+        SET_META_CONTEXT,
+        "00000000 00000001 00000005 626173653a",
+        SELECTED,
+        SELECTION_ACK,
+        STRUCTURED,
+        Next::Option,
+    ),
+    (
+        SET_META_CONTEXT,
+        "00000000 00000000",
+        SELECTED,
+        SELECTION_ACK,
+        STRUCTURED,
+        Next::Option,
+    ),
+    (
+        SET_META_CONTEXT,
+        "00000001 78 00000000",
+        SELECTED,
+        SELECTION_UNKNOWN,
+        STRUCTURED,
+        Next::Option,
+    ),
+    (
+        SET_META_CONTEXT,
+        "00000000",
+        SELECTED,
+        SELECTION_INVALID,
+        STRUCTURED,
+        Next::Option,
+    ),
+];
 
 #[test]
 fn a_context_is_selected(rt: HostRuntime) -> Result<(), Fail> {
-    let ask = "00000000 00000001 0000000f 626173653a616c6c6f636174696f6e";
-    let told =
-        "0003e889045565a9 0000000a 00000004 00000013 00000001 626173653a616c6c6f636174696f6e 0003e889045565a9 0000000a 00000001 00000000";
-    let ack = "0003e889045565a9 0000000a 00000001 00000000";
-    let invalid = "0003e889045565a9 0000000a 80000003 00000000";
-    let unknown = "0003e889045565a9 0000000a 80000006 00000000";
-    let rows = [
-        (SET_META_CONTEXT, ask, PLAIN, invalid, PLAIN, Next::Option),
-        (
-            SET_META_CONTEXT,
-            ask,
-            STRUCTURED,
-            told,
-            SELECTED,
-            Next::Option,
-        ),
-        (
-            SET_META_CONTEXT,
-            ask,
-            SELECTED,
-            told,
-            SELECTED,
-            Next::Option,
-        ),
-        (
-            SET_META_CONTEXT,
-            "00000000 00000001 00000005 626173653a",
-            SELECTED,
-            ack,
-            STRUCTURED,
-            Next::Option,
-        ),
-        (
-            SET_META_CONTEXT,
-            "00000000 00000000",
-            SELECTED,
-            ack,
-            STRUCTURED,
-            Next::Option,
-        ),
-        (
-            SET_META_CONTEXT,
-            "00000001 78 00000000",
-            SELECTED,
-            unknown,
-            STRUCTURED,
-            Next::Option,
-        ),
-        (
-            SET_META_CONTEXT,
-            "00000000",
-            SELECTED,
-            invalid,
-            STRUCTURED,
-            Next::Option,
-        ),
-    ];
-    all_answer(&rt, rt.alloc(), &rows)
+    all_answer(&rt, rt.alloc(), &SELECTIONS)
 }
+
+const LISTED_ALLOCATION: &str =
+    "0003e889045565a9 00000009 00000004 00000013 00000000 626173653a616c6c6f636174696f6e 0003e889045565a9 00000009 00000001 00000000";
+
+const LISTING_ACK: &str = "0003e889045565a9 00000009 00000001 00000000";
+
+const LISTING_INVALID: &str = "0003e889045565a9 00000009 80000003 00000000";
+
+// Lists of contexts.
+const LISTINGS: [(u32, &str, SessionFlags, &str, SessionFlags, Next); 4] = [
+    (
+        LIST_META_CONTEXT,
+        "00000000 00000000",
+        PLAIN,
+        LISTING_INVALID,
+        PLAIN,
+        Next::Option,
+    ),
+    (
+        LIST_META_CONTEXT,
+        "00000000 00000000",
+        SELECTED,
+        LISTED_ALLOCATION,
+        SELECTED,
+        Next::Option,
+    ),
+    (
+        LIST_META_CONTEXT,
+        "00000000 00000002 00000001 78 00000005 626173653a",
+        STRUCTURED,
+        LISTED_ALLOCATION,
+        STRUCTURED,
+        Next::Option,
+    ),
+    (
+        LIST_META_CONTEXT,
+        "00000000 00000001 00000006 626173653a61",
+        STRUCTURED,
+        LISTING_ACK,
+        STRUCTURED,
+        Next::Option,
+    ),
+];
 
 #[test]
 fn contexts_are_listed(rt: HostRuntime) -> Result<(), Fail> {
-    let told =
-        "0003e889045565a9 00000009 00000004 00000013 00000000 626173653a616c6c6f636174696f6e 0003e889045565a9 00000009 00000001 00000000";
-    let ack = "0003e889045565a9 00000009 00000001 00000000";
-    let invalid = "0003e889045565a9 00000009 80000003 00000000";
-    let rows = [
-        (
-            LIST_META_CONTEXT,
-            "00000000 00000000",
-            PLAIN,
-            invalid,
-            PLAIN,
-            Next::Option,
-        ),
-        (
-            LIST_META_CONTEXT,
-            "00000000 00000000",
-            SELECTED,
-            told,
-            SELECTED,
-            Next::Option,
-        ),
-        (
-            LIST_META_CONTEXT,
-            "00000000 00000002 00000001 78 00000005 626173653a",
-            STRUCTURED,
-            told,
-            STRUCTURED,
-            Next::Option,
-        ),
-        (
-            LIST_META_CONTEXT,
-            "00000000 00000001 00000006 626173653a61",
-            STRUCTURED,
-            ack,
-            STRUCTURED,
-            Next::Option,
-        ),
-    ];
-    all_answer(&rt, rt.alloc(), &rows)
+    all_answer(&rt, rt.alloc(), &LISTINGS)
+}
+
+// Options whose data are too long.
+const TOO_LONG: [(u32, SessionFlags, &str); 2] = [
+    (
+        LIST,
+        SELECTED,
+        "0003e889045565a9 00000003 80000009 00000000",
+    ),
+    (
+        SET_META_CONTEXT,
+        STRUCTURED,
+        "0003e889045565a9 0000000a 80000009 00000000",
+    ),
+];
+
+// Whether an option is refused so, and nothing but these flags is agreed on then.
+fn is_too_long(alloc: Global, code: u32, flags: SessionFlags, written: &str) -> Result<bool, Fail> {
+    let answer = refuse_option(alloc, code, SELECTED, OptionError::TooBig)?;
+    let mut out = Vec::new(alloc);
+    answer.encode(code, &mut out)?;
+    Ok(answer.flags() == flags && out.as_slice() == bytes_of(alloc, written)?.as_slice())
 }
 
 #[test]
 fn data_that_are_too_long_are_refused(rt: HostRuntime) -> Result<(), Fail> {
-    let rows = [
-        (
-            LIST,
-            SELECTED,
-            "0003e889045565a9 00000003 80000009 00000000",
-        ),
-        (
-            SET_META_CONTEXT,
-            STRUCTURED,
-            "0003e889045565a9 0000000a 80000009 00000000",
-        ),
-    ];
-    for (code, flags, row) in rows {
-        let answer = refuse_option(rt.alloc(), code, SELECTED, OptionError::TooBig)?;
-        let mut out = Vec::new(rt.alloc());
-        answer.encode(code, &mut out)?;
-        assert_eq!(rt; out.as_slice(), bytes_of(rt.alloc(), row)?.as_slice());
-        assert_eq!(rt; answer.flags(), flags);
+    for (code, flags, row) in TOO_LONG {
+        assert!(rt; is_too_long(rt.alloc(), code, flags, row)?, "option {code}");
     }
     Ok(())
 }

@@ -19,21 +19,23 @@ fn appends(alloc: Global, option: u32, reply: &OptionReply, row: &str) -> Result
     Ok(out.starts_with(&[7, 8]) && out[2..] == wanted[..])
 }
 
+// Options that are acknowledged.
+const ACKNOWLEDGED: [(u32, &str); 4] = [
+    (LIST, "0003e889045565a9 00000003 00000001 00000000"),
+    (GO, "0003e889045565a9 00000007 00000001 00000000"),
+    (
+        STRUCTURED_REPLY,
+        "0003e889045565a9 00000008 00000001 00000000",
+    ),
+    (
+        SET_META_CONTEXT,
+        "0003e889045565a9 0000000a 00000001 00000000",
+    ),
+];
+
 #[test]
 fn options_are_acknowledged(rt: HostRuntime) -> Result<(), Fail> {
-    let rows = [
-        (LIST, "0003e889045565a9 00000003 00000001 00000000"),
-        (GO, "0003e889045565a9 00000007 00000001 00000000"),
-        (
-            STRUCTURED_REPLY,
-            "0003e889045565a9 00000008 00000001 00000000",
-        ),
-        (
-            SET_META_CONTEXT,
-            "0003e889045565a9 0000000a 00000001 00000000",
-        ),
-    ];
-    for (option, row) in rows {
+    for (option, row) in ACKNOWLEDGED {
         assert!(rt;
             appends(rt.alloc(), option, &OptionReply::Ack, row)?,
             "{row}"
@@ -42,14 +44,20 @@ fn options_are_acknowledged(rt: HostRuntime) -> Result<(), Fail> {
     Ok(())
 }
 
+// Whether an export of this name is listed as these bytes.
+fn lists(alloc: Global, name: &[u8], row: &str) -> Result<bool, Fail>
+    requires { length name.now < 2 ^ 16 }
+{
+    let reply = OptionReply::Server(Text::from_slice(alloc, name)?);
+    appends(alloc, LIST, &reply, row)
+}
+
 #[test]
 fn exports_are_listed(rt: HostRuntime) -> Result<(), Fail> {
-    let reply = OptionReply::Server(Text::from_slice(rt.alloc(), b"")?);
     let row = "0003e889045565a9 00000003 00000002 00000004 00000000";
-    assert!(rt; appends(rt.alloc(), LIST, &reply, row)?);
-    let reply = OptionReply::Server(Text::from_slice(rt.alloc(), b"a/b")?);
+    assert!(rt; lists(rt.alloc(), b"", row)?);
     let row = "0003e889045565a9 00000003 00000002 00000007 00000003 612f62";
-    assert!(rt; appends(rt.alloc(), LIST, &reply, row)?);
+    assert!(rt; lists(rt.alloc(), b"a/b", row)?);
     Ok(())
 }
 
@@ -64,22 +72,23 @@ fn export_is_told(rt: HostRuntime) -> Result<(), Fail> {
     Ok(())
 }
 
+// Whether the sizes of blocks are appended as these bytes.
+fn tells_sizes(alloc: Global, option: u32, sizes: [u32; 3], row: &str) -> Result<bool, Fail> {
+    let [minimum, preferred, maximum] = sizes;
+    let reply = OptionReply::Info(Information::BlockSize {
+        minimum,
+        preferred,
+        maximum,
+    });
+    appends(alloc, option, &reply, row)
+}
+
 #[test]
 fn block_sizes_are_told(rt: HostRuntime) -> Result<(), Fail> {
-    let reply = OptionReply::Info(Information::BlockSize {
-        minimum: 4096,
-        preferred: 4096,
-        maximum: 1_048_576,
-    });
     let row = "0003e889045565a9 00000007 00000003 0000000e 0003 00001000 00001000 00100000";
-    assert!(rt; appends(rt.alloc(), GO, &reply, row)?);
-    let reply = OptionReply::Info(Information::BlockSize {
-        minimum: 1,
-        preferred: 512,
-        maximum: 0x0102_0304,
-    });
+    assert!(rt; tells_sizes(rt.alloc(), GO, [4096, 4096, 1_048_576], row)?);
     let row = "0003e889045565a9 00000006 00000003 0000000e 0003 00000001 00000200 01020304";
-    assert!(rt; appends(rt.alloc(), INFO, &reply, row)?);
+    assert!(rt; tells_sizes(rt.alloc(), INFO, [1, 512, 0x0102_0304], row)?);
     Ok(())
 }
 
@@ -107,61 +116,63 @@ fn contexts_are_told_with_their_number(rt: HostRuntime) -> Result<(), Fail> {
     Ok(())
 }
 
+// Options that are refused.
+const REFUSED: [(u32, OptionError, &str); 10] = [
+    (
+        5,
+        OptionError::Unsupported,
+        "0003e889045565a9 00000005 80000001 00000000",
+    ),
+    (
+        9,
+        OptionError::Policy,
+        "0003e889045565a9 00000009 80000002 00000000",
+    ),
+    (
+        10,
+        OptionError::Invalid,
+        "0003e889045565a9 0000000a 80000003 00000000",
+    ),
+    (
+        6,
+        OptionError::Platform,
+        "0003e889045565a9 00000006 80000004 00000000",
+    ),
+    (
+        8,
+        OptionError::TlsRequired,
+        "0003e889045565a9 00000008 80000005 00000000",
+    ),
+    (
+        7,
+        OptionError::Unknown,
+        "0003e889045565a9 00000007 80000006 00000000",
+    ),
+    (
+        2,
+        OptionError::Shutdown,
+        "0003e889045565a9 00000002 80000007 00000000",
+    ),
+    (
+        7,
+        OptionError::BlockSizeRequired,
+        "0003e889045565a9 00000007 80000008 00000000",
+    ),
+    (
+        3,
+        OptionError::TooBig,
+        "0003e889045565a9 00000003 80000009 00000000",
+    ),
+    (
+        0x0102_0304,
+        OptionError::Unsupported,
+        "0003e889045565a9 01020304 80000001 00000000",
+    ),
+];
+
 #[test]
 fn refusals_carry_no_text(rt: HostRuntime) -> Result<(), Fail> {
-    let rows = [
-        (
-            5,
-            OptionError::Unsupported,
-            "0003e889045565a9 00000005 80000001 00000000",
-        ),
-        (
-            9,
-            OptionError::Policy,
-            "0003e889045565a9 00000009 80000002 00000000",
-        ),
-        (
-            10,
-            OptionError::Invalid,
-            "0003e889045565a9 0000000a 80000003 00000000",
-        ),
-        (
-            6,
-            OptionError::Platform,
-            "0003e889045565a9 00000006 80000004 00000000",
-        ),
-        (
-            8,
-            OptionError::TlsRequired,
-            "0003e889045565a9 00000008 80000005 00000000",
-        ),
-        (
-            7,
-            OptionError::Unknown,
-            "0003e889045565a9 00000007 80000006 00000000",
-        ),
-        (
-            2,
-            OptionError::Shutdown,
-            "0003e889045565a9 00000002 80000007 00000000",
-        ),
-        (
-            7,
-            OptionError::BlockSizeRequired,
-            "0003e889045565a9 00000007 80000008 00000000",
-        ),
-        (
-            3,
-            OptionError::TooBig,
-            "0003e889045565a9 00000003 80000009 00000000",
-        ),
-        (
-            0x0102_0304,
-            OptionError::Unsupported,
-            "0003e889045565a9 01020304 80000001 00000000",
-        ),
-    ];
-    for (option, error, row) in rows {
+    for (option, error, row) in REFUSED {
         let reply = OptionReply::Refused(error);
         assert!(rt; appends(rt.alloc(), option, &reply, row)?, "{row}");
     }

@@ -18,18 +18,61 @@ struct Came {
     fault: Option<End>,
 }
 
-const fn comes_to(requests: usize, structured: bool, ended: bool, fault: Option<End>) -> Came {
-    Came {
-        same: true,
-        requests,
-        flags: SessionFlags {
-            structured,
-            context: false,
-        },
-        ended,
-        fault,
-    }
-}
+const PLAIN: SessionFlags = SessionFlags {
+    structured: false,
+    context: false,
+};
+
+// A session that goes on, where nothing is agreed on and no request came.
+const GOES_ON: Came = Came {
+    same: true,
+    requests: 0,
+    flags: PLAIN,
+    ended: false,
+    fault: None,
+};
+
+// One that goes on with structured replies.
+const STRUCTURED: Came = Came {
+    same: true,
+    requests: 0,
+    flags: SessionFlags {
+        structured: true,
+        context: false,
+    },
+    ended: false,
+    fault: None,
+};
+
+// One that the client ended.
+const ENDED: Came = Came {
+    same: true,
+    requests: 0,
+    flags: PLAIN,
+    ended: true,
+    fault: None,
+};
+
+// One that the client's bytes break off.
+const BROKEN: Came = Came {
+    same: true,
+    requests: 0,
+    flags: PLAIN,
+    ended: false,
+    fault: Some(End::ProtocolEnd),
+};
+
+// A whole session: three requests with structured replies, and its end.
+const WHOLE: Came = Came {
+    same: true,
+    requests: 3,
+    flags: SessionFlags {
+        structured: true,
+        context: false,
+    },
+    ended: true,
+    fault: None,
+};
 
 // A session over 16 blocks.
 fn session(alloc: Global) -> Result<Session, Fail> {
@@ -81,13 +124,12 @@ fn all_hear(rt: &impl Abort, alloc: Global, rows: &[(&str, &str, Came)]) -> Resu
 #[test]
 fn a_session_begins_with_the_greeting(rt: HostRuntime) -> Result<(), Fail> {
     let silent = hears(rt.alloc(), &[&[]], &[])?;
-    assert!(rt; silent == comes_to(0, false, false, None), "{silent:?}");
+    assert!(rt; silent == GOES_ON, "{silent:?}");
     Ok(())
 }
 
 #[test]
 fn other_flags_of_the_client_end_a_session(rt: HostRuntime) -> Result<(), Fail> {
-    let broken = comes_to(0, false, false, Some(End::ProtocolEnd));
     let list = "49484156454f5054 00000003 00000000";
     for flags in [
         "00000000", "00000002", "00000004", "00000007", "80000003", "01000001",
@@ -95,111 +137,105 @@ fn other_flags_of_the_client_end_a_session(rt: HostRuntime) -> Result<(), Fail> 
         let mut input = bytes_of(rt.alloc(), flags)?;
         input.extend_from_slice(&bytes_of(rt.alloc(), list)?)?;
         let told = hears(rt.alloc(), &[&input], &[])?;
-        assert!(rt; told == broken, "{flags} {told:?}");
+        assert!(rt; told == BROKEN, "{flags} {told:?}");
     }
     Ok(())
 }
 
+// Options that are answered in turn.
+const IN_TURN: [(&str, &str, Came); 2] = [
+    (
+        "00000001 49484156454f5054 00000003 00000000",
+        "0003e889045565a9 00000003 00000002 00000004 00000000
+         0003e889045565a9 00000003 00000001 00000000",
+        GOES_ON,
+    ),
+    (
+        "00000003 49484156454f5054 00000003 00000001 00
+         49484156454f5054 00000005 00000002 abcd
+         49484156454f5054 00000008 00000000
+         49484156454f5054 00000063 00000000",
+        "0003e889045565a9 00000003 80000003 00000000
+         0003e889045565a9 00000005 80000001 00000000
+         0003e889045565a9 00000008 00000001 00000000
+         0003e889045565a9 00000063 80000001 00000000",
+        STRUCTURED,
+    ),
+];
+
 #[test]
 fn options_are_answered_in_turn(rt: HostRuntime) -> Result<(), Fail> {
-    all_hear(
-        &rt,
-        rt.alloc(),
-        &[
-            (
-                "00000001 49484156454f5054 00000003 00000000",
-                "0003e889045565a9 00000003 00000002 00000004 00000000
-                 0003e889045565a9 00000003 00000001 00000000",
-                comes_to(0, false, false, None),
-            ),
-            (
-                "00000003 49484156454f5054 00000003 00000001 00
-                 49484156454f5054 00000005 00000002 abcd
-                 49484156454f5054 00000008 00000000
-                 49484156454f5054 00000063 00000000",
-                "0003e889045565a9 00000003 80000003 00000000
-                 0003e889045565a9 00000005 80000001 00000000
-                 0003e889045565a9 00000008 00000001 00000000
-                 0003e889045565a9 00000063 80000001 00000000",
-                comes_to(0, true, false, None),
-            ),
-        ],
-    )
+    all_hear(&rt, rt.alloc(), &IN_TURN)
 }
+
+// An abort, with more behind it.
+const ABORTS: [(&str, &str, Came); 2] = [
+    (
+        "00000003 49484156454f5054 00000002 00000000 49484156454f5054 00000003 00000000",
+        "0003e889045565a9 00000002 00000001 00000000",
+        ENDED,
+    ),
+    (
+        "00000003 49484156454f5054 00000002 00000003 010203 ffffffff",
+        "0003e889045565a9 00000002 00000001 00000000",
+        ENDED,
+    ),
+];
 
 #[test]
 fn abort_ends_a_session_and_nothing_is_read_behind_it(rt: HostRuntime) -> Result<(), Fail> {
-    all_hear(
-        &rt,
-        rt.alloc(),
-        &[
-            (
-                "00000003 49484156454f5054 00000002 00000000 49484156454f5054 00000003 00000000",
-                "0003e889045565a9 00000002 00000001 00000000",
-                comes_to(0, false, true, None),
-            ),
-            (
-                "00000003 49484156454f5054 00000002 00000003 010203 ffffffff",
-                "0003e889045565a9 00000002 00000001 00000000",
-                comes_to(0, false, true, None),
-            ),
-        ],
-    )
+    all_hear(&rt, rt.alloc(), &ABORTS)
 }
+
+// Names that can't be refused.
+const NAMES: [(&str, &str, Came); 4] = [
+    ("00000003 49484156454f5054 00000001 00000000", "", BROKEN),
+    ("00000003 49484156454f5054 00000001 00000001 61", "", BROKEN),
+    // One that is too long isn't waited for.
+    ("00000003 49484156454f5054 00000001 00010001", "", BROKEN),
+    ("00000003 49484156454f5054 00000003 02000001", "", BROKEN),
+];
 
 #[test]
 fn names_that_cannot_be_refused_end_a_session(rt: HostRuntime) -> Result<(), Fail> {
-    let broken = comes_to(0, false, false, Some(End::ProtocolEnd));
-    all_hear(
-        &rt,
-        rt.alloc(),
-        &[
-            ("00000003 49484156454f5054 00000001 00000000", "", broken),
-            ("00000003 49484156454f5054 00000001 00000001 61", "", broken),
-            // One that is too long isn't waited for.
-            ("00000003 49484156454f5054 00000001 00010001", "", broken),
-            ("00000003 49484156454f5054 00000003 02000001", "", broken),
-        ],
-    )
+    all_hear(&rt, rt.alloc(), &NAMES)
 }
+
+// A GO that doesn't ask for the sizes of blocks.
+const GO_WITHOUT_SIZES: [(&str, &str, Came); 1] = [
+    // Name length 5 in 6 bytes, and an INFO that asks for the sizes, which doesn't count for the GO behind it.
+    (
+        "00000003 49484156454f5054 00000007 00000006 00000005 6162
+         49484156454f5054 00000006 00000008 00000000 0001 0003
+         49484156454f5054 00000007 00000006 00000000 0000",
+        "0003e889045565a9 00000007 80000003 00000000
+         0003e889045565a9 00000006 00000003 0000000c 0000 0000000000010000 016d
+         0003e889045565a9 00000006 00000003 0000000e 0003 00001000 00001000 00100000
+         0003e889045565a9 00000006 00000001 00000000
+         0003e889045565a9 00000007 00000003 0000000e 0003 00001000 00001000 00100000
+         0003e889045565a9 00000007 80000008 00000000",
+        GOES_ON,
+    ),
+];
 
 #[test]
 fn go_without_the_sizes_of_blocks_is_refused(rt: HostRuntime) -> Result<(), Fail> {
-    all_hear(
-        &rt,
-        rt.alloc(),
-        &[
-            // Name length 5 in 6 bytes, and an INFO that asks for the sizes, which doesn't count for the GO behind it.
-            (
-                "00000003 49484156454f5054 00000007 00000006 00000005 6162
-                 49484156454f5054 00000006 00000008 00000000 0001 0003
-                 49484156454f5054 00000007 00000006 00000000 0000",
-                "0003e889045565a9 00000007 80000003 00000000
-                 0003e889045565a9 00000006 00000003 0000000c 0000 0000000000010000 016d
-                 0003e889045565a9 00000006 00000003 0000000e 0003 00001000 00001000 00100000
-                 0003e889045565a9 00000006 00000001 00000000
-                 0003e889045565a9 00000007 00000003 0000000e 0003 00001000 00001000 00100000
-                 0003e889045565a9 00000007 80000008 00000000",
-                comes_to(0, false, false, None),
-            ),
-        ],
-    )
+    all_hear(&rt, rt.alloc(), &GO_WITHOUT_SIZES)
 }
+
+// A second GO in the place of a request.
+const SECOND_GO: [(&str, &str, Came); 1] = [(
+    "00000003 49484156454f5054 00000007 00000008 00000000 0001 0003
+     49484156454f5054 00000007 00000008 00000000 0001 0003 00000000",
+    "0003e889045565a9 00000007 00000003 0000000c 0000 0000000000010000 016d
+     0003e889045565a9 00000007 00000003 0000000e 0003 00001000 00001000 00100000
+     0003e889045565a9 00000007 00000001 00000000",
+    BROKEN,
+)];
 
 #[test]
 fn a_second_go_is_no_request(rt: HostRuntime) -> Result<(), Fail> {
-    all_hear(
-        &rt,
-        rt.alloc(),
-        &[(
-            "00000003 49484156454f5054 00000007 00000008 00000000 0001 0003
-             49484156454f5054 00000007 00000008 00000000 0001 0003 00000000",
-            "0003e889045565a9 00000007 00000003 0000000c 0000 0000000000010000 016d
-             0003e889045565a9 00000007 00000003 0000000e 0003 00001000 00001000 00100000
-             0003e889045565a9 00000007 00000001 00000000",
-            comes_to(0, false, false, Some(End::ProtocolEnd)),
-        )],
-    )
+    all_hear(&rt, rt.alloc(), &SECOND_GO)
 }
 
 // An option of this number with so many bytes of data, which are no option's.
@@ -223,10 +259,7 @@ fn is_answered(
 ) -> Result<(), Fail> {
     let input = long_option(alloc, option, length)?;
     let told = hears(alloc, &[&input], &bytes_of(alloc, written)?)?;
-    assert!(rt;
-        told == comes_to(0, false, false, None),
-        "{option} {length} {told:?}"
-    );
+    assert!(rt; told == GOES_ON, "{option} {length} {told:?}");
     Ok(())
 }
 
@@ -281,7 +314,7 @@ fn a_session_may_be_cut_at_each_place(rt: HostRuntime) -> Result<(), Fail> {
     for cut in 0..=input.len() {
         let (first, rest) = input.split_at(cut);
         let told = hears(rt.alloc(), &[first, rest], &written)?;
-        assert!(rt; told == comes_to(3, true, true, None), "{cut} {told:?}");
+        assert!(rt; told == WHOLE, "{cut} {told:?}");
     }
     Ok(())
 }
@@ -291,7 +324,7 @@ fn a_session_may_come_byte_by_byte(rt: HostRuntime) -> Result<(), Fail> {
     let input = whole_session(rt.alloc())?;
     let pieces = input.chunks(1).collect::<Vec<&[u8]>>(rt.alloc())?;
     let told = hears(rt.alloc(), &pieces, &whole_handshake(rt.alloc())?)?;
-    assert!(rt; told == comes_to(3, true, true, None), "{told:?}");
+    assert!(rt; told == WHOLE, "{told:?}");
     Ok(())
 }
 
@@ -306,7 +339,10 @@ fn a_wrong_magic_ends_a_session(rt: HostRuntime) -> Result<(), Fail> {
         }
         let told = hears(rt.alloc(), &[&input], &written)?;
         assert!(rt;
-            told == comes_to(0, true, false, Some(End::ProtocolEnd)),
+            told == Came {
+                fault: Some(End::ProtocolEnd),
+                ..STRUCTURED
+            },
             "{place} {told:?}"
         );
     }
