@@ -87,7 +87,7 @@ fault $3 $4" input >other
     runs other | awk -v at="$2" 'NR != at' >candidate
 }
 
-# unsent STEP AT: `input`, where the write that this step answers isn't one that the image takes; the answer is ENOMEM
+# unsent STEP AT: `input`, where the request that this step answers is one that the image doesn't take; the answer is ENOMEM
 unsent() {
     connection=$(line "$1" input | cut -d ' ' -f 2)
     sent=$(awk -v k="$1" -v c="$connection" 'NR < k && $1 == "send" && $2 == c { at = NR } END { print at }' input)
@@ -135,7 +135,15 @@ judge() {
     answer*'error 12') unsent "$step" "$at" ;;
     # A write that was stopped and isn't in the device's record leaves what was there.
     opened*) unmarked ;;
-    *) : >candidate ;;
+    # A READ that got no memory met no device fault, which shows before its answer does.
+    *)
+        late=$(awk -v at="$at" 'NR > at && /^answer .* error 12$/ { print NR; exit }' output)
+        if [ -n "$late" ]; then
+            unsent "$(step_of "$late")" "$late"
+        else
+            : >candidate
+        fi
+        ;;
     esac
     fits && return
     # A call that isn't in the device's record has failed.
