@@ -60,12 +60,12 @@ fn of_a_fresh_image(rt: HostRuntime) -> Result<(), Fail> {
 }
 
 // Bytes that differ from place to place.
-fn differing(alloc: Global, count: usize) -> Result<Vec<u8>, AllocError> {
-    let mut bytes = vec![in alloc; 0; count]?;
-    for place in 0..bytes.len() {
-        bytes[place] = (place % 251 + place / 4_096 % 5) as u8;
+fn differing() -> [u8; 16_384] {
+    let mut bytes = [0; 16_384];
+    for place in 0..16_384 {
+        bytes[place] = (place % 251 + place / 4_096) as u8;
     }
-    Ok(bytes)
+    bytes
 }
 
 // Reads the blocks 4 and 5 of what was written from block 3 on.
@@ -78,7 +78,7 @@ fn ask_middle(stream: &mut Vec<u8>, replies: &mut Vec<u8>, bytes: &[u8]) -> Resu
 #[test]
 fn of_what_was_written(rt: HostRuntime) -> Result<(), Fail> {
     let alloc = rt.alloc();
-    let bytes = differing(alloc, 16_384)?;
+    let bytes = differing();
     let mut stream = Vec::new(alloc);
     let mut replies = Vec::new(alloc);
     ask_middle(&mut stream, &mut replies, &bytes)?;
