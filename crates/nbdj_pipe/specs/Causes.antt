@@ -33,8 +33,8 @@ pub record LacksRoom (world : World) (request : Message) : Type 0 where
   pub write : is_write request ≡ true
   pub full : has_room world (command_of request) ≡ false
 
--- What a run says of a refusal that ends its session: that a header was wanted and no generation is left for it. No area stays full, for no command is there
--- no room in the end, and storing never fails to come to an end. Of the others it says nothing.
+-- What a run says of a refusal that ends its session: that a header was wanted and no generation is left for it. No area stays
+-- full, for no command is there no room in the end, and storing never fails to come to an end. Of the others it says nothing.
 abbrev pub HasCause : Refusal → World → World → Type 0
 HasCause NoMemory first last = Unit {0}
 HasCause DeviceFault first last = Unit {0}

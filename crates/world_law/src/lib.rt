@@ -11,10 +11,11 @@ ghost use Rattle.world.specs.declared.connection.Connection.TheVariants as Conne
 ghost use Rattle.world.specs.declared.step.Step.{Step};
 ghost use Rattle.world_law.specs.Law.{Grows, IsWithin, TellsTruth};
 
-/// Whatever the schedule, and whatever its steps meet: the log is legal, the reads of a trusted device fit, all that it covers is durable, what is durable is
-/// stored and what is stored is ordered; what map and data hold is stored, and what was let go of the frames map and data hold;
-/// the log, the order and the numbers only grow; a fault of the device is told only where the device has counted one, and that
-/// no generation is left only where none is; and a connection waits only for a number of the order.
+/// Whatever the schedule, and whatever its steps meet: the log is legal, the reads of a trusted device fit, all that the log
+/// covers is durable, what is durable is stored and what is stored is ordered; what map and data hold is stored, and what was
+/// let go of the frames map and data hold; the log, the order and the numbers only grow; a fault of the device is told only
+/// where the device has counted one, and that no generation is left only where none is; and a connection waits only for a
+/// number of the order.
 pub fn schedule_law()
     ensures legal { (world : World) → IsReached world → IsLegal world.log world.stage.order world.paired }
     ensures fits { (world : World) → IsReached world → world.stage.setting.trusted ≡ true
