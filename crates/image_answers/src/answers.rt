@@ -7,6 +7,7 @@ ghost use Rattle.world.specs.Shown.{most_runs, read_status_of, runs_from, shown_
 use crate::runs::status_runs;
 use bitflags::Flags;
 use image_model::BLOCK_BYTES;
+use marks::BoardName;
 use nbd_wire::{Answer, CommandFlags, ReadBytes, RequestHead, Run, States};
 use order_book::Order;
 use std::alloc::{AllocError, Global};
@@ -15,7 +16,12 @@ use std::alloc::{AllocError, Global};
 const MOST_RUNS: usize = 1_024;
 
 /// The answer to a READ of these bytes, in these runs.
-pub fn bytes_answer(head: &RequestHead, order: &Order, bytes: Vec<u8>, runs: Vec<Run>) -> Answer
+pub fn bytes_answer<B: BoardName>(
+    head: &RequestHead,
+    order: &Order<B>,
+    bytes: Vec<u8>,
+    runs: Vec<Run>,
+) -> Answer
     requires kind { head.now.kind ≡ 0 }
     requires some { 0 < head.now.length }
     requires most { head.now.length ≤ 1048576 }
@@ -35,7 +41,11 @@ pub fn bytes_answer(head: &RequestHead, order: &Order, bytes: Vec<u8>, runs: Vec
 }
 
 /// The answer to a BLOCK_STATUS.
-pub fn status_answer(alloc: Global, head: &RequestHead, order: &Order) -> Result<Answer, AllocError>
+pub fn status_answer<B: BoardName>(
+    alloc: Global,
+    head: &RequestHead,
+    order: &Order<B>,
+) -> Result<Answer, AllocError>
     requires kind { head.now.kind ≢ 0 }
     requires some { 0 < head.now.length }
     requires from { head.now.offset % 4096 ≡ 0 }

@@ -3,6 +3,7 @@ ghost use Rattle.alloc_map.specs.Codes.{state_at};
 ghost use Rattle.world.specs.Shown.{read_status_of, runs_from, status_of};
 
 use image_model::Kind;
+use marks::BoardName;
 use nbd_wire::{DATA, HOLE, Run};
 use order_book::Order;
 use std::alloc::{AllocError, Global};
@@ -35,9 +36,9 @@ fn status(kind: Kind) -> u32
 }
 
 /// The runs of data and holes of so many blocks from the first one on.
-pub fn read_runs(
+pub fn read_runs<B: BoardName>(
     alloc: Global,
-    order: &Order,
+    order: &Order<B>,
     first: u64,
     blocks: u64,
 ) -> Result<Vec<Run>, AllocError>
@@ -69,9 +70,9 @@ pub fn read_runs(
 }
 
 /// The longest runs of blocks in one status, of so many from the first one on, the first `limit` of them.
-pub(crate) fn status_runs(
+pub(crate) fn status_runs<B: BoardName>(
     alloc: Global,
-    order: &Order,
+    order: &Order<B>,
     first: u64,
     blocks: u64,
     limit: usize,

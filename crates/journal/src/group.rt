@@ -87,6 +87,14 @@ impl Group {
         self.first
     }
 
+    /// The commands, in their order.
+    pub fn commands(&self) -> &[Command]
+        ensures commands { result.now ≡ self.now.commands }
+        ensures some { 1 ≤ length result.now }
+    {
+        &self.commands
+    }
+
     // The bytes of the commands.
     pub(crate) fn body_bytes(&self) -> u32
         ensures exact { result ≡ bodies_of self.now.commands }

@@ -19,6 +19,7 @@ ghost use Rattle.world.specs.declared.event.Event.TheVariants as Event;
 use crate::refusal::Refusal;
 use checkpoint::Keeper;
 use disk_model::Disk;
+use marks::{Board, BoardName, KeeperSeat};
 use nbd_wire::{Answer, DISCONNECT, Request};
 use order_book::Order;
 use request_core::{Connections, Event, Step, StepFault, copy_some, leads_law, take_step};
@@ -74,15 +75,17 @@ fn few_bytes(request: &Request)
 
 /// An export with one connection, which is served step by step. It is spent by `into_disk`, since a group may be in
 /// hand.
-pub(crate) struct Export<D: Disk> {
+pub(crate) struct Export<B: BoardName, D: Disk> {
     pub(crate) alloc: Global,
-    pub(crate) order: Order,
+    pub(crate) board: Board<B>,
+    pub(crate) order: Order<B>,
+    pub(crate) seat: KeeperSeat<B>,
     pub(crate) keeper: Keeper<D>,
-    pub(crate) connections: Connections,
+    pub(crate) connections: Connections<B>,
     ghost blocks: { length order.cache.states ≡ keeper.geometry.blocks },
 }
 
-impl<D: Disk> Export<D> {
+impl<B: BoardName, D: Disk> Export<B, D> {
     /// Carries out one step.
     pub(crate) fn step(&mut self, step: Step) -> Event
         requires group { IfSome self.old.connections.group (IsInHand self.old.order) }
@@ -101,6 +104,8 @@ impl<D: Disk> Export<D> {
             &step,
             &mut self.order,
             &mut self.keeper,
+            &self.board,
+            &mut self.seat,
             &mut self.connections,
         )
     }
@@ -457,7 +462,9 @@ impl<D: Disk> Export<D> {
     {
         let Export {
             alloc: _,
+            board: _,
             mut order,
+            seat: _,
             keeper,
             connections,
         } = self;

@@ -3,7 +3,7 @@ ghost use Rattle.std.specs.Io.KnownBytes.{ReadConsumes};
 ghost use Rattle.byte_streams.specs.Streams.{WritesPart};
 ghost use Rattle.disk_model.specs.Faults.{HasRisen};
 ghost use Rattle.nbdj_pipe.specs.Export.{IsSettled, Settles};
-ghost use Rattle.nbdj_pipe.specs.Life.{IsLived};
+ghost use Rattle.nbdj_pipe.specs.Life.{IsLived, IsOpenedFrom};
 ghost use Rattle.nbdj_pipe.specs.Pipe.{IsOrderly, IsPiped, IsUnopened};
 ghost use Rattle.nbdj_pipe.specs.Refusals.{IsOfExport};
 ghost use Rattle.nbdj_pipe.specs.Session.{IsEndOr, IsEndShown, IsFed, Runs, Serves, StaysOpen, Takes};
@@ -26,12 +26,14 @@ use byte_streams::{StreamFault, read_some, write_whole};
 use checkpoint::Keeper;
 use device_image::keeper_laws;
 use disk_model::Disk;
+use marks::{BlankBoard, Board, BoardName, KeeperSeat, Opened};
 use nbd_reply::encode_simple_reply;
 use nbd_wire::{Answer, Request, SessionFlags, StreamReader, one_reading};
 use order_book::Order;
 use request_core::{Connections, fresh_order, fresh_parts_law, leads_law};
 use std::alloc::{AllocError, Global};
 use std::io::{Read, Write};
+use std::marker::Brand;
 use world_law::schedule_law;
 
 // The most bytes that one read takes, and the most of them behind the data at hand: 32 heads of requests.
@@ -67,22 +69,52 @@ pub fn pipe<D: Disk, R: Read, W: Write>(
         (IsLived D.state D.faults D.honest options.frames options.mode disk result.1) }
     ensures device { IsErrOf result.0 Refusal.DeviceFault → HasRisen (D.faults disk) (D.faults result.1) }
 {
-    keeper_laws::<D>();
-    leads_law::<D>();
-    fresh_parts_law::<D>();
-    schedule_law();
     let keeper = match Keeper::open(alloc, disk) {
         Ok(keeper) => keeper,
         Err((fault, disk)) => return (Err(Refusal::from(fault)), disk),
     };
-    let (order, connections) = match fresh_parts(alloc, &keeper, options) {
+    match BlankBoard::new(alloc, keeper.count()) {
+        Ok(blank) => { pipe_over::<Brand, D, R, W>(alloc, blank, keeper, options, input, output) }
+        Err(_) => (Err(Refusal::NoMemory), keeper.into_disk()),
+    }
+}
+
+// Serves the connection over a device that was opened, with a board that gets its name here.
+fn pipe_over<B: BoardName, D: Disk, R: Read, W: Write>(
+    alloc: Global,
+    blank: BlankBoard,
+    keeper: Keeper<D>,
+    options: PipeOptions,
+    input: &mut R,
+    output: &mut W,
+) -> (Result<(), Refusal>, D)
+    requires board { blank.board ≡ B.board }
+    requires opening { blank.opening ≡ keeper.count }
+    ensures extent { D.extent result.1 ≡ D.extent keeper.disk }
+    ensures honest { D.honest result.1 ↔ D.honest keeper.disk }
+    ensures dialog { (start : D) → IsOpenedFrom D.state D.faults D.honest start keeper
+        → IsUnopened D.state D.faults D.honest start result.1 (R.remaining input.old) (R.remaining input.new) (W.contents output.old) (W.contents output.new) result.0
+        ⊎ IsPiped (R.remaining input.old) (R.remaining input.new) (W.contents output.old) (W.contents output.new) result.0
+        (IsLived D.state D.faults D.honest options.frames options.mode start result.1) }
+    ensures device { (start : D) → IsOpenedFrom D.state D.faults D.honest start keeper
+        → IsErrOf result.0 Refusal.DeviceFault → HasRisen (D.faults start) (D.faults result.1) }
+{
+    keeper_laws::<D>();
+    leads_law::<D>();
+    fresh_parts_law::<D>();
+    schedule_law();
+    let (board, seat, order, connections) = match fresh_parts::<B, D>(
+        alloc, blank, &keeper, options,
+    ) {
         Ok(parts) => parts,
         Err(_) => return (Err(Refusal::NoMemory), keeper.into_disk()),
     };
     let mut session = Session {
         export: Export {
             alloc,
+            board,
             order,
+            seat,
             keeper,
             connections,
         },
@@ -94,21 +126,30 @@ pub fn pipe<D: Disk, R: Read, W: Write>(
     (outcome, export.into_disk())
 }
 
-// An order and a connection, over what the opening left.
-fn fresh_parts<D: Disk>(
+// The board under its name with the keeper's seat, and an order and a connection over what the opening left.
+fn fresh_parts<B: BoardName, D: Disk>(
     alloc: Global,
+    blank: BlankBoard,
     keeper: &Keeper<D>,
     options: PipeOptions,
-) -> Result<(Order, Connections), AllocError>
+) -> Result<(Board<B>, KeeperSeat<B>, Order<B>, Connections<B>), AllocError>
+    requires board { blank.board ≡ B.board }
+    requires opening { blank.opening ≡ keeper.now.count }
     ensures order { IfOk result (λ parts. (states : List Kind) × (length states ≡ keeper.now.geometry.blocks)
-        × (parts.0 ≡ new_order states keeper.now.count options.frames keeper.now.geometry.area)) }
-    ensures image { (image : Image) → Holds keeper.now (D.state keeper.now.disk) image [] [] → IfOk result (λ parts. ShowsImage image parts.0.cache) }
-    ensures connections { IfOk result (λ parts. parts.1 ≡ new_connections 1 plain options.mode) }
+        × (parts.2 ≡ new_order states keeper.now.count options.frames keeper.now.geometry.area)) }
+    ensures image { (image : Image) → Holds keeper.now (D.state keeper.now.disk) image [] [] → IfOk result (λ parts. ShowsImage image parts.2.cache) }
+    ensures connections { IfOk result (λ parts. parts.3 ≡ new_connections 1 plain options.mode) }
     ensures few { OnOk result (keeper.now.count < 18446744073709551616) }
 {
-    let order = fresh_order(alloc, keeper, options.frames)?;
-    let connections = Connections::new(alloc, 1, PLAIN, options.mode)?;
-    Ok((order, connections))
+    let Opened {
+        board,
+        order: line,
+        keeper: seat,
+        passes,
+    } = blank.open::<B>(alloc, 1)?;
+    let order = fresh_order(alloc, keeper, options.frames, line)?;
+    let connections = Connections::new(alloc, passes, PLAIN, options.mode)?;
+    Ok((board, seat, order, connections))
 }
 
 // Whether requests of a session may follow.
@@ -119,13 +160,13 @@ enum Flow {
 }
 
 // One connection.
-struct Session<D: Disk> {
-    export: Export<D>,
+struct Session<B: BoardName, D: Disk> {
+    export: Export<B, D>,
     // Replies that are due and not written yet.
     replies: Vec<u8>,
 }
 
-impl<D: Disk> Session<D> {
+impl<B: BoardName, D: Disk> Session<B, D> {
     // Serves the requests up to the first end.
     fn run<R: Read, W: Write>(
         &mut self,

@@ -18,6 +18,7 @@ use checkpoint::{Keeper, KeeperFault};
 use device_image::keeper_laws;
 use disk_model::{CallKind, Disk, SimDisk};
 use image_model::{BLOCK_BYTES, Kind};
+use marks::{BlankBoard, Board, BoardName, KeeperSeat, Opened};
 use nbd_wire::{
     Answer, BLOCK_STATUS, CommandFlags, FLUSH, MAX_PAYLOAD, READ, Request, RequestHead,
     SessionFlags, TRIM, WRITE, WRITE_ZEROES,
@@ -108,43 +109,64 @@ fn first_byte<D: Disk>(keeper: &mut Keeper<D>, block: u64, kind: Kind) -> Result
 /// A device from one opening to the next crash. It can't be let go, since a group may be in hand: it is spent by `end`.
 ///
 /// On a device that keeps to the model it is always one of a world.
-pub struct Life<D: Disk> {
+pub struct Life<B: BoardName, D: Disk> {
+    pub(crate) board: Board<B>,
+    pub(crate) seat: KeeperSeat<B>,
     pub(crate) keeper: Keeper<D>,
-    pub(crate) order: Order,
-    pub(crate) bench: Bench,
+    pub(crate) order: Order<B>,
+    pub(crate) bench: Bench<B>,
     ghost in_hand: { ForSome bench.connections.group (IsInHand order) },
     ghost blocks: { length order.cache.states ≡ keeper.geometry.blocks },
     ghost of_world: { ∥ (D.honest keeper.disk → (world : World) × IsLifeOf D.state D.faults D.honest world order keeper bench) ∥₁ },
 }
 
-// The order and the bench with which the life of an opened device begins.
-fn first_parts<D: Disk>(
+// The board under its name with the keeper's seat, and the order and the bench with which the life of an opened device begins.
+fn first_parts<B: BoardName, D: Disk>(
     alloc: Global,
+    blank: BlankBoard,
     keeper: &Keeper<D>,
     setup: Setup,
-) -> Result<(Order, Bench), AllocError>
+) -> Result<(Board<B>, KeeperSeat<B>, Order<B>, Bench<B>), AllocError>
+    requires board { blank.board ≡ B.board }
+    requires opening { blank.opening ≡ keeper.now.count }
     ensures order { IfOk result (λ parts. (states : List Kind) × (length states ≡ keeper.now.geometry.blocks)
-        × (parts.0 ≡ new_order states keeper.now.count setup.frames keeper.now.geometry.area)) }
-    ensures image { (image : Image) → Holds keeper.now (D.state keeper.now.disk) image [] [] → IfOk result (λ parts. ShowsImage image parts.0.cache) }
-    ensures bench { IfOk result (λ parts. parts.1 ≡ new_bench 16 (record { structured = true; context = true }) setup.mode) }
+        × (parts.2 ≡ new_order states keeper.now.count setup.frames keeper.now.geometry.area)) }
+    ensures image { (image : Image) → Holds keeper.now (D.state keeper.now.disk) image [] [] → IfOk result (λ parts. ShowsImage image parts.2.cache) }
+    ensures bench { IfOk result (λ parts. parts.3 ≡ new_bench 16 (record { structured = true; context = true }) setup.mode) }
     ensures count { IfOk result (λ parts. keeper.now.count < 2 ^ 64) }
 {
-    let order = fresh_order(alloc, keeper, setup.frames)?;
-    let bench = Bench::new(alloc, CONNECTIONS, FLAGS, setup.mode)?;
-    Ok((order, bench))
+    let Opened {
+        board,
+        order: line,
+        keeper: seat,
+        passes,
+    } = blank.open::<B>(alloc, CONNECTIONS)?;
+    let order = fresh_order(alloc, keeper, setup.frames, line)?;
+    let bench = Bench::new(alloc, passes, FLAGS, setup.mode)?;
+    Ok((board, seat, order, bench))
 }
 
-impl<D: Disk> Life<D> {
-    /// A life of the device of a keeper that was opened. Where memory is refused the device is handed back.
-    pub fn begin(alloc: Global, keeper: Keeper<D>, setup: Setup) -> Result<Life<D>, D>
+impl<B: BoardName, D: Disk> Life<B, D> {
+    /// A life of the device of a keeper that was opened, over a board that gets its name here. Where memory is refused the
+    /// device is handed back.
+    pub fn begin(
+        alloc: Global,
+        blank: BlankBoard,
+        keeper: Keeper<D>,
+        setup: Setup,
+    ) -> Result<Life<B, D>, D>
+        requires board { blank.board ≡ B.board }
+        requires opening { blank.opening ≡ keeper.count }
         requires recovered { IsRecovered keeper }
-        requires keeps { D.honest keeper.disk → (image : Image) × Keeps keeper (D.state keeper.disk) image keeper.count }
+        requires keeps { ∥ (D.honest keeper.disk → (image : Image) × Keeps keeper (D.state keeper.disk) image keeper.count) ∥₁ }
         ensures { IfOk result (λ life. life.keeper ≡ keeper) }
     {
         keeper_laws::<D>();
         fresh_parts_law::<D>();
-        match first_parts(alloc, &keeper, setup) {
-            Ok((order, bench)) => Ok(Life {
+        match first_parts(alloc, blank, &keeper, setup) {
+            Ok((board, seat, order, bench)) => Ok(Life {
+                board,
+                seat,
                 keeper,
                 order,
                 bench,
@@ -158,6 +180,8 @@ impl<D: Disk> Life<D> {
         ensures { result ≡ self.keeper.disk }
     {
         let Life {
+            board: _,
+            seat: _,
             keeper,
             mut order,
             bench,
@@ -189,14 +213,22 @@ impl<D: Disk> Life<D> {
             (D.honest self.new.keeper.disk) (D.state self.old.keeper.disk) (D.state self.new.keeper.disk) }
     {
         let steps = [step];
-        match rehearse(&steps, &mut self.order, &mut self.keeper, &mut self.bench) {
+        let ran = rehearse(
+            &steps,
+            &mut self.order,
+            &mut self.keeper,
+            &self.board,
+            &mut self.seat,
+            &mut self.bench,
+        );
+        match ran {
             Ok(()) => last_event(self.bench.log()),
             Err(_) => Told::Failed(StepFault::NoMemory),
         }
     }
 }
 
-impl Life<SimDisk> {
+impl<B: BoardName> Life<B, SimDisk> {
     /// Whether a stop of the device was met.
     pub fn stopped(&self) -> bool {
         self.keeper.stopped()

@@ -12,11 +12,13 @@ use crate::script_line::{Line, Setup, StepLine, parse};
 use checkpoint::{Keeper, KeeperFault};
 use disk_model::{CrashChoice, Disk, SimDisk};
 use image_model::Kind;
+use marks::{BlankBoard, BoardName};
 use nbdj_pipe::Refusal;
 use request_core::{Step, StepFault, next_life_law};
 use std::alloc::{AllocError, Global};
 use std::fmt::Display;
 use std::io::{BufRead, BufReader, ErrorKind, Read, Write};
+use std::marker::Brand;
 
 // How a script ends before its last line.
 enum End {
@@ -74,18 +76,57 @@ fn run<R: Read, W: Write>(alloc: Global, input: &mut R, output: &mut W) -> Resul
     let Some(Line::Format(setup)) = lines.next(alloc)? else {
         return Err(End::NotAStep(1));
     };
-    let mut rehearsal = Rehearsal::format(alloc, setup, output)?;
+    let keeper = match begin(alloc, setup) {
+        Ok(keeper) => keeper,
+        Err(fault) => return Err(failed(fault, output)),
+    };
+    let mut course = Course {
+        setup,
+        keeper,
+        found: None,
+        armed: CrashChoice::Old,
+        cookie: 0,
+    };
     for _ in 0..u64::MAX {
-        rehearsal = match lines.next(alloc) {
-            Ok(Some(line)) => rehearsal.carry_out(alloc, line, lines.count, output)?,
-            Ok(None) => {
-                rehearsal.end();
-                return Ok(());
-            }
+        let Ok(blank) = BlankBoard::new(alloc, course.keeper.count()) else {
+            return Err(failed(KeeperFault::NoMemory, output));
+        };
+        match live::<Brand, R, W>(alloc, blank, course, &mut lines, output)? {
+            Some(next) => course = next,
+            None => return Ok(()),
+        }
+    }
+    Err(End::Refused(Refusal::StreamFault))
+}
+
+// Carries out the lines of one life of the device, whose board gets its name here; what the next life begins with, where it
+// ends by a crash.
+fn live<B: BoardName, R: Read, W: Write>(
+    alloc: Global,
+    blank: BlankBoard,
+    course: Course,
+    lines: &mut Lines<&mut R>,
+    output: &mut W,
+) -> Result<Option<Course>, End>
+    requires board { blank.board ≡ B.board }
+    requires opening { blank.opening ≡ course.keeper.count }
+{
+    let mut rehearsal = Rehearsal::<B>::begin(alloc, blank, course, output)?;
+    for _ in 0..u64::MAX {
+        let line = match lines.next(alloc) {
+            Ok(line) => line,
             Err(end) => {
                 rehearsal.end();
                 return Err(end);
             }
+        };
+        let Some(line) = line else {
+            rehearsal.end();
+            return Ok(None);
+        };
+        rehearsal = match rehearsal.carry_out(alloc, line, lines.count, output)? {
+            Went::On(rehearsal) => rehearsal,
+            Went::Crashed(course) => return Ok(Some(course)),
         };
     }
     rehearsal.end();
@@ -126,29 +167,70 @@ fn stream_refusal(error: std::io::Error) -> Refusal {
     }
 }
 
-// A script on its way.
-struct Rehearsal {
+// A script between two lives of its device.
+#[derive(Drop)]
+struct Course {
     setup: Setup,
-    life: Life<SimDisk>,
+    keeper: Keeper<SimDisk>,
+    // What the opening after a crash found; none where the device is new.
+    found: Option<Vec<BlockRun>>,
+    // What unsynced bytes become at an armed crash.
+    armed: CrashChoice,
+    // The cookie of the last request.
+    cookie: u64,
+    ghost recovered: { IsRecovered keeper },
+    ghost keeps: { ∥ (⟦<SimDisk as Disk>⟧.honest keeper.disk → (image : Image) × Keeps keeper (⟦<SimDisk as Disk>⟧.state keeper.disk) image keeper.count) ∥₁ },
+}
+
+// How a line ended: the life goes on, or the device has crashed and was opened again.
+enum Went<B: BoardName> {
+    On(Rehearsal<B>),
+    Crashed(Course),
+}
+
+// A script on its way.
+struct Rehearsal<B: BoardName> {
+    setup: Setup,
+    life: Life<B, SimDisk>,
     // What unsynced bytes become at an armed crash.
     armed: CrashChoice,
     // The cookie of the last request.
     cookie: u64,
 }
 
-impl Rehearsal {
-    // A new device, formatted and opened.
-    fn format<W: Write>(alloc: Global, setup: Setup, output: &mut W) -> Result<Rehearsal, End> {
-        match begin(alloc, setup) {
-            Ok(life) => Rehearsal {
-                setup,
-                life,
-                armed: CrashChoice::Old,
-                cookie: 0,
-            }
-            .print(output, "done"),
-            Err(fault) => Err(failed(fault, output)),
-        }
+impl<B: BoardName> Rehearsal<B> {
+    // Begins a life of the device, over a board that gets its name here, and prints what its opening found.
+    fn begin<W: Write>(
+        alloc: Global,
+        blank: BlankBoard,
+        course: Course,
+        output: &mut W,
+    ) -> Result<Rehearsal<B>, End>
+        requires board { blank.board ≡ B.board }
+        requires opening { blank.opening ≡ course.keeper.count }
+    {
+        let Course {
+            setup,
+            keeper,
+            found,
+            armed,
+            cookie,
+        } = course;
+        let count = keeper.count();
+        let Ok(life) = Life::begin(alloc, blank, keeper, setup) else {
+            return Err(failed(KeeperFault::NoMemory, output));
+        };
+        let rehearsal = Rehearsal {
+            setup,
+            life,
+            armed,
+            cookie,
+        };
+        let printed = match &found {
+            None => print(output, "done"),
+            Some(runs) => print_opened(count, runs, output),
+        };
+        rehearsal.printed(printed)
     }
 
     // Carries out the line with this number, and prints what it comes to.
@@ -158,7 +240,7 @@ impl Rehearsal {
         line: Line,
         number: u64,
         output: &mut W,
-    ) -> Result<Rehearsal, End> {
+    ) -> Result<Went<B>, End> {
         match line {
             Line::Format(_) => {
                 self.end();
@@ -167,13 +249,13 @@ impl Rehearsal {
             Line::Step(step) => self.step(alloc, step, output),
             Line::Fault(kind, k) => {
                 self.life.fail(kind, k);
-                self.print(output, "armed")
+                Ok(Went::On(self.print(output, "armed")?))
             }
-            Line::Crash(choice) => self.crash(alloc, choice, output),
+            Line::Crash(choice) => Ok(Went::Crashed(self.crash(alloc, choice, output)?)),
             Line::CrashAt(k, choice) => {
                 self.life.stop_at(k);
                 self.armed = choice;
-                self.print(output, "armed")
+                Ok(Went::On(self.print(output, "armed")?))
             }
         }
     }
@@ -183,7 +265,7 @@ impl Rehearsal {
         alloc: Global,
         line: StepLine,
         output: &mut W,
-    ) -> Result<Rehearsal, End> {
+    ) -> Result<Went<B>, End> {
         self.cookie = self.cookie.wrapping_add(1);
         let told = match line {
             StepLine::Copy(most) => copy(&mut self.life, most),
@@ -194,8 +276,19 @@ impl Rehearsal {
         };
         if self.life.stopped() {
             let armed = self.armed;
-            return self.print(output, "stopped")?.crash(alloc, armed, output);
+            let stopped = self.print(output, "stopped")?;
+            return Ok(Went::Crashed(stopped.crash(alloc, armed, output)?));
         }
+        Ok(Went::On(self.tell(told, line, output)?))
+    }
+
+    // Prints what a step did.
+    fn tell<W: Write>(
+        self,
+        told: Told,
+        line: StepLine,
+        output: &mut W,
+    ) -> Result<Rehearsal<B>, End> {
         match (told, line) {
             (Told::Done, _) => self.print(output, "done"),
             (Told::Failed(fault), _) => {
@@ -207,7 +300,11 @@ impl Rehearsal {
     }
 
     // Prints the answer that was given last, to this connection.
-    fn print_answer<W: Write>(self, output: &mut W, connection: usize) -> Result<Rehearsal, End> {
+    fn print_answer<W: Write>(
+        self,
+        output: &mut W,
+        connection: usize,
+    ) -> Result<Rehearsal<B>, End> {
         let printed = match self.life.last_answer() {
             Some(answer) => {
                 let connection = name_of(connection);
@@ -224,9 +321,9 @@ impl Rehearsal {
         alloc: Global,
         choice: CrashChoice,
         output: &mut W,
-    ) -> Result<Rehearsal, End>
+    ) -> Result<Course, End>
         ensures { IfOk result (λ next. (world : World) → IsLifeOf ⟦<SimDisk as Disk>⟧.state ⟦<SimDisk as Disk>⟧.faults ⟦<SimDisk as Disk>⟧.honest world self.life.order self.life.keeper self.life.bench
-            → (found : Image) × IsNextLife world found next.life.keeper.count) }
+            → (found : Image) × IsNextLife world found next.keeper.count) }
     {
         next_life_law::<SimDisk>();
         let Rehearsal {
@@ -237,10 +334,11 @@ impl Rehearsal {
         } = self;
         let mut disk = life.end();
         disk.crash(choice);
-        let life = open_again(alloc, disk, setup, armed, output)?;
-        Ok(Rehearsal {
+        let (keeper, runs) = open_again(alloc, disk, armed, output)?;
+        Ok(Course {
             setup,
-            life,
+            keeper,
+            found: Some(runs),
             armed,
             cookie,
         })
@@ -257,12 +355,16 @@ impl Rehearsal {
         let _disk = life.end();
     }
 
-    fn print<W: Write, T: Display + Drop>(self, output: &mut W, line: T) -> Result<Rehearsal, End> {
+    fn print<W: Write, T: Display + Drop>(
+        self,
+        output: &mut W,
+        line: T,
+    ) -> Result<Rehearsal<B>, End> {
         let printed = print(output, line);
         self.printed(printed)
     }
 
-    fn printed(self, printed: Result<(), Refusal>) -> Result<Rehearsal, End> {
+    fn printed(self, printed: Result<(), Refusal>) -> Result<Rehearsal<B>, End> {
         match printed {
             Ok(()) => Ok(self),
             Err(refusal) => {
@@ -273,15 +375,15 @@ impl Rehearsal {
     }
 }
 
-// The first life of a new device.
-fn begin(alloc: Global, setup: Setup) -> Result<Life<SimDisk>, KeeperFault> {
+// A new device, formatted and opened.
+fn begin(alloc: Global, setup: Setup) -> Result<Keeper<SimDisk>, KeeperFault>
+    ensures recovered { IfOk result IsRecovered }
+    ensures keeps { IfOk result (λ keeper. (image : Image) × Keeps keeper (⟦<SimDisk as Disk>⟧.state keeper.disk) image keeper.count) }
+{
     let mut disk = SimDisk::new(alloc, setup.geometry.device_bytes())?;
     Keeper::format(alloc, &mut disk, setup.geometry)?;
     match Keeper::open(alloc, disk) {
-        Ok(keeper) => match Life::begin(alloc, keeper, setup) {
-            Ok(life) => Ok(life),
-            Err(_disk) => Err(KeeperFault::NoMemory),
-        },
+        Ok(keeper) => Ok(keeper),
         Err((fault, _disk)) => Err(fault),
     }
 }
@@ -299,14 +401,15 @@ fn failed<W: Write>(fault: KeeperFault, output: &mut W) -> End {
 fn open_again<W: Write>(
     alloc: Global,
     disk: SimDisk,
-    setup: Setup,
     armed: CrashChoice,
     output: &mut W,
-) -> Result<Life<SimDisk>, End>
-    ensures { IfOk result (λ life. (image : Image) × IsFoundFrom (⟦<SimDisk as Disk>⟧.state disk) image life.keeper.count) }
+) -> Result<(Keeper<SimDisk>, Vec<BlockRun>), End>
+    ensures recovered { IfOk result (λ opened. IsRecovered opened.0) }
+    ensures keeps { IfOk result (λ opened. (image : Image) × Keeps opened.0 (⟦<SimDisk as Disk>⟧.state opened.0.disk) image opened.0.count) }
+    ensures found { IfOk result (λ opened. (image : Image) × IsFoundFrom (⟦<SimDisk as Disk>⟧.state disk) image opened.0.count) }
 {
     match open(alloc, disk) {
-        Ok((keeper, runs)) => tell(alloc, keeper, &runs, setup, output),
+        Ok(opened) => Ok(opened),
         Err((fault, mut disk)) => {
             if !disk.stopped() {
                 return Err(failed(fault, output));
@@ -314,35 +417,9 @@ fn open_again<W: Write>(
             print(output, "stopped")?;
             disk.crash(armed);
             match open(alloc, disk) {
-                Ok((keeper, runs)) => tell(alloc, keeper, &runs, setup, output),
+                Ok(opened) => Ok(opened),
                 Err((fault, _disk)) => Err(failed(fault, output)),
             }
-        }
-    }
-}
-
-// Begins the life of an opened device, and prints what the opening found.
-fn tell<W: Write>(
-    alloc: Global,
-    keeper: Keeper<SimDisk>,
-    runs: &[BlockRun],
-    setup: Setup,
-    output: &mut W,
-) -> Result<Life<SimDisk>, End>
-    requires recovered { IsRecovered keeper }
-    requires keeps { (image : Image) × Keeps keeper (⟦<SimDisk as Disk>⟧.state keeper.disk) image keeper.count }
-    ensures { IfOk result (λ life. life.keeper ≡ keeper) }
-{
-    let count = keeper.count();
-    let life = match Life::begin(alloc, keeper, setup) {
-        Ok(life) => life,
-        Err(_disk) => return Err(failed(KeeperFault::NoMemory, output)),
-    };
-    match print_opened(count, runs, output) {
-        Ok(()) => Ok(life),
-        Err(refusal) => {
-            let _disk = life.end();
-            Err(End::Refused(refusal))
         }
     }
 }
@@ -389,7 +466,7 @@ fn step_of(alloc: Global, line: StepLine, cookie: u64) -> Result<Step, AllocErro
 }
 
 // Copies up to so many blocks. It is held where there is none to copy.
-fn copy(life: &mut Life<SimDisk>, most: u64) -> Told {
+fn copy<B: BoardName>(life: &mut Life<B, SimDisk>, most: u64) -> Told {
     let mut told = Told::Held;
     for _ in 0..most {
         match life.step(Step::Copy) {

@@ -1,5 +1,5 @@
 -- the order of write commands as callers see it
-use Rattle.std.specs.Prelude.{◌≡◌, ℕ, ◌+◌, ◌-◌, ◌<◌, ◌≤◌, ◌&&◌, ◌==◌, Option, Some, None, Bool, false, nat_le, if◌then◌else◌, List, [], ◌∷◌, ◌++◌, length, drop, take, sum, All}
+use Rattle.std.specs.Prelude.{MatchBool, max, ◌≡◌, ℕ, ◌+◌, ◌-◌, ◌<◌, ◌≤◌, ◌&&◌, ◌==◌, Option, Some, None, Bool, false, nat_le, if◌then◌else◌, List, [], ◌∷◌, ◌++◌, length, drop, take, sum, All}
 use Rattle.std.specs.FinMap.{empty}
 use Rattle.image_model.specs.declared.command.Command.{Command}
 use Rattle.image_model.specs.declared.command.Kind.{Kind}
@@ -8,6 +8,7 @@ use Rattle.image_model.specs.Change.{change_of}
 use Rattle.image_model.specs.Command.{body_of, bodies_of}
 use Rattle.image_model.specs.Dirty.{Dirty, clean_through, dirty_after, frames_suffice}
 use Rattle.journal.specs.Group.{Numbered}
+use Rattle.marks.specs.Known.{Marks}
 use Rattle.order_book.specs.Cached.{cache_after, cache_cleaned}
 use Rattle.order_book.specs.declared.fault.OrderFault.{OrderFault}
 use Rattle.order_book.specs.declared.fault.OrderFault.TheVariants.{NumbersFull, NoRoom, Stopped}
@@ -104,12 +105,24 @@ pub record IsInHand (order : OrderState) (group : Numbered) : Type 0 where
 abbrev pub with_group : OrderState → Numbered → OrderState
 with_group order group = record order { sealed = group.first - 1; in_hand = 0; pending = group.commands ++ order.pending }
 
+-- whether a keeper's count is published: it lies between the durable number and the mark
+abbrev pub is_published : OrderState → ℕ → Bool
+is_published order count = nat_le order.durable count && nat_le count order.mark
+
 -- the order once all numbers up to the count are durable; a count that lies outside says nothing
 abbrev pub with_durable : OrderState → ℕ → OrderState
 with_durable order count =
-    if nat_le order.durable count && nat_le count order.mark
+    if is_published order count
     then record order { durable = count; bodies = drop (count - order.durable) order.bodies }
     else order
+
+-- What the keeper's seat knows once the order has published a count: where it did, the count is durable, if no more was before,
+-- and all of the order was accepted; else what it knew.
+abbrev pub PublishesTo : Marks → OrderState → ℕ → Marks → Type 0
+PublishesTo old order count new =
+    MatchBool (is_published order count)
+    ((new.durable ≡ max old.durable count) × (old.accepted ≤ new.accepted) × (order.mark ≤ new.accepted))
+    (new ≡ old)
 
 -- the numbers from the last sealed one to the mark are those of the pending commands, and from the durable one of the backlog
 pub record IsNumbered (order : OrderState) : Type 0 where
@@ -118,9 +131,10 @@ pub record IsNumbered (order : OrderState) : Type 0 where
   pub opened : (order.opening ≤ order.durable) × (order.opening + order.in_hand ≤ order.sealed)
   pub mark : order.mark < 18446744073709551616
 
--- what holds of each order; `spare` is the room behind the pending commands
-pub record IsOrder (order : OrderState) (spare : ℕ) : Type 0 where
+-- what holds of each order; `spare` is the room behind the pending commands, `accepted` the number that its board shows
+pub record IsOrder (order : OrderState) (spare accepted : ℕ) : Type 0 where
   pub numbers : IsNumbered order
+  pub shown : accepted ≡ order.mark
   pub backlog : sum order.bodies ≤ 67108864
   pub small : All HasSmallBody order.pending
   pub area : (2097152 ≤ order.area) × (order.area < 4294967296)

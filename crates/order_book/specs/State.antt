@@ -3,7 +3,7 @@ use Rattle.order_book.specs.declared.order.Order.TheInside.{Inside}
 use Rattle.order_book.specs.Cached.{dirty_of, frames_of}
 use Rattle.order_book.specs.Order.{OrderState}
 
-abbrev pub state_of : Inside → OrderState
+abbrev pub state_of : {B : Type 0} → Inside B → OrderState
 state_of order = record {
   opening = order.opening;
   durable = order.durable;

@@ -9,25 +9,27 @@ ghost use Rattle.device_image.specs.Holds.{Holds, is_written};
 ghost use Rattle.image_model.specs.Change.{Change, change_of};
 ghost use Rattle.image_model.specs.declared.command.Kind.TheVariants.{Data};
 ghost use Rattle.journal.specs.Reading.{IsOnlyRead};
+ghost use Rattle.marks.specs.Known.{known};
 ghost use Rattle.image_model.specs.Command.{IsCommand};
 ghost use Rattle.image_model.specs.Image.{Image, apply as image_after};
 ghost use Rattle.order_book.specs.Cached.{ShowsCommand};
 ghost use Rattle.order_book.specs.Reading.{IsCleanAt, ShowsRead};
 ghost use Rattle.order_book.specs.Shown.{ShowsImage, IsZeroOutsideData};
-ghost use Rattle.order_book.specs.Order.{OrderState, new_order, IsNumbered, has_room, refusal_of, with_command, with_clean, Seals, IsInHand, with_group, with_durable};
+ghost use Rattle.order_book.specs.Order.{OrderState, new_order, IsNumbered, has_room, refusal_of, with_command, with_clean, Seals, IsInHand, with_group, with_durable, PublishesTo};
 ghost use Rattle.shared_cache.specs.Cache.{LacksBytes, bytes_seen};
 ghost use Rattle.shared_cache.specs.View.{ShowsClean};
 
 use crate::backlog::Backlog;
 use crate::commands::{apply, clean_through, has_frames};
 use crate::fault::OrderFault;
-use crate::pending::PendingCommands;
+use crate::pending::{PendingCommands, have_small_bodies};
 use crate::reading::{keep_blocks, read_blocks};
 use alloc_map::{AllocMap, Run};
 use checkpoint::{Keeper, KeeperFault};
 use disk_model::Disk;
 use image_model::{Command, Kind};
 use journal::{Group, MOST_BODY_BYTES};
+use marks::{Board, BoardName, KeeperSeat, OrderSeat, Pass};
 use shared_cache::{Cache, Missing};
 use std::alloc::{AllocError, Global};
 use std::marker::Model;
@@ -38,8 +40,8 @@ const MOST_BACKLOG_BYTES: u64 = 67_108_864;
 /// The bytes of an area round a group's body: what stands before it, and the gate behind it.
 const BYTES_ROUND_BODY: u64 = 18;
 
-/// The order in which write commands count.
-pub struct Order {
+/// The order in which write commands count, under the name of the board that shows its last number.
+pub struct Order<B: BoardName> {
     opening: u64,
     durable: u64,
     sealed: u64,
@@ -50,10 +52,11 @@ pub struct Order {
     cache: Cache,
     area: u32,
     stopped: bool,
+    seat: OrderSeat<B>,
 }
 
 // Written out, it is proved once, and not again in each function that lets an order go.
-impl Drop for Order {
+impl<B: BoardName> Drop for Order<B> {
     fn drop(self) {
         let Order {
             opening: _,
@@ -66,11 +69,12 @@ impl Drop for Order {
             cache: _,
             area: _,
             stopped: _,
+            seat: _,
         } = self;
     }
 }
 
-impl Model for Order {
+impl<B: BoardName> Model for Order<B> {
     ghost use Rattle.std.specs.Coded.{codes, coded_ℕ};
     ghost use Rattle.std.specs.Ordering.{nat_cmp};
     ghost use Rattle.std.specs.FinMap as map;
@@ -84,7 +88,7 @@ impl Model for Order {
 
     ghost view = { state_of };
 
-    ghost invariant = { λ order. IsOrder (state_of order) order.pending.spare };
+    ghost invariant = { λ order. IsOrder (state_of order) order.pending.spare order.seat };
 }
 
 // Makes room for `count` commands more to be pending, and for one more that isn't durable.
@@ -103,7 +107,7 @@ fn make_room(
     backlog.reserve()
 }
 
-impl Order {
+impl<B: BoardName> Order<B> {
     /// An order over an image with these states, whose next number is `opening` + 1, with so many frames for blocks and
     /// journal areas of `area` bytes. It takes the memory of all frames.
     pub fn new(
@@ -112,7 +116,9 @@ impl Order {
         opening: u64,
         frames: u32,
         area: u32,
-    ) -> Result<Order, AllocError>
+        seat: OrderSeat<B>,
+    ) -> Result<Order<B>, AllocError>
+        requires seat { seat ≡ opening }
         requires area { 2097152 ≤ area }
         requires frames { frames + 3 < 2 ^ 31 }
         requires few { length map ≤ 16777216 }
@@ -132,6 +138,7 @@ impl Order {
             cache,
             area,
             stopped: false,
+            seat,
         })
     }
 
@@ -193,18 +200,41 @@ impl Order {
         self.stopped
     }
 
-    /// Takes the command as the last one, and gives its number; a refusal hands it back.
+    /// The number of the last command that was accepted, shown to a pass: what a FLUSH waits for.
+    pub fn show_mark(&mut self, board: &Board<B>, pass: &mut Pass<B>) -> u64
+        ensures mark { result ≡ self.old.mark }
+        ensures same { self.new ≡ self.old }
+        ensures known { known pass.old ≤ result }
+        ensures pass { pass.new ≡ record pass.old { accepted = result } }
+    {
+        board.show_accepted(&mut self.seat, pass)
+    }
+
+    /// Takes the command as the last one, for a pass, and gives its number, to which the board is raised; a refusal hands it
+    /// back.
     ///
     /// The refusals, in the order in which they are looked for: 18 (stopped), 9 (numbers full), 17 (no room), 0 (no memory).
-    pub fn accept(&mut self, command: Command) -> Result<u64, (OrderFault, Command)>
+    pub fn accept(
+        &mut self,
+        board: &Board<B>,
+        pass: &mut Pass<B>,
+        command: Command,
+    ) -> Result<u64, (OrderFault, Command)>
         requires { IsCommand (length self.old.cache.states) command }
         ensures number { IfOk result (λ number. number ≡ self.old.mark + 1) }
         ensures accepted { OnOk result (self.new ≡ with_command self.old command) }
         ensures view { OnOk result (ShowsCommand (change_of command) self.old.cache self.new.cache) }
         ensures image { OnOk result ((image : Image) → ShowsImage image self.old.cache → ShowsImage (image_after (change_of command) image) self.new.cache) }
         ensures blocks { length self.new.cache.states ≡ length self.old.cache.states }
+        ensures numbers { IsNumbered self.old }
         ensures handed_back { IfErr result (λ refused. refused.1 ≡ command) }
         ensures unchanged { OnErr result (self.new ≡ self.old) }
+
+        // The number is above all that the pass had seen or was told, and the command is the pass's own under it.
+        ensures known { IfOk result (λ number. known pass.old < number) }
+        ensures pass { IfOk result (λ number. pass.new
+            ≡ record pass.old { accepted = number; own = Some (record { number = number; change = change_of command }) }) }
+        ensures pass_unchanged { OnErr result (pass.new ≡ pass.old) }
 
         // Each refusal comes exactly where it is due and none before it is.
         ensures stopped { IsErrAnd result (λ refused. refused.0 ≡ OrderFault.Stopped) ↔ (self.old.stopped ≡ true) }
@@ -222,10 +252,10 @@ impl Order {
         let Ok(()) = apply(&mut self.cache, &command, self.mark + 1) else {
             return Err((OrderFault::NoMemory, command));
         };
+        self.mark = board.raise_accepted(&mut self.seat, pass, &command);
         let body = command.body_bytes();
         self.backlog.push(body as u32);
         self.pending.push(command);
-        self.mark += 1;
         Ok(self.mark)
     }
 
@@ -285,6 +315,16 @@ impl Order {
         (self.area as u64 - BYTES_ROUND_BODY).min(MOST_BODY_BYTES as u64)
     }
 
+    /// Whether the group is the one in hand. What `seal` gave may be another's by the time that it comes back.
+    pub fn is_in_hand(&self, group: &Group) -> bool
+        ensures { IsTrue result ↔ IsInHand self.now group.now }
+    {
+        let commands = group.commands();
+        commands.len() == self.in_hand
+            && group.first() == self.sealed - self.in_hand as u64 + 1
+            && have_small_bodies(commands)
+    }
+
     /// Makes the group in hand, the last that was sealed, pending again: the list is as it was before that `seal`, with what was accepted since.
     pub fn put_back(&mut self, group: Group)
         requires { IsInHand self.old group }
@@ -297,12 +337,21 @@ impl Order {
         self.in_hand = 0;
     }
 
-    /// Raises the durable number to the keeper's count, where that lies between the durable number and the last accepted one.
-    pub fn publish<D: Disk>(&mut self, keeper: &Keeper<D>)
-        ensures { self.new ≡ with_durable self.old keeper.now.count }
+    /// Raises the durable number to the keeper's count, where that lies between the durable number and the last accepted one,
+    /// and the board's with it.
+    pub fn publish<D: Disk>(
+        &mut self,
+        board: &Board<B>,
+        seat: &mut KeeperSeat<B>,
+        keeper: &Keeper<D>,
+    )
+        ensures order { self.new ≡ with_durable self.old keeper.now.count }
+        ensures seat { PublishesTo seat.old self.old keeper.now.count seat.new }
     {
         let count = keeper.count();
         if self.durable <= count && count <= self.mark {
+            board.brief(&mut self.seat, seat);
+            board.raise_durable(seat, keeper);
             self.backlog.forget(count - self.durable);
             self.durable = count;
         }

@@ -27,6 +27,18 @@ impl Model for PendingCommands {
     } };
 }
 
+/// The most bytes that a command takes in a group.
+const MOST_COMMAND_BYTES: u64 = 1_048_589;
+
+/// Whether each of the commands takes no more bytes in a group than one may.
+pub(crate) fn have_small_bodies(commands: &[Command]) -> bool
+    ensures { IsTrue result ↔ All HasSmallBody commands.now }
+{
+    commands
+        .iter()
+        .all(|command| command.body_bytes() <= MOST_COMMAND_BYTES)
+}
+
 // How many commands from the front have bodies of at most `limit` bytes together.
 fn longest(commands: &VecDeque<Command>, limit: u64) -> usize
     requires small { All HasSmallBody commands.now.items }

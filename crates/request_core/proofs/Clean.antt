@@ -1,11 +1,10 @@
 -- blocks of an image that are data and not dirty: the base has them as they are
-use Rattle.std.proofs.Common.{◌≡◌, ◌⊎◌, slice_index, ℕ, zero, suc, ◌+◌, ◌-◌, ◌*◌, ◌<◌, ◌≤◌, ◌||◌, ◌&&◌, inl, inr, Bool, true, false, if◌then◌else◌, Option, Some, None, List, [], ◌∷◌, ◌++◌, drop, take, length, sym, ◌∙◌, ap, subst, refl, arith}
+use Rattle.std.proofs.Common.{◌≡◌, ◌⊎◌, slice_index, ℕ, zero, suc, ◌+◌, ◌-◌, ◌*◌, ◌<◌, ◌≤◌, ◌||◌, ◌&&◌, inl, inr, Bool, true, false, if◌then◌else◌, Some, None, List, [], ◌∷◌, drop, take, length, sym, ◌∙◌, ap, subst, refl, arith}
 use Rattle.std.specs.FinMap.{get}
 use Rattle.std.specs.List.{AllByRecursion, list_any}
 use Rattle.std.proofs.lemmas.Bool.{both_ways, cases_Bool, or_parts}
 use Rattle.std.proofs.lemmas.Bool.Decides.{nat_tests}
 use Rattle.std.proofs.lemmas.List.{drop-drop, take-append-drop, take_all}
-use Rattle.device_image.specs.Holds.{is_written}
 use Rattle.device_image.proofs.Written.{untouched_unwritten}
 use Rattle.image_model.specs.Change.{AreChanges, Change, Cleared, IsChange, IsCleared, Written}
 use Rattle.image_model.specs.Dirty.{is_write, last_write, touches}

@@ -1,5 +1,5 @@
 -- several blocks copied at once are as many steps
-use Rattle.std.proofs.Common.{◌≡◌, ℕ, zero, suc, ◌+◌, ◌-◌, ◌<◌, ◌≤◌, ◌↔◌, true, false, not, nat_lt, ◌&&◌, if◌then◌else◌, List, [], ◌∷◌, ◌++◌, append_assoc, Result, Err, replicate, refl, sym, ◌∙◌, ap, subst, arith}
+use Rattle.std.proofs.Common.{◌≡◌, ℕ, zero, suc, ◌+◌, ◌-◌, ◌<◌, ◌≤◌, ◌↔◌, true, false, not, nat_lt, ◌&&◌, if◌then◌else◌, [], ◌∷◌, ◌++◌, append_assoc, Result, Err, replicate, refl, sym, ◌∙◌, ap, subst, arith}
 use Rattle.std.proofs.lemmas.Bool.{lt-ltb}
 use Rattle.std.proofs.lemmas.List.{append-nil}
 use Rattle.checkpoint.specs.declared.fault.KeeperFault.{KeeperFault}
@@ -13,10 +13,8 @@ use Rattle.request_core.specs.Life.{Leads}
 use Rattle.request_core.specs.Parts.{IsExportOf}
 use Rattle.request_core.specs.Steps.{IsAppended}
 use Rattle.request_core.proofs.Lives.{stands_less}
-use Rattle.world.specs.declared.event.Event.{Event}
-use Rattle.world.specs.declared.event.Event.TheVariants.{Took, Held, Failed}
+use Rattle.world.specs.declared.event.Event.TheVariants.{Took, Failed}
 use Rattle.world.specs.declared.event.StepFault.TheVariants.{FailedBefore}
-use Rattle.world.specs.declared.step.Step.{Step}
 use Rattle.world.specs.declared.step.Step.TheVariants.{Copy}
 use Rattle.world.specs.Checkpoint.{is_turned}
 use Rattle.world.specs.Run.{IsReached, IsRun}

@@ -15,3 +15,4 @@ pub mod Talks
 pub mod Times
 pub mod Turns
 pub mod Opened
+pub mod Passes

@@ -1,5 +1,5 @@
 -- what a request that is served makes of an order, lifted to the world that the order is of
-use Rattle.std.proofs.Common.{◌≡◌, ◌⊎◌, inl, inr, ℕ, ◌+◌, ◌<◌, ◌==◌, Bool, true, false, if◌then◌else◌, Option, Result, Ok, Err, List, [], ◌∷◌, ◌++◌, length, sym, ◌∙◌, ap, subst, refl, arith}
+use Rattle.std.proofs.Common.{◌≡◌, ◌⊎◌, inl, inr, ℕ, ◌+◌, ◌<◌, ◌==◌, Bool, true, false, if◌then◌else◌, Option, List, [], ◌∷◌, ◌++◌, length, sym, ◌∙◌, ap, subst, refl, arith}
 use Rattle.std.proofs.lemmas.Bool.{cases_Bool, eq-eqb, ne_eqb}
 use Rattle.alloc_map.specs.Codes.{state_at}
 use Rattle.image_model.specs.Change.{Change, IsChange, change_of}
@@ -8,14 +8,13 @@ use Rattle.order_book.specs.Shown.{ShowsImage}
 use Rattle.request_core.proofs.Lives.{apply_append}
 use Rattle.std.proofs.lemmas.List.{take_all}
 use Rattle.image_model.specs.declared.command.Command.{Command}
-use Rattle.image_model.specs.declared.geometry.Geometry.{Geometry}
 use Rattle.journal.specs.Group.{Numbered}
 use Rattle.nbd_wire.specs.Request.{Message}
 use Rattle.nbd_wire.specs.declared.error.Errno.{Errno}
 use Rattle.nbd_wire.specs.declared.error.Errno.TheVariants as errno
 use Rattle.nbd_wire.specs.declared.error.Errno.TheVariants.{Io}
 use Rattle.nbd_wire.specs.declared.message.Answer.TheVariants.{Refused}
-use Rattle.order_book.specs.Order.{OrderState, with_command}
+use Rattle.order_book.specs.Order.{OrderState}
 use Rattle.request_core.specs.Parts.{IsOrderOf, Shows}
 use Rattle.request_core.specs.Serving.{IsCommandServed, IsServed, IsWriteServed, event_for, ready_for, state_of}
 use Rattle.request_core.specs.Outcomes.{IsPassed}
@@ -24,13 +23,11 @@ use Rattle.request_core.specs.declared.serving.Served.{Served}
 use Rattle.request_core.specs.declared.serving.Served.TheVariants as served
 use Rattle.request_core.proofs.Serves.{grown_same, if_false, if_true, served_accepted, served_held, served_moved, served_numbered, served_quiet, write_accepted, write_full, write_held}
 use Rattle.world.specs.Log.{command_of, is_flush, waits_for_store}
-use Rattle.world.specs.Serve.{Failure, Misread, Nothing, OutOfMemory, accepted, held, image_shown, judged, logged, moved, passed, ready, shown, status_served, write_served}
+use Rattle.world.specs.Serve.{Failure, Misread, Nothing, OutOfMemory, accepted, held, image_shown, logged, moved, passed, ready, shown, status_served, write_served}
 use Rattle.world.specs.Shown.{shown_by}
 use Rattle.world.specs.World.{World, image_after, last_number}
-use Rattle.world.specs.declared.action.Action.{Action}
 use Rattle.world.specs.declared.connection.Connection.TheVariants.{Requested, Waiting, Ready}
 use Rattle.world.specs.declared.event.Event.TheVariants.{Took}
-use Rattle.world.specs.declared.step.Mode.{Mode}
 use Rattle.world_law.specs.Law.{IsWithin}
 
 module _ (world : World) (c : ℕ) (request : Message) (old : OrderState) (group : Option Numbered) (within : IsWithin world) (of : IsOrderOf world.stage old group)

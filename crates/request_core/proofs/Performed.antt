@@ -1,5 +1,5 @@
 -- what a step of each kind makes of all the parts
-use Rattle.std.proofs.Common.{◌≡◌, inl, inr, Option, ℕ, ◌&&◌, ◌==◌, Bool, true, false, if◌then◌else◌, nat_lt, List, [], ◌∷◌, ◌++◌, length, sym, ◌∙◌, ap, subst, arith}
+use Rattle.std.proofs.Common.{◌≡◌, inl, inr, Option, ℕ, ◌&&◌, ◌==◌, Bool, true, false, if◌then◌else◌, nat_lt, List, [], ◌∷◌, ◌++◌, length, sym, ◌∙◌, ap, subst}
 use Rattle.device_image.specs.Keeper.{KeeperState}
 use Rattle.disk_model.specs.Disk.{State, IsSound}
 use Rattle.disk_model.proofs.Moments.{begins}

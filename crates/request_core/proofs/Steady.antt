@@ -1,19 +1,17 @@
 -- steps that leave the order of commands, and what an order knows of the image
-use Rattle.std.proofs.Common.{◌≡◌, ℕ, ◌&&◌, ◌==◌, ◌+◌, ◌-◌, Bool, nat_le, nat_lt, List, [], ◌∷◌, length, ap, refl, subst, sym}
+use Rattle.std.proofs.Common.{◌≡◌, ℕ, ◌&&◌, ◌==◌, ◌+◌, Bool, nat_le, nat_lt, List, [], ◌∷◌, length, refl, subst, sym}
 use Rattle.image_model.specs.Change.{Change}
 use Rattle.image_model.specs.Image.{Image}
 use Rattle.nbd_wire.specs.Request.{Message}
-use Rattle.nbd_wire.specs.declared.error.Errno.TheVariants.{Io}
-use Rattle.nbd_wire.specs.declared.message.Answer.TheVariants.{Done, Refused}
 use Rattle.order_book.specs.Order.{OrderState}
 use Rattle.order_book.specs.Shown.{ShowsImage}
 use Rattle.request_core.specs.Parts.{Shows}
 use Rattle.shared_cache.specs.Cache.{CacheState}
 use Rattle.world.specs.declared.connection.Connection.{Connection}
 use Rattle.world.specs.declared.connection.Connection.TheVariants.{Idle, Requested, Waiting, Ready, Closed}
-use Rattle.world.specs.Checkpoint.{can_clean, can_copy, can_finish, can_map, can_rotate, finished, is_full, rotated}
-use Rattle.world.specs.Serve.{Failure, Nothing, OutOfMemory, DeviceFailure, Misread, answer, answered, held}
-use Rattle.world.specs.Step.{after_step, append, clean, copy_block, finish, in_time, publish, rotate, seal, sealed_more, send, sent, with_generation, without_memory, write_map, written}
+use Rattle.world.specs.Checkpoint.{can_clean, can_copy, can_finish, can_map, can_rotate, finished, is_full}
+use Rattle.world.specs.Serve.{Failure, Nothing, OutOfMemory, DeviceFailure, Misread, answer}
+use Rattle.world.specs.Step.{append, clean, copy_block, finish, in_time, publish, rotate, seal, sealed_more, send, sent, with_generation, without_memory, write_map, written}
 use Rattle.world.specs.World.{Setting, Stage, World, fits, image_after}
 use Rattle.world_law.proofs.Steps.{of_either}
 

@@ -1,13 +1,13 @@
 -- what the steps of a checkpoint make of the world and of its device
-use Rattle.std.proofs.Common.{◌≡◌, ◌⊎◌, inl, inr, ℕ, ◌+◌, ◌-◌, ◌<◌, ◌≤◌, ◌↔◌, ◌&&◌, ◌==◌, not, Bool, true, false, nat_lt, if◌then◌else◌, IsTrue, Option, Some, None, Result, Ok, Err, List, [], ◌∷◌, ◌++◌, length, take, drop, sym, ◌∙◌, ap, subst, refl, arith}
-use Rattle.std.proofs.lemmas.Bool.{cases_lt, eq-eqb, eqb-true, lt-ltb, ltb-true}
+use Rattle.std.proofs.Common.{◌≡◌, ℕ, ◌+◌, ◌-◌, ◌↔◌, Bool, true, false, if◌then◌else◌, IsTrue, Option, Some, None, Result, Ok, Err, List, [], ◌∷◌, ◌++◌, take, drop, sym, ◌∙◌, ap, subst, refl, arith}
+use Rattle.std.proofs.lemmas.Bool.{eq-eqb, eqb-true}
 use Rattle.std.specs.FinMap.{len}
 use Rattle.checkpoint.specs.Keeper.{refused_by, faults_by}
 use Rattle.checkpoint.specs.Steps.{IsCopyTime, IsFinishTime, IsMapTime, IsRotateTime, IsStepFault, copied_by, finished_by, left_in, mapped_by, rotated_by}
 use Rattle.checkpoint.specs.declared.fault.KeeperFault.{KeeperFault}
 use Rattle.checkpoint.specs.declared.fault.KeeperFault.TheVariants as fault
 use Rattle.device_image.specs.Holds.{Holds}
-use Rattle.device_image.specs.Keeper.{KeeperState, Phase, One, Copying, Mapped}
+use Rattle.device_image.specs.Keeper.{KeeperState, Phase, Copying}
 use Rattle.device_image.specs.Keeps.{Keeps}
 use Rattle.device_image.specs.Remembers.{Remembers}
 use Rattle.device_image.specs.Stands.{StandsFor}
@@ -28,15 +28,15 @@ use Rattle.request_core.proofs.Lives.{IsOrdered, apply_append, keeps_of, ordered
 use Rattle.request_core.proofs.Orders.{order_puts_back, order_stops}
 use Rattle.request_core.proofs.Stored.{not_true_is}
 use Rattle.request_core.proofs.Times.{copy_phase, copy_sound, copy_whole, finish_one, finish_sound, finish_whole, map_phase, map_sound, map_whole, rotate_empty, rotate_phase, rotate_sound, rotate_whole}
-use Rattle.world.specs.Checkpoint.{can_copy, can_finish, can_map, can_rotate, finished, is_full, is_turned, last_turned, left_behind, rotated, to_copy}
+use Rattle.world.specs.Checkpoint.{can_copy, can_finish, can_map, can_rotate, finished, is_full, is_turned, last_turned, rotated, to_copy}
 use Rattle.world.specs.declared.event.Event.{Event}
 use Rattle.world.specs.declared.event.Event.TheVariants.{Took, Held, Failed}
 use Rattle.world.specs.declared.event.StepFault.TheVariants.{NoMemory, DeviceFault, NumbersFull, FailedBefore}
 use Rattle.world.specs.Serve.{Failure, Nothing, OutOfMemory, DeviceFailure, held, logged, faulted, staged}
 use Rattle.world.specs.Step.{copy_block, finish, in_time, out_of_memory, rotate, without_memory, write_map, written}
 use Rattle.world.specs.World.{World, Stage, image_after}
-use Rattle.world_law.specs.Law.{IsRising, IsWithin}
-use Rattle.world_law.proofs.Within.{last_of_more, turned_through}
+use Rattle.world_law.specs.Law.{IsWithin}
+use Rattle.world_law.proofs.Within.{last_of_more}
 
 pub not_true : (b : Bool) → (b ≡ true → ⊥) → b ≡ false
 not_true true none = absurd (none refl)

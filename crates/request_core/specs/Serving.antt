@@ -1,13 +1,13 @@
 -- what serving and answering a connection do
-use Rattle.std.specs.Prelude.{ℕ, ◌≡◌, ◌+◌, ◌<◌, ◌⊎◌, MatchBool, MatchOption, slice_index_or, slice_set, Bool, true, false, nat_le, nat_lt, Result, Ok, Err, if◌then◌else◌, Option, Some, None, List, [], ◌∷◌, ◌++◌, vec_len}
+use Rattle.std.specs.Prelude.{ℕ, ◌≡◌, ◌+◌, ◌<◌, ◌≤◌, ◌⊎◌, MatchBool, MatchOption, slice_index_or, slice_set, Bool, true, false, nat_le, nat_lt, Result, Ok, Err, if◌then◌else◌, Option, Some, None, List, [], ◌∷◌, ◌++◌, vec_len}
 use Rattle.image_model.specs.Change.{Change, AreChanges, IsChange, change_of}
 use Rattle.image_model.specs.declared.command.Command.{Command}
 use Rattle.image_model.specs.declared.command.Command.TheVariants.{Put, Clear}
 use Rattle.image_model.specs.declared.geometry.Geometry.{Geometry}
 use Rattle.image_model.specs.Image.{Image, apply}
 use Rattle.journal.specs.Group.{Numbered}
+use Rattle.marks.specs.Known.{PassState, known}
 use Rattle.nbd_wire.specs.Request.{Message, handed_len}
-use Rattle.nbd_wire.specs.declared.error.Errno.{Errno}
 use Rattle.nbd_wire.specs.declared.error.Errno.TheVariants as errno
 use Rattle.nbd_wire.specs.declared.error.Errno.TheVariants.{Io}
 use Rattle.nbd_wire.specs.declared.head.RequestHead.{RequestHead}
@@ -18,7 +18,6 @@ use Rattle.request_core.specs.declared.serving.Served.{Served}
 use Rattle.request_core.specs.declared.serving.Served.TheVariants as served
 use Rattle.request_core.specs.Parts.{AreConnectionsOf, IsOrderOf}
 use Rattle.world.specs.Log.{command_of, is_flush, waits_for_store}
-use Rattle.world.specs.declared.action.Action.{Action}
 use Rattle.world.specs.declared.connection.Connection.{Connection}
 use Rattle.world.specs.declared.connection.Connection.TheVariants.{Idle, Requested, Waiting, Ready, Closed}
 use Rattle.world.specs.declared.event.Event.{Event}
@@ -63,6 +62,21 @@ IsWriteServed request geometry kept old new result =
     ((old.mark ≡ 18446744073709551615) × (new ≡ old) × (result ≡ ready_for request.head.cookie (Refused errno.NoSpace)))
     ⊎ ((command : Command) × (change_of command ≡ command_of request) × IsChange geometry.blocks (command_of request) × (old.mark < 18446744073709551615)
     × IsCommandServed request kept command old new result)
+
+-- a pass for which a request's command was accepted under a number
+abbrev pub accepted_for : Message → ℕ → PassState → PassState
+accepted_for request number pass = record pass { accepted = number; own = Some (record { number = number; change = command_of request }) }
+
+-- What a pass knows once a request was served for it, where the last number of the order went from one to another. The number of a
+-- command is above all that the pass knew, and is then its own; a FLUSH waits for no less than what it knew; all else leaves it.
+abbrev pub IsPassServed : Message → ℕ → ℕ → Served → PassState → PassState → Type 0
+IsPassServed request before after (served.Ready reply) old new =
+    MatchBool (nat_lt before after) ((known old < after) × (new ≡ accepted_for request after old)) (new ≡ old)
+IsPassServed request before after (served.Wait number) old new =
+    MatchBool (is_flush request)
+    ((known old ≤ number) × (new ≡ record old { accepted = number }))
+    ((known old < number) × (new ≡ accepted_for request number old))
+IsPassServed request before after (served.NoRoom back) old new = new ≡ old
 
 -- what a connection comes to whose request was served
 abbrev pub state_of : Served → Connection

@@ -1,26 +1,29 @@
-ghost use Rattle.std.specs.Prelude.{◌≡◌, IfOk, IfSome, MatchOption, replicate};
+ghost use Rattle.std.specs.Prelude.{◌≡◌, IfOk, IfSome, MatchOption, replicate, vec_len};
 ghost use Rattle.order_book.specs.Order.{IsInHand, with_group};
 ghost use Rattle.request_core.specs.Bench.{new_bench, new_connections};
 ghost use Rattle.world.specs.declared.connection.Connection.TheVariants as Connection;
 
 use journal::Group;
+use marks::{BoardName, Pass};
 use nbd_wire::SessionFlags;
 use order_book::Order;
 use std::alloc::{AllocError, Global};
 use std::marker::Model;
 use world::{Connection, Event, Mode};
 
-/// The connections of an export, what they agreed on, and the group in hand.
+/// The connections of an export, each with a pass of its board, what they agreed on, and the group in hand.
 ///
 /// They can't be let go, since a group may be in hand: they are spent by `close`.
-pub struct Connections {
+pub struct Connections<B: BoardName> {
     pub(crate) flags: SessionFlags,
     pub(crate) mode: Mode,
     pub(crate) states: Vec<Connection>,
+    pub(crate) passes: Vec<Pass<B>>,
     pub(crate) group: Option<Group>,
 }
 
-impl Model for Connections {
+impl<B: BoardName> Model for Connections<B> {
+    ghost use Rattle.std.specs.Prelude.{◌≡◌, vec_len};
     ghost use Rattle.request_core.specs.Bench.{ConnectionsState};
 
     ghost Value = { ConnectionsState };
@@ -31,11 +34,14 @@ impl Model for Connections {
       states = connections.states.items;
       group = connections.group;
     } };
+
+    ghost invariant = { λ connections. vec_len connections.passes ≡ vec_len connections.states };
 }
 
 // So many connections that have no request open.
 fn idle(alloc: Global, count: usize) -> Result<Vec<Connection>, AllocError>
-    ensures { IfOk result (λ states. states.items ≡ replicate count Connection.Idle) }
+    ensures states { IfOk result (λ states. states.items ≡ replicate count Connection.Idle) }
+    ensures size { IfOk result (λ states. vec_len states ≡ count) }
 {
     let mut states = Vec::with_capacity(alloc, count)?;
     for place in 0..count {
@@ -44,26 +50,27 @@ fn idle(alloc: Global, count: usize) -> Result<Vec<Connection>, AllocError>
     Ok(states)
 }
 
-impl Connections {
-    /// So many connections, none of which has sent a request.
+impl<B: BoardName> Connections<B> {
+    /// A connection for each pass, none of which has sent a request.
     pub fn new(
         alloc: Global,
-        count: usize,
+        passes: Vec<Pass<B>>,
         flags: SessionFlags,
         mode: Mode,
-    ) -> Result<Connections, AllocError>
-        ensures { IfOk result (λ connections. connections ≡ new_connections count flags mode) }
+    ) -> Result<Connections<B>, AllocError>
+        ensures { IfOk result (λ connections. connections ≡ new_connections (vec_len passes) flags mode) }
     {
         Ok(Connections {
             flags,
             mode,
-            states: idle(alloc, count)?,
+            states: idle(alloc, passes.len())?,
+            passes,
             group: None,
         })
     }
 
     /// Puts a group in hand back into the order.
-    pub fn close(self, order: &mut Order)
+    pub fn close(self, order: &mut Order<B>)
         requires { IfSome self.group (IsInHand order.old) }
         ensures { MatchOption self.group (order.new ≡ order.old) (λ group. order.new ≡ with_group order.old group) }
     {
@@ -71,6 +78,7 @@ impl Connections {
             flags: _,
             mode: _,
             states: _,
+            passes: _,
             group,
         } = self;
         if let Some(group) = group {
@@ -82,13 +90,13 @@ impl Connections {
 /// The connections of a rehearsal, and the log of what its steps did.
 ///
 /// A bench can't be let go, since a group may be in hand: it is spent by `close`.
-pub struct Bench {
+pub struct Bench<B: BoardName> {
     pub(crate) alloc: Global,
-    pub(crate) connections: Connections,
+    pub(crate) connections: Connections<B>,
     pub(crate) log: Vec<Event>,
 }
 
-impl Model for Bench {
+impl<B: BoardName> Model for Bench<B> {
     ghost use Rattle.request_core.specs.Bench.{BenchState};
 
     ghost Value = { BenchState };
@@ -96,19 +104,19 @@ impl Model for Bench {
     ghost view = { λ bench. record { connections = bench.connections; log = bench.log.items } };
 }
 
-impl Bench {
-    /// A bench of so many connections, none of which has sent a request.
+impl<B: BoardName> Bench<B> {
+    /// A bench of a connection for each pass, none of which has sent a request.
     pub fn new(
         alloc: Global,
-        count: usize,
+        passes: Vec<Pass<B>>,
         flags: SessionFlags,
         mode: Mode,
-    ) -> Result<Bench, AllocError>
-        ensures { IfOk result (λ bench. bench ≡ new_bench count flags mode) }
+    ) -> Result<Bench<B>, AllocError>
+        ensures { IfOk result (λ bench. bench ≡ new_bench (vec_len passes) flags mode) }
     {
         Ok(Bench {
             alloc,
-            connections: Connections::new(alloc, count, flags, mode)?,
+            connections: Connections::new(alloc, passes, flags, mode)?,
             log: Vec::new(alloc),
         })
     }
@@ -121,7 +129,7 @@ impl Bench {
     }
 
     /// Puts a group in hand back into the order, and gives the log.
-    pub fn close(self, order: &mut Order) -> Vec<Event>
+    pub fn close(self, order: &mut Order<B>) -> Vec<Event>
         requires { IfSome self.connections.group (IsInHand order.old) }
         ensures log { result.items ≡ self.log }
         ensures order { MatchOption self.connections.group (order.new ≡ order.old) (λ group. order.new ≡ with_group order.old group) }

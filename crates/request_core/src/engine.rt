@@ -21,13 +21,14 @@ use crate::turning::{clean, copy, finish, refused, rotate, write_map};
 use checkpoint::Keeper;
 use device_image::keeper_laws;
 use disk_model::Disk;
+use marks::{Board, BoardName, KeeperSeat};
 use nbd_wire::Request;
 use order_book::Order;
 use std::alloc::Global;
 use world::{Event, Step};
 use world_law::schedule_law;
 
-impl Connections {
+impl<B: BoardName> Connections<B> {
     /// A connection sends a request without a copy, where it has none open; else the request is let go.
     pub fn send(&mut self, connection: usize, request: Request) -> bool
         ensures sent { result ≡ is_idle (slice_index_or self.old.states connection Connection.Closed) }
@@ -41,12 +42,14 @@ impl Connections {
 ///
 /// A step whose condition doesn't hold changes nothing, but an `Append` of a group that doesn't fit the area puts it back. The
 /// order and the keeper have to be of images with as many blocks.
-pub fn take_step<D: Disk>(
+pub fn take_step<B: BoardName, D: Disk>(
     alloc: Global,
     step: &Step,
-    order: &mut Order,
+    order: &mut Order<B>,
     keeper: &mut Keeper<D>,
-    connections: &mut Connections,
+    board: &Board<B>,
+    seat: &mut KeeperSeat<B>,
+    connections: &mut Connections<B>,
 ) -> Event
     requires group { IfSome connections.old.group (IsInHand order.old) }
     requires blocks { length order.old.cache.states ≡ keeper.old.geometry.blocks }
@@ -55,6 +58,7 @@ pub fn take_step<D: Disk>(
     ensures geometry { keeper.new.geometry ≡ keeper.old.geometry }
     ensures extent { D.extent keeper.new.disk ≡ D.extent keeper.old.disk }
     ensures honest { D.honest keeper.new.disk ↔ D.honest keeper.old.disk }
+    ensures stored { seat.old.durable ≤ keeper.old.count → seat.new.durable ≤ keeper.new.count }
 
     // In each world that the parts are of the step leads to a next world, of which they then are; only what fails in it is free.
     ensures world { (world : World) (trusted : Bool) → IsExportOf world order.old keeper.old (D.faults keeper.old.disk) connections.old (Trusts trusted (D.honest keeper.old.disk)) (D.state keeper.old.disk)
@@ -62,7 +66,7 @@ pub fn take_step<D: Disk>(
         (Trusts trusted (D.honest keeper.new.disk)) (D.state keeper.old.disk) (D.state keeper.new.disk) }
 {
     schedule_law();
-    perform(alloc, step, order, keeper, connections)
+    perform(alloc, step, order, keeper, board, seat, connections)
 }
 
 /// Copies the next blocks of the first of several areas into data, at most `most`, that follow one another in both, in one
@@ -70,11 +74,11 @@ pub fn take_step<D: Disk>(
 ///
 /// Where it answers how many, these are as many steps `Copy`, in none of which anything fails; else it is one step `Copy`,
 /// whose event it gives.
-pub fn copy_some<D: Disk>(
+pub fn copy_some<B: BoardName, D: Disk>(
     most: u32,
-    order: &mut Order,
+    order: &mut Order<B>,
     keeper: &mut Keeper<D>,
-    connections: &mut Connections,
+    connections: &mut Connections<B>,
 ) -> Result<u32, Event>
     requires most { 1 ≤ most }
     requires group { IfSome connections.old.group (IsInHand order.old) }
@@ -84,6 +88,7 @@ pub fn copy_some<D: Disk>(
     ensures group { IfSome connections.new.group (IsInHand order.new) }
     ensures blocks { length order.new.cache.states ≡ length order.old.cache.states }
     ensures geometry { keeper.new.geometry ≡ keeper.old.geometry }
+    ensures count { keeper.new.count ≡ keeper.old.count }
     ensures extent { D.extent keeper.new.disk ≡ D.extent keeper.old.disk }
     ensures honest { D.honest keeper.new.disk ↔ D.honest keeper.old.disk }
     ensures world { (world : World) (trusted : Bool) → IsExportOf world order.old keeper.old (D.faults keeper.old.disk) connections.old (Trusts trusted (D.honest keeper.old.disk)) (D.state keeper.old.disk)
@@ -102,18 +107,21 @@ pub fn copy_some<D: Disk>(
 }
 
 // Carries out one step, and gives its event.
-fn perform<D: Disk>(
+fn perform<B: BoardName, D: Disk>(
     alloc: Global,
     step: &Step,
-    order: &mut Order,
+    order: &mut Order<B>,
     keeper: &mut Keeper<D>,
-    connections: &mut Connections,
+    board: &Board<B>,
+    seat: &mut KeeperSeat<B>,
+    connections: &mut Connections<B>,
 ) -> Event
     requires group { IfSome connections.old.group (IsInHand order.old) }
     requires blocks { length order.old.cache.states ≡ keeper.old.geometry.blocks }
     ensures group { IfSome connections.new.group (IsInHand order.new) }
     ensures blocks { length order.new.cache.states ≡ length order.old.cache.states }
     ensures geometry { keeper.new.geometry ≡ keeper.old.geometry }
+    ensures stored { seat.old.durable ≤ keeper.old.count → seat.new.durable ≤ keeper.new.count }
     ensures connections { (connections.new.flags ≡ connections.old.flags) × (connections.new.mode ≡ connections.old.mode) }
     ensures extent { D.extent keeper.new.disk ≡ D.extent keeper.old.disk }
     ensures honest { D.honest keeper.new.disk ↔ D.honest keeper.old.disk }
@@ -139,16 +147,18 @@ fn perform<D: Disk>(
         Step::Serve(connection) => serve(
             alloc,
             &mut connections.states,
+            &mut connections.passes,
             *connection,
             &mut connections.group,
             order,
             keeper,
+            board,
             terms,
         ),
         Step::Answer(connection) => answer(&mut connections.states, *connection, order),
         Step::Seal => seal(&mut connections.group, order),
         Step::Append => append(&mut connections.group, order, keeper),
-        Step::Publish => publish(order, keeper),
+        Step::Publish => publish(order, keeper, board, seat),
         Step::Rotate => rotate(&mut connections.group, order, keeper),
         Step::Copy => copy(&mut connections.group, order, keeper),
         Step::Map => write_map(&mut connections.group, order, keeper),

@@ -7,17 +7,20 @@ ghost use Rattle.order_book.specs.Shown.{ShowsImage};
 
 use checkpoint::Keeper;
 use disk_model::Disk;
+use marks::{BoardName, OrderSeat};
 use order_book::Order;
 use std::alloc::{AllocError, Global};
 
 /// The order with which the life of an opened device begins: over its map, with the number behind the last that it holds,
-/// and with so many frames.
-pub fn fresh_order<D: Disk>(
+/// where its board has opened, and with so many frames.
+pub fn fresh_order<B: BoardName, D: Disk>(
     alloc: Global,
     keeper: &Keeper<D>,
     frames: u32,
-) -> Result<Order, AllocError>
-    requires { frames ≤ 65536 }
+    seat: OrderSeat<B>,
+) -> Result<Order<B>, AllocError>
+    requires frames { frames ≤ 65536 }
+    requires seat { seat ≡ keeper.now.count }
     ensures order { IfOk result (λ order. (states : List Kind) × (length states ≡ keeper.now.geometry.blocks)
         × (order ≡ new_order states keeper.now.count frames keeper.now.geometry.area)) }
     ensures few { OnOk result (keeper.now.count < 18446744073709551616) }
@@ -26,5 +29,12 @@ pub fn fresh_order<D: Disk>(
     ensures image { (image : Image) → Holds keeper.now (D.state keeper.now.disk) image [] [] → IfOk result (λ order. ShowsImage image order.cache) }
 {
     let map = keeper.map(alloc)?;
-    Order::new(alloc, map, keeper.count(), frames, keeper.geometry().area)
+    Order::new(
+        alloc,
+        map,
+        keeper.count(),
+        frames,
+        keeper.geometry().area,
+        seat,
+    )
 }

@@ -9,15 +9,16 @@ use checkpoint::Keeper;
 use disk_model::Disk;
 use image_answers::{bytes_answer, read_runs, status_answer};
 use image_model::BLOCK_BYTES;
+use marks::BoardName;
 use nbd_wire::{Errno, Reply, RequestHead};
 use order_book::Order;
 use std::alloc::Global;
 
 // Serves a READ that passes judgement, over an order that isn't stopped. All memory is taken first.
-pub(crate) fn serve_read<D: Disk>(
+pub(crate) fn serve_read<B: BoardName, D: Disk>(
     alloc: Global,
     head: &RequestHead,
-    order: &mut Order,
+    order: &mut Order<B>,
     keeper: &mut Keeper<D>,
 ) -> Served
     requires kind { head.now.kind ≡ 0 }
@@ -30,6 +31,7 @@ pub(crate) fn serve_read<D: Disk>(
     requires device { length order.old.cache.states ≡ keeper.old.geometry.blocks }
     ensures read { IsReadServed D.state D.faults D.honest head.now order.old order.new keeper.old keeper.new result }
     ensures hit { (LacksBytes order.old.cache (head.now.offset / 4096) (head.now.length / 4096) → ⊥) → (order.new ≡ order.old) × (keeper.new ≡ keeper.old) }
+    ensures count { keeper.new.count ≡ keeper.old.count }
     ensures extent { D.extent keeper.new.disk ≡ D.extent keeper.old.disk }
     ensures honest { D.honest keeper.new.disk ↔ D.honest keeper.old.disk }
 {
@@ -51,7 +53,11 @@ pub(crate) fn serve_read<D: Disk>(
 }
 
 // Serves a BLOCK_STATUS that passes judgement, over an order that isn't stopped.
-pub(crate) fn serve_status(alloc: Global, head: &RequestHead, order: &Order) -> Served
+pub(crate) fn serve_status<B: BoardName>(
+    alloc: Global,
+    head: &RequestHead,
+    order: &Order<B>,
+) -> Served
     requires kind { head.now.kind ≢ 0 }
     requires some { 0 < head.now.length }
     requires from { head.now.offset % 4096 ≡ 0 }

@@ -11,6 +11,7 @@ use crate::bench::Bench;
 use crate::engine::take_step;
 use checkpoint::Keeper;
 use disk_model::Disk;
+use marks::{Board, BoardName, KeeperSeat};
 use order_book::Order;
 use std::alloc::AllocError;
 use world::{Event, Step};
@@ -21,11 +22,13 @@ use world_law::schedule_law;
 /// A step whose condition doesn't hold changes nothing, but an `Append` of a group that doesn't fit the area puts it
 /// back. The one refusal is 0, where the log can't grow: the steps before it are done and stand in the log, and the
 /// others changed nothing. The order and the keeper have to be of images with as many blocks.
-pub fn rehearse<D: Disk>(
+pub fn rehearse<B: BoardName, D: Disk>(
     steps: &[Step],
-    order: &mut Order,
+    order: &mut Order<B>,
     keeper: &mut Keeper<D>,
-    bench: &mut Bench,
+    board: &Board<B>,
+    seat: &mut KeeperSeat<B>,
+    bench: &mut Bench<B>,
 ) -> Result<(), AllocError>
     requires group { IfSome bench.old.connections.group (IsInHand order.old) }
     requires blocks { length order.old.cache.states ≡ keeper.old.geometry.blocks }
@@ -34,6 +37,7 @@ pub fn rehearse<D: Disk>(
     ensures geometry { keeper.new.geometry ≡ keeper.old.geometry }
     ensures extent { D.extent keeper.new.disk ≡ D.extent keeper.old.disk }
     ensures honest { D.honest keeper.new.disk ↔ D.honest keeper.old.disk }
+    ensures stored { seat.old.durable ≤ keeper.old.count → seat.new.durable ≤ keeper.new.count }
 
     // For each world that the parts are of: some first steps, at `Ok` all of them, lead to a next world that they are
     // then of, and the log is legal. On an honest device all that is covered is kept by every crash: what was covered at
@@ -45,17 +49,19 @@ pub fn rehearse<D: Disk>(
 {
     schedule_law();
     for step in steps {
-        carry_out(step, order, keeper, bench)?;
+        carry_out(step, order, keeper, board, seat, bench)?;
     }
     Ok(())
 }
 
 // Carries out one step, with room in the log made for its event first; where there is none nothing has changed.
-fn carry_out<D: Disk>(
+fn carry_out<B: BoardName, D: Disk>(
     step: &Step,
-    order: &mut Order,
+    order: &mut Order<B>,
     keeper: &mut Keeper<D>,
-    bench: &mut Bench,
+    board: &Board<B>,
+    seat: &mut KeeperSeat<B>,
+    bench: &mut Bench<B>,
 ) -> Result<(), AllocError>
     requires group { IfSome bench.old.connections.group (IsInHand order.old) }
     requires blocks { length order.old.cache.states ≡ keeper.old.geometry.blocks }
@@ -65,6 +71,7 @@ fn carry_out<D: Disk>(
     ensures err { OnErr result ((order.new ≡ order.old) × (keeper.new ≡ keeper.old) × (bench.new ≡ bench.old)) }
     ensures extent { D.extent keeper.new.disk ≡ D.extent keeper.old.disk }
     ensures honest { D.honest keeper.new.disk ↔ D.honest keeper.old.disk }
+    ensures stored { seat.old.durable ≤ keeper.old.count → seat.new.durable ≤ keeper.new.count }
     ensures world { (world : World) (trusted : Bool) → IsWorldOf world order.old keeper.old (D.faults keeper.old.disk) bench.old (Trusts trusted (D.honest keeper.old.disk)) (D.state keeper.old.disk)
         → OnOk result ((failure : Failure) × (event : Event) × (bench.new.log ≡ (after_step world step.now failure).log)
         × IsStepped world (after_step world step.now failure) event order.new keeper.new (D.faults keeper.new.disk) bench.new.connections
@@ -72,7 +79,15 @@ fn carry_out<D: Disk>(
 {
     let place = bench.log.len();
     bench.log.push(Event::Held)?;
-    let event = take_step(bench.alloc, step, order, keeper, &mut bench.connections);
+    let event = take_step(
+        bench.alloc,
+        step,
+        order,
+        keeper,
+        board,
+        seat,
+        &mut bench.connections,
+    );
     bench.log[place] = event;
     Ok(())
 }

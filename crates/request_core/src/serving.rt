@@ -7,7 +7,7 @@ ghost use Rattle.request_core.specs.Outcomes.{IsServedBy, IsServedWith};
 ghost use Rattle.request_core.specs.Parts.{AreConnectionsOf, IsKeeperOf, IsOrderOf};
 ghost use Rattle.request_core.specs.Steps.{IsAnyServed, IsAnyTalked, IsSure};
 ghost use Rattle.shared_cache.specs.Cache.{LacksBytes};
-ghost use Rattle.request_core.specs.Serving.{AreTermsOf, IsAnsweredBy, IsHandedBack, IsSentBy, IsWriteServed, answer_due, event_for, is_idle, ready_for, request_again, request_in, sent_state, served_after, state_of};
+ghost use Rattle.request_core.specs.Serving.{AreTermsOf, IsAnsweredBy, IsHandedBack, IsPassServed, IsSentBy, IsWriteServed, answer_due, event_for, is_idle, ready_for, request_again, request_in, sent_state, served_after, state_of};
 ghost use Rattle.world.specs.Log.{cleared_as, waits_for_store};
 ghost use Rattle.world.specs.Serve.{Failure, answer as answer_of, serve as serve_of};
 ghost use Rattle.world.specs.Step.{send as send_of};
@@ -25,6 +25,7 @@ use checkpoint::Keeper;
 use disk_model::Disk;
 use image_model::{BLOCK_BYTES, Command, Geometry, Kind};
 use journal::Group;
+use marks::{Board, BoardName, Pass};
 use nbd_wire::{
     Answer, BLOCK_STATUS, CommandFlags, DISCONNECT, Errno, FLUSH, READ, Reply, Request,
     RequestHead, SessionFlags, WRITE, WRITE_ZEROES,
@@ -73,6 +74,7 @@ fn is_idle(states: &[Connection], connection: usize) -> bool
 pub(crate) fn send_owned(states: &mut Vec<Connection>, connection: usize, request: Request) -> bool
     ensures sent { result ≡ is_idle (slice_index_or states.old.items connection Connection.Closed) }
     ensures states { states.new.items ≡ sent_state states.old.items connection request }
+    ensures size { vec_len states.new ≡ vec_len states.old }
 {
     if !is_idle(states, connection) {
         return false;
@@ -88,7 +90,8 @@ pub(crate) fn send(
     connection: usize,
     request: &Request,
 ) -> Event
-    ensures { IsSentBy states.old.items connection request.now states.new.items result }
+    ensures sent { IsSentBy states.old.items connection request.now states.new.items result }
+    ensures size { vec_len states.new ≡ vec_len states.old }
 {
     if !is_idle(states, connection) {
         return Event::Held;
@@ -101,21 +104,27 @@ pub(crate) fn send(
 }
 
 // Serves the request of a connection, where it has sent one that wasn't served yet.
-pub(crate) fn serve<D: Disk>(
+pub(crate) fn serve<B: BoardName, D: Disk>(
     alloc: Global,
     states: &mut Vec<Connection>,
+    passes: &mut Vec<Pass<B>>,
     connection: usize,
     hand: &mut Option<Group>,
-    order: &mut Order,
+    order: &mut Order<B>,
     keeper: &mut Keeper<D>,
+    board: &Board<B>,
     terms: Terms,
 ) -> Event
+    requires passes { vec_len passes.old ≡ vec_len states.old }
     requires hand { IfSome hand.old (IsInHand order.old) }
     requires blocks { length order.old.cache.states ≡ terms.geometry.blocks }
     requires device { terms.geometry ≡ keeper.old.geometry }
+    ensures size { vec_len states.new ≡ vec_len states.old }
+    ensures passes { vec_len passes.new ≡ vec_len passes.old }
     ensures hand { IfSome hand.new (IsInHand order.new) }
     ensures blocks { length order.new.cache.states ≡ length order.old.cache.states }
     ensures geometry { keeper.new.geometry ≡ keeper.old.geometry }
+    ensures count { keeper.new.count ≡ keeper.old.count }
     ensures extent { D.extent keeper.new.disk ≡ D.extent keeper.old.disk }
     ensures honest { D.honest keeper.new.disk ↔ D.honest keeper.old.disk }
     ensures world { (world : World) → IsWithin world → IsOrderOf world.stage order.old hand.old → IsKeeperOf world.stage keeper.old (D.faults keeper.old.disk)
@@ -127,7 +136,17 @@ pub(crate) fn serve<D: Disk>(
     let Some(request) = take_request(states, connection) else {
         return Event::Held;
     };
-    let (state, event) = serve_request(alloc, connection, request, hand, order, keeper, terms);
+    let (state, event) = serve_request(
+        alloc,
+        connection,
+        request,
+        hand,
+        order,
+        keeper,
+        board,
+        &mut passes[connection],
+        terms,
+    );
     states[connection] = state;
     event
 }
@@ -138,6 +157,7 @@ fn take_request(states: &mut Vec<Connection>, connection: usize) -> Option<Reque
     ensures within { IfSome result (λ request. connection < vec_len states.new) }
     ensures taken { IfSome result (λ request. states.new.items ≡ slice_set states.old.items connection Connection.Idle) }
     ensures none { IfNone result (states.new.items ≡ states.old.items) }
+    ensures size { vec_len states.new ≡ vec_len states.old }
 {
     if connection >= states.len() {
         return None;
@@ -152,13 +172,15 @@ fn take_request(states: &mut Vec<Connection>, connection: usize) -> Option<Reque
 }
 
 // What a connection comes to when its request is served, and the event.
-fn serve_request<D: Disk>(
+fn serve_request<B: BoardName, D: Disk>(
     alloc: Global,
     connection: usize,
     request: Request,
     hand: &mut Option<Group>,
-    order: &mut Order,
+    order: &mut Order<B>,
     keeper: &mut Keeper<D>,
+    board: &Board<B>,
+    pass: &mut Pass<B>,
     terms: Terms,
 ) -> (Connection, Event)
     requires hand { IfSome hand.old (IsInHand order.old) }
@@ -167,6 +189,7 @@ fn serve_request<D: Disk>(
     ensures hand { IfSome hand.new (IsInHand order.new) }
     ensures blocks { length order.new.cache.states ≡ length order.old.cache.states }
     ensures geometry { keeper.new.geometry ≡ keeper.old.geometry }
+    ensures count { keeper.new.count ≡ keeper.old.count }
     ensures extent { D.extent keeper.new.disk ≡ D.extent keeper.old.disk }
     ensures honest { D.honest keeper.new.disk ↔ D.honest keeper.old.disk }
     ensures world { (world : World) → IsWithin world → IsOrderOf world.stage order.old hand.old → IsKeeperOf world.stage keeper.old (D.faults keeper.old.disk)
@@ -179,18 +202,20 @@ fn serve_request<D: Disk>(
         return (Connection::Closed, Event::Took);
     }
     let before = order.mark();
-    let served = serve_or_stop(alloc, request, hand, order, keeper, terms);
+    let served = serve_or_stop(alloc, request, hand, order, keeper, board, pass, terms);
     let event = event_of(connection, before, order.mark(), &served);
     (state_of(served), event)
 }
 
 // Serves a request that isn't a DISC; where a call of the device fails in it the group in hand is pending again.
-fn serve_or_stop<D: Disk>(
+fn serve_or_stop<B: BoardName, D: Disk>(
     alloc: Global,
     request: Request,
     hand: &mut Option<Group>,
-    order: &mut Order,
+    order: &mut Order<B>,
     keeper: &mut Keeper<D>,
+    board: &Board<B>,
+    pass: &mut Pass<B>,
     terms: Terms,
 ) -> Served
     requires kind { request.head.kind ≢ 2 }
@@ -200,13 +225,14 @@ fn serve_or_stop<D: Disk>(
     ensures hand { IfSome hand.new (IsInHand order.new) }
     ensures blocks { length order.new.cache.states ≡ length order.old.cache.states }
     ensures geometry { keeper.new.geometry ≡ keeper.old.geometry }
+    ensures count { keeper.new.count ≡ keeper.old.count }
     ensures extent { D.extent keeper.new.disk ≡ D.extent keeper.old.disk }
     ensures honest { D.honest keeper.new.disk ↔ D.honest keeper.old.disk }
     ensures serves { (given : Result Action Errno) × (given ≡ verdict request.head terms.geometry terms.flags)
         × IsServedWith D.state D.faults D.honest given request terms.geometry terms.mode order.old order.new keeper.old keeper.new hand.old hand.new result }
 {
     let works = !order.stopped();
-    let served = serve_held(alloc, request, order, keeper, terms);
+    let served = serve_held(alloc, request, order, keeper, board, pass, terms);
     if works && order.stopped() {
         stop(hand, order);
     }
@@ -242,11 +268,13 @@ fn state_of(served: Served) -> Connection
 ///
 /// A write command for which there is no room comes back. The device is asked by a READ alone, for blocks that aren't in
 /// memory; where a call of it fails the order is stopped, and a group in hand is the caller's to put back.
-pub fn serve_held<D: Disk>(
+pub fn serve_held<B: BoardName, D: Disk>(
     alloc: Global,
     request: Request,
-    order: &mut Order,
+    order: &mut Order<B>,
     keeper: &mut Keeper<D>,
+    board: &Board<B>,
+    pass: &mut Pass<B>,
     terms: Terms,
 ) -> Served
     requires kind { request.head.kind ≢ 2 }
@@ -254,6 +282,7 @@ pub fn serve_held<D: Disk>(
     requires device { terms.geometry ≡ keeper.old.geometry }
     ensures blocks { length order.new.cache.states ≡ length order.old.cache.states }
     ensures geometry { keeper.new.geometry ≡ keeper.old.geometry }
+    ensures count { keeper.new.count ≡ keeper.old.count }
     ensures extent { D.extent keeper.new.disk ≡ D.extent keeper.old.disk }
     ensures honest { D.honest keeper.new.disk ↔ D.honest keeper.old.disk }
     ensures serves { (given : Result Action Errno) × (given ≡ verdict request.head terms.geometry terms.flags)
@@ -261,18 +290,20 @@ pub fn serve_held<D: Disk>(
 
     // A READ of blocks that are all in memory doesn't ask the device.
     ensures hit { request.head.kind ≡ 0 → (LacksBytes order.old.cache (request.head.offset / 4096) (request.head.length / 4096) → ⊥) → (order.new ≡ order.old) × (keeper.new ≡ keeper.old) }
+
+    // What the pass knows then: a command's number is above all that it knew, and a FLUSH waits for no less than that.
+    ensures pass { IsPassServed request order.old.mark order.new.mark result pass.old pass.new }
 {
     let head = request.head();
-    let last = order.mark();
     match judge(&head, &terms.geometry, &terms.flags) {
         Ok(Action::End) => unreachable!(),
         Err(errno) => refused(head.cookie, errno),
         Ok(Action::Serve) if order.stopped() => refused(head.cookie, Errno::Io),
-        Ok(Action::Serve) if head.kind == FLUSH => Served::Wait(last),
+        Ok(Action::Serve) if head.kind == FLUSH => Served::Wait(order.show_mark(board, pass)),
         Ok(Action::Serve) if head.kind == READ => serve_read(alloc, &head, order, keeper),
         Ok(Action::Serve) if head.kind == BLOCK_STATUS => serve_status(alloc, &head, order),
-        Ok(Action::Serve) if head.kind == WRITE => serve_put(request, order, terms),
-        Ok(Action::Serve) => serve_clear(request, order, terms),
+        Ok(Action::Serve) if head.kind == WRITE => serve_put(request, order, board, pass, terms),
+        Ok(Action::Serve) => serve_clear(request, order, board, pass, terms),
     }
 }
 
@@ -286,21 +317,27 @@ pub(crate) fn refused(cookie: u64, errno: Errno) -> Served
 }
 
 // Gives a WRITE that passes judgement its place in the order, which isn't stopped.
-fn serve_put(request: Request, order: &mut Order, terms: Terms) -> Served
+fn serve_put<B: BoardName>(
+    request: Request,
+    order: &mut Order<B>,
+    board: &Board<B>,
+    pass: &mut Pass<B>,
+    terms: Terms,
+) -> Served
     requires kind { request.head.kind ≡ 1 }
     requires write { IsServedRange request.head terms.geometry }
     requires works { order.old.stopped ≡ false }
-    requires fits { order.old.mark < 18446744073709551616 }
     requires blocks { length order.old.cache.states ≡ terms.geometry.blocks }
     ensures blocks { length order.new.cache.states ≡ length order.old.cache.states }
     ensures served { IsWriteServed request terms.geometry terms.mode order.old order.new result }
+    ensures pass { IsPassServed request order.old.mark order.new.mark result pass.old pass.new }
 {
     let (head, bytes) = request.into_parts();
     let command = Command::Put {
         first: head.offset / BLOCK_BYTES,
         bytes,
     };
-    match order.accept(command) {
+    match order.accept(board, pass, command) {
         Ok(number) => accepted(&head, terms.mode, number),
         Err((OrderFault::NoRoom, command)) => returned(head, command),
         Err((OrderFault::NoMemory, _)) => refused(head.cookie, Errno::NoMemory),
@@ -310,14 +347,21 @@ fn serve_put(request: Request, order: &mut Order, terms: Terms) -> Served
 }
 
 // Gives a TRIM or a WRITE_ZEROES that passes judgement its place in the order, which isn't stopped.
-fn serve_clear(request: Request, order: &mut Order, terms: Terms) -> Served
+fn serve_clear<B: BoardName>(
+    request: Request,
+    order: &mut Order<B>,
+    board: &Board<B>,
+    pass: &mut Pass<B>,
+    terms: Terms,
+) -> Served
     requires kind { request.head.kind ≢ 1 }
+    requires other { request.head.kind ≢ 3 }
     requires write { IsServedRange request.head terms.geometry }
     requires works { order.old.stopped ≡ false }
-    requires fits { order.old.mark < 18446744073709551616 }
     requires blocks { length order.old.cache.states ≡ terms.geometry.blocks }
     ensures blocks { length order.new.cache.states ≡ length order.old.cache.states }
     ensures served { IsWriteServed request terms.geometry terms.mode order.old order.new result }
+    ensures pass { IsPassServed request order.old.mark order.new.mark result pass.old pass.new }
 {
     let head = request.head();
     let cookie = head.cookie;
@@ -326,7 +370,7 @@ fn serve_clear(request: Request, order: &mut Order, terms: Terms) -> Served
         blocks: head.length / BLOCK_BYTES as u32,
         kind: cleared_as(&head),
     };
-    match order.accept(command) {
+    match order.accept(board, pass, command) {
         Ok(number) => accepted(&head, terms.mode, number),
         Err((OrderFault::NoRoom, _)) => Served::NoRoom(request),
         Err((OrderFault::NoMemory, _)) => refused(cookie, Errno::NoMemory),
@@ -384,8 +428,13 @@ fn returned(head: RequestHead, command: Command) -> Served
 }
 
 // Answers a connection to which an answer is due.
-pub(crate) fn answer(states: &mut Vec<Connection>, connection: usize, order: &Order) -> Event
-    ensures { IsAnsweredBy order.now.durable order.now.stopped states.old.items connection states.new.items result }
+pub(crate) fn answer<B: BoardName>(
+    states: &mut Vec<Connection>,
+    connection: usize,
+    order: &Order<B>,
+) -> Event
+    ensures answered { IsAnsweredBy order.now.durable order.now.stopped states.old.items connection states.new.items result }
+    ensures size { vec_len states.new ≡ vec_len states.old }
 {
     if connection >= states.len() {
         return Event::Held;
@@ -403,7 +452,7 @@ pub(crate) fn answer(states: &mut Vec<Connection>, connection: usize, order: &Or
 }
 
 // The answer that is due to a connection, or where none is its state again.
-fn due(state: Connection, order: &Order) -> Result<Answer, Connection>
+fn due<B: BoardName>(state: Connection, order: &Order<B>) -> Result<Answer, Connection>
     ensures { result ≡ answer_due order.now.durable order.now.stopped state }
 {
     match state {

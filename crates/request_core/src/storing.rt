@@ -1,4 +1,4 @@
-ghost use Rattle.std.specs.Prelude.{◌≡◌, ◌↔◌, None, Some, IfSome, length};
+ghost use Rattle.std.specs.Prelude.{◌≡◌, ◌≤◌, ◌↔◌, None, Some, IfSome, length};
 ghost use Rattle.request_core.specs.Steps.{IsAppended};
 ghost use Rattle.request_core.specs.Parts.{IsKeeperOf, IsOrderOf};
 ghost use Rattle.request_core.specs.Storing.{PublishesBy, SealsBy, event_of, hand_after, order_after};
@@ -13,6 +13,7 @@ use checkpoint::{Keeper, KeeperFault};
 use device_image::keeper_laws;
 use disk_model::Disk;
 use journal::Group;
+use marks::{Board, BoardName, KeeperSeat};
 use order_book::Order;
 use std::mem;
 use world::{Event, StepFault};
@@ -27,7 +28,7 @@ fn hold(hand: &mut Option<Group>, group: Group)
 }
 
 // Takes the longest beginning of what is pending as the group in hand.
-pub(crate) fn seal(hand: &mut Option<Group>, order: &mut Order) -> Event
+pub(crate) fn seal<B: BoardName>(hand: &mut Option<Group>, order: &mut Order<B>) -> Event
     requires { IfSome hand.old (IsInHand order.old) }
     ensures hand { IfSome hand.new (IsInHand order.new) }
     ensures blocks { length order.new.cache.states ≡ length order.old.cache.states }
@@ -49,9 +50,9 @@ pub(crate) fn seal(hand: &mut Option<Group>, order: &mut Order) -> Event
 
 // Stores the group in hand. Where memory is refused it stays in hand; where it doesn't fit, and where the device fails
 // or has failed, it is pending again.
-pub(crate) fn append<D: Disk>(
+pub(crate) fn append<B: BoardName, D: Disk>(
     hand: &mut Option<Group>,
-    order: &mut Order,
+    order: &mut Order<B>,
     keeper: &mut Keeper<D>,
 ) -> Event
     requires { IfSome hand.old (IsInHand order.old) }
@@ -59,6 +60,7 @@ pub(crate) fn append<D: Disk>(
     ensures blocks { length order.new.cache.states ≡ length order.old.cache.states }
     ensures cache { order.new.cache ≡ order.old.cache }
     ensures geometry { keeper.new.geometry ≡ keeper.old.geometry }
+    ensures count { keeper.old.count ≤ keeper.new.count }
     ensures extent { D.extent keeper.new.disk ≡ D.extent keeper.old.disk }
     ensures honest { D.honest keeper.new.disk ↔ D.honest keeper.old.disk }
     ensures world { (world : World) → IsWithin world → IsOrderOf world.stage order.old hand.old
@@ -78,7 +80,12 @@ pub(crate) fn append<D: Disk>(
 
 // Takes back a group that the keeper refused: where memory was refused it stays in hand, else it is pending again, and
 // after a device fault the order is stopped.
-fn give_back(hand: &mut Option<Group>, order: &mut Order, fault: KeeperFault, group: Group) -> Event
+fn give_back<B: BoardName>(
+    hand: &mut Option<Group>,
+    order: &mut Order<B>,
+    fault: KeeperFault,
+    group: Group,
+) -> Event
     requires empty { hand.old ≡ None }
     requires group { IsInHand order.old group }
     ensures event { result ≡ event_of fault }
@@ -113,16 +120,22 @@ fn give_back(hand: &mut Option<Group>, order: &mut Order, fault: KeeperFault, gr
     }
 }
 
-// Makes durable what is stored.
-pub(crate) fn publish<D: Disk>(order: &mut Order, keeper: &Keeper<D>) -> Event
+// Makes durable what is stored, on the board too.
+pub(crate) fn publish<B: BoardName, D: Disk>(
+    order: &mut Order<B>,
+    keeper: &Keeper<D>,
+    board: &Board<B>,
+    seat: &mut KeeperSeat<B>,
+) -> Event
     ensures hand { IsSameHand order.old order.new }
     ensures blocks { length order.new.cache.states ≡ length order.old.cache.states }
     ensures cache { order.new.cache ≡ order.old.cache }
     ensures publishes { PublishesBy keeper.now.count order.old order.new result }
+    ensures stored { seat.old.durable ≤ keeper.now.count → seat.new.durable ≤ keeper.now.count }
 {
     if order.durable() >= keeper.count() {
         return Event::Held;
     }
-    order.publish(keeper);
+    order.publish(board, seat, keeper);
     Event::Took
 }

@@ -16,13 +16,14 @@ use checkpoint::{Keeper, KeeperFault};
 use device_image::keeper_laws;
 use disk_model::Disk;
 use journal::Group;
+use marks::BoardName;
 use order_book::Order;
 use world::{Event, StepFault};
 
 // Takes the next area into use.
-pub(crate) fn rotate<D: Disk>(
+pub(crate) fn rotate<B: BoardName, D: Disk>(
     hand: &mut Option<Group>,
-    order: &mut Order,
+    order: &mut Order<B>,
     keeper: &mut Keeper<D>,
 ) -> Event
     requires { IfSome hand.old (IsInHand order.old) }
@@ -30,6 +31,7 @@ pub(crate) fn rotate<D: Disk>(
     ensures blocks { length order.new.cache.states ≡ length order.old.cache.states }
     ensures cache { order.new.cache ≡ order.old.cache }
     ensures geometry { keeper.new.geometry ≡ keeper.old.geometry }
+    ensures count { keeper.new.count ≡ keeper.old.count }
     ensures extent { D.extent keeper.new.disk ≡ D.extent keeper.old.disk }
     ensures honest { D.honest keeper.new.disk ↔ D.honest keeper.old.disk }
     ensures world { (world : World) → IsWithin world → IsOrderOf world.stage order.old hand.old
@@ -45,9 +47,9 @@ pub(crate) fn rotate<D: Disk>(
 }
 
 // Copies one block of the first of several areas into data.
-pub(crate) fn copy<D: Disk>(
+pub(crate) fn copy<B: BoardName, D: Disk>(
     hand: &mut Option<Group>,
-    order: &mut Order,
+    order: &mut Order<B>,
     keeper: &mut Keeper<D>,
 ) -> Event
     requires { IfSome hand.old (IsInHand order.old) }
@@ -55,6 +57,7 @@ pub(crate) fn copy<D: Disk>(
     ensures blocks { length order.new.cache.states ≡ length order.old.cache.states }
     ensures cache { order.new.cache ≡ order.old.cache }
     ensures geometry { keeper.new.geometry ≡ keeper.old.geometry }
+    ensures count { keeper.new.count ≡ keeper.old.count }
     ensures extent { D.extent keeper.new.disk ≡ D.extent keeper.old.disk }
     ensures honest { D.honest keeper.new.disk ↔ D.honest keeper.old.disk }
     ensures world { (world : World) → IsWithin world → IsOrderOf world.stage order.old hand.old
@@ -70,9 +73,9 @@ pub(crate) fn copy<D: Disk>(
 }
 
 // Writes the map after the first of several areas.
-pub(crate) fn write_map<D: Disk>(
+pub(crate) fn write_map<B: BoardName, D: Disk>(
     hand: &mut Option<Group>,
-    order: &mut Order,
+    order: &mut Order<B>,
     keeper: &mut Keeper<D>,
 ) -> Event
     requires { IfSome hand.old (IsInHand order.old) }
@@ -80,6 +83,7 @@ pub(crate) fn write_map<D: Disk>(
     ensures blocks { length order.new.cache.states ≡ length order.old.cache.states }
     ensures cache { order.new.cache ≡ order.old.cache }
     ensures geometry { keeper.new.geometry ≡ keeper.old.geometry }
+    ensures count { keeper.new.count ≡ keeper.old.count }
     ensures extent { D.extent keeper.new.disk ≡ D.extent keeper.old.disk }
     ensures honest { D.honest keeper.new.disk ↔ D.honest keeper.old.disk }
     ensures world { (world : World) → IsWithin world → IsOrderOf world.stage order.old hand.old
@@ -95,9 +99,9 @@ pub(crate) fn write_map<D: Disk>(
 }
 
 // Lets the first of several areas go.
-pub(crate) fn finish<D: Disk>(
+pub(crate) fn finish<B: BoardName, D: Disk>(
     hand: &mut Option<Group>,
-    order: &mut Order,
+    order: &mut Order<B>,
     keeper: &mut Keeper<D>,
 ) -> Event
     requires { IfSome hand.old (IsInHand order.old) }
@@ -105,6 +109,7 @@ pub(crate) fn finish<D: Disk>(
     ensures blocks { length order.new.cache.states ≡ length order.old.cache.states }
     ensures cache { order.new.cache ≡ order.old.cache }
     ensures geometry { keeper.new.geometry ≡ keeper.old.geometry }
+    ensures count { keeper.new.count ≡ keeper.old.count }
     ensures extent { D.extent keeper.new.disk ≡ D.extent keeper.old.disk }
     ensures honest { D.honest keeper.new.disk ↔ D.honest keeper.old.disk }
     ensures world { (world : World) → IsWithin world → IsOrderOf world.stage order.old hand.old
@@ -120,7 +125,11 @@ pub(crate) fn finish<D: Disk>(
 }
 
 // The event of a step that the keeper refused. A fault of the device stops the order, and a group in hand is pending again.
-pub(crate) fn refused(hand: &mut Option<Group>, order: &mut Order, fault: KeeperFault) -> Event
+pub(crate) fn refused<B: BoardName>(
+    hand: &mut Option<Group>,
+    order: &mut Order<B>,
+    fault: KeeperFault,
+) -> Event
     requires { IfSome hand.old (IsInHand order.old) }
     ensures event { result ≡ step_event fault }
     ensures order { order.new ≡ order_refused fault hand.old order.old }
@@ -146,7 +155,7 @@ pub(crate) fn refused(hand: &mut Option<Group>, order: &mut Order, fault: Keeper
 }
 
 // Stops the order, with a group in hand put back.
-pub(crate) fn stop(hand: &mut Option<Group>, order: &mut Order)
+pub(crate) fn stop<B: BoardName>(hand: &mut Option<Group>, order: &mut Order<B>)
     requires { IfSome hand.old (IsInHand order.old) }
     ensures order { order.new ≡ stopped_with hand.old order.old }
     ensures cache { order.new.cache ≡ order.old.cache }
@@ -162,7 +171,7 @@ pub(crate) fn stop(hand: &mut Option<Group>, order: &mut Order)
 }
 
 // Lets go of the frames of dirty blocks that map and data hold.
-pub(crate) fn clean<D: Disk>(order: &mut Order, keeper: &Keeper<D>) -> Event
+pub(crate) fn clean<B: BoardName, D: Disk>(order: &mut Order<B>, keeper: &Keeper<D>) -> Event
     ensures hand { IsSameHand order.old order.new }
     ensures blocks { length order.new.cache.states ≡ length order.old.cache.states }
     ensures image { (image : Image) → ShowsImage image order.old.cache → ShowsImage image order.new.cache }

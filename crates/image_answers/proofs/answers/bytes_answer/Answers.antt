@@ -11,7 +11,7 @@ use Rattle.image_answers.proofs.Parts.{count_all, joined_all, parts_all, runs_sa
 use Rattle.image_answers.proofs.answers.bytes_answer.Goals as goal
 
 pub new-requires : goal.new-requires
-new-requires c =
+new-requires g c =
     let head = c.args.head.now in
     let states = c.args.order.now.cache.states in
     let status : ℕ → ℕ = λ b. read_status_of (state_at states b) in
@@ -39,7 +39,7 @@ new-requires c =
     }
 
 pub returns : goal.returns
-returns c = λ image kinds bytes.
+returns g c = λ image kinds bytes.
     let head = c.args.head.now in
     let first = head.offset / 4096 in
     let count = head.length / 4096 in

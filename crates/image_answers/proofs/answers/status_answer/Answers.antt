@@ -10,10 +10,10 @@ use Rattle.image_answers.proofs.Parts.{none_empty, some_empty, some_runs, taken}
 use Rattle.image_answers.proofs.answers.status_answer.Goals as goal
 
 pub status_runs-requires-clause-fits : goal.status_runs-requires-clause-fits
-status_runs-requires-clause-fits c = let few = c.requires.few in let inside = c.requires.inside in omega (arith, few, inside)
+status_runs-requires-clause-fits g c = let few = c.requires.few in let inside = c.requires.inside in omega (arith, few, inside)
 
 pub new-requires : goal.new-requires
-new-requires c =
+new-requires g c =
     let head = c.args.head.now in
     let some = c.requires.some in
     let whole = c.requires.whole in

@@ -8,7 +8,7 @@ use Rattle.image_answers.proofs.runs.read_runs.Goals as goal
 use Rattle.image_answers.proofs.runs.read_runs.Goals.{then-status-last, else-status-last+in_ok-push}
 
 pub loop-block-init : goal.loop-block-init
-loop-block-init c =
+loop-block-init g c =
     let status : ℕ → ℕ = λ b. read_status_of (state_at c.args.order.now.cache.states b) in
     let first = c.args.first in
     let one : 1 ≡ first + 1 - first = omega arith in (
@@ -21,7 +21,7 @@ loop-block-init c =
     )
 
 pub loop-block-preserved : goal.loop-block-preserved
-loop-block-preserved c = elim c.if-status-last.branch [
+loop-block-preserved g c = elim c.if-status-last.branch [
   | then-status-last w ↦ (
     omega (arith, before),
     let same = ap (λ (run : Run). run.length) w.last-is in omega (arith, before, most, same),

@@ -12,24 +12,24 @@ use Rattle.image_answers.proofs.Stretches.{as_run, first_runs, one_within, runs_
 use Rattle.image_answers.proofs.runs.status_runs.Goals as goal
 
 pub loop-run-init : goal.loop-run-init
-loop-run-init c = c.new-runs.ensures.items
+loop-run-init g c = c.new-runs.ensures.items
 
 pub overflow_cast-run : goal.overflow_cast-run
-overflow_cast-run c =
+overflow_cast-run g c =
     let few = c.requires.few in
     let found = subst (AreRuns c.args.order.now.cache.states c.args.first (c.args.first + c.args.blocks) c.args.limit) (sym c.deref-run-items.ensures.value) c.in_ok-found.ensures in
     let most = one_within (c.args.first + c.args.blocks - c.args.first) c.deref-run-items.result.now c.loop-run.run-index (record { blocks = 0; kind = Data }) (runs_within _ _ _ _ _ found) c.loop-run-test.true in
     omega (arith, few, most)
 
 pub overflow_mul-run : goal.overflow_mul-run
-overflow_mul-run c =
+overflow_mul-run g c =
     let few = c.requires.few in
     let found = subst (AreRuns c.args.order.now.cache.states c.args.first (c.args.first + c.args.blocks) c.args.limit) (sym c.deref-run-items.ensures.value) c.in_ok-found.ensures in
     let most = one_within (c.args.first + c.args.blocks - c.args.first) c.deref-run-items.result.now c.loop-run.run-index (record { blocks = 0; kind = Data }) (runs_within _ _ _ _ _ found) c.loop-run-test.true in
     omega (arith, few, most)
 
 pub loop-run-preserved : goal.loop-run-preserved
-loop-run-preserved c =
+loop-run-preserved g c =
     let found = c.deref-run-items.result.now in
     let i = c.loop-run.run-index in
     let this = get_or found i (record { blocks = 0; kind = Data }) in
@@ -42,7 +42,7 @@ loop-run-preserved c =
     ∙ ap (λ (n : ℕ). map as_run (take n found)) (sym next)
 
 pub returns : goal.returns
-returns c =
+returns g c =
     let found = c.deref-run-items.result.now in
     let i = c.loop-run.run-index in
     let past = c.loop-run-test.false in

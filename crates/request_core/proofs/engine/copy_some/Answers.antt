@@ -1,10 +1,8 @@
-use Rattle.std.proofs.Common.{◌≡◌, ℕ, ◌-◌, ◌<◌, ◌≤◌, true, false, List, [], ◌∷◌, Option, Some, None, Ok, Err, Result, refl, sym, ◌∙◌, ap, subst, arith}
+use Rattle.std.proofs.Common.{◌≤◌, [], ◌∷◌, Option, refl, sym, ◌∙◌, ap, subst, arith}
 use Rattle.checkpoint.specs.Steps.{IsCopyTime, left_in}
-use Rattle.checkpoint.specs.declared.fault.KeeperFault.{KeeperFault}
 use Rattle.checkpoint.specs.declared.fault.KeeperFault.TheVariants as fault
 use Rattle.device_image.specs.Keeper.{Phase}
 use Rattle.journal.specs.Group.{Numbered}
-use Rattle.order_book.specs.Order.{OrderState}
 use Rattle.request_core.specs.Bench.{ConnectionsState}
 use Rattle.request_core.specs.Life.{Trusts}
 use Rattle.request_core.specs.Parts.{AreConnectionsOf}
@@ -15,7 +13,7 @@ use Rattle.request_core.proofs.Runs.{stepped, trusted_honest, trusts_as}
 use Rattle.request_core.proofs.Steady.{shows_still, steady_copy}
 use Rattle.request_core.proofs.Stored.{not_true_is}
 use Rattle.request_core.proofs.Times.{copying_is}
-use Rattle.request_core.proofs.Turns.{as_told, copied_leaves, copy_refused, count_unlike, not_false}
+use Rattle.request_core.proofs.Turns.{as_told, copied_leaves, copy_refused, count_unlike}
 use Rattle.world.specs.Step.{after_step, copy_block}
 use Rattle.world.specs.declared.step.Step.TheVariants.{Copy}
 use Rattle.request_core.proofs.engine.copy_some.Goals as goal

@@ -24,7 +24,7 @@ returns-in-Send-clause-world g c = λ world within of kept are flags mode sure.
     let here = subst (AreConnectionsOf world) (sym (ap (λ (b : ConnectionsState). b.states) view)) are in
     let hand = subst (λ (group : Option Numbered). IsOrderOf world.stage order group) (sym (ap (λ (b : ConnectionsState). b.group) view)) of in
     let bench : ConnectionsState = record { flags = inside.flags; mode = inside.mode; states = c.send.new.states.items; group = c.connections.inside.group } in
-    let talked = talked_send world items c.send.new.states.items c.in-Send.connection c.send.result order inside.group hand here c.in-Send.request c.send.ensures in (
+    let talked = talked_send world items c.send.new.states.items c.in-Send.connection c.send.result order inside.group hand here c.in-Send.request c.send.ensures.sent in (
       talked.0,
       of_step talked.0 c.args.step.now (steps.Send c.in-Send.connection c.in-Send.request) c.in-Send.is
           (performed_talked (g.D.Disk.extent keeper.disk) (g.D.Disk.honest keeper.disk) (g.D.Disk.state keeper.disk) (g.met.D.Disk.sound keeper.disk) world keeper faults within
@@ -68,7 +68,7 @@ returns-in-Answer-clause-world g c = λ world within of kept are flags mode sure
     let here = subst (AreConnectionsOf world) (sym (ap (λ (b : ConnectionsState). b.states) view)) are in
     let hand = subst (λ (group : Option Numbered). IsOrderOf world.stage order group) (sym (ap (λ (b : ConnectionsState). b.group) view)) of in
     let bench : ConnectionsState = record { flags = inside.flags; mode = inside.mode; states = c.answer.new.states.items; group = c.connections.inside.group } in
-    let talked = talked_answer world items c.answer.new.states.items c.in-Answer.connection c.answer.result order inside.group hand here c.answer.ensures in (
+    let talked = talked_answer world items c.answer.new.states.items c.in-Answer.connection c.answer.result order inside.group hand here c.answer.ensures.answered in (
       Nothing,
       of_step Nothing c.args.step.now (steps.Answer c.in-Answer.connection) c.in-Answer.is
           (performed_talked (g.D.Disk.extent keeper.disk) (g.D.Disk.honest keeper.disk) (g.D.Disk.state keeper.disk) (g.met.D.Disk.sound keeper.disk) world keeper faults within

@@ -1,4 +1,4 @@
-use Rattle.std.proofs.Common.{◌≡◌, ◌≢◌, ◌+◌, ◌-◌, ◌*◌, ◌/◌, ◌<◌, ℕ, zero, suc, inl, inr, Option, Some, List, ◌++◌, drop, take, get_or, length, replicate, sym, ◌∙◌, ap, subst, refl, arith}
+use Rattle.std.proofs.Common.{◌≡◌, ◌≢◌, ◌+◌, ◌-◌, ◌*◌, ◌/◌, ℕ, zero, suc, inl, inr, Option, Some, List, ◌++◌, drop, take, get_or, length, replicate, sym, ◌∙◌, ap, subst, refl, arith}
 use Rattle.std.proofs.lemmas.List.{take_at}
 use Rattle.alloc_map.specs.Codes.{state_at}
 use Rattle.image_model.specs.Image.{Image}

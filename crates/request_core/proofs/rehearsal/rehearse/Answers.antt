@@ -19,6 +19,7 @@ loop-step-init g c =
       geometry = refl;
       extent = refl;
       honest = (λ is. is, λ is. is);
+      stored = λ is. is;
       world = λ world trusted of. (
         world,
         of.log,
@@ -42,6 +43,7 @@ loop-step-preserved g c =
       geometry = c.carry_out.ensures.geometry ∙ c.loop-step.invariant.geometry;
       extent = c.carry_out.ensures.extent ∙ c.loop-step.invariant.extent;
       honest = (λ is. c.loop-step.invariant.honest.0 (c.carry_out.ensures.honest.0 is), λ is. c.carry_out.ensures.honest.1 (c.loop-step.invariant.honest.1 is));
+      stored = λ is. c.carry_out.ensures.stored (c.loop-step.invariant.stored is);
       world = λ world trusted of.
           let here = c.loop-step.invariant.world world trusted of in
           let next = here.0 in

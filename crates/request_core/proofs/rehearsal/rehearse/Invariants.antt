@@ -1,4 +1,4 @@
-use Rattle.std.proofs.Common.{◌≡◌, Bool, IfSome, ◌↔◌, length, take}
+use Rattle.std.proofs.Common.{◌≡◌, ◌≤◌, Bool, IfSome, ◌↔◌, length, take}
 use Rattle.order_book.specs.Order.{IsInHand}
 use Rattle.request_core.specs.Life.{Leads, Trusts}
 use Rattle.request_core.specs.Parts.{IsWorldOf}
@@ -15,6 +15,7 @@ invariant-loop-step g l =
       geometry : l.keeper.geometry ≡ l.fn.keeper.geometry;
       extent : disk.extent l.keeper.disk ≡ disk.extent l.fn.keeper.disk;
       honest : disk.honest l.keeper.disk ↔ disk.honest l.fn.keeper.disk;
+      stored : l.fn.seat.durable ≤ l.fn.keeper.count → l.seat.durable ≤ l.keeper.count;
       world : (world : World) (trusted : Bool) → IsWorldOf world l.fn.order l.fn.keeper (disk.faults l.fn.keeper.disk) l.fn.bench (Trusts trusted (disk.honest l.fn.keeper.disk)) (disk.state l.fn.keeper.disk)
           → (next : World) × (l.bench.log ≡ next.log) × Leads world next (take l.step-index l.steps) l.order l.keeper (disk.faults l.keeper.disk) l.bench.connections
           (Trusts trusted (disk.honest l.keeper.disk)) (disk.state l.fn.keeper.disk) (disk.state l.keeper.disk);

@@ -4,8 +4,8 @@ use Rattle.request_core.proofs.Talks.{answered_none}
 use Rattle.world.specs.declared.connection.Connection.TheVariants.{Closed}
 use Rattle.request_core.proofs.serving.answer.Goals as goal
 
-pub returns-in-Err : goal.returns-in-Err
-returns-in-Err c =
+pub returns-in-Err-clause-answered : goal.returns-in-Err-clause-answered
+returns-in-Err-clause-answered g c =
     let items = c.args.states.now.items in
     let place = c.args.connection in
     let below : place < length items = omega arith in

@@ -49,6 +49,12 @@ module _ {D : Type 0} (state : D → State) (faults : D → ℕ) (honest : D →
       still_in_hand old new hand (ap (λ (o : OrderState). o.sealed) unread.order) (ap (λ (o : OrderState). o.in_hand) unread.order) was
   served_in_hand (Err errno) by = same_order by.1
 
+pub stop-requires : goal.stop-requires
+stop-requires g c =
+    let (given, given_is, by) = c.serve_held-served.ensures.serves in
+    served_in_hand g.D.Disk.state g.D.Disk.faults g.D.Disk.honest c.args.request c.args.terms.geometry c.args.terms.mode c.args.order.now c.serve_held-served.new.order
+    c.args.keeper.now c.serve_held-served.new.keeper c.serve_held-served.result c.args.hand.now c.requires.hand given by
+
 pub returns-else-works-clause-hand : goal.returns-else-works-clause-hand
 returns-else-works-clause-hand g c =
     let (given, given_is, by) = c.serve_held-served.ensures.serves in

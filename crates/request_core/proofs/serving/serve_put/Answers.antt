@@ -18,7 +18,7 @@ use Rattle.world.specs.Verdict.{IsServedRange}
 
 -- the command is one of the export's image, of as many blocks as the length says
 pub accept-requires : goal.accept-requires
-accept-requires c =
+accept-requires g c =
     let served = c.requires.write in
     let offset = ap (λ (head : RequestHead). head.offset) c.into_parts-bytes.ensures.head in
     let most = served.most_written c.requires.kind in
@@ -34,7 +34,7 @@ module _ (request : Message) (head : RequestHead) (bytes : Vec ℕ) (kind : requ
   own_change geometry served whole = put_change request geometry kind served (sym (ap length bytes_is) ∙ (sym bytes.ok.0 ∙ whole))
 
 pub returns-in-Ok-clause-served : goal.returns-in-Ok-clause-served
-returns-in-Ok-clause-served c =
+returns-in-Ok-clause-served g c =
     let order = c.args.order.now in
     let request = c.args.request in
     let head = c.into_parts-bytes.result.0 in
@@ -44,7 +44,7 @@ returns-in-Ok-clause-served c =
     let bytes_is = c.into_parts-bytes.ensures.bytes in
     let most = c.requires.write.most_written c.requires.kind in
     let whole : vec_len bytes ≡ request.head.length = grind (arith, common_steps) in
-    let left = some_left order command c.in-Ok.ensures.numbers_full c.in-Ok.ensures.no_room (λ none. none) (λ none. none) c.requires.works c.requires.fits in
+    let left = some_left order command c.in-Ok.ensures.numbers_full c.in-Ok.ensures.no_room (λ none. none) (λ none. none) c.requires.works c.in-Ok.ensures.numbers.mark in
     let waits = waits_for_store c.args.terms.mode request in
     inr (
       command,
@@ -72,7 +72,7 @@ again : (request : Message) (head : RequestHead) (first : ℕ) (bytes : Vec ℕ)
 again request head first bytes head_is bytes_is = λ i. NoRoom (record { head = head_is i; bytes = bytes_is i })
 
 pub returns-in-Err-NoRoom-default-clause-served : goal.returns-in-Err-NoRoom-default-clause-served
-returns-in-Err-NoRoom-default-clause-served c =
+returns-in-Err-NoRoom-default-clause-served g c =
     let request = c.args.request in
     let head = c.into_parts-bytes.result.0 in
     let bytes = c.into_parts-bytes.result.1 in
@@ -94,7 +94,7 @@ returns-in-Err-NoRoom-default-clause-served c =
     )
 
 pub returns-in-Err-NoMemory-default-clause-served : goal.returns-in-Err-NoMemory-default-clause-served
-returns-in-Err-NoMemory-default-clause-served c =
+returns-in-Err-NoMemory-default-clause-served g c =
     let order = c.args.order.now in
     let request = c.args.request in
     let head = c.into_parts-bytes.result.0 in
@@ -106,7 +106,7 @@ returns-in-Err-NoMemory-default-clause-served c =
     let whole : vec_len bytes ≡ request.head.length = grind (arith, common_steps) in
     let fault_is = c.in-Err-NoMemory-default.field-0-0-is in
     let left = some_left order command c.in-Err-NoMemory-default.ensures.numbers_full c.in-Err-NoMemory-default.ensures.no_room
-    (λ full. faults_apart_full (sym fault_is ∙ full)) (λ full. faults_apart_room (sym fault_is ∙ full)) c.requires.works c.requires.fits in
+    (λ full. faults_apart_full (sym fault_is ∙ full)) (λ full. faults_apart_room (sym fault_is ∙ full)) c.requires.works c.in-Err-NoMemory-default.ensures.numbers.mark in
     inr (
       command,
       own_command request head bytes c.requires.kind head_is bytes_is,

@@ -1,4 +1,4 @@
-use Rattle.std.proofs.Common.{◌≡◌, get_or, sym, ◌∙◌, ap, arith, ◌<◌, length}
+use Rattle.std.proofs.Common.{◌≡◌, get_or, sym, ◌∙◌, ap, arith, ◌<◌, length, rules}
 use Rattle.std.proofs.lemmas.List.{get_or_default, set-set, set-get_or}
 use Rattle.std.proofs.Math.ListN.{set}
 use Rattle.world.specs.declared.connection.Connection.TheVariants.{Closed}
@@ -17,5 +17,6 @@ returns-in_default c =
       request = request_none (get_or items place Closed) (λ request is. c.in_default.not-Requested request (sym at ∙ is));
       within = tt;
       taken = tt;
+      size = search rules;
       none = set-set items place c.replace.new.dest c.replace.result ∙ (ap (set items place) (sym at) ∙ set-get_or items place Closed);
     }

@@ -1,9 +1,4 @@
-use Rattle.std.proofs.Common.{◌≡◌, ap, sym, subst, Ok, Err, Result}
-use Rattle.checkpoint.specs.declared.fault.KeeperFault.{KeeperFault}
 use Rattle.checkpoint.specs.declared.fault.KeeperFault.TheVariants as fault
-use Rattle.journal.specs.Group.{Numbered}
-use Rattle.order_book.specs.Order.{OrderState}
-use Rattle.request_core.specs.Storing.{hand_refused, order_refused, step_event}
 use Rattle.request_core.proofs.Stored.{not_true_is}
 use Rattle.request_core.proofs.Turns.{as_told, ok_unlike, map_done, map_refused}
 use Rattle.world.specs.Step.{write_map}

@@ -1,4 +1,5 @@
 use Rattle.std.proofs.Common.{◌≡◌, ◌∙◌, true, ap, sym, subst, refl, length, Option, None, Some}
+use Rattle.std.proofs.Math.Logic.{∥∥₁_map}
 use Rattle.nbd_wire.specs.declared.message.SessionFlags.{SessionFlags}
 use Rattle.order_book.specs.Order.{OrderState}
 use Rattle.order_book.specs.Shown.{ShowsImage}
@@ -18,8 +19,8 @@ invariant_of-result g c =
     record {
       in_hand = λ x is. absurd (none (sym (ap (λ (b : BenchState). b.connections.group) bench_is) ∙ is));
       blocks = ap (λ (o : OrderState). length o.cache.states) order_is ∙ size;
-      of_world = ∣ (λ honest.
-          let (found, keeps) = c.requires.keeps honest in
+      of_world = ∥∥₁_map c.requires.keeps (λ kept honest.
+          let (found, keeps) = kept honest in
           let world = first_world true keeper found (disk.faults keeper.disk) setup.frames 16 flags setup.mode in (
             world,
             subst (λ (bench : BenchState). IsWorldOf world c.in-Ok.order keeper (disk.faults keeper.disk) bench (disk.honest keeper.disk) (disk.state keeper.disk)) (sym bench_is)
@@ -31,7 +32,7 @@ invariant_of-result g c =
                       (λ trusts. honest);
                   log = refl;
                 })),
-          )) ∣₁;
+          ));
     }
   where
     none : {X : Type 0} {x : X} → (let o : Option X = None in o ≡ Some x) → ⊥

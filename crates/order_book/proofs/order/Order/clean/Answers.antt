@@ -15,6 +15,7 @@ invariant_of-self g c =
         opened = c.self.invariant.numbers.opened;
         mark = c.self.invariant.numbers.mark;
       };
+      shown = c.self.invariant.shown;
       backlog = c.self.invariant.backlog;
       small = c.self.invariant.small;
       area = c.self.invariant.area;

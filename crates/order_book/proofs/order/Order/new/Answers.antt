@@ -5,5 +5,5 @@ use Rattle.order_book.proofs.Shown.{shows_fresh}
 use Rattle.order_book.proofs.order.Order.new.Goals as goal
 
 pub returns-clause-image : goal.returns-clause-image
-returns-clause-image c = λ image same zeros.
+returns-clause-image g c = λ image same zeros.
     subst (λ (cache : CacheState). ShowsImage image cache) (sym c.in_ok-cache.ensures) (shows_fresh image c.args.map c.args.frames same zeros)
