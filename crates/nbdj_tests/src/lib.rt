@@ -12,6 +12,8 @@ mod random_sessions;
 #[cfg(test)]
 mod reads;
 #[cfg(test)]
+mod rehearsals;
+#[cfg(test)]
 mod runs;
 #[cfg(test)]
 mod schedule_tests;

@@ -1,9 +1,9 @@
+use crate::rehearsals::{Setting, rehearsed};
 use checkpoint::Keeper;
 use disk_model::{CallKind, CrashChoice, SimDisk};
 use image_model::Geometry;
 use nbd_wire::{Answer, Errno, FLUSH, Request, RequestHead, SessionFlags, WRITE};
-use order_book::Order;
-use request_core::{Bench, Event, Mode, Step, StepFault, rehearse};
+use request_core::{Event, Mode, Step, StepFault};
 use std::alloc::{AllocError, Global};
 use std::process::Abort;
 use std::test::Fail;
@@ -212,19 +212,16 @@ pub fn run(
     mode: Mode,
     steps: &[Step],
 ) -> Result<Left, Fail> {
-    let Ok(mut keeper) = Keeper::open(alloc, disk) else {
+    let Ok(keeper) = Keeper::open(alloc, disk) else {
         return Err("not opened".into());
     };
-    let opened = keeper.count();
-    let map = keeper.map(alloc)?;
-    let mut order = Order::new(alloc, map, opened, 512, keeper.geometry().area)?;
-    let mut bench = Bench::new(alloc, 3, PLAIN, mode)?;
-    let ran = rehearse(steps, &mut order, &mut keeper, &mut bench);
-    let log = bench.close(&mut order);
-    assert!(rt; ran.is_ok());
-    Ok(Left {
-        log,
-        count: opened,
-        disk: keeper.into_disk(),
-    })
+    let count = keeper.count();
+    let setting = Setting {
+        frames: 512,
+        connections: 3,
+        flags: PLAIN,
+        mode,
+    };
+    let (log, disk) = rehearsed(alloc, keeper, setting, steps)?;
+    Ok(Left { log, disk, count })
 }

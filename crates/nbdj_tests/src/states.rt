@@ -1,16 +1,22 @@
 //! How many runs a BLOCK_STATUS is answered.
+use crate::rehearsals::{Setting, rehearsed};
 use checkpoint::Keeper;
 use disk_model::SimDisk;
 use image_model::Geometry;
 use nbd_wire::{Answer, BLOCK_STATUS, Request, RequestHead, Run, SessionFlags, WRITE};
-use request_core::{Bench, Event, Mode, Step, fresh_order, rehearse};
+use request_core::{Event, Mode, Step};
 use std::alloc::{AllocError, Global};
 use std::process::Abort;
 use std::test::Fail;
 
-const FLAGS: SessionFlags = SessionFlags {
-    structured: true,
-    context: true,
+const SETTING: Setting = Setting {
+    frames: 4_096,
+    connections: 1,
+    flags: SessionFlags {
+        structured: true,
+        context: true,
+    },
+    mode: Mode::Writeback,
 };
 
 const BLOCKS: u64 = 2_050;
@@ -64,15 +70,10 @@ fn log_of(alloc: Global, steps: &[Step]) -> Result<Vec<Event>, Fail> {
     if Keeper::format(alloc, &mut disk, geometry).is_err() {
         return Err("not formatted".into());
     }
-    let Ok(mut keeper) = Keeper::open(alloc, disk) else {
+    let Ok(keeper) = Keeper::open(alloc, disk) else {
         return Err("not opened".into());
     };
-    let mut order = fresh_order(alloc, &keeper, 4_096)?;
-    let mut bench = Bench::new(alloc, 1, FLAGS, Mode::Writeback)?;
-    let ran = rehearse(steps, &mut order, &mut keeper, &mut bench);
-    let log = bench.close(&mut order);
-    let _disk = keeper.into_disk();
-    ran?;
+    let (log, _disk) = rehearsed(alloc, keeper, SETTING, steps)?;
     Ok(log)
 }
 

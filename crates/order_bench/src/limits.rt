@@ -1,8 +1,9 @@
-ghost use Rattle.std.specs.Prelude.{◌<◌, ◌^◌};
+ghost use Rattle.std.specs.Prelude.{◌≡◌, ◌<◌, ◌^◌};
 
-use crate::load::{accept, clear, keeper, offer, order, put, store};
+use crate::load::{Desk, accept, clear, keeper, offer, open_desk, put, store};
 use anyhow::{Result, bail};
 use image_model::Command;
+use marks::{BlankBoard, BoardName};
 use order_book::{Order, OrderFault};
 use std::alloc::Global;
 
@@ -33,7 +34,7 @@ fn body(commands: &[Command]) -> usize {
 }
 
 // Seals the next group.
-fn next_group(order: &mut Order) -> Result<Shape> {
+fn next_group<B: BoardName>(order: &mut Order<B>) -> Result<Shape> {
     let Some(group) = order.seal()? else {
         bail!("nothing to seal")
     };
@@ -46,62 +47,81 @@ fn next_group(order: &mut Order) -> Result<Shape> {
 }
 
 /// 40 puts and one more, put back once and sealed again.
-pub fn long_group(alloc: Global) -> Result<Shape> {
-    let mut order = order(alloc, 7, 4_096, LEAST_AREA_BYTES)?;
+pub fn long_group<B: BoardName>(alloc: Global, blank: BlankBoard) -> Result<Shape>
+    requires board { blank.board ≡ B.board }
+    requires opening { blank.opening ≡ 7 }
+{
+    let mut desk = open_desk::<B>(alloc, blank, 7, 4_096, LEAST_AREA_BYTES)?;
     for block in 0..41 {
-        let _number = accept(&mut order, put(alloc, block, 1)?)?;
+        let _number = accept(&mut desk, put(alloc, block, 1)?)?;
     }
-    if let Some(group) = order.seal()? {
-        order.put_back(group);
+    if let Some(group) = desk.order.seal()? {
+        if !desk.order.is_in_hand(&group) {
+            let _parts = group.into_parts();
+            bail!("another group is in hand");
+        }
+        desk.order.put_back(group);
     }
-    next_group(&mut order)
+    next_group(&mut desk.order)
 }
 
 /// Commands with bodies of one command more than the least area takes in a group.
-pub fn cut_group(alloc: Global) -> Result<Shape> {
-    let mut order = order(alloc, 0, 4_096, LEAST_AREA_BYTES)?;
-    let _first = accept(&mut order, put(alloc, 0, 256)?)?;
-    let _second = accept(&mut order, put(alloc, 256, 251)?)?;
+pub fn cut_group<B: BoardName>(alloc: Global, blank: BlankBoard) -> Result<Shape>
+    requires board { blank.board ≡ B.board }
+    requires opening { blank.opening ≡ 0 }
+{
+    let mut desk = open_desk::<B>(alloc, blank, 0, 4_096, LEAST_AREA_BYTES)?;
+    let _first = accept(&mut desk, put(alloc, 0, 256)?)?;
+    let _second = accept(&mut desk, put(alloc, 256, 251)?)?;
     for _ in 0..1_573 {
-        let _number = accept(&mut order, clear(9, 1))?;
+        let _number = accept(&mut desk, clear(9, 1))?;
     }
-    next_group(&mut order)
+    next_group(&mut desk.order)
 }
 
 // An order whose 512 frames all hold a dirty block.
-fn full_order(alloc: Global) -> Result<Order> {
-    let mut order = order(alloc, 0, 512, LEAST_AREA_BYTES)?;
-    let _first = accept(&mut order, put(alloc, 0, 256)?)?;
-    let _second = accept(&mut order, put(alloc, 256, 256)?)?;
-    Ok(order)
+fn full_order<B: BoardName>(alloc: Global, blank: BlankBoard) -> Result<Desk<B>>
+    requires board { blank.board ≡ B.board }
+    requires opening { blank.opening ≡ 0 }
+{
+    let mut desk = open_desk::<B>(alloc, blank, 0, 512, LEAST_AREA_BYTES)?;
+    let _first = accept(&mut desk, put(alloc, 0, 256)?)?;
+    let _second = accept(&mut desk, put(alloc, 256, 256)?)?;
+    Ok(desk)
 }
 
 // A put of a block that isn't dirty, where no frame is left.
-fn refused_put(alloc: Global, order: &mut Order) -> Result<(OrderFault, Command)> {
-    match offer(order, put(alloc, 512, 1)?)? {
+fn refused_put<B: BoardName>(alloc: Global, desk: &mut Desk<B>) -> Result<(OrderFault, Command)> {
+    match offer(desk, put(alloc, 512, 1)?)? {
         Ok(_) => bail!("accepted"),
         Err(refused) => Ok(refused),
     }
 }
 
 /// Why 512 full frames refuse a put, its block, and the numbers of a put of a dirty block and of a clear after it.
-pub fn full_frames(alloc: Global) -> Result<(OrderFault, u64, u64, u64)> {
-    let mut order = full_order(alloc)?;
-    let (fault, command) = refused_put(alloc, &mut order)?;
+pub fn full_frames<B: BoardName>(
+    alloc: Global,
+    blank: BlankBoard,
+) -> Result<(OrderFault, u64, u64, u64)>
+    requires board { blank.board ≡ B.board }
+    requires opening { blank.opening ≡ 0 }
+{
+    let mut desk = full_order::<B>(alloc, blank)?;
+    let (fault, command) = refused_put(alloc, &mut desk)?;
     let Command::Put { first: block, .. } = command else {
         bail!("another command")
     };
-    let again = accept(&mut order, put(alloc, 511, 1)?)?;
-    let cleared = accept(&mut order, clear(0, 1 << 24))?;
+    let again = accept(&mut desk, put(alloc, 511, 1)?)?;
+    let cleared = accept(&mut desk, clear(0, 1 << 24))?;
     Ok((fault, block, again, cleared))
 }
 
 // How many puts of a block each are accepted from this block on, until one has no room.
-fn free_frames(alloc: Global, order: &mut Order, first: u64) -> Result<u64>
+fn free_frames<B: BoardName>(alloc: Global, desk: &mut Desk<B>, first: u64) -> Result<u64>
     requires { first < 2 ^ 16 }
 {
     for block in 0..1_000 {
-        match offer(order, put(alloc, first + block, 1)?)? {
+        match offer(desk, put(alloc, first + block, 1)?)? {
             Ok(_) => {}
             Err((OrderFault::NoRoom, _)) => return Ok(block),
             Err((fault, _)) => return Err(fault.into()),
@@ -111,61 +131,73 @@ fn free_frames(alloc: Global, order: &mut Order, first: u64) -> Result<u64>
 }
 
 /// How many of 512 full frames are free after a clear of ten blocks, and of all blocks from the twentieth on.
-pub fn cleared_frames(alloc: Global) -> Result<(u64, u64)> {
-    let mut order = full_order(alloc)?;
-    let _few = accept(&mut order, clear(0, 10))?;
-    let after_few = free_frames(alloc, &mut order, 1_000)?;
-    let _many = accept(&mut order, clear(20, (1 << 24) - 20))?;
-    Ok((after_few, free_frames(alloc, &mut order, 2_000)?))
+pub fn cleared_frames<B: BoardName>(alloc: Global, blank: BlankBoard) -> Result<(u64, u64)>
+    requires board { blank.board ≡ B.board }
+    requires opening { blank.opening ≡ 0 }
+{
+    let mut desk = full_order::<B>(alloc, blank)?;
+    let _few = accept(&mut desk, clear(0, 10))?;
+    let after_few = free_frames(alloc, &mut desk, 1_000)?;
+    let _many = accept(&mut desk, clear(20, (1 << 24) - 20))?;
+    Ok((after_few, free_frames(alloc, &mut desk, 2_000)?))
 }
 
 // Commands that take 67,108,864 bytes in groups.
-fn fill_backlog(alloc: Global, order: &mut Order) -> Result<()> {
+fn fill_backlog<B: BoardName>(alloc: Global, desk: &mut Desk<B>) -> Result<()> {
     for _ in 0..63 {
-        let _number = accept(order, put(alloc, 0, 256)?)?;
+        let _number = accept(desk, put(alloc, 0, 256)?)?;
     }
-    let _number = accept(order, put(alloc, 0, 243)?)?;
-    clear_often(order, 4_032)
+    let _number = accept(desk, put(alloc, 0, 243)?)?;
+    clear_often(desk, 4_032)
 }
 
-fn clear_often(order: &mut Order, times: u32) -> Result<()> {
+fn clear_often<B: BoardName>(desk: &mut Desk<B>, times: u32) -> Result<()> {
     for _ in 0..times {
-        let _number = accept(order, clear(9, 1))?;
+        let _number = accept(desk, clear(9, 1))?;
     }
     Ok(())
 }
 
 // Why a clear is refused.
-fn refused_clear(order: &mut Order) -> Result<OrderFault> {
-    match offer(order, clear(9, 1))? {
+fn refused_clear<B: BoardName>(desk: &mut Desk<B>) -> Result<OrderFault> {
+    match offer(desk, clear(9, 1))? {
         Ok(_) => bail!("accepted"),
         Err((fault, _)) => Ok(fault),
     }
 }
 
 // The number of a clear once a group is durable.
-fn number_after_store(alloc: Global, order: &mut Order) -> Result<u64> {
+fn number_after_store<B: BoardName>(alloc: Global, desk: &mut Desk<B>) -> Result<u64> {
     let mut keeper = keeper(alloc, 256, ROOMY_AREA_BYTES)?;
-    store(order, &mut keeper)?;
-    accept(order, clear(9, 1))
+    store(desk, &mut keeper)?;
+    accept(desk, clear(9, 1))
 }
 
 /// The last number that 67,108,864 bytes take, why the next command is refused, and its number once a group is durable.
-pub fn full_backlog(alloc: Global) -> Result<(u64, OrderFault, u64)> {
-    let mut order = order(alloc, 0, 4_096, ROOMY_AREA_BYTES)?;
-    fill_backlog(alloc, &mut order)?;
-    let full = order.mark();
-    let fault = refused_clear(&mut order)?;
-    Ok((full, fault, number_after_store(alloc, &mut order)?))
+pub fn full_backlog<B: BoardName>(
+    alloc: Global,
+    blank: BlankBoard,
+) -> Result<(u64, OrderFault, u64)>
+    requires board { blank.board ≡ B.board }
+    requires opening { blank.opening ≡ 0 }
+{
+    let mut desk = open_desk::<B>(alloc, blank, 0, 4_096, ROOMY_AREA_BYTES)?;
+    fill_backlog(alloc, &mut desk)?;
+    let full = desk.order.mark();
+    let fault = refused_clear(&mut desk)?;
+    Ok((full, fault, number_after_store(alloc, &mut desk)?))
 }
 
 /// The last number of an order that was stopped before its first command, and why it refuses that command.
-pub fn stopped_order(alloc: Global) -> Result<(u64, OrderFault)> {
-    let mut order = order(alloc, 7, 4_096, LEAST_AREA_BYTES)?;
-    order.stop();
-    if !order.stopped() {
+pub fn stopped_order<B: BoardName>(alloc: Global, blank: BlankBoard) -> Result<(u64, OrderFault)>
+    requires board { blank.board ≡ B.board }
+    requires opening { blank.opening ≡ 7 }
+{
+    let mut desk = open_desk::<B>(alloc, blank, 7, 4_096, LEAST_AREA_BYTES)?;
+    desk.order.stop();
+    if !desk.order.stopped() {
         bail!("not stopped");
     }
-    let fault = refused_clear(&mut order)?;
-    Ok((order.opening(), fault))
+    let fault = refused_clear(&mut desk)?;
+    Ok((desk.order.opening(), fault))
 }

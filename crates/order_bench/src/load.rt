@@ -6,6 +6,7 @@ use anyhow::{Result, bail};
 use checkpoint::{Keeper, KeeperFault};
 use disk_model::SimDisk;
 use image_model::{BLOCK_BYTES, Command, Geometry, Kind, MOST_BLOCKS};
+use marks::{BlankBoard, Board, BoardName, KeeperSeat, Opened, OrderSeat, Pass};
 use order_book::{Order, OrderFault};
 use std::alloc::{AllocError, Global};
 
@@ -20,13 +21,60 @@ fn holes(alloc: Global, blocks: u64) -> Result<AllocMap, AllocError>
     AllocMap::new(alloc, blocks)
 }
 
+/// An order with its board, the pass that commands are accepted for, and the seat that publishes.
+#[derive(Drop)]
+pub struct Desk<B: BoardName> {
+    pub board: Board<B>,
+    pub order: Order<B>,
+    pub pass: Pass<B>,
+    pub seat: KeeperSeat<B>,
+}
+
 /// An order over the largest image, which is holes.
-pub fn order(alloc: Global, opening: u64, frames: u32, area: u32) -> Result<Order>
+pub fn order<B: BoardName>(
+    alloc: Global,
+    opening: u64,
+    frames: u32,
+    area: u32,
+    line: OrderSeat<B>,
+) -> Result<Order<B>>
+    requires seat { line ≡ opening }
     requires area { 2097152 ≤ area }
     requires frames { frames + 3 < 2 ^ 31 }
 {
     let map = holes(alloc, MOST_BLOCKS)?;
-    Ok(Order::new(alloc, map, opening, frames, area)?)
+    Ok(Order::new(alloc, map, opening, frames, area, line)?)
+}
+
+/// The same on a board that opens.
+pub fn open_desk<B: BoardName>(
+    alloc: Global,
+    blank: BlankBoard,
+    opening: u64,
+    frames: u32,
+    area: u32,
+) -> Result<Desk<B>>
+    requires board { blank.board ≡ B.board }
+    requires opening { blank.opening ≡ opening }
+    requires area { 2097152 ≤ area }
+    requires frames { frames + 3 < 2 ^ 31 }
+{
+    let Opened {
+        board,
+        order: line,
+        keeper: seat,
+        mut passes,
+    } = blank.open::<B>(alloc, 1)?;
+    let order = order(alloc, opening, frames, area, line)?;
+    let Some(pass) = passes.pop() else {
+        bail!("a pass was asked for")
+    };
+    Ok(Desk {
+        board,
+        order,
+        pass,
+        seat,
+    })
 }
 
 /// Writes the blocks.
@@ -99,25 +147,38 @@ fn is_inside(image: u64, command: &Command) -> bool
 }
 
 /// What the order says to the command, which has to lie in the image.
-pub fn offer(order: &mut Order, command: Command) -> Result<Result<u64, (OrderFault, Command)>> {
-    if !is_inside(order.blocks(), &command) {
+pub fn offer<B: BoardName>(
+    desk: &mut Desk<B>,
+    command: Command,
+) -> Result<Result<u64, (OrderFault, Command)>> {
+    if !is_inside(desk.order.blocks(), &command) {
         bail!("outside the image")
     }
-    Ok(order.accept(command))
+    Ok(desk.order.accept(&desk.board, &mut desk.pass, command))
+}
+
+/// Whether the order accepts the command for a pass, which has to lie in the image.
+pub fn takes<B: BoardName>(
+    order: &mut Order<B>,
+    board: &Board<B>,
+    pass: &mut Pass<B>,
+    command: Command,
+) -> bool {
+    is_inside(order.blocks(), &command) && order.accept(board, pass, command).is_ok()
 }
 
 /// Accepts the command, and lets it go where it is refused.
-pub fn accept(order: &mut Order, command: Command) -> Result<u64> {
-    match offer(order, command)? {
+pub fn accept<B: BoardName>(desk: &mut Desk<B>, command: Command) -> Result<u64> {
+    match offer(desk, command)? {
         Ok(number) => Ok(number),
         Err((fault, _)) => Err(fault.into()),
     }
 }
 
 /// Accepts the commands, the last one first.
-pub fn accept_all(order: &mut Order, mut commands: Vec<Command>) -> Result<()> {
+pub fn accept_all<B: BoardName>(desk: &mut Desk<B>, mut commands: Vec<Command>) -> Result<()> {
     while let Some(command) = commands.pop() {
-        let _number = accept(order, command)?;
+        let _number = accept(desk, command)?;
     }
     Ok(())
 }
@@ -136,13 +197,13 @@ pub fn keeper(alloc: Global, blocks: u64, area: u32) -> Result<Keeper<SimDisk>> 
 }
 
 /// Stores what is pending, as far as one group takes it.
-pub fn store(order: &mut Order, keeper: &mut Keeper<SimDisk>) -> Result<()> {
-    if let Some(group) = order.seal()? {
+pub fn store<B: BoardName>(desk: &mut Desk<B>, keeper: &mut Keeper<SimDisk>) -> Result<()> {
+    if let Some(group) = desk.order.seal()? {
         if let Err((fault, group)) = keeper.append(group) {
             let _refused = group.into_parts();
             return Err(fault.into());
         }
-        order.publish(keeper);
+        desk.order.publish(&desk.board, &mut desk.seat, keeper);
     }
     Ok(())
 }

@@ -1,13 +1,14 @@
 ghost use Rattle.std.specs.Prelude.{◌<◌, ◌≤◌, ◌^◌};
 
 use anyhow::{Result, bail};
+use marks::BoardName;
 use order_book::Order;
 use std::alloc::Global;
 use std::hint::black_box;
 use std::time::{Duration, Instant};
 
 // Reads so many blocks from this one on.
-fn read(order: &Order, first: u64, into: &mut [[u8; 4096]]) -> Result<()> {
+fn read<B: BoardName>(order: &Order<B>, first: u64, into: &mut [[u8; 4096]]) -> Result<()> {
     let count = into.len() as u64;
     if order.blocks() < count || order.blocks() - count < first {
         bail!("outside the image")
@@ -16,10 +17,10 @@ fn read(order: &Order, first: u64, into: &mut [[u8; 4096]]) -> Result<()> {
 }
 
 /// The time that reads of all blocks below `all` take, so many in each.
-pub fn reads(
+pub fn reads<B: BoardName>(
     rt: &HostRuntime,
     alloc: Global,
-    order: &Order,
+    order: &Order<B>,
     all: u64,
     blocks: u64,
 ) -> Result<Duration>

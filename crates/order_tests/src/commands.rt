@@ -1,8 +1,10 @@
 //! Commands, and what an order says to them: a test wants one answer of it, so most functions here tell no fault.
-ghost use Rattle.std.specs.Prelude.{◌≡◌, ◌+◌, ◌*◌, ◌≤◌, length, true, IfSome};
+ghost use Rattle.std.specs.Prelude.{◌≡◌, ◌+◌, ◌*◌, ◌<◌, ◌≤◌, length, true, IfOk, IfSome};
 ghost use Rattle.image_model.specs.Command.{IsCommand};
+ghost use Rattle.marks.specs.Known.{known};
 
 use image_model::{Command, Kind};
+use marks::{Board, BoardName, Pass};
 use order_book::{Order, OrderFault};
 use std::alloc::{AllocError, Global};
 
@@ -64,37 +66,66 @@ fn is_inside(image: u64, command: &Command) -> bool
     }
 }
 
-// What the order says to a command, and nothing to one outside its image; one that is refused is let go.
-pub fn offer(order: &mut Order, command: Command) -> Option<Result<u64, OrderFault>> {
+// An order with its board, and the pass that commands are accepted for.
+#[derive(Drop)]
+pub struct Desk<B: BoardName> {
+    pub board: Board<B>,
+    pub pass: Pass<B>,
+    pub order: Order<B>,
+}
+
+// What the order says to a command that comes with a pass, and nothing to one outside its image; one that is refused is let go.
+pub fn accept<B: BoardName>(
+    order: &mut Order<B>,
+    board: &Board<B>,
+    pass: &mut Pass<B>,
+    command: Command,
+) -> Option<Result<u64, OrderFault>>
+    ensures { IfSome result (λ answer. IfOk answer (λ number. known pass.old < number)) }
+{
     if !is_inside(order.blocks(), &command) {
         return None;
     }
-    match order.accept(command) {
+    match order.accept(board, pass, command) {
         Ok(number) => Some(Ok(number)),
         Err((fault, _command)) => Some(Err(fault)),
     }
 }
 
+// The same of the order and the pass that lie together.
+pub fn offer<B: BoardName>(
+    desk: &mut Desk<B>,
+    command: Command,
+) -> Option<Result<u64, OrderFault>> {
+    accept(&mut desk.order, &desk.board, &mut desk.pass, command)
+}
+
 // Whether the order accepts a command by this number.
-pub fn takes(order: &mut Order, command: Command, number: u64) -> bool {
-    match offer(order, command) {
+pub fn takes<B: BoardName>(desk: &mut Desk<B>, command: Command, number: u64) -> bool {
+    match offer(desk, command) {
         Some(Ok(given)) => given == number,
         _ => false,
     }
 }
 
 // Whether the order accepts a put of blocks by this number.
-pub fn takes_put(alloc: Global, order: &mut Order, first: u64, blocks: u32, number: u64) -> bool {
+pub fn takes_put<B: BoardName>(
+    alloc: Global,
+    desk: &mut Desk<B>,
+    first: u64,
+    blocks: u32,
+    number: u64,
+) -> bool {
     match put(alloc, first, blocks, 7) {
-        Ok(command) => takes(order, command, number),
+        Ok(command) => takes(desk, command, number),
         Err(_) => false,
     }
 }
 
 // Whether the order has no room for a put of one block.
-pub fn is_full(alloc: Global, order: &mut Order, block: u64) -> bool {
+pub fn is_full<B: BoardName>(alloc: Global, desk: &mut Desk<B>, block: u64) -> bool {
     match put(alloc, block, 1, 7) {
-        Ok(command) => matches!(offer(order, command), Some(Err(OrderFault::NoRoom))),
+        Ok(command) => matches!(offer(desk, command), Some(Err(OrderFault::NoRoom))),
         Err(_) => false,
     }
 }

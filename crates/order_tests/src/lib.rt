@@ -1,4 +1,4 @@
-//! Tests of frames, caches, and orders that read, over keepers of simulated devices. They stand beside these crates, since a crate with tests is proved twice.
+//! Tests of frames, caches, and orders that read, over keepers of simulated devices, and that threads share. They stand beside these crates, since a crate with tests is proved twice.
 #![tactic(auto)]
 
 #[cfg(test)]
@@ -17,3 +17,5 @@ mod read_tests;
 mod room_tests;
 #[cfg(test)]
 mod subject;
+#[cfg(test)]
+mod thread_tests;

@@ -1,12 +1,14 @@
 //! Commands, reads, states and cleans in any order, each answer compared with that of plain bytes.
-ghost use Rattle.std.specs.Prelude.{◌<◌, ◌≤◌, ◌^◌};
+ghost use Rattle.std.specs.Prelude.{◌≡◌, ◌<◌, ◌≤◌, ◌^◌};
 
 use crate::commands::{offer, put};
 use crate::plain::{BLOCKS, Plain};
-use crate::subject::{Subject, fresh};
+use crate::subject::{Start, Subject, fresh};
 use image_model::{Command, Kind};
+use marks::BoardName;
 use order_book::OrderFault;
 use std::alloc::{AllocError, Global};
+use std::marker::Brand;
 
 // A square and a number more, with its halves exchanged.
 fn mixed(root: u64, more: u64) -> u64 {
@@ -56,16 +58,18 @@ fn command(alloc: Global, salt: u64) -> Result<Command, AllocError> {
 
 // What is compared: an order over a keeper, and the image that both come to.
 #[derive(Drop)]
-struct Compared {
-    subject: Subject,
+struct Compared<B: BoardName> {
+    subject: Subject<B>,
     plain: Plain,
 }
 
-impl Compared {
-    // 64 blocks over 16 frames: blocks leave memory, and come back from the device.
-    fn new(alloc: Global) -> Option<Compared> {
+impl<B: BoardName> Compared<B> {
+    // An image of holes over 16 frames: blocks leave memory, and come back from the device.
+    fn new(alloc: Global, start: Start) -> Option<Compared<B>>
+        requires { start.blank.board ≡ B.board }
+    {
         let plain = Plain::new(alloc)?;
-        let subject = fresh(alloc, BLOCKS, 16)?;
+        let subject = start.subject::<B>(alloc, 16)?;
         Some(Compared { subject, plain })
     }
 
@@ -80,7 +84,7 @@ impl Compared {
     fn offer(&mut self, salt: u64) -> Option<Result<u64, OrderFault>> {
         let change = command(self.subject.alloc, salt).ok()?;
         self.plain.apply(&change, salt);
-        offer(&mut self.subject.order, change)
+        offer(&mut self.subject.desk, change)
     }
 
     // Whether the command of this turn is accepted, where there is no room for it once there is some.
@@ -106,11 +110,12 @@ impl Compared {
 
     // Whether the runs of states from this block on are those of the image.
     fn tells(&self, from: u64) -> bool {
-        if BLOCKS < from || self.subject.order.blocks() != BLOCKS {
+        if BLOCKS < from || self.subject.desk.order.blocks() != BLOCKS {
             return false;
         }
         match self
             .subject
+            .desk
             .order
             .status(self.subject.alloc, from, BLOCKS, 64)
         {
@@ -146,9 +151,17 @@ impl Compared {
     }
 }
 
+// How many of 500 turns are answered as they should be, where all is then that of the image.
+fn compare<B: BoardName>(alloc: Global, start: Start) -> Option<u64>
+    requires { start.blank.board ≡ B.board }
+{
+    let mut compared = Compared::<B>::new(alloc, start)?;
+    let right = compared.right_turns(500);
+    compared.is_whole().then_some(right)
+}
+
 #[test]
 fn answers_are_those_of_plain_bytes(rt: HostRuntime) {
-    let mut compared = Compared::new(rt.alloc()).expect(&rt, "an order of 64 blocks");
-    assert_eq!(rt; compared.right_turns(500), 500);
-    assert!(rt; compared.is_whole());
+    let start = fresh(rt.alloc(), BLOCKS).expect(&rt, "a board for 64 blocks");
+    assert_eq!(rt; compare::<Brand>(rt.alloc(), start), Some(500));
 }

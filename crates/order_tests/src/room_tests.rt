@@ -1,58 +1,91 @@
 //! Room for puts, and clears of a large image.
-ghost use Rattle.std.specs.Prelude.{◌≤◌};
+ghost use Rattle.std.specs.Prelude.{◌≡◌, ◌≤◌, IfSome, length};
 
-use crate::commands::{is_full, takes, takes_put};
-use crate::subject::{Subject, fresh};
+use crate::commands::{Desk, is_full, takes, takes_put};
+use crate::subject::{Start, Subject, fresh};
 use alloc_map::{AllocMap, Run};
 use image_model::{Command, Kind};
+use marks::{BlankBoard, BoardName, Opened};
 use order_book::Order;
 use std::alloc::Global;
+use std::marker::Brand;
 
 // Whether two puts of 256 blocks leave no room for one of block 512.
-fn fills(alloc: Global, subject: &mut Subject) -> bool {
-    subject.fill(2) && is_full(alloc, &mut subject.order, 512)
+fn fills<B: BoardName>(alloc: Global, subject: &mut Subject<B>) -> bool {
+    subject.fill(2) && is_full(alloc, &mut subject.desk, 512)
 }
 
 // Whether there is still none once both are stored, since no frame is let go before a checkpoint.
-fn waits(alloc: Global, subject: &mut Subject) -> bool {
-    subject.store() && !subject.clean() && is_full(alloc, &mut subject.order, 512)
+fn waits<B: BoardName>(alloc: Global, subject: &mut Subject<B>) -> bool {
+    subject.store() && !subject.clean() && is_full(alloc, &mut subject.desk, 512)
 }
 
 // Whether the put of block 512 is the third command, once a checkpoint has moved the others and a clean let their frames go.
-fn is_served(alloc: Global, subject: &mut Subject) -> bool {
-    subject.checkpoint() && subject.clean() && takes_put(alloc, &mut subject.order, 512, 1, 3)
+fn is_served<B: BoardName>(alloc: Global, subject: &mut Subject<B>) -> bool {
+    subject.checkpoint() && subject.clean() && takes_put(alloc, &mut subject.desk, 512, 1, 3)
 }
 
 // Two puts of 256 blocks fill 512 frames. A third one waits until their blocks are at the base, and then takes a frame of one.
+fn fill_and_wait<B: BoardName>(alloc: Global, start: Start) -> Option<[bool; 4]>
+    requires { start.blank.board ≡ B.board }
+{
+    let mut subject = start.subject::<B>(alloc, 512)?;
+    let full = fills(alloc, &mut subject);
+    let waited = waits(alloc, &mut subject);
+    let served = is_served(alloc, &mut subject);
+    Some([full, waited, served, subject.reads(0, 256)])
+}
+
 #[test]
 fn a_put_waits_for_clean_frames(rt: HostRuntime) {
-    let mut subject = fresh(rt.alloc(), 1024, 512).expect(&rt, "an order over holes");
-    assert!(rt; fills(rt.alloc(), &mut subject));
-    assert!(rt; waits(rt.alloc(), &mut subject));
-    assert!(rt; is_served(rt.alloc(), &mut subject));
-    assert!(rt; subject.reads(0, 256));
+    let start = fresh(rt.alloc(), 1024).expect(&rt, "a board over holes");
+    assert_eq!(rt; fill_and_wait::<Brand>(rt.alloc(), start), Some([true; 4]));
+}
+
+// The map of so many holes.
+fn holes(alloc: Global, blocks: u64) -> Option<AllocMap>
+    requires { blocks ≤ 16777216 }
+    ensures { IfSome result (λ map. length map ≤ 16777216) }
+{
+    AllocMap::new(alloc, blocks).ok()
 }
 
 // An order with one frame over an image of holes.
-fn with_one_frame(alloc: Global, blocks: u64) -> Option<Order>
-    requires { blocks ≤ 16777216 }
+fn with_one_frame<B: BoardName>(alloc: Global, blank: BlankBoard, blocks: u64) -> Option<Desk<B>>
+    requires board { blank.board ≡ B.board }
+    requires opening { blank.opening ≡ 0 }
+    requires blocks { blocks ≤ 16777216 }
 {
-    let map = AllocMap::new(alloc, blocks).ok()?;
-    Order::new(alloc, map, 0, 1, 8_388_608).ok()
+    let map = holes(alloc, blocks)?;
+    let Opened {
+        board,
+        order: seat,
+        keeper: _,
+        mut passes,
+    } = blank.open::<B>(alloc, 1).ok()?;
+    let order = Order::new(alloc, map, 0, 1, 8_388_608, seat).ok()?;
+    let pass = passes.pop()?;
+    Some(Desk { board, pass, order })
 }
 
 // Whether a clear of blocks is accepted by this number.
-fn takes_clear(order: &mut Order, first: u64, blocks: u32, kind: Kind, number: u64) -> bool {
+fn takes_clear<B: BoardName>(
+    desk: &mut Desk<B>,
+    first: u64,
+    blocks: u32,
+    kind: Kind,
+    number: u64,
+) -> bool {
     let clear = Command::Clear {
         first,
         blocks,
         kind,
     };
-    takes(order, clear, number)
+    takes(desk, clear, number)
 }
 
 // The first two runs from block 1,000 on.
-fn two_runs(alloc: Global, order: &Order) -> Option<Vec<Run>> {
+fn two_runs<B: BoardName>(alloc: Global, order: &Order<B>) -> Option<Vec<Run>> {
     if order.blocks() != 16_777_216 {
         return None;
     }
@@ -73,24 +106,42 @@ fn are_zeroes_and_holes(runs: &[Run], zeroes: u64, holes: u64) -> bool {
 }
 
 // Whether a put takes the only frame, and a clear of all blocks of the largest image lets it go.
-fn frees(alloc: Global, order: &mut Order) -> bool {
-    takes_put(alloc, order, 70_000, 1, 1)
-        && is_full(alloc, order, 5)
-        && takes_clear(order, 0, 16_777_216, Kind::Hole, 2)
-        && takes_put(alloc, order, 5, 1, 3)
+fn frees<B: BoardName>(alloc: Global, blank: BlankBoard) -> Option<bool>
+    requires board { blank.board ≡ B.board }
+    requires opening { blank.opening ≡ 0 }
+{
+    let mut desk = with_one_frame::<B>(alloc, blank, 16_777_216)?;
+    let desk = &mut desk;
+    Some(
+        takes_put(alloc, desk, 70_000, 1, 1)
+            && is_full(alloc, desk, 5)
+            && takes_clear(desk, 0, 16_777_216, Kind::Hole, 2)
+            && takes_put(alloc, desk, 5, 1, 3),
+    )
 }
 
 #[test]
 fn a_large_clear_frees_frames(rt: HostRuntime) {
-    let mut order = with_one_frame(rt.alloc(), 16_777_216).expect(&rt, "an order");
-    assert!(rt; frees(rt.alloc(), &mut order));
+    let blank = BlankBoard::new(rt.alloc(), 0).expect(&rt, "a board");
+    assert_eq!(rt; frees::<Brand>(rt.alloc(), blank), Some(true));
+}
+
+// The first two runs from block 1,000 on, once zeroes were made of many blocks from there on.
+fn runs_of_a_clear<B: BoardName>(alloc: Global, blank: BlankBoard) -> Option<Vec<Run>>
+    requires board { blank.board ≡ B.board }
+    requires opening { blank.opening ≡ 0 }
+{
+    let mut desk = with_one_frame::<B>(alloc, blank, 16_777_216)?;
+    if !takes_clear(&mut desk, 1_000, 524_288, Kind::Zero, 1) {
+        return None;
+    }
+    two_runs(alloc, &desk.order)
 }
 
 // A clear of many blocks is one run.
 #[test]
 fn a_large_clear_is_one_run(rt: HostRuntime) {
-    let mut order = with_one_frame(rt.alloc(), 16_777_216).expect(&rt, "an order");
-    assert!(rt; takes_clear(&mut order, 1_000, 524_288, Kind::Zero, 1));
-    let runs = two_runs(rt.alloc(), &order).expect(&rt, "two runs");
+    let blank = BlankBoard::new(rt.alloc(), 0).expect(&rt, "a board");
+    let runs = runs_of_a_clear::<Brand>(rt.alloc(), blank).expect(&rt, "two runs");
     assert!(rt; are_zeroes_and_holes(&runs, 524_288, 16_251_928));
 }

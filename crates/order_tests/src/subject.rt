@@ -1,28 +1,49 @@
-//! What is tested: an order over what a keeper of a simulated device holds.
+//! What is tested: an order over what a keeper of a simulated device holds, with a board.
 ghost use Rattle.std.specs.Prelude.{◌≡◌, ◌+◌, ◌*◌, ◌<◌, ◌≤◌, ◌^◌, length, true, IfSome};
 
-use crate::commands::{byte_at, place_of, takes_put};
+use crate::commands::{Desk, byte_at, place_of, takes_put};
 use checkpoint::{Keeper, KeeperFault};
 use disk_model::{CallKind, SimDisk};
 use image_model::Geometry;
+use marks::{BlankBoard, BoardName, KeeperSeat, Opened, OrderSeat};
 use order_book::Order;
 use std::alloc::Global;
+use std::marker::Brand;
 
 const AREA: u32 = 8_388_608;
 
-// An order, and the keeper that it reads from.
-pub struct Subject {
+// A keeper, and a board at its count that has no name yet.
+pub struct Start {
+    pub blank: BlankBoard,
+    keeper: Keeper<SimDisk>,
+    ghost opening: { blank.opening ≡ keeper.count },
+}
+
+// Written out, as that of a subject below.
+impl Drop for Start {
+    fn drop(self) {
+        let Start {
+            blank: _,
+            keeper: _,
+        } = self;
+    }
+}
+
+// An order with its board, and the keeper that it reads from, with its seat.
+pub struct Subject<B: BoardName> {
     pub alloc: Global,
-    pub order: Order,
+    pub desk: Desk<B>,
+    seat: KeeperSeat<B>,
     pub keeper: Keeper<SimDisk>,
 }
 
 // Written out, it is proved once, and not again in each function that lets a subject go.
-impl Drop for Subject {
+impl<B: BoardName> Drop for Subject<B> {
     fn drop(self) {
         let Subject {
             alloc: _,
-            order: _,
+            desk: _,
+            seat: _,
             keeper: _,
         } = self;
     }
@@ -36,32 +57,63 @@ fn formatted(alloc: Global, blocks: u64) -> Option<SimDisk> {
     Some(disk)
 }
 
+// A keeper of what the device holds, and a board for it.
+fn opened(alloc: Global, disk: SimDisk) -> Option<Start> {
+    let keeper = Keeper::open(alloc, disk).ok()?;
+    let blank = BlankBoard::new(alloc, keeper.count()).ok()?;
+    Some(Start { blank, keeper })
+}
+
+// A keeper of an image of holes, and a board for it.
+pub fn fresh(alloc: Global, blocks: u64) -> Option<Start> {
+    opened(alloc, formatted(alloc, blocks)?)
+}
+
 // An order over what the keeper holds.
-fn order_over(alloc: Global, keeper: &Keeper<SimDisk>, frames: u32) -> Option<Order>
-    requires { frames < 2 ^ 20 }
+pub fn order_over<B: BoardName>(
+    alloc: Global,
+    keeper: &Keeper<SimDisk>,
+    frames: u32,
+    seat: OrderSeat<B>,
+) -> Option<Order<B>>
+    requires frames { frames < 2 ^ 20 }
+    requires seat { seat ≡ keeper.now.count }
 {
     let map = keeper.map(alloc).ok()?;
-    Order::new(alloc, map, keeper.count(), frames, AREA).ok()
+    Order::new(alloc, map, keeper.count(), frames, AREA, seat).ok()
 }
 
-// An order over what a device holds.
-fn opened(alloc: Global, disk: SimDisk, frames: u32) -> Option<Subject>
-    requires { frames < 2 ^ 20 }
-{
-    let keeper = Keeper::open(alloc, disk).ok()?;
-    let order = order_over(alloc, &keeper, frames)?;
-    Some(Subject {
-        alloc,
-        order,
-        keeper,
-    })
-}
+impl Start {
+    // The board and the keeper.
+    pub fn into_parts(self) -> (BlankBoard, Keeper<SimDisk>)
+        ensures board { result.0 ≡ self.blank }
+        ensures opening { result.0.opening ≡ result.1.count }
+    {
+        let Start { blank, keeper } = self;
+        (blank, keeper)
+    }
 
-// An order over an image of holes.
-pub fn fresh(alloc: Global, blocks: u64, frames: u32) -> Option<Subject>
-    requires { frames < 2 ^ 20 }
-{
-    opened(alloc, formatted(alloc, blocks)?, frames)
+    // An order over what the keeper holds, on the board, which is then open.
+    pub fn subject<B: BoardName>(self, alloc: Global, frames: u32) -> Option<Subject<B>>
+        requires board { self.blank.board ≡ B.board }
+        requires frames { frames < 2 ^ 20 }
+    {
+        let (blank, keeper) = self.into_parts();
+        let Opened {
+            board,
+            order: line,
+            keeper: seat,
+            mut passes,
+        } = blank.open::<B>(alloc, 1).ok()?;
+        let order = order_over(alloc, &keeper, frames, line)?;
+        let pass = passes.pop()?;
+        Some(Subject {
+            alloc,
+            desk: Desk { board, pass, order },
+            seat,
+            keeper,
+        })
+    }
 }
 
 // Whether these are the bytes that puts gave the blocks from the first one on.
@@ -98,17 +150,16 @@ fn finish(keeper: &mut Keeper<SimDisk>) -> bool {
     copy_all(keeper) && keeper.write_map().is_ok() && keeper.finish().is_ok()
 }
 
-impl Subject {
-    // The same device opened anew.
-    fn reopened(self, frames: u32) -> Option<Subject>
-        requires { frames < 2 ^ 20 }
-    {
+impl<B: BoardName> Subject<B> {
+    // The device.
+    fn into_disk(self) -> SimDisk {
         let Subject {
-            alloc,
-            order: _,
+            alloc: _,
+            desk: _,
+            seat: _,
             keeper,
         } = self;
-        opened(alloc, keeper.into_disk(), frames)
+        keeper.into_disk()
     }
 
     // Whether so many puts of 256 blocks each, one behind the other, are accepted.
@@ -116,7 +167,7 @@ impl Subject {
         requires { puts < 2 ^ 32 }
     {
         for place in 0..puts {
-            if !takes_put(self.alloc, &mut self.order, 256 * place, 256, place + 1) {
+            if !takes_put(self.alloc, &mut self.desk, 256 * place, 256, place + 1) {
                 return false;
             }
         }
@@ -125,7 +176,7 @@ impl Subject {
 
     // Stores what is pending, as far as one group takes it.
     pub fn store(&mut self) -> bool {
-        let Ok(sealed) = self.order.seal() else {
+        let Ok(sealed) = self.desk.order.seal() else {
             return false;
         };
         let Some(group) = sealed else {
@@ -135,8 +186,14 @@ impl Subject {
             let _commands = group.into_parts();
             return false;
         }
-        self.order.publish(&self.keeper);
+        self.publish();
         true
+    }
+
+    fn publish(&mut self) {
+        let desk = &mut self.desk;
+        desk.order
+            .publish(&desk.board, &mut self.seat, &self.keeper);
     }
 
     // Moves all that is stored into map and data, where it isn't there yet.
@@ -149,15 +206,15 @@ impl Subject {
 
     // Lets frames go, and tells whether there were any.
     pub fn clean(&mut self) -> bool {
-        self.order.clean(&self.keeper)
+        self.desk.order.clean(&self.keeper)
     }
 
     // Whether so many blocks from the first one on lie in the image.
     fn has(&self, first: u64, blocks: u64) -> bool
-        ensures order { result ≡ true → first + blocks ≤ length self.now.order.cache.states }
+        ensures order { result ≡ true → first + blocks ≤ length self.now.desk.order.cache.states }
         ensures keeper { result ≡ true → first + blocks ≤ self.now.keeper.geometry.blocks }
     {
-        let image = self.order.blocks();
+        let image = self.desk.order.blocks();
         image == self.keeper.geometry().blocks && blocks <= image && first <= image - blocks
     }
 
@@ -169,7 +226,11 @@ impl Subject {
             return None;
         }
         let mut into = buffer(self.alloc, blocks)?;
-        match self.order.read_with(&mut self.keeper, first, &mut into) {
+        match self
+            .desk
+            .order
+            .read_with(&mut self.keeper, first, &mut into)
+        {
             Ok(()) => Some(Ok(into)),
             Err(fault) => Some(Err(fault)),
         }
@@ -207,15 +268,24 @@ impl Subject {
 
     // Whether a block is in memory.
     pub fn holds(&self, block: u64) -> bool {
-        block < self.order.blocks() && self.order.read_cached(block, &mut [[0; 4096]]).is_ok()
+        block < self.desk.order.blocks()
+            && self.desk.order.read_cached(block, &mut [[0; 4096]]).is_ok()
     }
 }
 
-// An order with 512 frames over 1,024 blocks, all of them data at the base.
-pub fn filled(alloc: Global) -> Option<Subject> {
-    let mut subject = fresh(alloc, 1024, 1024)?;
+// Writes all of 1,024 blocks and stores them, and gives the device.
+fn fill_all<B: BoardName>(alloc: Global, start: Start) -> Option<SimDisk>
+    requires { start.blank.board ≡ B.board }
+{
+    let mut subject = start.subject::<B>(alloc, 1024)?;
     if subject.fill(4) && subject.store() {
-        return subject.reopened(512);
+        return Some(subject.into_disk());
     }
     None
+}
+
+// A keeper of 1,024 blocks, all of them data at the base, and a board for it.
+pub fn filled(alloc: Global) -> Option<Start> {
+    let disk = fill_all::<Brand>(alloc, fresh(alloc, 1024)?)?;
+    opened(alloc, disk)
 }

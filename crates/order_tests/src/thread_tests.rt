@@ -1,0 +1,159 @@
+//! An order that two threads share through one lock.
+ghost use Rattle.std.specs.Prelude.{◌≡◌, ◌≤◌};
+ghost use Rattle.marks.specs.Known.{known};
+
+use crate::commands::{accept, put};
+use crate::subject::{Start, fresh, order_over};
+use disk_model::SimDisk;
+use marks::{Board, BoardName, Opened, Pass};
+use order_book::{Order, SeatedKeeper};
+use std::alloc::Global;
+use std::marker::Brand;
+use std::sync::{Mutex, Wait};
+use std::thread::{self, Threads};
+
+// What came of a thread: the numbers that its puts were given, and its pass.
+#[derive(Drop)]
+struct Ran<B: BoardName> {
+    numbers: Vec<u64>,
+    pass: Pass<B>,
+}
+
+// Accepts 100 puts of one block through the lock.
+fn accept_puts<B: BoardName>(
+    rt: &impl Wait,
+    alloc: Global,
+    board: &Board<B>,
+    order: &Mutex<Order<B>>,
+    mut pass: Pass<B>,
+) -> Option<Ran<B>> {
+    let mut numbers = Vec::with_capacity(alloc, 100).ok()?;
+    for block in 0..100 {
+        let command = put(alloc, block, 1, 7).ok()?;
+        if let Some(Ok(number)) = accept(&mut *order.lock(rt), board, &mut pass, command) {
+            numbers.push(number).ok()?;
+        }
+    }
+    Some(Ran { numbers, pass })
+}
+
+// What a pass sees once another one has told it: no less than that one knew.
+fn told<B: BoardName>(board: &Board<B>, one: &mut Pass<B>, other: &mut Pass<B>) -> u64
+    ensures { known one.old ≤ result }
+{
+    let told = board.tell(one);
+    board.learn(other, told);
+    board.look_accepted(other)
+}
+
+// Stores what is pending, the keeper's lock outside and the order's inside, as far as one group takes it.
+fn store<B: BoardName>(
+    rt: &impl Wait,
+    board: &Board<B>,
+    keeper: &Mutex<SeatedKeeper<B, SimDisk>>,
+    order: &Mutex<Order<B>>,
+) -> bool {
+    let mut guard = keeper.lock(rt);
+    let held = &mut *guard;
+    let Ok(Some(group)) = order.lock(rt).seal() else {
+        return false;
+    };
+    if let Err((_, group)) = held.keeper.append(group) {
+        let _commands = group.into_parts();
+        return false;
+    }
+    order.lock(rt).publish(board, &mut held.seat, &held.keeper);
+    true
+}
+
+// What came of two threads that shared an order: the numbers that they were given, the accepted number that the pass of one sees,
+// told by that of the other, and the durable one, once all was stored.
+#[derive(Drop)]
+struct Shared {
+    numbers: Vec<u64>,
+    seen: u64,
+    durable: u64,
+}
+
+// Has two threads share an order.
+fn share<B: BoardName + Send + Sync, R: Threads + Wait + Sync>(
+    rt: &R,
+    alloc: Global,
+    start: Start,
+) -> Option<Shared>
+    requires { start.blank.board ≡ B.board }
+{
+    let (blank, keeper) = start.into_parts();
+    let Opened {
+        board,
+        order: line,
+        keeper: seat,
+        passes,
+    } = blank.open::<B>(alloc, 2).ok()?;
+    let order = Mutex::new(order_over(alloc, &keeper, 100, line)?);
+    let keeper = Mutex::new(SeatedKeeper { seat, keeper });
+    let ran = accept_by_all(rt, alloc, &board, &order, passes)?;
+    if !store(rt, &board, &keeper, &order) {
+        return None;
+    }
+    tell_all(alloc, &board, ran)
+}
+
+// Accepts 100 puts for each pass, by a thread of its own.
+fn accept_by_all<B: BoardName + Send + Sync, R: Threads + Wait + Sync>(
+    rt: &R,
+    alloc: Global,
+    board: &Board<B>,
+    order: &Mutex<Order<B>>,
+    passes: Vec<Pass<B>>,
+) -> Option<Vec<Option<Ran<B>>>> {
+    thread::map_vec(
+        rt,
+        passes,
+        &|pass| accept_puts(rt, alloc, board, order, pass),
+    )
+    .ok()
+}
+
+// What the last two of the passes know once one has told the other, with the numbers that both were given.
+fn tell_all<B: BoardName>(
+    alloc: Global,
+    board: &Board<B>,
+    mut ran: Vec<Option<Ran<B>>>,
+) -> Option<Shared> {
+    let mut one = ran.pop()??;
+    let mut other = ran.pop()??;
+    let seen = told(board, &mut one.pass, &mut other.pass);
+    let durable = board.look_durable(&mut other.pass);
+    let mut numbers = Vec::new(alloc);
+    numbers.extend_from_slice(&one.numbers).ok()?;
+    numbers.extend_from_slice(&other.numbers).ok()?;
+    Some(Shared {
+        numbers,
+        seen,
+        durable,
+    })
+}
+
+// Whether the numbers are those from 1 on, each once.
+fn each_once(numbers: &mut Vec<u64>) -> bool {
+    numbers.sort_unstable();
+    let mut last = 0;
+    for number in numbers.iter() {
+        if number.checked_sub(1) != Some(last) {
+            return false;
+        }
+        last = *number;
+    }
+    true
+}
+
+#[test]
+fn two_threads_share_the_order(rt: HostRuntime) {
+    let start = fresh(rt.alloc(), 100).expect(&rt, "a board over holes");
+    let mut shared = share::<Brand, _>(&rt, rt.alloc(), start).expect(&rt, "two threads");
+    assert_eq!(rt; shared.numbers.len(), 200);
+    assert!(rt; each_once(&mut shared.numbers));
+    assert_eq!(rt; shared.seen, 200);
+    assert_eq!(rt; shared.durable, 200);
+}
