@@ -1,47 +1,79 @@
 ghost use Rattle.std.specs.Prelude.{◌≡◌, IfOk};
 
-use std::fs::{self, OpenFile, OpenOptions};
+use crate::fresh::FreshFile;
+use std::fs::{self, File, OpenFile, OpenOptions, TryLockError};
 use std::io;
 use std::path::Path;
-use std::rt::Files;
 
-// Opens a device's file, and gives its length.
-pub fn open<R: Files>(rt: &R, path: &str) -> io::Result<(R::File, u64)> {
+/// Why a device's file isn't there to work on.
+#[derive(Clone, Copy, Debug)]
+pub enum FileFault {
+    /// It can't be opened or made.
+    Unopened,
+    /// Another process works on it.
+    InUse,
+    /// It can't be locked.
+    Unlocked,
+}
+
+impl From<io::Error> for FileFault {
+    fn from(_error: io::Error) -> FileFault {
+        FileFault::Unopened
+    }
+}
+
+impl From<TryLockError> for FileFault {
+    fn from(error: TryLockError) -> FileFault {
+        match error {
+            TryLockError::WouldBlock => FileFault::InUse,
+            TryLockError::Error(_) => FileFault::Unlocked,
+        }
+    }
+}
+
+// Opens a device's file, which no other process works on then, and gives its length.
+pub fn open(rt: &HostRuntime, path: &str) -> Result<(File, u64), FileFault> {
     let file = OpenOptions::new().read(true).write(true).open(rt, path)?;
-    let size = file.metadata()?.len();
+    file.try_lock()?;
+    let size = OpenFile::metadata(&file)?.len();
     Ok((file, size))
 }
 
-// Opens a device's file so that it can't be written, and gives its length.
-pub fn open_for_reading<R: Files>(rt: &R, path: &str) -> io::Result<(R::File, u64)> {
+// Opens a device's file so that it can't be written, and no other process writes it, and gives its length.
+pub fn open_for_reading(rt: &HostRuntime, path: &str) -> Result<(File, u64), FileFault> {
     let file = fs::open(rt, path)?;
-    let size = file.metadata()?.len();
+    file.try_lock_shared()?;
+    let size = OpenFile::metadata(&file)?.len();
     Ok((file, size))
 }
 
-// Makes or empties a file, and gives it its full length, which is stable with its name where the system lets a folder be
-// synced.
-pub fn make<R: Files>(rt: &R, path: &str, size: u64) -> io::Result<(R::File, u64)>
-    ensures { IfOk result (λ made. made.1 ≡ size) }
+// Opens a file, or makes it, that gets this length once it is written, and keeps what it holds until then. Its name is
+// stable where the system lets a folder be synced.
+pub fn open_fresh(rt: &HostRuntime, path: &str, size: u64) -> Result<(FreshFile, u64), FileFault>
+    ensures { IfOk result (λ fresh. fresh.1 ≡ size) }
 {
     let file = OpenOptions::new()
         .read(true)
         .write(true)
         .create(true)
-        .truncate(true)
         .open(rt, path)?;
-    file.set_len(size)?;
-    file.sync_all()?;
+    file.try_lock()?;
+    let length = OpenFile::metadata(&file)?.len();
+    if length < size {
+        // Whether the system takes the length shows before anything is lost.
+        OpenFile::set_len(&file, size)?;
+        OpenFile::set_len(&file, length)?;
+    }
     sync_folder(rt, path);
-    Ok((file, size))
+    Ok((FreshFile::new(file, size), size))
 }
 
-fn sync_folder<R: Files>(rt: &R, path: &str) {
+fn sync_folder(rt: &HostRuntime, path: &str) {
     let folder = match Path::new(path).parent() {
         Some(folder) if folder.as_str() != "" => folder.as_str(),
         _ => ".",
     };
     if let Ok(folder) = fs::open(rt, folder) {
-        let _ = folder.sync_all();
+        let _ = OpenFile::sync_all(&folder);
     }
 }

@@ -4,10 +4,11 @@
 ghost use Rattle.nbdj_run.specs.Plan.{Suits};
 
 mod files;
+mod fresh;
 
-use crate::files::{make, open, open_for_reading};
+use crate::files::{FileFault, open, open_for_reading, open_fresh};
 use clap::error::ErrorKind;
-use disk_model::FileDisk;
+use disk_model::{Disk, FileDisk};
 use nbdj_line::line;
 use nbdj_run::{Plan, perform};
 use nbdj_script::script;
@@ -40,25 +41,45 @@ fn no_memory(rt: &HostRuntime) -> u8 {
     1
 }
 
-// Carries out the plan, and gives the exit status.
+// Carries out the plan, and gives the exit status. The lock on a device's file is held as long as the file is open.
 fn run(rt: &HostRuntime, plan: &Plan<'_>) -> u8 {
-    let (path, opened) = match *plan {
-        Plan::Format { path, geometry } => (path, make(rt, path, geometry.device_bytes())),
-        Plan::Pipe { path, .. } | Plan::Recover { path } => (path, open(rt, path)),
-        Plan::Check { path } => (path, open_for_reading(rt, path)),
-        Plan::Rehearse => return run_script(rt),
-    };
-    let Ok((file, size)) = opened else {
-        // Where not even that can be written, the status alone tells.
-        let _ = eprintln!(rt; "nbdj: cannot open {path}");
-        return 1;
-    };
-    let disk = FileDisk::new(file, size);
+    match *plan {
+        Plan::Format { path, geometry } => match open_fresh(rt, path, geometry.device_bytes()) {
+            Ok((file, size)) => run_on(rt, plan, FileDisk::new(file, size)),
+            Err(fault) => no_file(rt, path, fault),
+        },
+        Plan::Pipe { path, .. } | Plan::Recover { path } => match open(rt, path) {
+            Ok((file, size)) => run_on(rt, plan, FileDisk::new(file, size)),
+            Err(fault) => no_file(rt, path, fault),
+        },
+        Plan::Check { path } => match open_for_reading(rt, path) {
+            Ok((file, size)) => run_on(rt, plan, FileDisk::new(file, size)),
+            Err(fault) => no_file(rt, path, fault),
+        },
+        Plan::Rehearse => run_script(rt),
+    }
+}
+
+// Carries out the plan on its device.
+fn run_on<D: Disk + Drop>(rt: &HostRuntime, plan: &Plan<'_>, disk: D) -> u8
+    requires { Suits plan.now (D.extent disk) }
+{
     let mut input = rt.reader();
     let mut output = io::writer(rt);
     let mut errors = rt.stderr();
     let (status, _disk) = perform(rt.alloc(), plan, disk, &mut input, &mut output, &mut errors);
     status
+}
+
+// Tells why there is no file to work on, and gives the exit status.
+fn no_file(rt: &HostRuntime, path: &str, fault: FileFault) -> u8 {
+    // Where not even that can be written, the status alone tells.
+    let _ = match fault {
+        FileFault::Unopened => eprintln!(rt; "nbdj: cannot open {path}"),
+        FileFault::InUse => eprintln!(rt; "nbdj: {path} is in use"),
+        FileFault::Unlocked => eprintln!(rt; "nbdj: cannot lock {path}"),
+    };
+    1
 }
 
 fn run_script(rt: &HostRuntime) -> u8 {

@@ -1,2 +1,3 @@
+mod Builders
 mod Given
-mod Plain
+mod Sizes

@@ -1,5 +1,5 @@
 -- The command line of nbdj: its subcommands, and what each takes.
-use Rattle.std.specs.Prelude.{true, Some, [], ◌∷◌, codes}
+use Rattle.std.specs.Prelude.{true, false, Some, [], ◌∷◌, codes}
 use Rattle.clap.specs.Words.{App, Rule, Text, new_app, new_rule, with_rule, with_subcommand}
 use Rattle.clap.specs.Simple.{on_top}
 use Rattle.clap.specs.declared.builder.value_parser.ValueParser.{ValueParser}
@@ -13,12 +13,19 @@ path_rule = record (new_rule (codes "path")) { value_names = 1; required = true 
 abbrev pub option_rule : Text → Rule
 option_rule name = record (new_rule name) { long = Some name; value_names = 1 }
 
--- options whose value is a number of these bounds
-abbrev pub blocks_rule : Rule
-blocks_rule = record (option_rule (codes "blocks")) { parser = Some (parser.Unsigned 1 16777216); required = true }
+-- options whose value says so many bytes; one that isn't free has a say in which others are given
+abbrev pub size_rule : Rule
+size_rule = record (option_rule (codes "size")) { is_free = false }
 
 abbrev pub area_rule : Rule
-area_rule = record (option_rule (codes "area")) { parser = Some (parser.Unsigned 2097152 1073741824); required = true }
+area_rule = option_rule (codes "area")
+
+-- options whose value is a number of these bounds
+abbrev pub block_count_rule : Rule
+block_count_rule = record (option_rule (codes "blocks")) { parser = Some (parser.Unsigned 1 16777216) }
+
+abbrev pub blocks_rule : Rule
+blocks_rule = record block_count_rule { is_free = false }
 
 abbrev pub frames_rule : Rule
 frames_rule = record (option_rule (codes "frames")) { parser = Some (parser.Unsigned 512 65536); defaults = codes "4096" ∷ [] }
@@ -28,7 +35,7 @@ abbrev pub cache_rule : ValueParser → Rule
 cache_rule modes = record (option_rule (codes "cache")) { parser = Some modes; defaults = codes "writeback" ∷ [] }
 
 abbrev pub format_app : App
-format_app = with_rule (with_rule (with_rule (new_app (codes "format")) path_rule) blocks_rule) area_rule
+format_app = with_rule (with_rule (with_rule (with_rule (new_app (codes "format")) path_rule) size_rule) blocks_rule) area_rule
 
 abbrev pub pipe_app : ValueParser → App
 pipe_app modes = with_rule (with_rule (with_rule (new_app (codes "pipe")) path_rule) frames_rule) (cache_rule modes)

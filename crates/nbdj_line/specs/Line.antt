@@ -1,8 +1,9 @@
 -- Which plan a command line asks for. The values that a subcommand was given are clap's: the words', and for an option
 -- that is left out its default.
-use Rattle.std.specs.Prelude.{ℕ, ◌≡◌, Option, Some, None, List, codes}
+use Rattle.std.specs.Prelude.{ℕ, ◌≡◌, ◌⊎◌, ◌*◌, Option, Some, None, List, codes}
 use Rattle.std.specs.Str.Parse.{IsNumeral, digits_value, without_leading_plus}
 use Rattle.clap.specs.Words.{Row, Text, first_of, one_of}
+use Rattle.nbdj_line.specs.Size.{IsSize}
 use Rattle.world.specs.declared.step.Mode.{Mode}
 use Rattle.world.specs.declared.step.Mode.TheVariants.{Writeback, Writethrough}
 use Rattle.nbdj_run.specs.declared.plan.Plan.{Plan}
@@ -15,6 +16,25 @@ pub record IsGiven (rows : List Row) (name : Text) (number : ℕ) : Type 0 where
   pub numeral : IsNumeral 10 (without_leading_plus text)
   pub is : number ≡ digits_value 10 (without_leading_plus text)
 
+-- the option was given so many bytes
+pub record IsGivenSize (rows : List Row) (name : Text) (bytes : ℕ) : Type 0 where
+  pub text : Text
+  pub value : first_of name rows ≡ Some text
+  pub size : IsSize text bytes
+
+-- the option was left out
+abbrev pub IsLeftOut : List Row → Text → Type 0
+IsLeftOut rows name = first_of name rows ≡ None
+
+-- the image has so many blocks: what --size says in bytes, or what --blocks says, where the other is left out
+abbrev pub SaysBlocks : List Row → ℕ → Type 0
+SaysBlocks rows blocks =
+    (IsLeftOut rows (codes "blocks") × IsGivenSize rows (codes "size") (blocks * 4096)) ⊎ (IsLeftOut rows (codes "size") × IsGiven rows (codes "blocks") blocks)
+
+-- an area has so many bytes: what --area says, or 64 MiB where it is left out and --blocks is too
+abbrev pub SaysArea : List Row → ℕ → Type 0
+SaysArea rows area = IsGivenSize rows (codes "area") area ⊎ (IsLeftOut rows (codes "area") × IsLeftOut rows (codes "blocks") × (area ≡ 67108864))
+
 abbrev pub HasPath : List Row → Text → Type 0
 HasPath rows path = first_of (codes "path") rows ≡ Some path
 
@@ -26,7 +46,7 @@ mode_name Writethrough = codes "writethrough"
 abbrev pub IsAsked : Option (Text × List Row) → Plan → Type 0
 IsAsked None plan = ⊥
 IsAsked (Some (name, rows)) (Format path geometry) =
-    (name ≡ codes "format") × HasPath rows path.now × IsGiven rows (codes "blocks") geometry.blocks × IsGiven rows (codes "area") geometry.area
+    (name ≡ codes "format") × HasPath rows path.now × SaysBlocks rows geometry.blocks × SaysArea rows geometry.area
 IsAsked (Some (name, rows)) (Pipe path options) =
     (name ≡ codes "pipe") × HasPath rows path.now × IsGiven rows (codes "frames") options.frames
     × (first_of (codes "cache") rows ≡ Some (mode_name options.mode))

@@ -1,6 +1,6 @@
-ghost use Rattle.std.specs.Prelude.{◌≡◌, false, IfOk};
-ghost use Rattle.clap.specs.Words.{app_of, rule_of};
-ghost use Rattle.nbdj_line.specs.Commands.{area_rule, bare_app, blocks_rule, cache_rule, check_app, format_app, frames_rule, nbdj_app, option_rule, path_rule, pipe_app, recover_app, rehearse_app};
+ghost use Rattle.std.specs.Prelude.{◌≡◌, false, true, IfOk, IsOkAnd};
+ghost use Rattle.clap.specs.Words.{app_of, new_app, rule_of, with_rule, with_subcommand};
+ghost use Rattle.nbdj_line.specs.Commands.{area_rule, bare_app, block_count_rule, blocks_rule, cache_rule, check_app, format_app, frames_rule, nbdj_app, option_rule, path_rule, pipe_app, recover_app, rehearse_app, size_rule};
 
 use clap::builder::ValueParser;
 use clap::{Arg, Command, value_parser};
@@ -11,12 +11,45 @@ use std::alloc::{AllocError, Global};
 pub fn program<'a>(alloc: Global, modes: ValueParser<'a>) -> Result<Command<'a>, AllocError>
     ensures { IfOk result (λ command. app_of command ≡ nbdj_app modes.entry) }
 {
-    bare(alloc)
-        .subcommand(format(alloc)?)?
-        .subcommand(pipe(alloc, modes)?)?
-        .subcommand(recover(alloc)?)?
-        .subcommand(check(alloc)?)?
-        .subcommand(rehearse(alloc))
+    let command = joined(bare(alloc), format(alloc))?;
+    let command = joined(command, pipe(alloc, modes))?;
+    let command = joined(command, recover(alloc))?;
+    let command = joined(command, check(alloc))?;
+    joined(command, Ok(rehearse(alloc)))
+}
+
+// The command with a subcommand, where there is memory for it.
+fn joined<'a>(
+    command: Command<'a>,
+    subcommand: Result<Command<'a>, AllocError>,
+) -> Result<Command<'a>, AllocError>
+    ensures { IfOk result (λ whole. IsOkAnd subcommand.entry (λ below. (app_of below).top.is_plain ≡ true
+        → app_of whole ≡ with_subcommand (app_of command.entry) (app_of below).top)) }
+{
+    command.subcommand(subcommand?)
+}
+
+// The command with an argument, where there is memory for it.
+fn with_argument<'a>(
+    command: Command<'a>,
+    argument: Result<Arg<'a>, AllocError>,
+) -> Result<Command<'a>, AllocError>
+    ensures { IfOk result (λ whole. IsOkAnd argument.entry (λ arg. arg.global ≡ false
+        → app_of whole ≡ with_rule (app_of command.entry) (rule_of arg))) }
+{
+    command.arg(argument?)
+}
+
+// A subcommand without its arguments.
+fn described<'a>(
+    alloc: Global,
+    name: &'a str,
+    about: &'a str,
+    after_help: &'a str,
+) -> Command<'a>
+    ensures { app_of result ≡ new_app name.now }
+{
+    Command::new(alloc, name).about(about).after_help(after_help)
 }
 
 // The modes of `--cache`.
@@ -38,27 +71,44 @@ fn bare<'a>(alloc: Global) -> Command<'a>
         .arg_required_else_help(true)
 }
 
-fn format<'a>(alloc: Global) -> Result<Command<'a>, AllocError>
+// The two ways to say how large an image is.
+const FORMAT_USAGE: &str = "nbdj format --size <SIZE> [--area <BYTES>] <PATH>\n       nbdj format --blocks <N> --area <BYTES> <PATH>";
+
+pub fn format<'a>(alloc: Global) -> Result<Command<'a>, AllocError>
     ensures { IfOk result (λ command. app_of command ≡ format_app) }
 {
-    Command::new(alloc, "format")
-        .about(
-            "Makes or replaces the file at its full size: an image of holes with an empty journal",
-        )
-        .after_help(
-            "What the file held before is lost. A kill or a power cut before the end leaves a file that doesn't open.",
-        )
-        .arg(path(alloc))?
-        .arg(blocks(alloc))?
-        .arg(area(alloc))
+    let command = described(
+        alloc,
+        "format",
+        "Makes or replaces the file at its full size: an image of holes with an empty journal",
+        "Example: nbdj format d.img --size 10G\n\nWhat the file held before is lost, unless the format is refused. A kill or a power cut before the end leaves what the file held, or a file that doesn't open.",
+    );
+    let command = command.override_usage(FORMAT_USAGE).arg(path(alloc))?;
+    let command = with_argument(command, size(alloc))?;
+    let command = with_argument(command, blocks(alloc))?;
+    command.arg(area(alloc))
 }
 
-fn blocks<'a>(alloc: Global) -> Arg<'a>
+fn size<'a>(alloc: Global) -> Result<Arg<'a>, AllocError>
+    ensures { IfOk result (λ arg. (arg.global ≡ false) × (rule_of arg ≡ size_rule)) }
+{
+    option(alloc, "size", "SIZE")
+        .help("Bytes of the image, in whole blocks of 4096: 4K to 64G, as 65536, 64K, 512M or 10G, in powers of 1024")
+        .conflicts_with("blocks")?
+        .required_unless_present("blocks")
+}
+
+fn blocks<'a>(alloc: Global) -> Result<Arg<'a>, AllocError>
+    ensures { IfOk result (λ arg. (arg.global ≡ false) × (rule_of arg ≡ blocks_rule)) }
+{
+    block_count(alloc).requires_arg("area")
+}
+
+fn block_count<'a>(alloc: Global) -> Arg<'a>
     ensures local { result.global ≡ false }
-    ensures rule { rule_of result ≡ blocks_rule }
+    ensures rule { rule_of result ≡ block_count_rule }
 {
     option(alloc, "blocks", "N")
-        .required(true)
         .value_parser(value_parser!(u64).range(1..=16_777_216))
         .help("Blocks of the image, of 4096 bytes each: 1 to 16777216")
 }
@@ -68,22 +118,21 @@ fn area<'a>(alloc: Global) -> Arg<'a>
     ensures rule { rule_of result ≡ area_rule }
 {
     option(alloc, "area", "BYTES")
-        .required(true)
-        .value_parser(value_parser!(u64).range(2_097_152..=1_073_741_824))
-        .help("Bytes of each journal area: 2097152 to 1073741824, a multiple of 8192")
+        .help("Bytes of each journal area, a multiple of 8192: 2M to 1G, by default 64M")
 }
 
 fn pipe<'a>(alloc: Global, modes: ValueParser<'a>) -> Result<Command<'a>, AllocError>
     ensures { IfOk result (λ command. app_of command ≡ pipe_app modes.entry) }
 {
-    Command::new(alloc, "pipe")
-        .about("Serves the transmission phase of one connection over standard input and output")
-        .after_help(
-            "A kill or a power cut keeps every write that a FLUSH, or a FUA reply, has confirmed.",
-        )
-        .arg(path(alloc))?
-        .arg(frames(alloc))?
-        .arg(cache(alloc, modes))
+    described(
+        alloc,
+        "pipe",
+        "Serves the transmission phase of one connection over standard input and output",
+        "Example: nbdj pipe d.img --cache writethrough <requests >replies\n\nA kill or a power cut keeps every write that a FLUSH, or a FUA reply, has confirmed.",
+    )
+    .arg(path(alloc))?
+    .arg(frames(alloc))?
+    .arg(cache(alloc, modes))
 }
 
 fn frames<'a>(alloc: Global) -> Arg<'a>
@@ -117,31 +166,36 @@ fn option<'a>(alloc: Global, name: &'a str, value_name: &'a str) -> Arg<'a>
 fn recover<'a>(alloc: Global) -> Result<Command<'a>, AllocError>
     ensures { IfOk result (λ command. app_of command ≡ recover_app) }
 {
-    Command::new(alloc, "recover")
-        .about("Recovers the device and prints the number of its last command")
-        .after_help(
-            "The journal is copied into the image and is empty then. A kill or a power cut loses nothing.",
-        )
-        .arg(path(alloc))
+    described(
+        alloc,
+        "recover",
+        "Recovers the device and prints the number of its last command",
+        "Example: nbdj recover d.img\n\nThe journal is copied into the image and is empty then. A kill or a power cut loses nothing.",
+    )
+    .arg(path(alloc))
 }
 
 fn check<'a>(alloc: Global) -> Result<Command<'a>, AllocError>
     ensures { IfOk result (λ command. app_of command ≡ check_app) }
 {
-    Command::new(alloc, "check")
-        .about("Prints what the device holds, and writes nothing")
-        .after_help("The exit status is 3 where the device is bad.")
-        .arg(path(alloc))
+    described(
+        alloc,
+        "check",
+        "Prints what the device holds, and writes nothing",
+        "Example: nbdj check d.img\n\nThe exit status is 3 where the device is bad. A kill or a power cut changes nothing.",
+    )
+    .arg(path(alloc))
 }
 
 fn rehearse<'a>(alloc: Global) -> Command<'a>
     ensures { app_of result ≡ rehearse_app }
 {
-    Command::new(alloc, "rehearse")
-        .about("Runs a script from standard input on a simulated device, crashes included")
-        .after_help(
-            "Each line is one step; docs/SCRIPTS.md teaches the lines, and what each prints.",
-        )
+    described(
+        alloc,
+        "rehearse",
+        "Runs a script from standard input on a simulated device, crashes included",
+        "Example: nbdj rehearse <script\n\nEach line is one step; docs/SCRIPTS.md teaches the lines, and what each prints. A kill loses nothing but the simulated device.",
+    )
 }
 
 fn path<'a>(alloc: Global) -> Arg<'a>

@@ -3,6 +3,7 @@
 
 mod commands;
 mod parse;
+mod size;
 
 pub use clap::Error as LineFault;
 pub use parse::line;

@@ -1,16 +1,18 @@
-ghost use Rattle.std.specs.Prelude.{◌≡◌, Some, IfOk, IfSome, codes, map};
+ghost use Rattle.std.specs.Prelude.{◌≡◌, ◌≤◌, ◌*◌, Some, IfOk, codes, map, option_map};
 ghost use Rattle.clap.specs.Words.{first_of, found_of, rows_of, subcommand_of};
 ghost use Rattle.clap.specs.declared.builder.value_parser.ValueParser.{ValueParser};
 ghost use Rattle.nbdj_line.specs.Commands.{nbdj_app};
-ghost use Rattle.nbdj_line.specs.Line.{mode_name, HasPath, IsAsked, IsGiven};
+ghost use Rattle.nbdj_line.specs.Line.{mode_name, HasPath, IsAsked, IsGiven, SaysArea, SaysBlocks};
+ghost use Rattle.nbdj_line.specs.Size.{IsSize};
 
-use crate::commands::{modes, program};
+use crate::commands::{self, modes, program};
+use crate::size::bytes_of;
 use clap::error::ErrorKind;
-use clap::{ArgMatches, Error};
-use image_model::Geometry;
+use clap::{ArgMatches, Command, Error};
+use image_model::{BLOCK_BYTES, Geometry, LEAST_AREA_BYTES, MOST_AREA_BYTES, MOST_BLOCKS};
 use nbdj_pipe::PipeOptions;
 use nbdj_run::Plan;
-use std::alloc::Global;
+use std::alloc::{AllocError, Global};
 use world::Mode;
 
 /// Reads a command line, the program's name first. Texts of help and version come as errors too.
@@ -48,15 +50,95 @@ fn format<'a>(alloc: Global, matches: &ArgMatches<'a>) -> Result<Plan<'a>, Error
     ensures { IfOk result (IsAsked (Some (codes "format", rows_of (found_of matches.now)))) }
 {
     let path = path(alloc, matches)?;
-    let blocks = number(alloc, matches, "blocks")?;
-    let area = number(alloc, matches, "area")?;
-    let geometry = match u32::try_from(area) {
-        Ok(area) => Geometry::new(blocks, area),
-        Err(_) => None,
-    };
-    match geometry {
+    let blocks = blocks(alloc, matches)?;
+    let area = area(alloc, matches)?;
+    match Geometry::new(blocks, area) {
         Some(geometry) => Ok(Plan::Format { path, geometry }),
-        None => Err(fault(alloc, "--area: the bytes of an area are a multiple of 8192")),
+        None => Err(format_fault(alloc, "--area: the bytes of an area are a multiple of 8192")),
+    }
+}
+
+// The blocks of the image, as one of two options says.
+fn blocks(alloc: Global, matches: &ArgMatches<'_>) -> Result<u64, Error>
+    ensures { IfOk result (SaysBlocks (rows_of (found_of matches.now))) }
+{
+    match (text(matches, "size"), text(matches, "blocks")) {
+        (Some(size), None) => whole_blocks(alloc, size),
+        (None, Some(_)) => number(alloc, matches, "blocks"),
+        _ => Err(format_fault(alloc, "one of --size and --blocks is wanted")),
+    }
+}
+
+// The blocks that a size has.
+fn whole_blocks(alloc: Global, size: &str) -> Result<u64, Error>
+    ensures { IfOk result (λ blocks. IsSize size.now (blocks * 4096)) }
+{
+    let bytes = bytes_within(alloc, "--size <SIZE>", size, BLOCK_BYTES, MOST_BLOCKS * BLOCK_BYTES)?;
+    if bytes % BLOCK_BYTES != 0 {
+        return Err(format_fault(alloc, "--size: the bytes of an image are a multiple of 4096"));
+    }
+    Ok(bytes / BLOCK_BYTES)
+}
+
+// The bytes of each area where none are given.
+const USUAL_AREA_BYTES: u32 = 67_108_864;
+
+// The bytes of an area.
+fn area(alloc: Global, matches: &ArgMatches<'_>) -> Result<u32, Error>
+    ensures { IfOk result (SaysArea (rows_of (found_of matches.now))) }
+{
+    match (text(matches, "area"), text(matches, "blocks")) {
+        (Some(area), _) => area_bytes(alloc, area),
+        (None, None) => Ok(USUAL_AREA_BYTES),
+        (None, Some(_)) => Err(format_fault(alloc, "--area: it is wanted beside --blocks")),
+    }
+}
+
+// The bytes of an area, as a size says.
+fn area_bytes(alloc: Global, size: &str) -> Result<u32, Error>
+    ensures { IfOk result (IsSize size.now) }
+{
+    let least = u64::from(LEAST_AREA_BYTES);
+    let most = u64::from(MOST_AREA_BYTES);
+    let bytes = bytes_within(alloc, "--area <BYTES>", size, least, most)?;
+    Ok(bytes as u32)
+}
+
+// The bytes that the size of an option says, within bounds.
+fn bytes_within(
+    alloc: Global,
+    option: &str,
+    size: &str,
+    least: u64,
+    most: u64,
+) -> Result<u64, Error>
+    ensures said { IfOk result (IsSize size.now) }
+    ensures within { IfOk result (λ bytes. bytes ≤ most) }
+{
+    let Some(bytes) = bytes_of(size) else {
+        return Err(no_size(alloc, option, size));
+    };
+    if bytes < least || bytes > most {
+        return Err(beyond(alloc, option, size, least, most));
+    }
+    Ok(bytes)
+}
+
+// The fault of a value that is no size.
+fn no_size(alloc: Global, option: &str, size: &str) -> Error {
+    let message = format!(in alloc; "invalid value '{size}' for '{option}': a size is a number of bytes that fits 64 bits, or one with K, M, G or T behind it");
+    match message {
+        Ok(message) => format_fault(alloc, message.as_str()),
+        Err(error) => Error::from(error),
+    }
+}
+
+// The fault of a size that isn't within its bounds.
+fn beyond(alloc: Global, option: &str, size: &str, least: u64, most: u64) -> Error {
+    let message = format!(in alloc; "invalid value '{size}' for '{option}': {size} is not in {least}..={most}");
+    match message {
+        Ok(message) => format_fault(alloc, message.as_str()),
+        Err(error) => Error::from(error),
     }
 }
 
@@ -93,7 +175,7 @@ fn path<'a>(alloc: Global, matches: &ArgMatches<'a>) -> Result<&'a str, Error>
 
 // The text that an argument was given.
 fn text<'a>(matches: &ArgMatches<'a>, name: &str) -> Option<&'a str>
-    ensures { IfSome result (λ text. first_of name.now (rows_of (found_of matches.now)) ≡ Some text.now) }
+    ensures { first_of name.now (rows_of (found_of matches.now)) ≡ option_map (λ text. text.now) result }
 {
     matches.get_str(name)
 }
@@ -108,13 +190,22 @@ fn number(alloc: Global, matches: &ArgMatches<'_>, name: &str) -> Result<u64, Er
     }
 }
 
-// A fault of the words' meaning, told as one of the words themselves.
+// A fault of what the words of `format` mean, told as one of the words themselves.
+fn format_fault(alloc: Global, message: &str) -> Error {
+    fault_of(commands::format(alloc), message)
+}
+
+// The like of another subcommand's words.
 fn fault(alloc: Global, message: &str) -> Error {
-    match program(alloc, modes()) {
-        Ok(mut program) => match program.error(ErrorKind::ValueValidation, message) {
-            Ok(error) => error,
-            Err(error) => Error::from(error),
-        },
+    fault_of(program(alloc, modes()), message)
+}
+
+fn fault_of(command: Result<Command<'_>, AllocError>, message: &str) -> Error {
+    let Ok(mut command) = command else {
+        return Error::from(AllocError);
+    };
+    match command.error(ErrorKind::ValueValidation, message) {
+        Ok(error) => error,
         Err(error) => Error::from(error),
     }
 }
