@@ -170,6 +170,16 @@ done
 # On a file: an end for want of memory leaves an image that opens with a beginning of what was sent, or, while it is formatted, none.
 : >input
 whole format d.img --blocks 16 --area 2097152
+# A format that gets no memory leaves the old file as it was.
+differing 5000000 3 >old.img
+n=1
+while cp old.img d.img; [ "$n" -le "$most" ] && refusing "$n" format d.img --size 64K --area 2M; do
+    amiss=
+    [ "$status" -eq 0 ] || cmp -s old.img d.img || amiss="status $status, and the file has changed"
+    tell "format over an old file, call $n" "$amiss"
+    n=$((n + 1))
+done
+checked 'format over an old file' "$([ "$(cat output)" = 'formatted 4276224' ] || cat output)"
 
 {
     request 0000 1 1 0 4096; filled 4096 A

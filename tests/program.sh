@@ -47,6 +47,21 @@ refused 'a signed number' format new.img --blocks -1 --area 2097152
 refused 'area too small' format new.img --blocks 16 --area 2088960
 refused 'area too large' format new.img --blocks 16 --area 1073750016
 refused 'area no multiple' format new.img --blocks 16 --area 2097153
+refused 'neither size nor blocks' format new.img
+refused 'blocks without an area' format new.img --blocks 16
+refused 'size and blocks' format new.img --size 64K --blocks 16 --area 2097152
+for size in '' G 10X 10KB 1.5G '10 G' -1 0 4095 4097 5000 65G 1T 68719480832 18446744073709551616 99999999999T; do
+    refused "size '$size'" format new.img --size="$size"
+done
+for area in '' 2X 2088960 2097153 1073750016 2G 1K -1; do
+    refused "area '$area'" format new.img --size 64K --area="$area"
+done
+run format new.img --size 65G
+is 'the text of a size too large' "error: invalid value '65G' for '--size <SIZE>': 65G is not in 4096..=68719476736" "$(head -n 1 errors)"
+run format new.img --size 10X
+is 'the text of what is no size' "error: invalid value '10X' for '--size <SIZE>': a size is a number of bytes that fits 64 bits, or one with K, M, G or T behind it" "$(head -n 1 errors)"
+run format new.img --size 64K --area 2088960
+is 'the text of an area too small' "error: invalid value '2088960' for '--area <BYTES>': 2088960 is not in 2097152..=1073741824" "$(head -n 1 errors)"
 refused 'frames too few' pipe new.img --frames 511
 refused 'frames too many' pipe new.img --frames 65537
 refused 'unknown cache mode' pipe new.img --cache unsafe
@@ -65,6 +80,18 @@ for command in format pipe recover check rehearse; do
     is "help of $command" '0|yes|' "$status|$(grep -q "^Usage: nbdj $command" output && echo yes)|$errors"
 done
 
+# The example in each help runs.
+mkdir bin
+ln -s "$NBDJ" bin/nbdj
+request 0000 2 1 0 0 >requests
+cp "$here/examples/crash-before-the-flush.script" script
+for command in format pipe recover check rehearse; do
+    example=$("$NBDJ" "$command" --help | sed -n 's/^Example: //p')
+    case $command in format) example="$example --area 2M" ;; esac
+    is "the example of $command" "0|nbdj $command" "$(PATH="$folder/bin:$PATH" sh -c "$example" >printed 2>&1; echo $?)|$(echo "$example" | cut -d ' ' -f 1-2)"
+done
+rm -f d.img requests replies script
+
 # Files.
 ends 'a missing file' 1 '' 'nbdj: cannot open none.img' recover none.img
 ends 'check a missing file' 1 '' 'nbdj: cannot open none.img' check none.img
@@ -82,6 +109,70 @@ is 'header slot 0' 014e42444a524e4c310000000000000001000000000000001000200000000
 is 'length of the file' 4276224 "$(wc -c <d.img | tr -d ' ')"
 checks 'check of a fresh device' 16 0 0 0 0 0 16
 ends 'a fresh device' 0 "$(text 'commands 0')" '' recover d.img
+# Sizes: the device's bytes are 8,192, two areas, two map slots of 4,096 for each 16,384 blocks, and the blocks.
+while read -r words blocks area bytes; do
+    rm -f s.img
+    ends "format --size $words" 0 "$(text "formatted $bytes")" '' format s.img --size $(echo "$words" | tr , ' ')
+    is "header of --size $words" "$blocks|$area" "$(part s.img 17 8)|$(part s.img 25 4)"
+done <<'ROWS'
+64K,--area,2097152 0000000000000010 00200000 4276224
+65536,--area,2M 0000000000000010 00200000 4276224
+4096,--area,2048k 0000000000000001 00200000 4214784
++4k,--area,+2m 0000000000000001 00200000 4214784
+512M 0000000000020000 04000000 671162368
+1g 0000000000040000 04000000 1208098816
+1G,--area,1G 0000000000040000 40000000 3221364736
+ROWS
+ends 'format --blocks with letters in the area' 0 "$(text 'formatted 4276224')" '' format s.img --blocks 16 --area 2M
+rm -f s.img
+
+# A format takes the place of what was there, whichever is longer.
+ends 'format over a longer file' 0 "$(text 'formatted 4276224')" '' format d.img --blocks 16 --area 2097152
+differing 5000000 1 >d.img
+ends 'format over another longer file' 0 "$(text 'formatted 4276224')" '' format d.img --blocks 16 --area 2097152
+checks 'check of the file that was longer' 16 0 0 0 0 0 16
+tail -c 65536 d.img >found
+filled 65536 '\000' >wanted
+same 'the data of the file that was longer' wanted found
+
+# A file that another process works on: while a pipe serves it, nothing else opens it, and a format leaves every byte.
+fresh 16 2097152
+mkfifo requests replies
+timeout 60 "$NBDJ" pipe d.img <requests >replies &
+serving=$!
+exec 3>requests 4<replies
+{ request 0001 1 7 0 4096; filled 4096 G; } >&3
+is 'a reply of who holds the file' "$(reply 7 0)" "$(head -c 16 <&4 | hex)"
+cp d.img before.img
+for command in 'pipe d.img' 'recover d.img' 'check d.img' 'format d.img --blocks 16 --area 2097152' 'format d.img --size 1G'; do
+    ends "$command of a file in use" 1 '' 'nbdj: d.img is in use' $command
+    same "the file in use after $command" before.img d.img
+done
+ln -s d.img link.img
+ends 'a link to a file in use' 1 '' 'nbdj: link.img is in use' check link.img
+{ request 0001 1 8 4096 4096; filled 4096 H; request 0000 2 9 0 0; } >&3
+exec 3>&-
+wait $serving
+is 'the end of who held the file' 0 $?
+exec 4<&-
+rm -f requests replies link.img
+ends 'the file that was in use' 0 "$(text 'commands 2')" '' recover d.img
+# Two checks share a file, and keep who writes it off. A check that ended holds nothing.
+if command -v flock >/dev/null; then
+    flock -s d.img "$NBDJ" check d.img >shared 2>&1
+    is 'a check beside a check' '0|blocks 16' "$?|$(head -n 1 shared)"
+    flock -s d.img "$NBDJ" recover d.img >shared 2>&1
+    is 'a recovery beside a check' '1|nbdj: d.img is in use' "$?|$(cat shared)"
+    flock -x d.img "$NBDJ" check d.img >shared 2>&1
+    is 'a check beside a server' '1|nbdj: d.img is in use' "$?|$(cat shared)"
+else
+    skipped 'locks that are shared' 'there is no flock'
+fi
+# A check works on a file that may only be read.
+chmod 444 d.img
+ends 'check of a file that may only be read' 0 "$(printf 'blocks 16\nmode 0\nbase 2\ncommands 2\ndata 2\nzero 0\nhole 14\n' | hex)" '' check d.img
+chmod 644 d.img
+fresh 16 2097152
 printf x >>d.img
 unchanged 'one byte longer' 'nbdj: bad header (8)'
 fresh 16 2097152
