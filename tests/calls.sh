@@ -55,6 +55,20 @@ for fail in 'pwrite 1' 'pwrite 2' 'fdatasync 1' 'pwrite 3' 'pwrite 4' 'pwrite 5'
     is "after a format where $fail failed" "$wanted" "$(found)"
 done
 
+# A file system without locks, and one that doesn't take the length: each file stays as it was, and no call is made.
+differing 5000000 1 >old.img
+for command in 'pipe d.img' 'recover d.img' 'check d.img' 'format d.img --size 64K --area 2M' 'format d.img --size 1G'; do
+    cp old.img d.img
+    called 'flock 1' $command
+    is "$command without locks" '1||nbdj: cannot lock d.img' "$status|$output|$errors"
+    same "the file after $command without locks" old.img d.img
+    made "the calls of $command without locks" ''
+done
+cp old.img d.img
+called 'ftruncate 1' format d.img --size 1G
+is 'a format of a length that is not taken' '1||nbdj: cannot open d.img' "$status|$output|$errors"
+same 'the file after a format of a length that is not taken' old.img d.img
+
 # Two WRITEs of two blocks, whose bytes differ from place to place, and a FLUSH; behind them one more WRITE and FLUSH, and the end.
 differing 8192 1 >first
 differing 8192 5000003 >second

@@ -1,6 +1,8 @@
 /* Notes the calls by which a program writes at a place of a file and brings its data to the drive, and can let one of them fail.
  * Preloaded into a program, it adds a line to the file CALLS_LOG for each: 'pwrite OFFSET COUNT' or 'fdatasync'. Where FAIL_CALL is
- * 'pwrite N' or 'fdatasync N', the N-th such call, counted from 1, does nothing and answers EIO; its line ends in ' failed'. */
+ * 'pwrite N' or 'fdatasync N', the N-th such call, counted from 1, does nothing and answers EIO; its line ends in ' failed'. Where it is
+ * 'flock N' or 'ftruncate N', that call answers ENOLCK or EFBIG, as where a file system has no locks, or no room for a length; of these
+ * calls no line tells. */
 #define _GNU_SOURCE
 #include <dlfcn.h>
 #include <errno.h>
@@ -8,20 +10,29 @@
 #include <stdio.h>
 #include <stdlib.h>
 #include <string.h>
+#include <sys/file.h>
 #include <unistd.h>
 
 static ssize_t (*next_pwrite)(int, const void *, size_t, off_t);
 static int (*next_fdatasync)(int);
+static int (*next_flock)(int, int);
+static int (*next_ftruncate)(int, off_t);
 
 static int notes = -1;
 static unsigned long fail_write;
 static unsigned long fail_sync;
+static unsigned long fail_lock;
+static unsigned long fail_length;
 static unsigned long writes;
 static unsigned long syncs;
+static unsigned long locks;
+static unsigned long lengths;
 
 __attribute__((constructor)) static void start(void) {
     next_pwrite = (ssize_t(*)(int, const void *, size_t, off_t))dlsym(RTLD_NEXT, "pwrite");
     next_fdatasync = (int (*)(int))dlsym(RTLD_NEXT, "fdatasync");
+    next_flock = (int (*)(int, int))dlsym(RTLD_NEXT, "flock");
+    next_ftruncate = (int (*)(int, off_t))dlsym(RTLD_NEXT, "ftruncate");
     const char *path = getenv("CALLS_LOG");
     if (path) {
         notes = open(path, O_WRONLY | O_CREAT | O_APPEND, 0600);
@@ -31,6 +42,10 @@ __attribute__((constructor)) static void start(void) {
         fail_write = strtoul(fail + 7, NULL, 10);
     } else if (fail && strncmp(fail, "fdatasync ", 10) == 0) {
         fail_sync = strtoul(fail + 10, NULL, 10);
+    } else if (fail && strncmp(fail, "flock ", 6) == 0) {
+        fail_lock = strtoul(fail + 6, NULL, 10);
+    } else if (fail && strncmp(fail, "ftruncate ", 10) == 0) {
+        fail_length = strtoul(fail + 10, NULL, 10);
     }
 }
 
@@ -67,4 +82,20 @@ int fdatasync(int file) {
         return -1;
     }
     return next_fdatasync(file);
+}
+
+int flock(int file, int how) {
+    if (++locks == fail_lock) {
+        errno = ENOLCK;
+        return -1;
+    }
+    return next_flock(file, how);
+}
+
+int ftruncate(int file, off_t length) {
+    if (++lengths == fail_length) {
+        errno = EFBIG;
+        return -1;
+    }
+    return next_ftruncate(file, length);
 }
