@@ -63,24 +63,24 @@ pub conflicting : (old new : Arg) (id : Bor Text) → AddsConflicts old new (id 
 conflicting old new id adds =
     let some : (length new.conflicts.items == 0) ≡ false = is_no_longer_empty new.conflicts.items old.conflicts.items id adds.1 in
     let held : is_free_arg new ≡ false =
-        front_false (not new.exclusive) _
-        (ap (λ b. b && (is_empty new.needs.items && (is_empty new.r_ifs.items && (is_empty new.r_ifs_all.items && (is_empty new.r_unless.items && is_empty new.r_unless_all.items))))) some) in
+    front_false (not new.exclusive) _
+    (ap (λ b. b && (is_empty new.needs.items && (is_empty new.r_ifs.items && (is_empty new.r_ifs_all.items && (is_empty new.r_unless.items && is_empty new.r_unless_all.items))))) some) in
     tied old (record old { conflicts = new.conflicts }) new adds.0 refl refl held
 
 pub requiring : (old new : Arg) (need : ArgPredicate × Bor Text) → AddsRequirements old new (need ∷ []) → IsTied old new
 requiring old new need adds =
     let some : (length new.needs.items == 0) ≡ false = is_no_longer_empty new.needs.items old.needs.items need adds.1 in
     let held : is_free_arg new ≡ false =
-        front_false (not new.exclusive) _ (front_false (is_empty new.conflicts.items) _
-        (ap (λ b. b && (is_empty new.r_ifs.items && (is_empty new.r_ifs_all.items && (is_empty new.r_unless.items && is_empty new.r_unless_all.items)))) some)) in
+    front_false (not new.exclusive) _ (front_false (is_empty new.conflicts.items) _
+    (ap (λ b. b && (is_empty new.r_ifs.items && (is_empty new.r_ifs_all.items && (is_empty new.r_unless.items && is_empty new.r_unless_all.items)))) some)) in
     tied old (record old { needs = new.needs }) new adds.0 refl refl held
 
 pub wanted_unless : (old new : Arg) (id : Bor Text) → AddsRequiredUnless old new (id ∷ []) → IsTied old new
 wanted_unless old new id adds =
     let some : (length new.r_unless.items == 0) ≡ false = is_no_longer_empty new.r_unless.items old.r_unless.items id adds.1 in
     let held : is_free_arg new ≡ false =
-        front_false (not new.exclusive) _ (front_false (is_empty new.conflicts.items) _ (front_false (is_empty new.needs.items) _
-        (front_false (is_empty new.r_ifs.items) _ (front_false (is_empty new.r_ifs_all.items) _ (ap (λ b. b && is_empty new.r_unless_all.items) some))))) in
+    front_false (not new.exclusive) _ (front_false (is_empty new.conflicts.items) _ (front_false (is_empty new.needs.items) _
+    (front_false (is_empty new.r_ifs.items) _ (front_false (is_empty new.r_ifs_all.items) _ (ap (λ b. b && is_empty new.r_unless_all.items) some))))) in
     tied old (record old { r_unless = new.r_unless }) new adds.0 refl refl held
 
 -- an argument of this rule that got a rule on another one

@@ -41,15 +41,12 @@ fn with_argument<'a>(
 }
 
 // A subcommand without its arguments.
-fn described<'a>(
-    alloc: Global,
-    name: &'a str,
-    about: &'a str,
-    after_help: &'a str,
-) -> Command<'a>
+fn described<'a>(alloc: Global, name: &'a str, about: &'a str, after_help: &'a str) -> Command<'a>
     ensures { app_of result ≡ new_app name.now }
 {
-    Command::new(alloc, name).about(about).after_help(after_help)
+    Command::new(alloc, name)
+        .about(about)
+        .after_help(after_help)
 }
 
 // The modes of `--cache`.
@@ -72,7 +69,8 @@ fn bare<'a>(alloc: Global) -> Command<'a>
 }
 
 // The two ways to say how large an image is.
-const FORMAT_USAGE: &str = "nbdj format --size <SIZE> [--area <BYTES>] <PATH>\n       nbdj format --blocks <N> --area <BYTES> <PATH>";
+const FORMAT_USAGE: &str =
+    "nbdj format --size <SIZE> [--area <BYTES>] <PATH>\n       nbdj format --blocks <N> --area <BYTES> <PATH>";
 
 pub fn format<'a>(alloc: Global) -> Result<Command<'a>, AllocError>
     ensures { IfOk result (λ command. app_of command ≡ format_app) }
@@ -93,7 +91,9 @@ fn size<'a>(alloc: Global) -> Result<Arg<'a>, AllocError>
     ensures { IfOk result (λ arg. (arg.global ≡ false) × (rule_of arg ≡ size_rule)) }
 {
     option(alloc, "size", "SIZE")
-        .help("Bytes of the image, in whole blocks of 4096: 4K to 64G, as 65536, 64K, 512M or 10G, in powers of 1024")
+        .help(
+            "Bytes of the image, in whole blocks of 4096: 4K to 64G, as 65536, 64K, 512M or 10G, in powers of 1024",
+        )
         .conflicts_with("blocks")?
         .required_unless_present("blocks")
 }
@@ -117,8 +117,9 @@ fn area<'a>(alloc: Global) -> Arg<'a>
     ensures local { result.global ≡ false }
     ensures rule { rule_of result ≡ area_rule }
 {
-    option(alloc, "area", "BYTES")
-        .help("Bytes of each journal area, a multiple of 8192: 2M to 1G, by default 64M")
+    option(alloc, "area", "BYTES").help(
+        "Bytes of each journal area, a multiple of 8192: 2M to 1G, by default 64M",
+    )
 }
 
 fn pipe<'a>(alloc: Global, modes: ValueParser<'a>) -> Result<Command<'a>, AllocError>

@@ -73,9 +73,18 @@ fn blocks(alloc: Global, matches: &ArgMatches<'_>) -> Result<u64, Error>
 fn whole_blocks(alloc: Global, size: &str) -> Result<u64, Error>
     ensures { IfOk result (λ blocks. IsSize size.now (blocks * 4096)) }
 {
-    let bytes = bytes_within(alloc, "--size <SIZE>", size, BLOCK_BYTES, MOST_BLOCKS * BLOCK_BYTES)?;
+    let bytes = bytes_within(
+        alloc,
+        "--size <SIZE>",
+        size,
+        BLOCK_BYTES,
+        MOST_BLOCKS * BLOCK_BYTES,
+    )?;
     if bytes % BLOCK_BYTES != 0 {
-        return Err(format_fault(alloc, "--size: the bytes of an image are a multiple of 4096"));
+        return Err(format_fault(
+            alloc,
+            "--size: the bytes of an image are a multiple of 4096",
+        ));
     }
     Ok(bytes / BLOCK_BYTES)
 }
@@ -126,7 +135,9 @@ fn bytes_within(
 
 // The fault of a value that is no size.
 fn no_size(alloc: Global, option: &str, size: &str) -> Error {
-    let message = format!(in alloc; "invalid value '{size}' for '{option}': a size is a number of bytes that fits 64 bits, or one with K, M, G or T behind it");
+    let message = format!(in alloc;
+        "invalid value '{size}' for '{option}': a size is a number of bytes that fits 64 bits, or one with K, M, G or T behind it"
+    );
     match message {
         Ok(message) => format_fault(alloc, message.as_str()),
         Err(error) => Error::from(error),
@@ -135,7 +146,9 @@ fn no_size(alloc: Global, option: &str, size: &str) -> Error {
 
 // The fault of a size that isn't within its bounds.
 fn beyond(alloc: Global, option: &str, size: &str, least: u64, most: u64) -> Error {
-    let message = format!(in alloc; "invalid value '{size}' for '{option}': {size} is not in {least}..={most}");
+    let message = format!(in alloc;
+        "invalid value '{size}' for '{option}': {size} is not in {least}..={most}"
+    );
     match message {
         Ok(message) => format_fault(alloc, message.as_str()),
         Err(error) => Error::from(error),
