@@ -118,7 +118,7 @@ fn area<'a>(alloc: Global) -> Arg<'a>
     ensures rule { rule_of result ≡ area_rule }
 {
     option(alloc, "area", "BYTES").help(
-        "Bytes of each journal area, a multiple of 8192: 2M to 1G, by default 64M",
+        "Bytes of each journal area, a multiple of 8192: 2M to 1G; with --size by default 64M",
     )
 }
 

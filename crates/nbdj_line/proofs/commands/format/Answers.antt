@@ -1,7 +1,7 @@
-use Rattle.std.proofs.Common.{◌≡◌, ◌∙◌, Ok, ap, codes}
+use Rattle.std.proofs.Common.{◌∙◌, Ok, ap, codes}
 use Rattle.std.proofs.lemmas.Result.{IfOk-weaker}
 use Rattle.clap.specs.Simple.{app_of_fields}
-use Rattle.clap.specs.Words.{app_of, new_app, with_rule}
+use Rattle.clap.specs.Words.{app_of, new_app}
 use Rattle.nbdj_line.specs.Commands.{area_rule, blocks_rule, path_rule, size_rule}
 use Rattle.nbdj_line.proofs.Builders.{takes}
 use Rattle.nbdj_line.proofs.commands.format.Goals as goal
