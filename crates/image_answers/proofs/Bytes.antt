@@ -1,7 +1,7 @@
 -- bytes that were read, as those of an image
-use Rattle.std.proofs.Common.{◌≡◌, ◌≢◌, ◌⊎◌, ℕ, zero, suc, ◌+◌, ◌-◌, ◌*◌, ◌/◌, ◌%◌, ◌<◌, ◌≤◌, inl, inr, List, [], ◌∷◌, drop, take, get_or, length, length-drop, replicate, sym, ◌∙◌, ap, subst, refl, arith, rules}
+use Rattle.std.proofs.Common.{◌≡◌, ◌≢◌, ℕ, zero, suc, ◌+◌, ◌*◌, ◌<◌, ◌≤◌, inl, inr, List, drop, take, get_or, length, length-drop, replicate, sym, ◌∙◌, ap, refl, arith, rules}
 use Rattle.std.proofs.lemmas.Grind.{same_number_lists}
-use Rattle.std.proofs.lemmas.List.{length-take-le, length-replicate, get_or-replicate, places}
+use Rattle.std.proofs.lemmas.List.{length-take-le, length-replicate, places}
 use Rattle.alloc_map.specs.Codes.{state_at}
 use Rattle.image_model.specs.Image.{Image}
 use Rattle.image_model.specs.declared.command.Kind.{Kind}

@@ -1,9 +1,9 @@
 -- runs of blocks part the bytes of these
-use Rattle.std.proofs.Common.{◌≡◌, ◌≢◌, ◌⊎◌, ℕ, zero, suc, ◌+◌, ◌-◌, ◌*◌, ◌<◌, ◌≤◌, ◌==◌, inl, inr, Bool, true, false, if◌then◌else◌, List, [], ◌∷◌, ◌++◌, drop, take, length, length-append, length-drop, replicate, sym, ◌∙◌, ap, subst, refl, arith}
+use Rattle.std.proofs.Common.{◌≡◌, ℕ, zero, suc, ◌+◌, ◌*◌, ◌<◌, ◌≤◌, ◌==◌, inl, inr, Bool, true, false, if◌then◌else◌, List, [], ◌∷◌, ◌++◌, drop, take, length, length-append, length-drop, replicate, sym, ◌∙◌, ap, subst, refl, arith}
 use Rattle.std.specs.List.{AllByRecursion}
 use Rattle.std.proofs.Math.Seq.{take-add}
 use Rattle.std.proofs.lemmas.Bool.Decides.{eqb_tells}
-use Rattle.std.proofs.lemmas.List.{drop-drop, length-take-le, replicate-append-replicate}
+use Rattle.std.proofs.lemmas.List.{drop-drop, replicate-append-replicate}
 use Rattle.nbd_wire.specs.Answer.{DiffersFrom, IsInState, IsJoined, PartsBytes}
 use Rattle.nbd_wire.specs.declared.message.Run.{Run}
 use Rattle.world.specs.Shown.{runs_from, with_block}

@@ -1,9 +1,9 @@
 -- the longest runs of blocks in one state, as runs of their status
-use Rattle.std.proofs.Common.{◌≡◌, ◌≢◌, ◌⊎◌, ℕ, zero, suc, ◌+◌, ◌-◌, ◌*◌, ◌<◌, ◌≤◌, ◌==◌, inl, inr, Bool, if◌then◌else◌, List, [], ◌∷◌, take, length, map, get_or, sym, ◌∙◌, ap, subst, refl, arith}
+use Rattle.std.proofs.Common.{◌≡◌, ◌⊎◌, ℕ, zero, suc, ◌+◌, ◌-◌, ◌*◌, ◌<◌, ◌≤◌, ◌==◌, inl, inr, Bool, if◌then◌else◌, List, [], ◌∷◌, take, length, map, get_or, sym, ◌∙◌, ap, subst, refl, arith}
 use Rattle.std.specs.List.{AllByRecursion}
 use Rattle.std.proofs.lemmas.Bool.{eq-eqb, ne_eqb}
 use Rattle.alloc_map.specs.Codes.{state_at}
-use Rattle.alloc_map.specs.Runs.{AreRuns, IsRun}
+use Rattle.alloc_map.specs.Runs.{AreRuns}
 use Rattle.alloc_map.specs.declared.run.Run.{Run as Stretch}
 use Rattle.image_model.specs.declared.command.Kind.{Kind}
 use Rattle.image_model.specs.declared.command.Kind.TheVariants.{Data, Zero, Hole}

@@ -1,8 +1,7 @@
-use Rattle.std.proofs.Common.{◌≡◌, ◌+◌, ◌*◌, ◌/◌, ◌<◌, ◌≤◌, ◌==◌, Bool, if◌then◌else◌, List, take, ℕ, length, vec_len, sym, ◌∙◌, ap, subst, arith}
+use Rattle.std.proofs.Common.{◌≡◌, ◌*◌, ◌/◌, ◌<◌, ◌≤◌, Bool, if◌then◌else◌, List, take, ℕ, length, sym, ◌∙◌, ap, subst, arith}
 use Rattle.std.proofs.lemmas.Bool.{eq-eqb}
 use Rattle.alloc_map.specs.Codes.{state_at}
-use Rattle.nbd_wire.specs.Answer.{BytesRead, IsJoined, PartsBytes}
-use Rattle.nbd_wire.specs.declared.message.Answer.{Answer}
+use Rattle.nbd_wire.specs.Answer.{IsJoined, PartsBytes}
 use Rattle.nbd_wire.specs.declared.message.Answer.TheVariants.{Bytes, States}
 use Rattle.nbd_wire.specs.declared.message.Run.{Run}
 use Rattle.world.specs.Shown.{bytes_from, most_runs, read_status_of, runs_from, status_of}

@@ -1,4 +1,4 @@
-use Rattle.std.proofs.Common.{◌≡◌, ◌+◌, ◌*◌, ◌-◌, ◌≤◌, ◌<◌, List, [], ◌∷◌, ◌++◌, length, ℕ, sym, ◌∙◌, ap, arith}
+use Rattle.std.proofs.Common.{◌≡◌, ◌+◌, ◌*◌, ◌-◌, ◌≤◌, ◌<◌, List, [], ◌∷◌, ◌++◌, ℕ, sym, ◌∙◌, ap, arith}
 use Rattle.std.specs.Global.{Vec}
 use Rattle.alloc_map.specs.Codes.{state_at}
 use Rattle.nbd_wire.specs.declared.message.Run.{Run}

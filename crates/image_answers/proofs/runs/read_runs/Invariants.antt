@@ -1,4 +1,4 @@
-use Rattle.std.proofs.Common.{◌≡◌, ◌+◌, ◌*◌, ◌-◌, ◌≤◌, ◌<◌, List, [], ◌∷◌, ◌++◌, length, ℕ}
+use Rattle.std.proofs.Common.{◌≡◌, ◌*◌, ◌-◌, ◌≤◌, ◌<◌, [], ◌∷◌, ◌++◌}
 use Rattle.alloc_map.specs.Codes.{state_at}
 use Rattle.world.specs.Shown.{read_status_of, runs_from}
 use Rattle.image_answers.proofs.runs.read_runs.Given as goal

@@ -1,9 +1,8 @@
-use Rattle.std.proofs.Common.{◌≡◌, ◌+◌, ◌*◌, ◌-◌, ◌≤◌, ◌<◌, suc, List, [], ◌∷◌, ◌++◌, get_or, length, map, take, ℕ, sym, ◌∙◌, ap, subst, arith}
+use Rattle.std.proofs.Common.{◌≡◌, ◌+◌, ◌*◌, ◌-◌, suc, List, [], ◌∷◌, ◌++◌, get_or, map, take, ℕ, sym, ◌∙◌, ap, subst, arith}
 use Rattle.std.proofs.Math.Seq.{take-suc}
 use Rattle.std.proofs.lemmas.List.{map-append, take_all}
 use Rattle.alloc_map.specs.Codes.{state_at}
 use Rattle.alloc_map.specs.Runs.{AreRuns}
-use Rattle.alloc_map.specs.declared.run.Run.{Run as Stretch}
 use Rattle.image_model.specs.declared.command.Kind.TheVariants.{Data}
 use Rattle.nbd_wire.specs.declared.message.Run.{Run}
 use Rattle.world.specs.Shown.{runs_from, status_of}

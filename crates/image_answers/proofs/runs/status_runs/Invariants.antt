@@ -1,4 +1,4 @@
-use Rattle.std.proofs.Common.{◌≡◌, map, take, ℕ}
+use Rattle.std.proofs.Common.{◌≡◌, map, take}
 use Rattle.image_answers.proofs.Stretches.{as_run}
 use Rattle.image_answers.proofs.runs.status_runs.Given as goal
 
