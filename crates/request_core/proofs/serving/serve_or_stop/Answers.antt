@@ -1,4 +1,4 @@
-use Rattle.std.proofs.Common.{◌≡◌, ℕ, false, inl, inr, Option, Some, None, IfSome, Result, Ok, Err, ap, length, subst, sym, true, ◌+◌, ◌∙◌}
+use Rattle.std.proofs.Common.{◌≡◌, ℕ, false, inl, inr, Option, Some, None, IfSome, Result, Ok, Err, ap, sym, true, ◌+◌, ◌∙◌}
 use Rattle.device_image.specs.Keeper.{KeeperState}
 use Rattle.disk_model.specs.Disk.{State}
 use Rattle.image_model.specs.declared.geometry.Geometry.{Geometry}
