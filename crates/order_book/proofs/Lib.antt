@@ -2,4 +2,5 @@ pub mod Filled
 pub mod Frames
 pub mod Imaged
 pub mod Maps
+pub mod Missing
 pub mod Shown

@@ -1,4 +1,4 @@
-ghost use Rattle.std.specs.Prelude.{◌≡◌, ◌+◌, ◌*◌, ◌<◌, ◌≤◌, ◌/◌, ◌%◌, ◌↔◌, ◌^◌, [], ℕ, List, length, slice_index, slice_index_or, true, false, ◌⊎◌, Some, None, IsErr, IsErrAnd, IfErr, IfOk, IfSome, IfNone, IsTrue, OnErr, OnOk};
+ghost use Rattle.std.specs.Prelude.{◌≡◌, ◌≢◌, ◌+◌, ◌*◌, ◌<◌, ◌≤◌, ◌/◌, ◌%◌, ◌↔◌, ◌^◌, [], ℕ, List, length, slice_index, slice_index_or, sum, true, false, ◌⊎◌, Some, None, IsErr, IsErrAnd, IfErr, IfOk, IfSome, IfNone, IsTrue, OnErr, OnOk};
 ghost use Rattle.std.specs.FinMap.{len};
 ghost use Rattle.alloc_map.specs.Codes.{state_at};
 ghost use Rattle.alloc_map.specs.Runs.{AreRuns};
@@ -23,7 +23,7 @@ use crate::backlog::Backlog;
 use crate::commands::{apply, clean_through, has_frames};
 use crate::fault::OrderFault;
 use crate::pending::{PendingCommands, have_small_bodies};
-use crate::reading::{keep_blocks, read_blocks};
+use crate::reading::{holds, keep_blocks, read_all_held, read_blocks};
 use alloc_map::{AllocMap, Run};
 use checkpoint::{Keeper, KeeperFault};
 use disk_model::Disk;
@@ -184,6 +184,20 @@ impl<B: BoardName> Order<B> {
         ensures { result ≡ self.now.sealed }
     {
         self.sealed
+    }
+
+    /// The bytes that the commands above the durable number take in groups.
+    pub fn backlog_bytes(&self) -> u64
+        ensures { result ≡ sum self.now.bodies }
+    {
+        self.backlog.total()
+    }
+
+    /// How many blocks are dirty.
+    pub fn dirty_blocks(&self) -> u32
+        ensures { result ≡ length self.now.cache.blocks.dirty }
+    {
+        self.cache.dirty_blocks()
     }
 
     /// Refuses all commands from now on.
@@ -379,6 +393,31 @@ impl<B: BoardName> Order<B> {
         ensures missing { IsErr result ↔ LacksBytes self.now.cache first (length into.old) }
     {
         self.cache.read_cached(first, into)
+    }
+
+    /// Whether so many blocks from the first one on are all in memory: a read of them needs no device.
+    pub fn holds(&self, first: u64, count: u64) -> bool
+        requires range { first + count ≤ length self.now.cache.states }
+        ensures { (result ≡ false) ↔ LacksBytes self.now.cache first count }
+    {
+        let _blocks = self.blocks();
+        holds(&self.cache, first, count)
+    }
+
+    /// Reads blocks that are all in memory, from the first one on, as all that was accepted left them.
+    pub fn read_held(&self, first: u64, into: &mut [u8])
+        requires whole { length into.old % 4096 ≡ 0 }
+        requires range { first + length into.old / 4096 ≤ length self.now.cache.states }
+        requires held { LacksBytes self.now.cache first (length into.old / 4096) → ⊥ }
+        ensures size { length into.new ≡ length into.old }
+        ensures there { (j : ℕ) → 4096 * j < length into.new → bytes_seen self.now.cache (first + j) ≢ None }
+        ensures in_memory { (j k : ℕ) (bytes : List ℕ) → 4096 * j < length into.new → k < 4096
+            → bytes_seen self.now.cache (first + j) ≡ Some bytes → slice_index into.new (4096 * j + k) ≡ slice_index bytes k }
+        ensures image { (image : Image) → ShowsImage image self.now.cache → (j k : ℕ) → 4096 * j < length into.new → k < 4096
+            → slice_index into.new (4096 * j + k) ≡ image.byte (4096 * (first + j) + k) }
+    {
+        let _blocks = self.blocks();
+        read_all_held(&self.cache, first, into)
     }
 
     /// Reads blocks from the first one on, as all that was accepted left them: from memory those that are there, and from

@@ -44,6 +44,34 @@ fn read_held(cache: &Cache, first: u64, from: usize, into: &mut [u8]) -> usize
     blocks
 }
 
+// Whether so many blocks from the first one on are all in memory.
+pub(crate) fn holds(cache: &Cache, first: u64, count: u64) -> bool
+    requires range { first + count ≤ length cache.now.states }
+    requires fits { first + count < 2 ^ 64 }
+    ensures { (result ≡ false) ↔ LacksBytes cache.now first count }
+{
+    for offset in 0..count {
+        let Some(_) = cache.read(first + offset) else {
+            return false;
+        };
+    }
+    true
+}
+
+// Reads blocks that are all in memory.
+pub(crate) fn read_all_held(cache: &Cache, first: u64, into: &mut [u8])
+    requires whole { length into.old % 4096 ≡ 0 }
+    requires range { first + length into.old / 4096 ≤ length cache.now.states }
+    requires fits { first + length into.old / 4096 < 2 ^ 64 }
+    requires held { LacksBytes cache.now first (length into.old / 4096) → ⊥ }
+    ensures size { length into.new ≡ length into.old }
+    ensures there { (j : ℕ) → 4096 * j < length into.new → bytes_seen cache.now (first + j) ≢ None }
+    ensures in_memory { (j k : ℕ) (bytes : List ℕ) → 4096 * j < length into.new → k < 4096
+        → bytes_seen cache.now (first + j) ≡ Some bytes → slice_index into.new (4096 * j + k) ≡ slice_index bytes k }
+{
+    read_held(cache, first, 0, into);
+}
+
 // The end of the run of blocks that aren't in memory, from this one of so many on.
 fn missing_end(cache: &Cache, first: u64, from: usize, blocks: usize) -> usize
     requires range { first + blocks ≤ length cache.now.states }

@@ -3,6 +3,8 @@ pub mod Asked
 pub mod Clean
 pub mod Copied
 pub mod Fresh
+pub mod Here
+pub mod InMemory
 pub mod Lifted
 pub mod Lives
 pub mod Orders

@@ -1,5 +1,5 @@
 -- what serving a READ and a BLOCK_STATUS does
-use Rattle.std.specs.Prelude.{ℕ, ◌≡◌, ◌+◌, ◌*◌, ◌/◌, ◌%◌, ◌<◌, ◌⊎◌, true, false, IsTrue, List, Some, None, slice_index}
+use Rattle.std.specs.Prelude.{ℕ, ◌≡◌, ◌≢◌, ◌+◌, ◌*◌, ◌/◌, ◌%◌, ◌<◌, ◌⊎◌, true, false, IsTrue, List, Some, None, slice_index}
 use Rattle.alloc_map.specs.Codes.{state_at}
 use Rattle.checkpoint.specs.Keeper.{faults_by, refused_by}
 use Rattle.checkpoint.specs.declared.fault.KeeperFault.{KeeperFault}
@@ -57,6 +57,23 @@ pub record IsUnread {D : Type 0} (state : D → State) (faults : D → ℕ) (hon
   pub keeper_is : next ≡ refused_by refusal keeper next.disk
   pub level : faults next.disk ≡ faults_by refusal (faults keeper.disk)
   pub only_read : honest keeper.disk → IsOnlyRead (state keeper.disk) (state next.disk)
+
+-- A READ of blocks that are all in memory is answered with what an image shows: its states are those of the order, and its bytes
+-- those in memory, so those of each image that the order shows.
+pub record IsHeldRead (head : RequestHead) (order : OrderState) (result : Served) : Type 0 where
+  pub aligned : head.offset % 4096 ≡ 0
+  pub image : Image
+  pub kinds : (block : ℕ) → image.kind block ≡ state_at order.cache.states block
+  pub there : (j : ℕ) → 4096 * j < head.length → bytes_seen order.cache (head.offset / 4096 + j) ≢ None
+  pub in_memory : (j k : ℕ) (bytes : List ℕ) → 4096 * j < head.length → k < 4096 → bytes_seen order.cache (head.offset / 4096 + j) ≡ Some bytes
+      → image.byte (head.offset + (4096 * j + k)) ≡ slice_index bytes k
+  pub own : (given : Image) → ShowsImage given order.cache → (j k : ℕ) → 4096 * j < head.length → k < 4096
+      → image.byte (head.offset + (4096 * j + k)) ≡ given.byte (4096 * (head.offset / 4096 + j) + k)
+  pub answer : result ≡ ready_for head.cookie (shown_by image head)
+
+-- what serving such a READ comes to: memory is refused, or it is answered
+abbrev pub IsHeldReadServed : RequestHead → OrderState → Served → Type 0
+IsHeldReadServed head order result = (result ≡ ready_for head.cookie (Refused NoMemory)) ⊎ IsHeldRead head order result
 
 -- what serving a READ comes to: memory is refused and nothing has changed, or it is answered
 abbrev pub IsReadServed : {D : Type 0} → (D → State) → (D → ℕ) → (D → Type 0) → RequestHead → OrderState → OrderState → KeeperState D → KeeperState D → Served → Type 0

@@ -18,5 +18,5 @@ pub use judgement::judge;
 pub use laws::{fresh_parts_law, leads_law, next_life_law};
 pub use opening::fresh_order;
 pub use rehearsal::rehearse;
-pub use serving::{Served, Terms, serve_held};
+pub use serving::{NeedsKeeper, Served, Terms, serve_held, serve_with_keeper};
 pub use world::{Action, Connection, Event, Mode, Step, StepFault};

@@ -1,7 +1,7 @@
 //! Serving of READ and BLOCK_STATUS.
 
 ghost use Rattle.std.specs.Prelude.{◌≡◌, ◌≢◌, ◌↔◌, ◌+◌, ◌*◌, ◌/◌, ◌%◌, ◌<◌, ◌≤◌, length};
-ghost use Rattle.request_core.specs.Reading.{IsReadServed, IsStatusServed};
+ghost use Rattle.request_core.specs.Reading.{IsHeldReadServed, IsReadServed, IsStatusServed};
 ghost use Rattle.shared_cache.specs.Cache.{LacksBytes};
 
 use crate::serving::{Served, refused};
@@ -13,6 +13,36 @@ use marks::BoardName;
 use nbd_wire::{Errno, Reply, RequestHead};
 use order_book::Order;
 use std::alloc::Global;
+
+// Serves a READ that passes judgement, of blocks that are all in memory, over an order that isn't stopped.
+pub(crate) fn serve_held_read<B: BoardName>(
+    alloc: Global,
+    head: &RequestHead,
+    order: &Order<B>,
+) -> Served
+    requires kind { head.now.kind ≡ 0 }
+    requires some { 0 < head.now.length }
+    requires most { head.now.length ≤ 1048576 }
+    requires from { head.now.offset % 4096 ≡ 0 }
+    requires whole { head.now.length % 4096 ≡ 0 }
+    requires few { length order.now.cache.states ≤ 16777216 }
+    requires inside { head.now.offset + head.now.length ≤ 4096 * length order.now.cache.states }
+    requires held { LacksBytes order.now.cache (head.now.offset / 4096) (head.now.length / 4096) → ⊥ }
+    ensures { IsHeldReadServed head.now order.now result }
+{
+    let first = head.offset / BLOCK_BYTES;
+    let Ok(runs) = read_runs(alloc, order, first, head.length as u64 / BLOCK_BYTES) else {
+        return refused(head.cookie, Errno::NoMemory);
+    };
+    let Ok(mut bytes) = vec![in alloc; 0; head.length as usize] else {
+        return refused(head.cookie, Errno::NoMemory);
+    };
+    order.read_held(first, &mut bytes);
+    Served::Ready(Reply {
+        cookie: head.cookie,
+        answer: bytes_answer(head, order, bytes, runs),
+    })
+}
 
 // Serves a READ that passes judgement, over an order that isn't stopped. All memory is taken first.
 pub(crate) fn serve_read<B: BoardName, D: Disk>(

@@ -1,9 +1,9 @@
-ghost use Rattle.std.specs.Prelude.{◌≡◌, ◌≢◌, ◌/◌, ◌<◌, ◌↔◌, ℕ, false, [], Some, IfSome, MatchOption, IfNone, Option, Result, length, slice_index_or, slice_set, vec_len};
+ghost use Rattle.std.specs.Prelude.{◌≡◌, ◌≢◌, ◌/◌, ◌<◌, ◌↔◌, ℕ, false, [], Some, IfSome, IfOk, IfErr, IsErr, IsTrue, OnErr, MatchOption, IfNone, Option, Result, length, slice_index_or, slice_set, vec_len};
 ghost use Rattle.journal.specs.Group.{Numbered};
 ghost use Rattle.nbd_wire.specs.Request.{Message};
 ghost use Rattle.nbd_wire.specs.declared.error.Errno.{Errno};
 ghost use Rattle.order_book.specs.Order.{IsInHand};
-ghost use Rattle.request_core.specs.Outcomes.{IsServedBy, IsServedWith};
+ghost use Rattle.request_core.specs.Outcomes.{IsServedBy, IsServedHere, IsServedWith, NeedsDevice};
 ghost use Rattle.request_core.specs.Parts.{AreConnectionsOf, IsKeeperOf, IsOrderOf};
 ghost use Rattle.request_core.specs.Steps.{IsAnyServed, IsAnyTalked, IsSure};
 ghost use Rattle.shared_cache.specs.Cache.{LacksBytes};
@@ -18,7 +18,7 @@ ghost use Rattle.world.specs.declared.connection.Connection.TheVariants as Conne
 ghost use Rattle.world_law.specs.Law.{IsWithin};
 
 use crate::judgement::judge;
-use crate::reading::{serve_read, serve_status};
+use crate::reading::{serve_held_read, serve_read, serve_status};
 use crate::turning::stop;
 use bitflags::Flags;
 use checkpoint::Keeper;
@@ -232,7 +232,7 @@ fn serve_or_stop<B: BoardName, D: Disk>(
         × IsServedWith D.state D.faults D.honest given request terms.geometry terms.mode order.old order.new keeper.old keeper.new hand.old hand.new result }
 {
     let works = !order.stopped();
-    let served = serve_held(alloc, request, order, keeper, board, pass, terms);
+    let served = serve_with_keeper(alloc, request, order, keeper, board, pass, terms);
     if works && order.stopped() {
         stop(hand, order);
     }
@@ -263,12 +263,92 @@ fn state_of(served: Served) -> Connection
     }
 }
 
-/// Serves a request that isn't a DISC: it is judged, and a command gets its place in the order; a READ and a BLOCK_STATUS
-/// show the image after all of the order.
+/// A request that is handed back since it needs the keeper: a READ of blocks of which one isn't in memory.
+#[derive(Debug, Drop)]
+pub struct NeedsKeeper(pub Request);
+
+/// Serves a request that isn't a DISC, with no keeper at hand: it is judged, and a command gets its place in the order; a
+/// READ and a BLOCK_STATUS show the image after all of the order.
 ///
-/// A write command for which there is no room comes back. The device is asked by a READ alone, for blocks that aren't in
-/// memory; where a call of it fails the order is stopped, and a group in hand is the caller's to put back.
-pub fn serve_held<B: BoardName, D: Disk>(
+/// A write command for which there is no room comes back, and so does a READ for which the device has to be asked.
+pub fn serve_held<B: BoardName>(
+    alloc: Global,
+    request: Request,
+    order: &mut Order<B>,
+    board: &Board<B>,
+    pass: &mut Pass<B>,
+    terms: Terms,
+) -> Result<Served, NeedsKeeper>
+    requires kind { request.head.kind ≢ 2 }
+    requires blocks { length order.old.cache.states ≡ terms.geometry.blocks }
+    ensures blocks { length order.new.cache.states ≡ length order.old.cache.states }
+    ensures serves { IfOk result (λ served. IsServedHere (verdict request.head terms.geometry terms.flags) request terms.geometry terms.mode order.old order.new served) }
+
+    // It comes back exactly where the device is needed, and nothing has changed then.
+    ensures needs { IsErr result ↔ NeedsDevice (verdict request.head terms.geometry terms.flags) request.head order.old }
+    ensures handed_back { IfErr result (λ back. back.0 ≡ request) }
+    ensures unchanged { OnErr result ((order.new ≡ order.old) × (pass.new ≡ pass.old)) }
+
+    // What the pass knows then: a command's number is above all that it knew, and a FLUSH waits for no less than that.
+    ensures pass { IfOk result (λ served. IsPassServed request order.old.mark order.new.mark served pass.old pass.new) }
+{
+    if needs_keeper(&request.head(), order, &terms) {
+        return Err(NeedsKeeper(request));
+    }
+    Ok(serve_here(alloc, request, order, board, pass, terms))
+}
+
+// Whether the keeper is needed for a request.
+fn needs_keeper<B: BoardName>(head: &RequestHead, order: &Order<B>, terms: &Terms) -> bool
+    requires { length order.now.cache.states ≡ terms.now.geometry.blocks }
+    ensures { IsTrue result ↔ NeedsDevice (verdict head.now terms.now.geometry terms.now.flags) head.now order.now }
+{
+    if head.kind != READ || order.stopped() {
+        return false;
+    }
+    match judge(head, &terms.geometry, &terms.flags) {
+        Ok(Action::Serve) => !order.holds(
+            head.offset / BLOCK_BYTES,
+            head.length as u64 / BLOCK_BYTES,
+        ),
+        Ok(Action::End) | Err(_) => false,
+    }
+}
+
+// Serves a request that doesn't need the keeper.
+fn serve_here<B: BoardName>(
+    alloc: Global,
+    request: Request,
+    order: &mut Order<B>,
+    board: &Board<B>,
+    pass: &mut Pass<B>,
+    terms: Terms,
+) -> Served
+    requires kind { request.head.kind ≢ 2 }
+    requires blocks { length order.old.cache.states ≡ terms.geometry.blocks }
+    requires here { NeedsDevice (verdict request.head terms.geometry terms.flags) request.head order.old → ⊥ }
+    ensures blocks { length order.new.cache.states ≡ length order.old.cache.states }
+    ensures serves { IsServedHere (verdict request.head terms.geometry terms.flags) request terms.geometry terms.mode order.old order.new result }
+    ensures pass { IsPassServed request order.old.mark order.new.mark result pass.old pass.new }
+{
+    let head = request.head();
+    match judge(&head, &terms.geometry, &terms.flags) {
+        Ok(Action::End) => unreachable!(),
+        Err(errno) => refused(head.cookie, errno),
+        Ok(Action::Serve) if order.stopped() => refused(head.cookie, Errno::Io),
+        Ok(Action::Serve) if head.kind == FLUSH => Served::Wait(order.show_mark(board, pass)),
+        Ok(Action::Serve) if head.kind == READ => serve_held_read(alloc, &head, order),
+        Ok(Action::Serve) if head.kind == BLOCK_STATUS => serve_status(alloc, &head, order),
+        Ok(Action::Serve) if head.kind == WRITE => serve_put(request, order, board, pass, terms),
+        Ok(Action::Serve) => serve_clear(request, order, board, pass, terms),
+    }
+}
+
+/// Serves a request that isn't a DISC, as `serve_held` does, and a READ that needs the keeper too.
+///
+/// The device is asked by such a READ alone; where a call of it fails the order is stopped, and a group in hand is the
+/// caller's to put back.
+pub fn serve_with_keeper<B: BoardName, D: Disk>(
     alloc: Global,
     request: Request,
     order: &mut Order<B>,
@@ -294,16 +374,9 @@ pub fn serve_held<B: BoardName, D: Disk>(
     // What the pass knows then: a command's number is above all that it knew, and a FLUSH waits for no less than that.
     ensures pass { IsPassServed request order.old.mark order.new.mark result pass.old pass.new }
 {
-    let head = request.head();
-    match judge(&head, &terms.geometry, &terms.flags) {
-        Ok(Action::End) => unreachable!(),
-        Err(errno) => refused(head.cookie, errno),
-        Ok(Action::Serve) if order.stopped() => refused(head.cookie, Errno::Io),
-        Ok(Action::Serve) if head.kind == FLUSH => Served::Wait(order.show_mark(board, pass)),
-        Ok(Action::Serve) if head.kind == READ => serve_read(alloc, &head, order, keeper),
-        Ok(Action::Serve) if head.kind == BLOCK_STATUS => serve_status(alloc, &head, order),
-        Ok(Action::Serve) if head.kind == WRITE => serve_put(request, order, board, pass, terms),
-        Ok(Action::Serve) => serve_clear(request, order, board, pass, terms),
+    match serve_held(alloc, request, order, board, pass, terms) {
+        Ok(served) => served,
+        Err(NeedsKeeper(request)) => serve_read(alloc, &request.head(), order, keeper),
     }
 }
 

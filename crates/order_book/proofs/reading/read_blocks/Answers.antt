@@ -5,14 +5,9 @@ use Rattle.checkpoint.specs.declared.fault.KeeperFault.{KeeperFault}
 use Rattle.device_image.specs.Keeper.{KeeperState}
 use Rattle.std.proofs.lemmas.Bool.{cases_lt, true≢false}
 use Rattle.journal.proofs.Chained.{reads_on}
-use Rattle.shared_cache.specs.Cache.{CacheState, LacksBytes, bytes_seen}
-use Rattle.shared_cache.proofs.Views.{missing_seen, seen_missing}
+use Rattle.shared_cache.proofs.Views.{seen_missing}
+use Rattle.order_book.proofs.Missing.{lacks_at}
 use Rattle.order_book.proofs.reading.read_blocks.Goals as goal
-
-lacks_at : (cache : CacheState) (first count block : ℕ) → block < count → bytes_seen cache (first + block) ≡ None → LacksBytes cache first count
-lacks_at cache first count block less none =
-    let is = missing_seen cache (first + block) none in
-    (block, less, is.0, is.1)
 
 none_and_some : (seen : Option (List ℕ)) (bytes : List ℕ) → seen ≡ None → seen ≡ Some bytes → ⊥
 none_and_some seen bytes none some = cc

@@ -6,27 +6,10 @@ use Rattle.image_model.specs.declared.command.Kind.{Kind}
 use Rattle.image_model.specs.declared.command.Kind.TheVariants.{Data, Zero, Hole}
 use Rattle.nbd_wire.specs.declared.message.Answer.{Answer}
 use Rattle.request_core.specs.Serving.{ready_for}
+use Rattle.request_core.proofs.InMemory.{seen_zero, whole, zero_there}
 use Rattle.request_core.proofs.reading.serve_read.Goals as goal
 use Rattle.shared_cache.specs.Blocks.{bytes_of}
 use Rattle.shared_cache.specs.Cache.{CacheState, bytes_for, bytes_seen}
-
--- what isn't data is zero in memory
-seen_zero : (cache : CacheState) (block : ℕ) → state_at cache.states block ≢ Data → bytes_seen cache block ≡ Some (replicate 4096 0)
-seen_zero cache block other = by_kind (state_at cache.states block) (bytes_of block cache.blocks) other
-  where
-    by_kind : (kind : Kind) (held : Option (List ℕ)) → kind ≢ Data → bytes_for kind held ≡ Some (replicate 4096 0)
-    by_kind Data held other = absurd (other refl)
-    by_kind Zero held other = refl
-    by_kind Hole held other = refl
-
-zero_there : (n k : ℕ) → let none : ℕ = 0 in get_or (replicate n none) k none ≡ none
-zero_there zero k = refl
-zero_there (suc n) zero = refl
-zero_there (suc n) (suc k) = zero_there n k
-
--- a slice that was written over is written back whole
-whole : (count : ℕ) (into items : List ℕ) → length into ≡ count → take count (into ++ drop (length into) items) ≡ into
-whole count into items size = take_at into (drop (length into) items) count size
 
 pub bytes_answer-requires-clause-zero : goal.bytes_answer-requires-clause-zero
 bytes_answer-requires-clause-zero g c = λ j k below inside other.

@@ -51,22 +51,22 @@ module _ {D : Type 0} (state : D → State) (faults : D → ℕ) (honest : D →
 
 pub stop-requires : goal.stop-requires
 stop-requires g c =
-    let (given, given_is, by) = c.serve_held-served.ensures.serves in
-    served_in_hand g.D.Disk.state g.D.Disk.faults g.D.Disk.honest c.args.request c.args.terms.geometry c.args.terms.mode c.args.order.now c.serve_held-served.new.order
-    c.args.keeper.now c.serve_held-served.new.keeper c.serve_held-served.result c.args.hand.now c.requires.hand given by
+    let (given, given_is, by) = c.serve_with_keeper-served.ensures.serves in
+    served_in_hand g.D.Disk.state g.D.Disk.faults g.D.Disk.honest c.args.request c.args.terms.geometry c.args.terms.mode c.args.order.now c.serve_with_keeper-served.new.order
+    c.args.keeper.now c.serve_with_keeper-served.new.keeper c.serve_with_keeper-served.result c.args.hand.now c.requires.hand given by
 
 pub returns-else-works-clause-hand : goal.returns-else-works-clause-hand
 returns-else-works-clause-hand g c =
-    let (given, given_is, by) = c.serve_held-served.ensures.serves in
-    served_in_hand g.D.Disk.state g.D.Disk.faults g.D.Disk.honest c.args.request c.args.terms.geometry c.args.terms.mode c.args.order.now c.serve_held-served.new.order
-    c.args.keeper.now c.serve_held-served.new.keeper c.serve_held-served.result c.args.hand.now c.requires.hand given by
+    let (given, given_is, by) = c.serve_with_keeper-served.ensures.serves in
+    served_in_hand g.D.Disk.state g.D.Disk.faults g.D.Disk.honest c.args.request c.args.terms.geometry c.args.terms.mode c.args.order.now c.serve_with_keeper-served.new.order
+    c.args.keeper.now c.serve_with_keeper-served.new.keeper c.serve_with_keeper-served.result c.args.hand.now c.requires.hand given by
 
 pub returns-then-stopped-clause-serves : goal.returns-then-stopped-clause-serves
 returns-then-stopped-clause-serves g c =
-    let (given, given_is, by) = c.serve_held-served.ensures.serves in
-    let middle = c.serve_held-served.new.order in
+    let (given, given_is, by) = c.serve_with_keeper-served.ensures.serves in
+    let middle = c.serve_with_keeper-served.new.order in
     let works : c.args.order.now.stopped ≡ false = sym c.if-works.ensures in
     let stopped : middle.stopped ≡ true = sym c.if-stopped.ensures in
-    let unread = now_stopped g.D.Disk.state g.D.Disk.faults g.D.Disk.honest c.args.request c.args.terms.geometry c.args.terms.mode c.args.order.now middle c.args.keeper.now c.serve_held-served.new.keeper
-    c.serve_held-served.result works stopped given by in
+    let unread = now_stopped g.D.Disk.state g.D.Disk.faults g.D.Disk.honest c.args.request c.args.terms.geometry c.args.terms.mode c.args.order.now middle c.args.keeper.now c.serve_with_keeper-served.new.keeper
+    c.serve_with_keeper-served.result works stopped given by in
     (given, given_is, inr (unread.0, works, unread.1, c.stop.ensures.hand, middle, unread.2, c.stop.ensures.order))

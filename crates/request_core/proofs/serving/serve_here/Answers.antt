@@ -1,5 +1,5 @@
 use Rattle.request_core.proofs.Passes.{status_passes}
-use Rattle.request_core.proofs.serving.serve_held.Goals as goal
+use Rattle.request_core.proofs.serving.serve_here.Goals as goal
 
 pub returns-in-Ok-Serve-4-clause-pass : goal.returns-in-Ok-Serve-4-clause-pass
 returns-in-Ok-Serve-4-clause-pass g c =

@@ -1,0 +1,76 @@
+-- what is served with no keeper at hand is served as with one, and what a pass knows once a READ was answered
+use Rattle.std.specs.Prelude.{MatchBool}
+use Rattle.std.proofs.Common.{◌≡◌, ◌∙◌, ◌<◌, inl, inr, ℕ, Bool, false, true, nat_lt, Result, Ok, Err, ap, refl, sym, subst, arith}
+use Rattle.std.proofs.lemmas.Bool.Decides.{nat_tests}
+use Rattle.device_image.specs.Keeper.{KeeperState}
+use Rattle.disk_model.specs.Disk.{State}
+use Rattle.image_model.specs.declared.geometry.Geometry.{Geometry}
+use Rattle.journal.specs.Reading.{IsOnlyRead}
+use Rattle.marks.specs.Known.{PassState, known}
+use Rattle.nbd_wire.specs.Request.{Message}
+use Rattle.nbd_wire.specs.declared.error.Errno.{Errno}
+use Rattle.nbd_wire.specs.declared.head.RequestHead.{RequestHead}
+use Rattle.nbd_wire.specs.declared.message.Answer.{Answer}
+use Rattle.order_book.specs.Order.{OrderState}
+use Rattle.request_core.specs.Outcomes.{IsServedBy, IsServedHere}
+use Rattle.request_core.specs.Reading.{IsHeldRead, IsHeldReadServed, IsRead, IsReadServed}
+use Rattle.request_core.specs.Serving.{IsPassServed, accepted_for, ready_for}
+use Rattle.request_core.specs.declared.serving.Served.{Served}
+use Rattle.world.specs.declared.action.Action.{Action}
+use Rattle.world.specs.declared.action.Action.TheVariants.{End, Serve}
+use Rattle.world.specs.declared.step.Mode.{Mode}
+
+-- a READ that is served so leaves the order as it was
+pub read_leaves : (given : Result Action Errno) (request : Message) (geometry : Geometry) (kept : Mode) (old new : OrderState) (result : Served)
+    → request.head.kind ≡ 0 → IsServedHere given request geometry kept old new result → new ≡ old
+read_leaves (Ok End) request geometry kept old new result kind served = absurd served
+read_leaves (Ok Serve) request geometry kept old new result kind (inl (inl stopped)) = stopped.1
+read_leaves (Ok Serve) request geometry kept old new result kind (inl (inr (inl flush))) = flush.2
+read_leaves (Ok Serve) request geometry kept old new result kind (inl (inr (inr (inl status)))) = status.2
+read_leaves (Ok Serve) request geometry kept old new result kind (inl (inr (inr (inr write)))) = absurd (write.2 kind)
+read_leaves (Ok Serve) request geometry kept old new result kind (inr read) = read.2
+read_leaves (Err errno) request geometry kept old new result kind served = served.0
+
+module _ {D : Type 0} (state : D → State) (faults : D → ℕ) (honest : D → Type 0) (keeper : KeeperState D) (still : honest keeper.disk → IsOnlyRead (state keeper.disk) (state keeper.disk)) where
+  held_read : (head : RequestHead) (order : OrderState) (result : Served) → IsHeldRead head order result → IsRead state faults honest head order order keeper keeper result
+  held_read head order result read = record {
+    aligned = read.aligned;
+    image = read.image;
+    kinds = read.kinds;
+    in_memory = read.in_memory;
+    from_base = λ sure base front last holds j k below inside none. absurd (read.there j below none);
+    own = λ sure base given front last holds shows clean. read.own given shows;
+    shows = λ sure base given front last holds shows clean. shows;
+    answer = read.answer;
+    order = refl;
+    states = refl;
+    keeper_is = refl;
+    level = refl;
+    only_read = still;
+    holds = λ sure base front last holds. holds;
+  }
+
+  held_served : (head : RequestHead) (order : OrderState) (result : Served) → IsHeldReadServed head order result → IsReadServed state faults honest head order order keeper keeper result
+  held_served head order result (inl none) = inl (refl, refl, none)
+  held_served head order result (inr read) = inr (inl (held_read head order result read))
+
+  pub served_here : (given : Result Action Errno) (request : Message) (geometry : Geometry) (kept : Mode) (old new : OrderState) (result : Served)
+      → IsServedHere given request geometry kept old new result → IsServedBy state faults honest given request geometry kept old new keeper keeper result
+  served_here (Ok End) request geometry kept old new result served = absurd served
+  served_here (Ok Serve) request geometry kept old new result (inl passed) = inl (refl, passed)
+  served_here (Ok Serve) request geometry kept old new result (inr read) =
+      inr (read.0, read.1, subst (λ (o : OrderState). IsReadServed state faults honest request.head old o keeper keeper result) (sym read.2) (held_served request.head old result read.3))
+  served_here (Err errno) request geometry kept old new result served = (refl, served.0, served.1)
+
+  -- a READ changes no number, and its pass knows what it knew
+  module _ (request : Message) (result : Served) (pass : PassState) where
+    answered : (before after : ℕ) (cookie : ℕ) (given : Answer) → after ≡ before → result ≡ ready_for cookie given → IsPassServed request before after result pass pass
+    answered before after cookie given same is =
+        subst (λ (r : Served). IsPassServed request before after r pass pass) (sym is)
+        (let none : nat_lt before after ≡ false = grind (arith, nat_tests, same) in
+        subst (λ (b : Bool). MatchBool b ((known pass < after) × (pass ≡ accepted_for request after pass)) (pass ≡ pass)) (sym none) refl)
+
+    pub read_passes : (head : RequestHead) (old new : OrderState) (next : KeeperState D) → IsReadServed state faults honest head old new keeper next result → IsPassServed request old.mark new.mark result pass pass
+    read_passes head old new next (inl none) = answered old.mark new.mark head.cookie _ (ap (λ (o : OrderState). o.mark) none.0) none.2
+    read_passes head old new next (inr (inl read)) = answered old.mark new.mark head.cookie _ (ap (λ (o : OrderState). o.mark) read.order) read.answer
+    read_passes head old new next (inr (inr unread)) = answered old.mark new.mark head.cookie _ (ap (λ (o : OrderState). o.mark) unread.order) unread.answer
