@@ -36,6 +36,9 @@ pub trait Serve<P> {
     /// nothing else.
     fn may_wait(&self, head: &RequestHead) -> bool;
 
+    /// It is told that the handshake is over, and the requests come.
+    fn handshake_is_over(&self) {}
+
     /// Answers a request, which isn't a DISC, and whose data were kept.
     fn serve(&self, pass: &mut P, request: Request, flags: &SessionFlags) -> Reply
         requires kept { is_thrown_away request.head ≡ false }

@@ -9,7 +9,7 @@ use negotiation::{End, Session};
 use std::alloc::{AllocError, Global};
 use std::io::{Read, Write};
 
-// The most bytes that one read takes: 256 KiB, which lie in a cache until they are copied out.
+// The most bytes that one read takes: 64 KiB, which lie in a cache until they are copied out.
 const PIECE_BYTES: usize = 65_536;
 
 /// Serves one connection from its first byte on: the handshake, and then each request in turn, over an export that keeps
@@ -30,6 +30,7 @@ pub fn serve_session<P, S: Serve<P>, R: Read, W: Write>(
     let mut piece = empty_piece(alloc)?;
     let mut due = Vec::new(alloc);
     let requests = negotiate(input, output, &mut session, &mut piece, &mut due)?;
+    export.handshake_is_over();
     transmit(
         input,
         output,
