@@ -251,7 +251,8 @@ test_refusing() {
     [ -e met ]
 }
 
-# A test that memory is refused ends by itself: it passes, or it says where it stopped. Some need none.
+# A test that memory is refused ends by itself: it passes, or it says where it stopped. Some need none. One that takes more than a
+# second with memory isn't run so often.
 found=0
 : >wanted
 : >errors
@@ -260,6 +261,11 @@ for built in "$here"/crates/*/out/*_tests; do
     tests=$(basename "$built" _tests)
     for test in $("$built" --list | sed -n 's/: test$//p'); do
         found=$((found + 1))
+        timeout 1 "$built" "$test" >output 2>&1
+        if [ $? -eq 124 ]; then
+            skipped "$tests, $test" 'it takes more than a second'
+            continue
+        fi
         n=1
         while [ "$n" -le "$most" ] && test_refusing "$n" "$built" "$test"; do
             tell "$tests, $test, call $n" "$(grep -q '^test result: ok\|^test stopped at\|^the test failed' output || echo "status $status")"

@@ -1,0 +1,2 @@
+pub mod Submits
+mod Fits

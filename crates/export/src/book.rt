@@ -1,0 +1,254 @@
+//! What lies under the order's lock.
+ghost use Rattle.std.specs.Prelude.{◌≡◌, ◌≢◌, IfErr, IfOk, OnErr, length};
+ghost use Rattle.export.specs.Submits.{FitsServed, IsServedFor};
+
+use crate::name::ExportName;
+use crate::store::Store;
+use checkpoint::{Keeper, KeeperFault};
+use disk_model::Disk;
+use journal::Group;
+use marks::{Board, Pass};
+use nbd_wire::Request;
+use order_book::{Order, OrderFault};
+use request_core::{NeedsKeeper, Served, Terms, serve_held, serve_with_keeper};
+use std::alloc::Global;
+
+/// Pending commands of more than so many bytes are stored though nobody waits for them.
+const MOST_PENDING_BYTES: u64 = 4_194_304;
+
+/// The order of an export, and what its threads ask of one another.
+pub(crate) struct Book<B: ExportName> {
+    order: Order<B>,
+    // The frames for blocks.
+    frames: u32,
+    // The passes that haven't left.
+    passes: usize,
+    // The greatest number that somebody waits for.
+    wanted: u64,
+    // Whether a group didn't fit the area, and no other area has been taken into use since.
+    is_full: bool,
+    // Whether a command had no room, and no frame has been let go since.
+    lacks_room: bool,
+    // Whether a checkpoint is wanted, once all up to this number is stored.
+    wish: Option<u64>,
+    // Whether no group will be stored any more.
+    is_flushed: bool,
+    ghost blocks: { length order.cache.states ≡ B.geometry.blocks },
+}
+
+impl<B: ExportName> Drop for Book<B> {
+    fn drop(self) {
+        let Book {
+            order: _,
+            frames: _,
+            passes: _,
+            wanted: _,
+            is_full: _,
+            lacks_room: _,
+            wish: _,
+            is_flushed: _,
+        } = self;
+    }
+}
+
+impl<B: ExportName> Book<B> {
+    pub(crate) fn new(order: Order<B>, frames: u32, passes: usize) -> Book<B>
+        requires { length order.cache.states ≡ B.geometry.blocks }
+    {
+        Book {
+            order,
+            frames,
+            passes,
+            wanted: 0,
+            is_full: false,
+            lacks_room: false,
+            wish: None,
+            is_flushed: false,
+        }
+    }
+
+    /// Serves a request that isn't a DISC, as far as no keeper is needed.
+    pub(crate) fn serve(
+        &mut self,
+        alloc: Global,
+        request: Request,
+        board: &Board<B>,
+        pass: &mut Pass<B>,
+        terms: Terms,
+    ) -> Result<Served, NeedsKeeper>
+        requires kind { request.head.kind ≢ 2 }
+        requires geometry { terms.geometry ≡ B.geometry }
+        ensures served { IfOk result (λ served. IsServedFor request terms.mode pass.old pass.new served) }
+        ensures fits { IfOk result (λ served. FitsServed terms.flags request served) }
+        ensures handed_back { IfErr result (λ back. back.0 ≡ request) }
+        ensures unchanged { OnErr result (pass.new ≡ pass.old) }
+    {
+        serve_held(alloc, request, &mut self.order, board, pass, terms)
+    }
+
+    /// Serves a request that isn't a DISC, with the keeper.
+    pub(crate) fn serve_with<D: Disk>(
+        &mut self,
+        alloc: Global,
+        request: Request,
+        keeper: &mut Keeper<D>,
+        board: &Board<B>,
+        pass: &mut Pass<B>,
+        terms: Terms,
+    ) -> Served
+        requires kind { request.head.kind ≢ 2 }
+        requires geometry { terms.geometry ≡ B.geometry }
+        requires device { keeper.old.geometry ≡ B.geometry }
+        ensures served { IsServedFor request terms.mode pass.old pass.new result }
+        ensures fits { FitsServed terms.flags request result }
+        ensures geometry { keeper.new.geometry ≡ keeper.old.geometry }
+        ensures count { keeper.new.count ≡ keeper.old.count }
+    {
+        serve_with_keeper(alloc, request, &mut self.order, keeper, board, pass, terms)
+    }
+
+    /// Whether a call of the device has failed.
+    pub(crate) fn stopped(&self) -> bool {
+        self.order.stopped()
+    }
+
+    /// Refuses commands from now on.
+    pub(crate) fn stop(&mut self) {
+        self.order.stop();
+    }
+
+    /// A pass has left.
+    pub(crate) fn leave(&mut self) {
+        self.passes = self.passes.saturating_sub(1);
+    }
+
+    /// No group will be stored any more.
+    pub(crate) fn end(&mut self) {
+        self.is_flushed = true;
+    }
+
+    /// Somebody waits for a number.
+    pub(crate) fn want(&mut self, number: u64) {
+        self.wanted = self.wanted.max(number);
+    }
+
+    /// A command has no room.
+    pub(crate) fn miss_room(&mut self) {
+        self.lacks_room = true;
+        self.wish_checkpoint();
+    }
+
+    /// Wants a checkpoint, which frees what is accepted by now.
+    pub(crate) fn wish_checkpoint(&mut self) {
+        if self.wish.is_none() {
+            let through = self.order.mark();
+            self.wish = Some(through);
+            self.want(through);
+        }
+    }
+
+    /// Wants a checkpoint where two thirds of the frames are dirty; whether it is wanted since now.
+    pub(crate) fn look_at_frames(&mut self) -> bool {
+        if self.wish.is_some() || !self.has_few_frames() {
+            return false;
+        }
+        self.wish_checkpoint();
+        true
+    }
+
+    // Whether two thirds of the frames are dirty.
+    fn has_few_frames(&self) -> bool {
+        self.order.dirty_blocks() as u64 * 3 >= self.frames as u64 * 2
+    }
+
+    /// Whether so many bytes are pending that they are stored though nobody waits for them.
+    pub(crate) fn has_much_pending(&self) -> bool {
+        self.order.backlog_bytes() > MOST_PENDING_BYTES
+    }
+
+    /// What there is to do once a request was served: for the flusher, where much is pending, and for the checkpointer, where a
+    /// checkpoint is wanted since now.
+    pub(crate) fn next_work(&mut self) -> (bool, bool) {
+        let turn = self.look_at_frames();
+        (turn || self.has_much_pending(), turn)
+    }
+
+    /// Whether the next group is to be stored. There is none in hand.
+    pub(crate) fn is_group_due(&self) -> bool {
+        let durable = self.order.durable();
+        if self.is_full || durable == self.order.mark() {
+            return false;
+        }
+        durable < self.wanted || self.lacks_room || self.passes == 0 || self.has_much_pending()
+    }
+
+    /// Whether nothing is left to store, and nothing will come.
+    pub(crate) fn is_done(&self) -> bool {
+        self.passes == 0 && self.order.durable() == self.order.mark()
+    }
+
+    /// Whether a checkpoint is to be begun: what it is to free is stored, or as much of it as the area takes.
+    pub(crate) fn is_checkpoint_due(&self) -> bool {
+        match self.wish {
+            Some(through) => self.is_full || through <= self.order.durable(),
+            None => false,
+        }
+    }
+
+    /// Whether a checkpoint is wanted.
+    pub(crate) fn wants_checkpoint(&self) -> bool {
+        self.wish.is_some()
+    }
+
+    /// Whether no group will be stored any more.
+    pub(crate) fn is_flushed(&self) -> bool {
+        self.is_flushed
+    }
+
+    /// Takes the longest beginning of what is pending as a group.
+    pub(crate) fn seal(&mut self) -> Result<Option<Group>, OrderFault> {
+        self.order.seal()
+    }
+
+    /// Makes a group pending again, which the area had no room for or the device didn't take.
+    pub(crate) fn take_back(&mut self, group: Group) {
+        if self.order.is_in_hand(&group) {
+            self.order.put_back(group);
+        } else {
+            // There is one thread that seals, so it is the one in hand.
+            let _parts = group.into_parts();
+        }
+    }
+
+    /// A group doesn't fit the area.
+    pub(crate) fn find_full(&mut self) {
+        self.is_full = true;
+        self.wish_checkpoint();
+    }
+
+    /// Another area has been taken into use.
+    pub(crate) fn find_empty(&mut self) {
+        self.is_full = false;
+    }
+
+    /// Makes durable what is stored.
+    pub(crate) fn publish<D: Disk>(&mut self, board: &Board<B>, store: &mut Store<B, D>) {
+        store.publish(board, &mut self.order);
+    }
+
+    /// Lets the frames go whose blocks the image holds. A checkpoint that was wanted is done, and is wanted again where the area
+    /// is full.
+    pub(crate) fn clean<D: Disk>(&mut self, keeper: &Keeper<D>) {
+        self.order.clean(keeper);
+        self.forget_wish();
+    }
+
+    /// The checkpoint that was wanted is done.
+    pub(crate) fn forget_wish(&mut self) {
+        self.lacks_room = false;
+        self.wish = None;
+        if self.is_full {
+            self.wish_checkpoint();
+        }
+    }
+}

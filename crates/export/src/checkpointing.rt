@@ -1,0 +1,103 @@
+use crate::export::Export;
+use crate::gate::{Gate, Point};
+use crate::name::ExportName;
+use crate::store::{Stage, Store};
+use checkpoint::KeeperFault;
+use disk_model::Disk;
+use std::sync::Wait;
+use std::thread;
+
+// What a step of a checkpoint came to.
+enum Turn {
+    // This step is next.
+    Next(Stage),
+    // Memory was refused, and the step is taken again.
+    Again,
+    // No further step can be taken, of this checkpoint or of another.
+    Ended,
+}
+
+impl<B: ExportName, D: Disk> Export<B, D> {
+    /// Copies the journal into the image, step by step, before it is full or no frame is left. Each step is one hold of the
+    /// keeper's lock, and groups are stored between two.
+    ///
+    /// It ends once the flusher has, so it is started behind one that was, and a checkpoint that has begun is then carried to
+    /// its end; when a call of the device has failed; and where no greater generation of a header is left, after which what
+    /// finds no room waits for good.
+    pub fn checkpointer<R: Wait, G: Gate>(&self, rt: &R, gate: &mut G) {
+        for _ in rt.forever() {
+            if !self.wait_for_checkpoint(rt) || !self.checkpoint(rt, gate) {
+                return;
+            }
+        }
+    }
+
+    // Waits until a checkpoint is to be begun; not where none will be.
+    fn wait_for_checkpoint<R: Wait>(&self, rt: &R) -> bool {
+        for _ in rt.forever() {
+            let book = self.book.lock(rt);
+            if book.stopped() || book.is_flushed() {
+                return false;
+            }
+            if book.is_checkpoint_due() {
+                return true;
+            }
+            let _woken = self.turn.wait(rt, book);
+        }
+        unreachable!()
+    }
+
+    // Carries out a checkpoint; whether there may be another one.
+    fn checkpoint<R: Wait, G: Gate>(&self, rt: &R, gate: &mut G) -> bool {
+        let mut stage = Stage::Rotate;
+        for _ in rt.forever() {
+            if stage == Stage::Done {
+                return true;
+            }
+            gate.reach(Point::Step);
+            match self.take_step(rt, stage) {
+                Turn::Next(next) => stage = next,
+                Turn::Again => thread::yield_now(),
+                Turn::Ended => return false,
+            }
+        }
+        unreachable!()
+    }
+
+    // Carries out a step in one hold of the keeper's lock.
+    fn take_step<R: Wait>(&self, rt: &R, stage: Stage) -> Turn {
+        let mut store = self.store.lock(rt);
+        match store.take(stage) {
+            Ok(next) => {
+                self.note(rt, stage, next, &*store);
+                Turn::Next(next)
+            }
+            Err(KeeperFault::NoMemory) => Turn::Again,
+            Err(KeeperFault::NotNow) => {
+                // Nothing was stored since the last one.
+                self.book.lock(rt).forget_wish();
+                self.settled.notify_all();
+                Turn::Next(Stage::Done)
+            }
+            Err(KeeperFault::NumbersFull) => Turn::Ended,
+            Err(_) => {
+                self.book.lock(rt).stop();
+                self.tell_all();
+                Turn::Ended
+            }
+        }
+    }
+
+    // Notes in the order what a step has changed: the area is empty, or frames can be let go.
+    fn note<R: Wait>(&self, rt: &R, stage: Stage, next: Stage, store: &Store<B, D>) {
+        if stage == Stage::Rotate {
+            self.book.lock(rt).find_empty();
+            self.work.notify_one();
+        }
+        if next == Stage::Done {
+            self.book.lock(rt).clean(store.keeper());
+            self.settled.notify_all();
+            self.signal(true, true);
+        }
+    }
+}

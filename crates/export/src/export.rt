@@ -1,0 +1,151 @@
+ghost use Rattle.std.specs.Prelude.{◌≡◌, ◌≤◌, IfOk, length, vec_len};
+
+use crate::book::Book;
+use crate::name::ExportName;
+use crate::store::Store;
+use checkpoint::{Keeper, KeeperFault};
+use disk_model::Disk;
+use image_model::Geometry;
+use marks::{BlankBoard, Board, KeeperSeat, Opened, Pass};
+use order_book::Order;
+use request_core::{Mode, fresh_order};
+use std::alloc::{AllocError, Global};
+use std::sync::{Condvar, Mutex, Wait};
+
+/// A device that was opened, and a board for it that has no name yet.
+#[derive(Drop)]
+pub struct OpenDevice<D: Disk> {
+    pub blank: BlankBoard,
+    pub keeper: Keeper<D>,
+    pub ghost opening: { blank.opening ≡ keeper.count },
+}
+
+impl<D: Disk> OpenDevice<D> {
+    /// Opens a device, which recovers it. It refuses as `Keeper::open` does, and hands the device back.
+    pub fn open(alloc: Global, disk: D) -> Result<OpenDevice<D>, (KeeperFault, D)> {
+        let keeper = Keeper::open(alloc, disk)?;
+        match BlankBoard::new(alloc, keeper.count()) {
+            Ok(blank) => Ok(OpenDevice { blank, keeper }),
+            Err(_) => Err((KeeperFault::NoMemory, keeper.into_disk())),
+        }
+    }
+}
+
+/// One image that threads serve together. Each has a pass of its own.
+///
+/// Two locks: that of the order and, taken before it, that of the keeper.
+pub struct Export<B: ExportName, D: Disk> {
+    pub(crate) alloc: Global,
+    pub(crate) board: Board<B>,
+    pub geometry: Geometry,
+    /// When a write command is answered.
+    pub mode: Mode,
+    pub(crate) store: Mutex<Store<B, D>>,
+    pub(crate) book: Mutex<Book<B>>,
+    // Told after each publish, after each clean and after the stop.
+    pub(crate) settled: Condvar,
+    // Told where the flusher has work, and the checkpointer.
+    pub(crate) work: Condvar,
+    pub(crate) turn: Condvar,
+    ghost sized: { geometry ≡ B.geometry },
+}
+
+// Written out, it is proved once, and not again in each function that lets an export go.
+impl<B: ExportName, D: Disk + Drop> Drop for Export<B, D> {
+    fn drop(self) {
+        let Export {
+            alloc: _,
+            board: _,
+            geometry: _,
+            mode: _,
+            store: _,
+            book: _,
+            settled: _,
+            work: _,
+            turn: _,
+        } = self;
+    }
+}
+
+impl<B: ExportName, D: Disk> Export<B, D> {
+    /// An export over a device that was opened, under its name, which is picked where this is called, with so many frames for
+    /// blocks, and a pass for each of so many workers. A refusal for memory hands the device back.
+    pub fn open(
+        alloc: Global,
+        device: OpenDevice<D>,
+        frames: u32,
+        mode: Mode,
+        workers: usize,
+    ) -> Result<(Export<B, D>, Vec<Pass<B>>), D>
+        requires board { device.blank.board ≡ B.board }
+        requires geometry { device.keeper.geometry ≡ B.geometry }
+        requires frames { frames ≤ 65536 }
+        ensures mode { IfOk result (λ made. made.0.mode ≡ mode) }
+        ensures passes { IfOk result (λ made. vec_len made.1 ≡ workers) }
+    {
+        let OpenDevice { blank, keeper } = device;
+        match open_parts::<B, D>(alloc, blank, &keeper, frames, workers) {
+            Ok((board, seat, order, passes)) => {
+                let made = Export {
+                    alloc,
+                    board,
+                    geometry: keeper.geometry(),
+                    mode,
+                    store: Mutex::new(Store::new(keeper, seat)),
+                    book: Mutex::new(Book::new(order, frames, workers)),
+                    settled: Condvar::new(),
+                    work: Condvar::new(),
+                    turn: Condvar::new(),
+                };
+                Ok((made, passes))
+            }
+            Err(_) => Err(keeper.into_disk()),
+        }
+    }
+
+    /// Whether a call of the device has failed: commands are refused from then on.
+    pub fn stopped<R: Wait>(&self, rt: &R) -> bool {
+        self.book.lock(rt).stopped()
+    }
+
+    /// The device, as it is. What is pending is lost.
+    pub fn into_disk(self) -> D {
+        let Export {
+            alloc: _,
+            board: _,
+            geometry: _,
+            mode: _,
+            store,
+            book: _,
+            settled: _,
+            work: _,
+            turn: _,
+        } = self;
+        store.into_inner().into_keeper().into_disk()
+    }
+}
+
+// The board under its name with the keeper's seat and the passes, and an order over what the opening left.
+fn open_parts<B: ExportName, D: Disk>(
+    alloc: Global,
+    blank: BlankBoard,
+    keeper: &Keeper<D>,
+    frames: u32,
+    workers: usize,
+) -> Result<(Board<B>, KeeperSeat<B>, Order<B>, Vec<Pass<B>>), AllocError>
+    requires board { blank.board ≡ B.board }
+    requires opening { blank.opening ≡ keeper.now.count }
+    requires frames { frames ≤ 65536 }
+    ensures seat { IfOk result (λ parts. parts.1.durable ≤ keeper.now.count) }
+    ensures blocks { IfOk result (λ parts. length parts.2.cache.states ≡ keeper.now.geometry.blocks) }
+    ensures passes { IfOk result (λ parts. vec_len parts.3 ≡ workers) }
+{
+    let Opened {
+        board,
+        order: line,
+        keeper: seat,
+        passes,
+    } = blank.open::<B>(alloc, workers)?;
+    let order = fresh_order(alloc, keeper, frames, line)?;
+    Ok((board, seat, order, passes))
+}

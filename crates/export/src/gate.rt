@@ -1,0 +1,21 @@
+/// Where a thread of an export can be held.
+#[derive(Clone, Copy, Debug, PartialEq, Eq)]
+pub enum Point {
+    /// Before a group is appended, with the keeper's lock taken.
+    Append,
+    /// Before a step of a checkpoint, with no lock held.
+    Step,
+    /// After a reply was written.
+    Answered,
+}
+
+/// What holds the threads of an export: a test holds one until another got on.
+pub trait Gate {
+    /// The thread has come to this point, and goes on once this returns.
+    fn reach(&mut self, at: Point);
+}
+
+/// Holds nothing.
+impl Gate for () {
+    fn reach(&mut self, _at: Point) {}
+}

@@ -1,0 +1,16 @@
+//! An export that threads share: requests are submitted by any of them, while one stores groups of commands and another
+//! copies the journal into the image.
+#![tactic(auto)]
+
+mod book;
+mod checkpointing;
+mod export;
+mod flushing;
+mod gate;
+mod name;
+mod store;
+mod submitting;
+
+pub use export::{Export, OpenDevice};
+pub use gate::{Gate, Point};
+pub use name::ExportName;

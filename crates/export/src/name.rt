@@ -1,0 +1,27 @@
+use marks::BoardName;
+use std::marker::Brand;
+
+/// Which export it is: its board, and the sizes of its image, so that what lies under its two locks is of one size.
+///
+/// A program opens an export in a function that is generic over its name, with what it opens as a premise. Who calls that
+/// function passes `Brand`, and says in the file of its invariants that the name's board and sizes are these.
+pub trait ExportName: BoardName {
+    ghost use Rattle.image_model.specs.declared.geometry.Geometry.{Geometry};
+
+    ghost geometry: { Geometry };
+}
+
+/// The member that stands here is the one that nobody picked.
+impl ExportName for Brand {
+    ghost use Rattle.std.proofs.Common.{lit≤, refl};
+
+    ghost geometry = { record {
+      blocks = 1;
+      area = 2097152;
+      some_blocks = lit≤ tt;
+      not_too_many = lit≤ tt;
+      area_not_too_small = lit≤ tt;
+      area_not_too_large = lit≤ tt;
+      area_whole = refl;
+    } };
+}

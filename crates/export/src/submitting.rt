@@ -1,0 +1,191 @@
+ghost use Rattle.std.specs.Prelude.{◌≡◌, ◌≢◌, ◌≤◌, ◌<◌, max, IfNone, IfSome};
+ghost use Rattle.export.specs.Submits.{FitsServed, IsServedFor, IsSubmitted, IsWaitedFor};
+ghost use Rattle.export.specs.Outcomes.{FitsOutcome, IsOutcomeFor};
+ghost use Rattle.marks.specs.Known.{known};
+ghost use Rattle.nbd_reply.specs.Reply.{IsAnswerTo};
+ghost use Rattle.nbd_wire.specs.declared.message.Answer.TheVariants as Answer;
+
+use crate::export::Export;
+use crate::name::ExportName;
+use disk_model::Disk;
+use marks::{Pass, Told};
+use nbd_wire::{Answer, Errno, Reply, Request, SessionFlags};
+use request_core::{NeedsKeeper, Served, Terms};
+use std::sync::Wait;
+
+impl<B: ExportName, D: Disk> Export<B, D> {
+    /// What all that was accepted by now is answered with a FLUSH: Done where it is durable, and else nothing. It waits for
+    /// nobody and takes no lock.
+    pub fn flush_now(&self, pass: &mut Pass<B>) -> Option<Answer>
+        ensures done { IfSome result (λ answer. (answer ≡ Answer.Done) × (known pass.old ≤ pass.new.durable)) }
+        ensures none { IfNone result (pass.new.durable < pass.new.accepted) }
+    {
+        let accepted = self.board.look_accepted(pass);
+        let durable = self.board.look_durable(pass);
+        if durable < accepted {
+            return None;
+        }
+        Some(Answer::Done)
+    }
+
+    /// What a pass knows once it has looked at what was accepted, for another pass to learn.
+    pub fn tell(&self, pass: &mut Pass<B>) -> Told<B>
+        ensures told { result ≡ record { accepted = pass.new.accepted; durable = pass.new.durable } }
+        ensures known { known pass.old ≤ pass.new.accepted }
+        ensures pass { pass.new ≡ record pass.old { accepted = pass.new.accepted } }
+    {
+        self.board.tell(pass)
+    }
+
+    /// A pass learns what another one told: it then knows no less than both.
+    pub fn learn(&self, pass: &mut Pass<B>, told: Told<B>)
+        ensures { pass.new ≡ record pass.old { accepted = max pass.old.accepted told.accepted; durable = max pass.old.durable told.durable } }
+    {
+        self.board.learn(pass, told);
+    }
+}
+
+impl<B: ExportName, D: Disk> Export<B, D> {
+    /// Serves a request that isn't a DISC, for a pass, to its reply. It may wait: for room, and until what it says is durable.
+    pub fn submit<R: Wait>(
+        &self,
+        rt: &R,
+        pass: &mut Pass<B>,
+        request: Request,
+        flags: &SessionFlags,
+    ) -> Reply
+        requires { request.head.kind ≢ 2 }
+        ensures cookie { result.cookie ≡ request.head.cookie }
+        ensures submitted { IsSubmitted request self.now.mode pass.old pass.new result.answer }
+        ensures kind { IsAnswerTo flags.now request.head.kind result.answer }
+    {
+        let cookie = request.head().cookie;
+        let terms = Terms {
+            geometry: self.geometry,
+            flags: *flags,
+            mode: self.mode,
+        };
+        match self.serve(rt, pass, request, terms) {
+            Outcome::Answered(answer) => Reply { cookie, answer },
+            Outcome::Waits(number) => Reply {
+                cookie,
+                answer: self.wait_for(rt, pass, number),
+            },
+        }
+    }
+
+    // Serves a request once there is room for its command.
+    fn serve<R: Wait>(&self, rt: &R, pass: &mut Pass<B>, request: Request, terms: Terms) -> Outcome
+        requires kind { request.head.kind ≢ 2 }
+        requires geometry { terms.geometry ≡ B.geometry }
+        ensures outcome { IsOutcomeFor request terms.mode pass.old pass.new result }
+        ensures fits { FitsOutcome terms.flags request result }
+    {
+        let mut request = request;
+        for _ in rt.forever() {
+            let mut book = self.book.lock(rt);
+            match book.serve(self.alloc, request, &self.board, pass, terms) {
+                Ok(Served::Ready(reply)) => {
+                    let (work, turn) = book.next_work();
+                    drop(book);
+                    self.signal(work, turn);
+                    return Outcome::Answered(reply.answer);
+                }
+                Ok(Served::Wait(number)) => return Outcome::Waits(number),
+                Ok(Served::NoRoom(back)) => {
+                    request = back;
+                    book.miss_room();
+                    self.signal(true, true);
+                    let _woken = self.settled.wait(rt, book);
+                }
+                Err(NeedsKeeper(back)) => {
+                    drop(book);
+                    match self.serve_missing(rt, pass, back, terms) {
+                        Served::Ready(reply) => return Outcome::Answered(reply.answer),
+                        Served::Wait(number) => return Outcome::Waits(number),
+                        // There was no room for it; so it is no READ, and is served anew.
+                        Served::NoRoom(back) => request = back,
+                    }
+                }
+            }
+        }
+        unreachable!()
+    }
+
+    // Tells the flusher and the checkpointer to look for work.
+    pub(crate) fn signal(&self, flusher: bool, checkpointer: bool) {
+        if flusher {
+            self.work.notify_one();
+        }
+        if checkpointer {
+            self.turn.notify_one();
+        }
+    }
+
+    // Tells all threads to look again: a call of the device has failed.
+    pub(crate) fn tell_all(&self) {
+        self.settled.notify_all();
+        self.work.notify_all();
+        self.turn.notify_all();
+    }
+
+    // Serves a request for which the keeper is needed, the order's lock inside the keeper's.
+    fn serve_missing<R: Wait>(
+        &self,
+        rt: &R,
+        pass: &mut Pass<B>,
+        request: Request,
+        terms: Terms,
+    ) -> Served
+        requires kind { request.head.kind ≢ 2 }
+        requires geometry { terms.geometry ≡ B.geometry }
+        ensures served { IsServedFor request terms.mode pass.old pass.new result }
+        ensures fits { FitsServed terms.flags request result }
+    {
+        let mut store = self.store.lock(rt);
+        let mut book = self.book.lock(rt);
+        let served = store.serve(&mut book, self.alloc, request, &self.board, pass, terms);
+        if book.stopped() {
+            self.tell_all();
+        }
+        served
+    }
+
+    // Waits until a number is durable, or will never be.
+    fn wait_for<R: Wait>(&self, rt: &R, pass: &mut Pass<B>, number: u64) -> Answer
+        ensures { IsWaitedFor number pass.old pass.new result }
+    {
+        if self.board.look_durable(pass) >= number {
+            return Answer::Done;
+        }
+        let mut book = self.book.lock(rt);
+        book.want(number);
+        self.work.notify_one();
+        for _ in rt.forever() {
+            if self.board.look_durable(pass) >= number {
+                return Answer::Done;
+            }
+            if book.stopped() {
+                return Answer::Refused(Errno::Io);
+            }
+            book = self.settled.wait(rt, book);
+        }
+        unreachable!()
+    }
+
+    /// Takes a pass for good: no request is submitted for it any more.
+    pub fn leave<R: Wait>(&self, rt: &R, pass: Pass<B>) {
+        drop(pass);
+        self.book.lock(rt).leave();
+        self.work.notify_one();
+    }
+}
+
+// What a request comes to once there was room for its command.
+#[derive(Debug, Drop)]
+pub(crate) enum Outcome {
+    // It is answered.
+    Answered(Answer),
+    // It is answered once this number is durable.
+    Waits(u64),
+}

@@ -1,0 +1,9 @@
+use Rattle.export_tests.proofs.load_tests.group_is_stored_between_two_copies.Given as goal
+
+-- the board that was just made
+abbrev pub ghosts-run_held-B-BoardName : goal.ghosts-run_held-B-BoardName
+ghosts-run_held-B-BoardName g a = record { board = a.device.blank.board }
+
+-- the sizes of the device
+abbrev pub ghosts-run_held-B-ExportName : goal.ghosts-run_held-B-ExportName
+ghosts-run_held-B-ExportName g a = record { geometry = a.device.keeper.geometry }

@@ -1,0 +1,9 @@
+use Rattle.export_tests.proofs.pass_tests.told_pass_reads_back.Given as goal
+
+-- the board that was just made
+abbrev pub ghosts-tell_and_read-B-BoardName : goal.ghosts-tell_and_read-B-BoardName
+ghosts-tell_and_read-B-BoardName g a = record { board = a.device.blank.board }
+
+-- the sizes of the device
+abbrev pub ghosts-tell_and_read-B-ExportName : goal.ghosts-tell_and_read-B-ExportName
+ghosts-tell_and_read-B-ExportName g a = record { geometry = a.device.keeper.geometry }

@@ -1,0 +1,16 @@
+use Rattle.export_tests.proofs.plain_tests.eight_threads_match_plain_images.Given as goal
+
+-- the board that was just made
+abbrev pub ghosts-run-B-BoardName : goal.ghosts-run-B-BoardName
+ghosts-run-B-BoardName g a = record { board = a.device.blank.board }
+
+-- the sizes of the device
+abbrev pub ghosts-run-B-ExportName : goal.ghosts-run-B-ExportName
+ghosts-run-B-ExportName g a = record { geometry = a.device.keeper.geometry }
+
+-- the like of the device that was opened again
+abbrev pub ghosts-reads_as-B-BoardName : goal.ghosts-reads_as-B-BoardName
+ghosts-reads_as-B-BoardName g a = record { board = a.device.blank.board }
+
+abbrev pub ghosts-reads_as-B-ExportName : goal.ghosts-reads_as-B-ExportName
+ghosts-reads_as-B-ExportName g a = record { geometry = a.device.keeper.geometry }

@@ -1,0 +1,280 @@
+//! Threads that write and read over an area so small that checkpoints go on all the time.
+ghost use Rattle.std.specs.Prelude.{◌≡◌, ◌*◌, ◌+◌, ◌<◌, ◌≤◌, ◌^◌};
+
+use crate::requests::{flush, fresh, reads_back, write_block};
+use checkpoint::Keeper;
+use disk_model::SimDisk;
+use export::{Export, ExportName, Gate, OpenDevice, Point};
+use marks::Pass;
+use request_core::Mode;
+use std::alloc::Global;
+use std::marker::Brand;
+use std::rt::Clock;
+use std::sync::Wait;
+use std::sync::atomic::{AtomicBool, AtomicU64, Ordering};
+use std::thread::{self, Threads};
+use std::time::Duration;
+
+// The blocks of a thread, and how often it writes each.
+const BLOCKS: u64 = 40;
+
+const ROUNDS: u64 = 4;
+
+// Writes the blocks of a thread over and over, flushes after each round, and reads them back.
+fn write_and_read<B: ExportName, R: Wait>(
+    rt: &R,
+    alloc: Global,
+    export: &Export<B, SimDisk>,
+    mut pass: Pass<B>,
+    first: u64,
+) -> bool
+    requires { first < 2 ^ 20 }
+{
+    let mut good = true;
+    for round in 1..ROUNDS + 1 {
+        good &= one_round(rt, alloc, export, &mut pass, first, round);
+    }
+    export.leave(rt, pass);
+    good
+}
+
+fn one_round<B: ExportName, R: Wait>(
+    rt: &R,
+    alloc: Global,
+    export: &Export<B, SimDisk>,
+    pass: &mut Pass<B>,
+    first: u64,
+    round: u64,
+) -> bool
+    requires { first < 2 ^ 20 }
+{
+    let mut good = true;
+    for block in first..first + BLOCKS {
+        good &= write_block(rt, alloc, export, pass, block, round);
+    }
+    good &= flush(rt, alloc, export, pass);
+    for block in first..first + BLOCKS {
+        good &= reads_back(rt, alloc, export, pass, block, round);
+    }
+    good
+}
+
+// Eight threads that serve beside a flusher and a checkpointer; whether each was answered as it had to be, and none where a
+// thread can't be started.
+fn serve_eight<B: ExportName + Send + Sync, R: Threads + Wait + Sync>(
+    rt: &R,
+    alloc: Global,
+    export: &Export<B, SimDisk>,
+    passes: Vec<Pass<B>>,
+) -> Option<bool> {
+    let next = AtomicU64::new(0);
+    let bad = AtomicBool::new(false);
+    let places = &next;
+    let failed = &bad;
+    let have_started = thread::scope(thread::scope_env(), rt, move |scope| {
+        let flusher = scope.spawn(move || export.flusher(rt, &mut ()));
+        let mut have_started = flusher.is_ok()
+            && scope
+                .spawn(move || export.checkpointer(rt, &mut ()))
+                .is_ok();
+        for pass in passes {
+            if !have_started {
+                export.leave(rt, pass);
+            } else if let Err(refused) = scope.spawn(move || serve_one(
+                rt, alloc, export, pass, places, failed,
+            )) {
+                // Its pass leaves all the same.
+                have_started = false;
+                (refused.value)();
+            }
+        }
+        have_started
+    });
+    if have_started {
+        Some(!bad.load(Ordering::SeqCst))
+    } else {
+        None
+    }
+}
+
+// Serves the next place for a pass.
+fn serve_one<B: ExportName, R: Wait>(
+    rt: &R,
+    alloc: Global,
+    export: &Export<B, SimDisk>,
+    pass: Pass<B>,
+    places: &AtomicU64,
+    failed: &AtomicBool,
+) {
+    let place = places.fetch_add(1, Ordering::SeqCst) % 8;
+    if !write_and_read(rt, alloc, export, pass, place * BLOCKS) {
+        failed.store(true, Ordering::SeqCst);
+    }
+}
+
+// What came of a run: whether all was answered as it had to be, and the number that the device opens with again.
+#[derive(Drop)]
+struct Ran {
+    good: bool,
+    number: u64,
+}
+
+fn run<B: ExportName + Send + Sync, R: Threads + Wait + Sync>(
+    rt: &R,
+    alloc: Global,
+    device: OpenDevice<SimDisk>,
+) -> Option<Ran>
+    requires board { device.blank.board ≡ B.board }
+    requires geometry { device.keeper.geometry ≡ B.geometry }
+{
+    let (export, passes) = Export::<B, SimDisk>::open(alloc, device, 512, Mode::Writeback, 8).ok()?;
+    let good = serve_eight(rt, alloc, &export, passes)?;
+    let keeper = Keeper::open(alloc, export.into_disk()).ok()?;
+    Some(Ran {
+        good,
+        number: keeper.count(),
+    })
+}
+
+#[test]
+fn eight_threads_write_through_a_small_area(rt: HostRuntime) {
+    let device = fresh(rt.alloc(), 512, 2_097_152).expect(&rt, "a device over holes");
+    let ran = run::<Brand, _>(&rt, rt.alloc(), device).expect(&rt, "eight threads");
+    assert!(rt; ran.good);
+    assert_eq!(rt; ran.number, 1_280);
+}
+
+// Holds the checkpointer between two copies until a FLUSH was answered, for at most 10,000 turns of a millisecond.
+#[derive(Drop)]
+struct HoldsSteps<'a, R: Clock> {
+    rt: &'a R,
+    steps: u64,
+    held: &'a AtomicBool,
+    answered: &'a AtomicBool,
+}
+
+impl<'a, R: Clock> Gate for HoldsSteps<'a, R> {
+    fn reach(&mut self, at: Point) {
+        if at != Point::Step {
+            return;
+        }
+        self.steps = self.steps.saturating_add(1);
+        if self.steps != 3 {
+            return;
+        }
+        self.held.store(true, Ordering::SeqCst);
+        if !wait_for(self.rt, self.answered) {
+            self.held.store(false, Ordering::SeqCst);
+        }
+    }
+}
+
+// Waits until a flag is up, at most ten seconds; whether it is.
+fn wait_for<R: Clock>(rt: &R, flag: &AtomicBool) -> bool {
+    for _ in 0..10_000 {
+        if flag.load(Ordering::SeqCst) {
+            return true;
+        }
+        thread::sleep(rt, Duration::from_millis(1));
+    }
+    false
+}
+
+// Writes blocks that lie apart until the checkpointer is held between two copies, and flushes; whether the FLUSH was answered while it is
+// held.
+fn flush_while_held<B: ExportName, R: Wait + Clock>(
+    rt: &R,
+    alloc: Global,
+    export: &Export<B, SimDisk>,
+    mut pass: Pass<B>,
+    held: &AtomicBool,
+    answered: &AtomicBool,
+) -> bool {
+    let mut good = true;
+    for block in 0..360 {
+        good &= write_block(rt, alloc, export, &mut pass, 2 * block, 1);
+    }
+    good &= wait_for(rt, held);
+    good &= write_block(rt, alloc, export, &mut pass, 1, 1);
+    good &= flush(rt, alloc, export, &mut pass);
+    answered.store(true, Ordering::SeqCst);
+    good &= held.load(Ordering::SeqCst);
+    export.leave(rt, pass);
+    good
+}
+
+// None where a thread can't be started.
+fn hold_steps<B: ExportName + Send + Sync, R: Threads + Wait + Clock + Sync>(
+    rt: &R,
+    alloc: Global,
+    export: &Export<B, SimDisk>,
+    pass: Pass<B>,
+    held: &AtomicBool,
+    answered: &AtomicBool,
+) -> Option<bool> {
+    thread::scope(thread::scope_env(), rt, move |scope| {
+        let flusher = scope.spawn(move || export.flusher(rt, &mut ()));
+        if flusher.is_err()
+            || scope
+                .spawn(move || check_held(rt, export, held, answered))
+                .is_err()
+        {
+            export.leave(rt, pass);
+            return None;
+        }
+        Some(flush_while_held(rt, alloc, export, pass, held, answered))
+    })
+}
+
+// The checkpointer, which is held between two copies.
+fn check_held<B: ExportName, R: Wait + Clock>(
+    rt: &R,
+    export: &Export<B, SimDisk>,
+    held: &AtomicBool,
+    answered: &AtomicBool,
+) {
+    let mut gate = HoldsSteps {
+        rt,
+        steps: 0,
+        held,
+        answered,
+    };
+    export.checkpointer(rt, &mut gate);
+}
+
+fn run_held<B: ExportName + Send + Sync, R: Threads + Wait + Clock + Sync>(
+    rt: &R,
+    alloc: Global,
+    device: OpenDevice<SimDisk>,
+) -> Option<Ran>
+    requires board { device.blank.board ≡ B.board }
+    requires geometry { device.keeper.geometry ≡ B.geometry }
+{
+    let (export, mut passes) = Export::<B, SimDisk>::open(
+        alloc,
+        device,
+        512,
+        Mode::Writeback,
+        1,
+    ).ok()?;
+    let pass = passes.pop()?;
+    let held = AtomicBool::new(false);
+    let answered = AtomicBool::new(false);
+    let good = hold_steps(rt, alloc, &export, pass, &held, &answered)?;
+    let keeper = Keeper::open(alloc, export.into_disk()).ok()?;
+    Some(Ran {
+        good,
+        number: keeper.count(),
+    })
+}
+
+#[test]
+fn group_is_stored_between_two_copies(rt: HostRuntime) {
+    let device = fresh(rt.alloc(), 1_024, 2_097_152).expect(&rt, "a device over holes");
+    let ran = run_held::<Brand, _>(&rt, rt.alloc(), device).expect(
+        &rt,
+        "a flush beside a checkpoint",
+    );
+    assert!(rt; ran.good);
+    assert_eq!(rt; ran.number, 361);
+}
