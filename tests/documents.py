@@ -5,12 +5,16 @@
   error that a crate names; each row is some crate's. What runs of the other checks ended with, which stands in the file NBDJ_TOLD, is
   in the table; the rows that no run ended with are printed, since of those only the sources tell.
 - Each console block of README.md and docs/: its commands print what stands there.
+- The shell block of README.md, a first served image, runs to its end, where its client is installed.
+- The man page, docs/nbdj.1: its synopsis, and of each command the texts, arguments, options, names of values, defaults and values, as
+  the command's `--help` has them.
 - docs/DESIGN.md has each crate with what it stands on, as crates.txt has it.
 - Prose wraps at 100 columns.
 """
 import glob
 import os
 import re
+import shutil
 import subprocess
 import sys
 import tempfile
@@ -68,21 +72,88 @@ def check_refusals():
     print(f"of the refusals no run of the program ended with: {', '.join(unseen) or 'none'}")
 
 
+def placed(folder, program):
+    """Makes a folder where the program and the examples are at hand; the environment of what runs there."""
+    os.mkdir(f"{folder}/bin")
+    os.symlink(program, f"{folder}/bin/nbdj")
+    os.symlink(f"{TOP}/examples", f"{folder}/examples")
+    return {**os.environ, "PATH": f"{folder}/bin:{os.environ['PATH']}", "LC_ALL": "C"}
+
+
 def check_examples(program):
     """The console blocks of each document, one document after another in a folder of its own."""
     met = 0
     for path in documents():
         blocks = re.findall(r"^```console\n(.*?)^```$", read(path), re.M | re.S)
         with tempfile.TemporaryDirectory() as folder:
-            os.mkdir(f"{folder}/bin")
-            os.symlink(program, f"{folder}/bin/nbdj")
-            os.symlink(f"{TOP}/examples", f"{folder}/examples")
-            place = {**os.environ, "PATH": f"{folder}/bin:{os.environ['PATH']}", "LC_ALL": "C"}
+            place = placed(folder, program)
             for command, printed in re.findall(r"^\$ (.*)\n((?:(?!\$ ).*\n)*)", "".join(blocks), re.M):
                 ran = subprocess.run(["sh", "-c", command], cwd=folder, env=place, capture_output=True, text=True, timeout=60)
                 check(f"{os.path.basename(path)}: {command}", printed, ran.stdout + ran.stderr)
                 met += 1
     check("the documents have examples", True, met > 0)
+
+
+def check_first_image(program):
+    blocks = re.findall(r"^```sh\n(.*?)^```$", read(f"{TOP}/README.md"), re.M | re.S)
+    check("README.md has one shell block", 1, len(blocks))
+    if not shutil.which("nbdcopy"):
+        print("skipped: the first served image of README.md, since nbdcopy is not installed")
+        return
+    with tempfile.TemporaryDirectory() as folder:
+        place = placed(folder, program)
+        ran = subprocess.run(["timeout", "50", "sh", "-euc", "".join(blocks)], cwd=folder, env=place, capture_output=True, text=True, timeout=60)
+        said = "formatted 134643712\nlistening nbdj.sock\n"
+        check("README.md: a first served image", (0, said), (ran.returncode, ran.stdout + ran.stderr))
+
+
+def help_of(program, command):
+    """What `--help` of a command tells: the lines of its usage, what it does, the text behind the options without the example, and by
+    argument and option (but for -h and -V) the text, with default and values as the man page writes them."""
+    done = subprocess.run([program, command, "--help"], capture_output=True, text=True, timeout=60)
+    about, _, rest = done.stdout.partition("\n\nUsage: ")
+    usage = [line.strip() for line in rest.partition("\n\n")[0].splitlines()]
+    rows = {}
+    for tag, text in re.findall(r"^ +((?:--[a-z-]+ )?<\w+>)(?: {2,}|\n +)(.*)$", rest, re.M):
+        text, _, values = text.partition(" [possible values: ")
+        text, _, default = text.partition(" [default: ")
+        rows[tag] = {"text": text, "default": default.rstrip("]"), "values": values.rstrip("]")}
+    notes = [part for part in rest.split("\n\n")[1:] if not re.match(r"(Arguments|Options):|Example: ", part)]
+    return {"usage": usage, "about": about, "note": " ".join(" ".join(notes).split()), "rows": rows}
+
+
+def man_of(page, command):
+    """The same of the man page."""
+    usage = re.findall(rf"^nbdj {command}\b.*$", page.partition("\n.SH SYNOPSIS\n")[2].partition("\n.SH ")[0], re.M)
+    part = re.split(r"\n\.S[SH] ", page.partition(f"\n.SS nbdj {command}\n")[2])[0]
+    texts, *tagged = part.split("\n.TP\n")
+    about, _, note = texts.partition("\n.PP\n")
+    rows = {}
+    for item in tagged:
+        head, text, *more = item.splitlines()
+        tag = re.sub(r'^\.BI (--[a-z-]+) " (\w+)"$', r"\1 <\2>", re.sub(r"^\.I (\w+)$", r"<\1>", head))
+        told = dict(re.findall(r"^(Default|Values): (.*)\.$", "\n".join(more), re.M))
+        rows[tag] = {"text": text.removesuffix("."), "default": told.get("Default", ""), "values": told.get("Values", "")}
+    return {"usage": usage, "about": about.strip().removesuffix("."), "note": " ".join(note.split()), "rows": rows}
+
+
+def check_man_page(program):
+    """The man page against the help of each command that the program's own help lists."""
+    page = read(f"{TOP}/docs/nbdj.1").replace("\\-", "-").replace("\\(ga", "`")
+    done = subprocess.run([program, "--help"], capture_output=True, text=True, timeout=60)
+    listed = re.findall(r"^  (\w+) ", done.stdout.partition("\nCommands:\n")[2].partition("\n\n")[0], re.M)
+    commands = [it for it in listed if it != "help"]
+    check("the commands of the man page", commands, re.findall(r"^\.SS nbdj (\w+)$", page, re.M))
+    check("there are commands", True, len(commands) > 0)
+    for command in commands:
+        wanted, got = help_of(program, command), man_of(page, command)
+        check(f"the man page of {command}: options and arguments", sorted(wanted["rows"]), sorted(got["rows"]))
+        for tag, row in wanted["rows"].items():
+            check(f"the man page of {command}: {tag}", row, got["rows"].get(tag))
+        for part in ("usage", "about", "note"):
+            check(f"the man page of {command}: {part}", wanted[part], got[part])
+    version = subprocess.run([program, "--version"], capture_output=True, text=True, timeout=60).stdout.strip()
+    check("the version of the man page", [version], re.findall(r'^\.TH NBDJ 1 "" "(.*?)"', page, re.M))
 
 
 def check_design():
@@ -112,6 +183,8 @@ def main():
     program = os.environ.get("NBDJ")
     if program and os.access(program, os.X_OK):
         check_examples(os.path.abspath(program))
+        check_first_image(os.path.abspath(program))
+        check_man_page(os.path.abspath(program))
     else:
         check("the program NBDJ", "a built program", program)
     print(f"{passed} passed, {failed} failed")

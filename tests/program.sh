@@ -65,6 +65,19 @@ is 'the text of an area too small' "error: invalid value '2088960' for '--area <
 refused 'frames too few' pipe new.img --frames 511
 refused 'frames too many' pipe new.img --frames 65537
 refused 'unknown cache mode' pipe new.img --cache unsafe
+refused 'serve without an address' serve new.img
+refused 'serve at two addresses' serve new.img --listen 127.0.0.1:0 --unix new.img
+for workers in 0 17 -1 many; do
+    refused "workers '$workers'" serve new.img --listen 127.0.0.1:0 --workers="$workers"
+done
+for frames in 511 65537; do
+    refused "frames '$frames' of a server" serve new.img --listen 127.0.0.1:0 --frames="$frames"
+done
+for seconds in 0 86401; do
+    refused "a handshake of '$seconds' seconds" serve new.img --listen 127.0.0.1:0 --handshake-timeout="$seconds"
+done
+refused 'sessions past 64 bits' serve new.img --listen 127.0.0.1:0 --sessions 18446744073709551616
+refused 'unknown cache mode of a server' serve new.img --listen 127.0.0.1:0 --cache unsafe
 refused 'a word too many' recover new.img more
 refused 'check without a path' check
 # The version is that of the first heading of the list of changes.
@@ -73,14 +86,14 @@ run --version
 is 'version' "0|$(text "nbdj $version")|" "$status|$output|$errors"
 run pipe --help
 is 'help' '0|yes|' "$status|$(grep -q FLUSH output && echo yes)|$errors"
-for command in format pipe recover check rehearse; do
+for command in format serve pipe recover check rehearse; do
     run "$command" --version
     is "version of $command" "0|$version|" "$status|$(sed 's/.* //' output)|$errors"
     run "$command" --help
     is "help of $command" '0|yes|' "$status|$(grep -q "^Usage: nbdj $command" output && echo yes)|$errors"
 done
 
-# The example in each help runs.
+# The example in each help runs; that of serve has no end, and listens.
 mkdir bin
 ln -s "$NBDJ" bin/nbdj
 request 0000 2 1 0 0 >requests
@@ -90,7 +103,33 @@ for command in format pipe recover check rehearse; do
     case $command in format) example="$example --area 2M" ;; esac
     is "the example of $command" "0|nbdj $command" "$(PATH="$folder/bin:$PATH" sh -c "$example" >printed 2>&1; echo $?)|$(echo "$example" | cut -d ' ' -f 1-2)"
 done
-rm -f d.img requests replies script
+fresh 16 2097152
+# serves NAME STATUS PRINTED ERRORS WORD..: how a server ends that is killed after a second where it goes on, with status 124
+serves() {
+    name=$1
+    wanted="$2|$3|$4"
+    shift 4
+    timeout 1 "$NBDJ" serve "$@" >printed 2>errors </dev/null
+    is "$name" "$wanted" "$?|$(cat printed)|$(cat errors)"
+    told
+}
+example=$("$NBDJ" serve --help | sed -n 's/^Example: nbdj serve //p')
+serves 'the example of serve' 124 "listening ${example##*:}" '' $example
+serves 'a Unix socket' 124 'listening d.sock' '' d.img --unix d.sock
+is 'the socket of a killed server' yes "$([ -S d.sock ] && echo yes)"
+serves 'a Unix socket that nobody listens on' 124 'listening d.sock' '' d.img --unix d.sock
+: >d.file
+serves 'a file in the place of a socket' 1 '' 'nbdj: stream fault (21)' d.img --unix d.file
+is 'the file in the place of a socket' yes "$([ -f d.file ] && echo yes)"
+serves 'a socket in a folder that is missing' 1 '' 'nbdj: stream fault (21)' d.img --unix none/d.sock
+for address in 127.0.0.1 127.0.0.1:65536 192.0.2.1:0 :; do
+    serves "the address '$address'" 1 '' 'nbdj: stream fault (21)' d.img --listen "$address"
+done
+serves 'a missing image' 1 '' 'nbdj: cannot open none.img' none.img --listen 127.0.0.1
+is 'a server that was killed at once' 'commands 0' "$("$NBDJ" recover d.img)"
+printf 'no image' >d.img
+serves 'an image without a header' 1 '' "$("$NBDJ" recover d.img 2>&1)" d.img --listen 127.0.0.1
+rm -f d.img d.sock d.file requests replies script
 
 # Files.
 ends 'a missing file' 1 '' 'nbdj: cannot open none.img' recover none.img

@@ -5,28 +5,34 @@ ghost use Rattle.nbdj_run.specs.Plan.{Suits};
 
 mod files;
 mod fresh;
+mod serving;
 
 use crate::files::{FileFault, open, open_for_reading, open_fresh};
+use crate::serving::serve_at;
 use clap::error::ErrorKind;
 use disk_model::{Disk, FileDisk};
 use nbdj_line::line;
 use nbdj_run::{Plan, perform};
 use nbdj_script::script;
 use std::process::ExitCode;
+use std::rt::Clock;
+use std::sync::Wait;
+use std::thread::Threads;
 use std::{env, io};
 
 fn main(rt: HostRuntime) -> ExitCode {
-    let status = start(&rt).unwrap_or_else(|_| no_memory(&rt));
+    let status = start(&rt, &rt).unwrap_or_else(|_| no_memory(&rt));
     ExitCode::from(status)
 }
 
-// Reads the command line and carries out its plan; the exit status.
-fn start(rt: &HostRuntime) -> anyhow::Result<u8> {
+// Reads the command line and carries out its plan; the exit status. The runtime may start threads in `main` alone, which
+// therefore hands it out a second time for what may.
+fn start<R: Threads + Wait + Clock + Sync>(rt: &HostRuntime, threads: &R) -> anyhow::Result<u8> {
     let alloc = rt.alloc();
     let arguments: Vec<String> = env::args(rt)?.collect(alloc)?;
     let words: Vec<&str> = arguments.iter().map(|word| word.as_str()).collect(alloc)?;
     match line(alloc, &words) {
-        Ok(plan) => Ok(run(rt, &plan)),
+        Ok(plan) => Ok(run(rt, threads, &plan)),
         Err(fault) if fault.kind() == ErrorKind::OutOfMemory => Ok(no_memory(rt)),
         Err(fault) => {
             // Where not even that can be written, the status alone tells.
@@ -42,10 +48,18 @@ fn no_memory(rt: &HostRuntime) -> u8 {
 }
 
 // Carries out the plan, and gives the exit status. The lock on a device's file is held as long as the file is open.
-fn run(rt: &HostRuntime, plan: &Plan<'_>) -> u8 {
+fn run<R: Threads + Wait + Clock + Sync>(rt: &HostRuntime, threads: &R, plan: &Plan<'_>) -> u8 {
     match *plan {
         Plan::Format { path, geometry } => match open_fresh(rt, path, geometry.device_bytes()) {
             Ok((file, size)) => run_on(rt, plan, FileDisk::new(file, size)),
+            Err(fault) => no_file(rt, path, fault),
+        },
+        Plan::Serve {
+            path,
+            address,
+            options,
+        } => match open(rt, path) {
+            Ok((file, size)) => serve_at(rt, threads, FileDisk::new(file, size), address, options),
             Err(fault) => no_file(rt, path, fault),
         },
         Plan::Pipe { path, .. } | Plan::Recover { path } => match open(rt, path) {

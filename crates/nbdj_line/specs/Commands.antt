@@ -40,6 +40,28 @@ format_app = with_rule (with_rule (with_rule (with_rule (new_app (codes "format"
 abbrev pub pipe_app : ValueParser → App
 pipe_app modes = with_rule (with_rule (with_rule (new_app (codes "pipe")) path_rule) frames_rule) (cache_rule modes)
 
+-- where clients arrive; the one that isn't free has a say in whether the other is given
+abbrev pub listen_rule : Rule
+listen_rule = record (option_rule (codes "listen")) { is_free = false }
+
+abbrev pub unix_rule : Rule
+unix_rule = option_rule (codes "unix")
+
+abbrev pub workers_rule : Rule
+workers_rule = record (option_rule (codes "workers")) { parser = Some (parser.Unsigned 1 16); defaults = codes "4" ∷ [] }
+
+abbrev pub sessions_rule : Rule
+sessions_rule = record (option_rule (codes "sessions")) { parser = Some (parser.Unsigned 0 18446744073709551615); defaults = codes "0" ∷ [] }
+
+abbrev pub handshake_rule : Rule
+handshake_rule = record (option_rule (codes "handshake-timeout")) { parser = Some (parser.Unsigned 1 86400); defaults = codes "30" ∷ [] }
+
+abbrev pub served_app : App
+served_app = with_rule (with_rule (with_rule (new_app (codes "serve")) path_rule) listen_rule) unix_rule
+
+abbrev pub serve_app : ValueParser → App
+serve_app modes = with_rule (with_rule (with_rule (with_rule (with_rule served_app workers_rule) frames_rule) (cache_rule modes)) sessions_rule) handshake_rule
+
 abbrev pub recover_app : App
 recover_app = with_rule (new_app (codes "recover")) path_rule
 
@@ -61,8 +83,8 @@ bare_app =
     })
     (new_app (codes "nbdj"))
 
--- the whole command line; the modes are the values that `--cache` takes
-abbrev pub nbdj_app : ValueParser → App
-nbdj_app modes =
-    with_subcommand (with_subcommand (with_subcommand (with_subcommand (with_subcommand bare_app format_app.top) (pipe_app modes).top)
-    recover_app.top) check_app.top) rehearse_app.top
+-- the whole command line; the modes are the values that `--cache` takes, in `pipe` and in `serve`
+abbrev pub nbdj_app : ValueParser → ValueParser → App
+nbdj_app modes others =
+    with_subcommand (with_subcommand (with_subcommand (with_subcommand (with_subcommand (with_subcommand bare_app format_app.top) (serve_app others).top)
+    (pipe_app modes).top) recover_app.top) check_app.top) rehearse_app.top

@@ -7,7 +7,9 @@ use Rattle.nbdj_line.specs.Size.{IsSize}
 use Rattle.world.specs.declared.step.Mode.{Mode}
 use Rattle.world.specs.declared.step.Mode.TheVariants.{Writeback, Writethrough}
 use Rattle.nbdj_run.specs.declared.plan.Plan.{Plan}
-use Rattle.nbdj_run.specs.declared.plan.Plan.TheVariants.{Format, Pipe, Recover, Check, Rehearse}
+use Rattle.nbdj_run.specs.declared.plan.Address.{Address}
+use Rattle.nbdj_run.specs.declared.plan.Address.TheVariants.{Tcp, Unix}
+use Rattle.nbdj_run.specs.declared.plan.Plan.TheVariants.{Format, Pipe, Serve, Recover, Check, Rehearse}
 
 -- the option was given this number, in decimal digits
 pub record IsGiven (rows : List Row) (name : Text) (number : ℕ) : Type 0 where
@@ -42,6 +44,11 @@ abbrev pub mode_name : Mode → Text
 mode_name Writeback = codes "writeback"
 mode_name Writethrough = codes "writethrough"
 
+-- clients arrive where --listen says, or else --unix, and the other is left out
+abbrev pub SaysAddress : List Row → Address → Type 0
+SaysAddress rows (Tcp text) = (first_of (codes "listen") rows ≡ Some text.now) × IsLeftOut rows (codes "unix")
+SaysAddress rows (Unix path) = (first_of (codes "unix") rows ≡ Some path.now) × IsLeftOut rows (codes "listen")
+
 -- the subcommand with its values, as clap reads them from the words, asks for this plan
 abbrev pub IsAsked : Option (Text × List Row) → Plan → Type 0
 IsAsked None plan = ⊥
@@ -50,6 +57,10 @@ IsAsked (Some (name, rows)) (Format path geometry) =
 IsAsked (Some (name, rows)) (Pipe path options) =
     (name ≡ codes "pipe") × HasPath rows path.now × IsGiven rows (codes "frames") options.frames
     × (first_of (codes "cache") rows ≡ Some (mode_name options.mode))
+IsAsked (Some (name, rows)) (Serve path address options) =
+    (name ≡ codes "serve") × HasPath rows path.now × SaysAddress rows address × IsGiven rows (codes "workers") options.workers
+    × IsGiven rows (codes "frames") options.frames × (first_of (codes "cache") rows ≡ Some (mode_name options.mode))
+    × IsGiven rows (codes "sessions") options.sessions × IsGiven rows (codes "handshake-timeout") options.handshake_seconds
 IsAsked (Some (name, rows)) (Recover path) = (name ≡ codes "recover") × HasPath rows path.now
 IsAsked (Some (name, rows)) (Check path) = (name ≡ codes "check") × HasPath rows path.now
 IsAsked (Some (name, rows)) Rehearse = name ≡ codes "rehearse"

@@ -1,17 +1,23 @@
 ghost use Rattle.std.specs.Prelude.{◌≡◌, false, true, IfOk, IsOkAnd};
 ghost use Rattle.clap.specs.Words.{app_of, new_app, rule_of, with_rule, with_subcommand};
-ghost use Rattle.nbdj_line.specs.Commands.{area_rule, bare_app, block_count_rule, blocks_rule, cache_rule, check_app, format_app, frames_rule, nbdj_app, option_rule, path_rule, pipe_app, recover_app, rehearse_app, size_rule};
+ghost use Rattle.nbdj_line.specs.Commands.{area_rule, bare_app, block_count_rule, blocks_rule, cache_rule, check_app, format_app, frames_rule, handshake_rule, listen_rule, nbdj_app, option_rule, path_rule, pipe_app, recover_app, rehearse_app, serve_app, served_app, sessions_rule, size_rule, unix_rule, workers_rule};
 
 use clap::builder::ValueParser;
 use clap::{Arg, Command, value_parser};
 use nbdj_pipe::{LEAST_FRAMES, MOST_FRAMES};
+use server::MOST_WORKERS;
 use std::alloc::{AllocError, Global};
 
-// The whole command line; the modes are the values that `--cache` takes.
-pub fn program<'a>(alloc: Global, modes: ValueParser<'a>) -> Result<Command<'a>, AllocError>
-    ensures { IfOk result (λ command. app_of command ≡ nbdj_app modes.entry) }
+// The whole command line; the modes are the values that `--cache` takes, of `pipe` and of `serve`.
+pub fn program<'a>(
+    alloc: Global,
+    modes: ValueParser<'a>,
+    others: ValueParser<'a>,
+) -> Result<Command<'a>, AllocError>
+    ensures { IfOk result (λ command. app_of command ≡ nbdj_app modes.entry others.entry) }
 {
     let command = joined(bare(alloc), format(alloc))?;
+    let command = joined(command, serve(alloc, others))?;
     let command = joined(command, pipe(alloc, modes))?;
     let command = joined(command, recover(alloc))?;
     let command = joined(command, check(alloc))?;
@@ -120,6 +126,84 @@ fn area<'a>(alloc: Global) -> Arg<'a>
     option(alloc, "area", "BYTES").help(
         "Bytes of each journal area, a multiple of 8192: 2M to 1G; with --size by default 64M",
     )
+}
+
+// The two ways to say where clients arrive.
+const SERVE_USAGE: &str =
+    "nbdj serve [OPTIONS] --listen <ADDR> <PATH>\n       nbdj serve [OPTIONS] --unix <SOCKET> <PATH>";
+
+fn serve<'a>(alloc: Global, modes: ValueParser<'a>) -> Result<Command<'a>, AllocError>
+    ensures { IfOk result (λ command. app_of command ≡ serve_app modes.entry) }
+{
+    let command = served(alloc)?;
+    let command = command.arg(workers(alloc))?;
+    let command = command.arg(frames(alloc))?;
+    let command = command.arg(cache(alloc, modes))?;
+    let command = command.arg(sessions(alloc))?;
+    command.arg(handshake_timeout(alloc))
+}
+
+// The subcommand with the image and the address alone.
+fn served<'a>(alloc: Global) -> Result<Command<'a>, AllocError>
+    ensures { IfOk result (λ command. app_of command ≡ served_app) }
+{
+    let command = described(
+        alloc,
+        "serve",
+        "Serves the image to clients of the Network Block Device protocol",
+        "Example: nbdj serve d.img --listen 127.0.0.1:10809\n\nIt prints `listening PORT`, or `listening SOCKET`, once clients can come. A kill is as a power cut: every write that a FLUSH, or a FUA reply, has confirmed stays. So a service manager may stop it by any signal.",
+    );
+    let command = command.override_usage(SERVE_USAGE).arg(path(alloc))?;
+    let command = with_argument(command, listen(alloc))?;
+    command.arg(unix(alloc))
+}
+
+fn listen<'a>(alloc: Global) -> Result<Arg<'a>, AllocError>
+    ensures { IfOk result (λ arg. (arg.global ≡ false) × (rule_of arg ≡ listen_rule)) }
+{
+    option(alloc, "listen", "ADDR")
+        .help("The address and port to listen on, as 127.0.0.1:10809; the system picks port 0")
+        .conflicts_with("unix")?
+        .required_unless_present("unix")
+}
+
+fn unix<'a>(alloc: Global) -> Arg<'a>
+    ensures local { result.global ≡ false }
+    ensures rule { rule_of result ≡ unix_rule }
+{
+    option(alloc, "unix", "SOCKET").help(
+        "The path of a Unix socket, which is made and at the end removed; one that nobody listens on is replaced",
+    )
+}
+
+fn workers<'a>(alloc: Global) -> Arg<'a>
+    ensures local { result.global ≡ false }
+    ensures rule { rule_of result ≡ workers_rule }
+{
+    option(alloc, "workers", "W")
+        .default_value("4")
+        .value_parser(value_parser!(u64).range(1..=MOST_WORKERS as i64))
+        .help("Clients that are served at a time, further ones wait: 1 to 16")
+}
+
+fn sessions<'a>(alloc: Global) -> Arg<'a>
+    ensures local { result.global ≡ false }
+    ensures rule { rule_of result ≡ sessions_rule }
+{
+    option(alloc, "sessions", "K")
+        .default_value("0")
+        .value_parser(value_parser!(u64))
+        .help("Ends once so many clients have been served; 0 for no end")
+}
+
+fn handshake_timeout<'a>(alloc: Global) -> Arg<'a>
+    ensures local { result.global ≡ false }
+    ensures rule { rule_of result ≡ handshake_rule }
+{
+    option(alloc, "handshake-timeout", "SECONDS")
+        .default_value("30")
+        .value_parser(value_parser!(u64).range(1..=86_400))
+        .help("For so long a client may say nothing before its handshake is over: 1 to 86400")
 }
 
 fn pipe<'a>(alloc: Global, modes: ValueParser<'a>) -> Result<Command<'a>, AllocError>

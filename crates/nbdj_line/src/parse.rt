@@ -2,7 +2,7 @@ ghost use Rattle.std.specs.Prelude.{◌≡◌, ◌≤◌, ◌*◌, Some, IfOk, c
 ghost use Rattle.clap.specs.Words.{first_of, found_of, rows_of, subcommand_of};
 ghost use Rattle.clap.specs.declared.builder.value_parser.ValueParser.{ValueParser};
 ghost use Rattle.nbdj_line.specs.Commands.{nbdj_app};
-ghost use Rattle.nbdj_line.specs.Line.{mode_name, HasPath, IsAsked, IsGiven, SaysArea, SaysBlocks};
+ghost use Rattle.nbdj_line.specs.Line.{mode_name, HasPath, IsAsked, IsGiven, SaysAddress, SaysArea, SaysBlocks};
 ghost use Rattle.nbdj_line.specs.Size.{IsSize};
 
 use crate::commands::{self, modes, program};
@@ -11,7 +11,8 @@ use clap::error::ErrorKind;
 use clap::{ArgMatches, Command, Error};
 use image_model::{BLOCK_BYTES, Geometry, LEAST_AREA_BYTES, MOST_AREA_BYTES, MOST_BLOCKS};
 use nbdj_pipe::PipeOptions;
-use nbdj_run::Plan;
+use nbdj_run::{Address, Plan};
+use server::ServeOptions;
 use std::alloc::{AllocError, Global};
 use world::Mode;
 
@@ -19,9 +20,9 @@ use world::Mode;
 ///
 /// An error's text says which word is at fault and why.
 pub fn line<'a>(alloc: Global, words: &'a [&'a str]) -> Result<Plan<'a>, Error>
-    ensures { IfOk result (λ plan. (modes : ValueParser) × IsAsked (subcommand_of (nbdj_app modes) (map (λ word. word.now) words.now)) plan) }
+    ensures { IfOk result (λ plan. (modes : ValueParser) × (others : ValueParser) × IsAsked (subcommand_of (nbdj_app modes others) (map (λ word. word.now) words.now)) plan) }
 {
-    let matches = program(alloc, modes())?.try_get_matches_from(words)?;
+    let matches = program(alloc, modes(), modes())?.try_get_matches_from(words)?;
     match matches.subcommand() {
         Some((name, matches)) => asked(alloc, name, matches),
         None => Err(fault(alloc, "no command")),
@@ -34,6 +35,7 @@ fn asked<'a>(alloc: Global, name: &str, matches: &ArgMatches<'a>) -> Result<Plan
 {
     match name {
         "format" => format(alloc, matches),
+        "serve" => serve(alloc, matches),
         "pipe" => pipe(alloc, matches),
         "recover" => Ok(Plan::Recover {
             path: path(alloc, matches)?,
@@ -167,6 +169,40 @@ fn pipe<'a>(alloc: Global, matches: &ArgMatches<'a>) -> Result<Plan<'a>, Error>
     }
 }
 
+fn serve<'a>(alloc: Global, matches: &ArgMatches<'a>) -> Result<Plan<'a>, Error>
+    ensures { IfOk result (IsAsked (Some (codes "serve", rows_of (found_of matches.now)))) }
+{
+    let path = path(alloc, matches)?;
+    let address = address(alloc, matches)?;
+    let workers = number(alloc, matches, "workers")?;
+    let frames = number(alloc, matches, "frames")?;
+    let mode = mode(alloc, matches)?;
+    let sessions = number(alloc, matches, "sessions")?;
+    let seconds = number(alloc, matches, "handshake-timeout")?;
+    match ServeOptions::new(frames, mode, workers, sessions, seconds) {
+        Some(options) => Ok(Plan::Serve {
+            path,
+            address,
+            options,
+        }),
+        None => Err(fault(
+            alloc,
+            "--frames: the frames are 512 to 65536, and the workers 1 to 16",
+        )),
+    }
+}
+
+// Where clients arrive, as one of two options says.
+fn address<'a>(alloc: Global, matches: &ArgMatches<'a>) -> Result<Address<'a>, Error>
+    ensures { IfOk result (SaysAddress (rows_of (found_of matches.now))) }
+{
+    match (text(matches, "listen"), text(matches, "unix")) {
+        (Some(address), None) => Ok(Address::Tcp(address)),
+        (None, Some(path)) => Ok(Address::Unix(path)),
+        _ => Err(fault(alloc, "one of --listen and --unix is wanted")),
+    }
+}
+
 fn mode(alloc: Global, matches: &ArgMatches<'_>) -> Result<Mode, Error>
     ensures { IfOk result (λ mode. first_of (codes "cache") (rows_of (found_of matches.now)) ≡ Some (mode_name mode)) }
 {
@@ -210,7 +246,7 @@ fn format_fault(alloc: Global, message: &str) -> Error {
 
 // The like of another subcommand's words.
 fn fault(alloc: Global, message: &str) -> Error {
-    fault_of(program(alloc, modes()), message)
+    fault_of(program(alloc, modes(), modes()), message)
 }
 
 fn fault_of(command: Result<Command<'_>, AllocError>, message: &str) -> Error {

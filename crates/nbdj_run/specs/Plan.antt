@@ -1,13 +1,15 @@
 use Rattle.std.specs.Prelude.{ℕ, ◌≡◌}
 use Rattle.nbdj_pipe.specs.declared.options.PipeOptions.{PipeOptions}
 use Rattle.nbdj_run.specs.declared.plan.Plan.{Plan}
-use Rattle.nbdj_run.specs.declared.plan.Plan.TheVariants.{Format, Pipe, Recover, Check, Rehearse}
+use Rattle.nbdj_run.specs.declared.plan.Plan.TheVariants.{Format, Pipe, Serve, Recover, Check, Rehearse}
 use Rattle.image_model.specs.Geometry.{device_bytes_of}
 
--- a device of this size can be worked on as the plan says; the plan of a script has no device
+-- a device of this size can be worked on as the plan says; the plan of a script has no device, and that of a server is
+-- carried out elsewhere
 abbrev pub Suits : Plan → ℕ → Type 0
 Suits (Format path geometry) extent = extent ≡ device_bytes_of geometry.blocks geometry.area
 Suits (Pipe path options) extent = Unit {0}
+Suits (Serve path address options) extent = ⊥
 Suits (Recover path) extent = Unit {0}
 Suits (Check path) extent = Unit {0}
 Suits Rehearse extent = ⊥
@@ -16,6 +18,7 @@ Suits Rehearse extent = ⊥
 abbrev pub IfPipe : Plan → (PipeOptions → Type 0) → Type 0
 IfPipe (Format path geometry) P = Unit {0}
 IfPipe (Pipe path options) P = P options
+IfPipe (Serve path address options) P = Unit {0}
 IfPipe (Recover path) P = Unit {0}
 IfPipe (Check path) P = Unit {0}
 IfPipe Rehearse P = Unit {0}
@@ -24,6 +27,7 @@ IfPipe Rehearse P = Unit {0}
 abbrev pub IfCheck : Plan → Type 0 → Type 0
 IfCheck (Format path geometry) P = Unit {0}
 IfCheck (Pipe path options) P = Unit {0}
+IfCheck (Serve path address options) P = Unit {0}
 IfCheck (Recover path) P = Unit {0}
 IfCheck (Check path) P = P
 IfCheck Rehearse P = Unit {0}

@@ -4,5 +4,5 @@
 mod plan;
 mod run;
 
-pub use plan::Plan;
-pub use run::perform;
+pub use plan::{Address, Plan};
+pub use run::{exit_status, perform};

@@ -21,7 +21,8 @@ use std::io::{Read, Write};
 /// Carries out the plan on a device, and answers the exit status and the device: 0 where it is done, else 1, or 3 where a
 /// check found the device bad (6, 7, 8 or 12), and a line `nbdj: TEXT (NUMBER)` on `errors`.
 ///
-/// The device of a `Format` has the full size of its geometry; a `Rehearse` has none, and is what `script` does.
+/// The device of a `Format` has the full size of its geometry; a `Rehearse` has none, and is what `script` does, and a
+/// `Serve` is what `server::serve` does.
 pub fn perform<D: Disk + Drop, R: Read, W: Write, E: Write>(
     alloc: Global,
     plan: &Plan<'_>,
@@ -47,9 +48,9 @@ pub fn perform<D: Disk + Drop, R: Read, W: Write, E: Write>(
         Plan::Format { path: _, geometry } => format(alloc, disk, geometry, output),
         Plan::Pipe { path: _, options } => pipe(alloc, disk, options, input, output),
         Plan::Recover { path: _ } => recover(alloc, disk, output),
-        Plan::Check { path: _ } | Plan::Rehearse => unreachable!(),
+        Plan::Serve { .. } | Plan::Check { path: _ } | Plan::Rehearse => unreachable!(),
     };
-    (status(outcome, errors), disk)
+    (exit_status(outcome, errors), disk)
 }
 
 // Prints one line.
@@ -57,8 +58,8 @@ fn print<W: Write, T: Display + Drop>(output: &mut W, line: T) -> Result<(), Ref
     writeln!(output, "{line}").map_err(|_| Refusal::StreamFault)
 }
 
-// The exit status; a refusal is printed.
-fn status<E: Write>(outcome: Result<(), Refusal>, errors: &mut E) -> u8
+/// The exit status of what ended so, 0 or 1; a refusal is told by a line `nbdj: TEXT (NUMBER)`.
+pub fn exit_status<E: Write>(outcome: Result<(), Refusal>, errors: &mut E) -> u8
     ensures { result ≡ status_of outcome }
 {
     match outcome {
@@ -116,7 +117,7 @@ fn check<D: Disk, W: Write, E: Write>(
         Err(refusal) => is_of_content(*refusal),
         Ok(()) => false,
     };
-    let status = status(outcome, errors);
+    let status = exit_status(outcome, errors);
     (if is_bad { BAD_CONTENT } else { status }, disk)
 }
 

@@ -8,7 +8,8 @@ use Rattle.nbdj_line.proofs.commands.program.Goals as goal
 pub returns : goal.returns
 returns c =
     let one = joins _ _ _ _ _ refl c.bare.ensures c.format.ensures c.in_ok-command.ensures in
-    let two = joins _ _ _ _ _ refl one c.pipe.ensures c.in_ok-command-2.ensures in
-    let three = joins _ _ _ _ _ refl two c.recover.ensures c.in_ok-command-3.ensures in
-    let four = joins _ _ _ _ _ refl three c.check.ensures c.in_ok-command-4.ensures in
-    IfOk-weaker c.joined-5.result _ _ (λ whole joined. joins (Ok c.rehearse.result) rehearse_app _ _ (app_of whole) refl four c.rehearse.ensures joined) c.joined-5.ensures
+    let two = joins _ _ _ _ _ refl one c.serve.ensures c.in_ok-command-2.ensures in
+    let three = joins _ _ _ _ _ refl two c.pipe.ensures c.in_ok-command-3.ensures in
+    let four = joins _ _ _ _ _ refl three c.recover.ensures c.in_ok-command-4.ensures in
+    let five = joins _ _ _ _ _ refl four c.check.ensures c.in_ok-command-5.ensures in
+    IfOk-weaker c.joined-6.result _ _ (λ whole joined. joins (Ok c.rehearse.result) rehearse_app _ _ (app_of whole) refl five c.rehearse.ensures joined) c.joined-6.ensures

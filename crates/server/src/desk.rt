@@ -1,0 +1,64 @@
+ghost use Rattle.std.specs.Prelude.{◌≡◌, ◌≢◌};
+ghost use Rattle.export.specs.Submits.{IsSubmitted};
+
+use crate::client::Client;
+use bitflags::Flags;
+use disk_model::Disk;
+use export::{Export, ExportName};
+use image_model::Geometry;
+use marks::Pass;
+use nbd_wire::{
+    Answer, BLOCK_STATUS, CommandFlags, DISCONNECT, Errno, FLUSH, READ, Reply, Request,
+    RequestHead, SessionFlags,
+};
+use session::Serve;
+use std::cell::Cell;
+use std::sync::Wait;
+use world::Mode;
+
+/// Where a client's requests are submitted to an export.
+#[derive(Drop)]
+pub struct Desk<'a, B: ExportName, D: Disk, R: Wait> {
+    pub rt: &'a R,
+    pub export: &'a Export<B, D>,
+    pub client: &'a Client,
+    // Whether what is written to the client is replies.
+    pub is_replying: &'a Cell<bool>,
+}
+
+impl<'a, B: ExportName, D: Disk, R: Wait> Serve<Pass<B>> for Desk<'a, B, D, R> {
+    ghost allows = { λ desk pass request flags next reply. request.head.kind ≢ 2 → IsSubmitted request desk.export.now.mode pass next reply.answer };
+
+    ghost extent = { λ desk. desk.export.now.geometry };
+
+    fn geometry(&self) -> Geometry {
+        self.export.geometry
+    }
+
+    fn may_wait(&self, head: &RequestHead) -> bool {
+        let fua = CommandFlags::FUA.bits();
+        match head.kind {
+            FLUSH => true,
+            READ | BLOCK_STATUS => false,
+            _ => self.export.mode == Mode::Writethrough || head.flags & fua == fua,
+        }
+    }
+
+    fn handshake_is_over(&self) {
+        self.is_replying.set(true);
+        // A client that can't be waited for without a limit is let go when it says nothing.
+        let _ = self.client.limit_wait(None);
+    }
+
+    fn serve(&self, pass: &mut Pass<B>, request: Request, flags: &SessionFlags) -> Reply {
+        let head = request.head();
+        if head.kind == DISCONNECT {
+            // It ends its session, and isn't served.
+            return Reply {
+                cookie: head.cookie,
+                answer: Answer::Refused(Errno::Invalid),
+            };
+        }
+        self.export.submit(self.rt, pass, request, flags)
+    }
+}

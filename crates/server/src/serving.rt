@@ -1,0 +1,129 @@
+ghost use Rattle.std.specs.Prelude.{◌≡◌};
+
+use crate::listener::Listener;
+use crate::options::ServeOptions;
+use crate::worker::{Reception, worker};
+use disk_model::Disk;
+use export::{Export, ExportName, Gate, OpenDevice};
+use nbdj_pipe::Refusal;
+use std::alloc::Global;
+use std::marker::Brand;
+use std::rt::Clock;
+use std::sync::Wait;
+use std::thread::{self, Threads};
+
+/// Serves the clients that arrive at a socket from a device that was opened, and gives the device back once as many
+/// sessions have ended as the options say and all is stored. Refusals 0 (no memory, and nobody was served) and 1 (device
+/// fault).
+pub fn serve<D, R, G>(
+    rt: &R,
+    alloc: Global,
+    device: OpenDevice<D>,
+    listener: Listener,
+    options: ServeOptions,
+    gate: G,
+) -> (Result<(), Refusal>, D)
+where
+    D: Disk + Send + Drop,
+    R: Threads + Wait + Clock + Sync,
+    G: Gate + Copy + Send + Sync,
+{
+    serve_over::<Brand, D, R, G>(rt, alloc, device, listener, options, gate)
+}
+
+fn serve_over<B, D, R, G>(
+    rt: &R,
+    alloc: Global,
+    device: OpenDevice<D>,
+    listener: Listener,
+    options: ServeOptions,
+    gate: G,
+) -> (Result<(), Refusal>, D)
+where
+    B: ExportName + Send + Sync,
+    D: Disk + Send + Drop,
+    R: Threads + Wait + Clock + Sync,
+    G: Gate + Copy + Send + Sync,
+    requires board { device.blank.board ≡ B.board }
+    requires geometry { device.keeper.geometry ≡ B.geometry }
+{
+    let ServeOptions {
+        frames,
+        mode,
+        workers,
+        ..
+    } = options;
+    match Export::<B, D>::open(alloc, device, frames, mode, workers as usize) {
+        Ok((export, passes)) => {
+            let reception = Reception::new(alloc, listener, passes, &options);
+            let outcome = if !run_threads(rt, &reception, &export, workers, gate) {
+                Err(Refusal::NoMemory)
+            } else if export.stopped(rt) {
+                Err(Refusal::DeviceFault)
+            } else {
+                Ok(())
+            };
+            drop(reception);
+            (outcome, export.into_disk())
+        }
+        Err(disk) => (Err(Refusal::NoMemory), disk),
+    }
+}
+
+// Workers beside a flusher and a checkpointer, until all have ended. Where not as many threads can be made, fewer clients are
+// served at a time; whether there was a worker at all.
+fn run_threads<B, D, R, G>(
+    rt: &R,
+    reception: &Reception<B>,
+    export: &Export<B, D>,
+    workers: u32,
+    gate: G,
+) -> bool
+where
+    B: ExportName + Send + Sync,
+    D: Disk + Send,
+    R: Threads + Wait + Clock + Sync,
+    G: Gate + Copy + Send + Sync,
+{
+    thread::scope(thread::scope_env(), rt, move |scope| {
+        if scope.spawn(move || flush(rt, export, gate)).is_err() {
+            // The checkpointer waits for the end of a flusher.
+            return false;
+        }
+        let mut started = 0;
+        if scope.spawn(move || checkpoint(rt, export, gate)).is_ok() {
+            for at in 0..workers {
+                if scope
+                    .spawn(move || worker(rt, reception, export, gate))
+                    .is_err()
+                {
+                    break;
+                }
+                started = at + 1;
+            }
+        }
+        // The flusher ends once all passes have left.
+        for _ in started..workers {
+            if let Some(pass) = reception.take_pass(rt) {
+                export.leave(rt, pass);
+            }
+        }
+        started > 0
+    })
+}
+
+fn flush<B: ExportName, D: Disk, R: Wait, G: Gate + Copy>(
+    rt: &R,
+    export: &Export<B, D>,
+    mut gate: G,
+) {
+    export.flusher(rt, &mut gate);
+}
+
+fn checkpoint<B: ExportName, D: Disk, R: Wait, G: Gate + Copy>(
+    rt: &R,
+    export: &Export<B, D>,
+    mut gate: G,
+) {
+    export.checkpointer(rt, &mut gate);
+}

@@ -1,0 +1,243 @@
+//! Clients of one server, each over a connection of its own.
+
+use crate::client::Client;
+use bitflags::Flags;
+use checkpoint::Keeper;
+use disk_model::SimDisk;
+use export::{Gate, OpenDevice, Point};
+use image_model::Geometry;
+use nbd_wire::CommandFlags;
+use nbdj_pipe::Refusal;
+use server::{Listener, ServeOptions, serve};
+use std::alloc::{AllocError, Global};
+use std::io;
+use std::net::{Ipv4Addr, SocketAddr, TcpListener, TcpStream};
+use std::rt::Clock;
+use std::sync::Wait;
+use std::sync::atomic::{AtomicBool, AtomicU64, Ordering};
+use std::thread::{self, Threads};
+use std::time::Duration;
+use world::Mode;
+
+// What the threads of a server have come to.
+#[derive(Drop)]
+struct Seen {
+    // Whether groups are to be held.
+    holds: AtomicBool,
+    // Whether a group is held.
+    is_held: AtomicBool,
+    // Whether a reply was written while a group was held.
+    is_overtaken: AtomicBool,
+    // How many times replies were written.
+    answers: AtomicU64,
+}
+
+impl Seen {
+    fn new(holds: bool) -> Seen {
+        Seen {
+            holds: AtomicBool::new(holds),
+            is_held: AtomicBool::new(false),
+            is_overtaken: AtomicBool::new(false),
+            answers: AtomicU64::new(0),
+        }
+    }
+}
+
+// Holds the first group that is to be stored until a reply was written, for at most 10,000 turns of a millisecond.
+struct Holding<'a, R: Clock> {
+    rt: &'a R,
+    seen: &'a Seen,
+}
+
+impl<'a, R: Clock> Clone for Holding<'a, R> {
+    fn clone(&self) -> Result<Holding<'a, R>, AllocError> {
+        Ok(*self)
+    }
+}
+
+impl<'a, R: Clock> Copy for Holding<'a, R> {}
+
+impl<'a, R: Clock> Gate for Holding<'a, R> {
+    fn reach(&mut self, at: Point) {
+        match at {
+            Point::Append => self.hold(),
+            Point::Step => {}
+            Point::Answered => {
+                self.seen.answers.fetch_add(1, Ordering::SeqCst);
+            }
+        }
+    }
+}
+
+impl<'a, R: Clock> Holding<'a, R> {
+    fn hold(&self) {
+        if !self.seen.holds.load(Ordering::SeqCst) {
+            return;
+        }
+        let before = self.seen.answers.load(Ordering::SeqCst);
+        self.seen.is_held.store(true, Ordering::SeqCst);
+        for _ in 0..10_000 {
+            if self.seen.answers.load(Ordering::SeqCst) != before {
+                self.seen.is_overtaken.store(true, Ordering::SeqCst);
+                break;
+            }
+            if !self.seen.holds.load(Ordering::SeqCst) {
+                break;
+            }
+            thread::sleep(self.rt, Duration::from_millis(1));
+        }
+        self.seen.holds.store(false, Ordering::SeqCst);
+    }
+}
+
+// Waits until a flag is up, at most ten seconds.
+fn wait_for(rt: &HostRuntime, flag: &AtomicBool) {
+    for _ in 0..10_000 {
+        if flag.load(Ordering::SeqCst) {
+            return;
+        }
+        thread::sleep(rt, Duration::from_millis(1));
+    }
+}
+
+// One client's FUA WRITE is held on its way to the device, and another's WRITE is answered meanwhile.
+fn write_beside_a_held_one(rt: &HostRuntime, port: u16, seen: &Seen) -> io::Result<()> {
+    let mut one = Client::connect(rt, port)?;
+    one.send_write(1, 0x41, CommandFlags::FUA.bits())?;
+    wait_for(rt, &seen.is_held);
+    let mut other = Client::connect(rt, port)?;
+    other.send_write(2, 0x42, 0)?;
+    other.expect_done(2)?;
+    one.expect_done(1)?;
+    one.disconnect()?;
+    other.disconnect()
+}
+
+// One client writes, and then another flushes.
+fn flush_what_another_wrote(rt: &HostRuntime, port: u16) -> io::Result<()> {
+    let mut one = Client::connect(rt, port)?;
+    let mut other = Client::connect(rt, port)?;
+    for block in 0..16 {
+        one.send_write(block, 0x60 + block as u8, 0)?;
+        one.expect_done(block)?;
+    }
+    other.send_flush(77)?;
+    other.expect_done(77)?;
+    one.disconnect()?;
+    other.disconnect()
+}
+
+// A device over holes that was opened.
+fn fresh(alloc: Global) -> Option<OpenDevice<SimDisk>> {
+    let geometry = Geometry::new(64, 2_097_152)?;
+    let mut disk = SimDisk::new(alloc, geometry.device_bytes()).ok()?;
+    Keeper::format(alloc, &mut disk, geometry).ok()?;
+    OpenDevice::open(alloc, disk).ok()
+}
+
+// What the clients do, of two at a time.
+#[derive(Clone, Copy)]
+enum Clients {
+    WriteBesideAHeldOne,
+    FlushWhatAnotherWrote,
+}
+
+// What a run came to: what the clients met, and what the server and its device did.
+#[derive(Drop)]
+struct Ran {
+    clients: io::Result<()>,
+    outcome: Result<(), Refusal>,
+    disk: SimDisk,
+}
+
+// Has clients served until two sessions have ended.
+fn run<R: Threads + Wait + Clock + Sync>(
+    rt: &HostRuntime,
+    threads: &R,
+    clients: Clients,
+    seen: &Seen,
+) -> Option<Ran> {
+    let alloc = rt.alloc();
+    let socket = TcpListener::bind(rt, SocketAddr::from((Ipv4Addr::LOCALHOST, 0))).ok()?;
+    let port = socket.local_addr().ok()?.port();
+    let listener = Listener::Tcp(socket);
+    let options = ServeOptions::new(512, Mode::Writeback, 2, 2, 5)?;
+    let device = fresh(alloc)?;
+    beside_a_server(
+        rt, threads, alloc, device, listener, port, options, clients, seen,
+    )
+}
+
+fn beside_a_server<R: Threads + Wait + Clock + Sync>(
+    rt: &HostRuntime,
+    threads: &R,
+    alloc: Global,
+    device: OpenDevice<SimDisk>,
+    listener: Listener,
+    port: u16,
+    options: ServeOptions,
+    clients: Clients,
+    seen: &Seen,
+) -> Option<Ran> {
+    let gate = Holding { rt: threads, seen };
+    thread::scope(thread::scope_env(), threads, move |scope| {
+        let Ok(server) = scope.spawn(move || serve(threads, alloc, device, listener, options, gate))
+        else {
+            return None;
+        };
+        let met = match clients {
+            Clients::WriteBesideAHeldOne => write_beside_a_held_one(rt, port, seen),
+            Clients::FlushWhatAnotherWrote => flush_what_another_wrote(rt, port),
+        };
+        // Where clients gave up, a group may still be held, and the server still waits for sessions.
+        seen.holds.store(false, Ordering::SeqCst);
+        for _ in 0..2 {
+            let _ = TcpStream::connect(rt, SocketAddr::from((Ipv4Addr::LOCALHOST, port)));
+        }
+        let (outcome, disk) = server.join(threads);
+        Some(Ran {
+            clients: met,
+            outcome,
+            disk,
+        })
+    })
+}
+
+// Whether an opened device's image has a block of one byte over and over.
+fn has_block(keeper: &mut Keeper<SimDisk>, block: u64, byte: u8) -> bool {
+    let mut into = [0; 4096];
+    if block >= keeper.geometry().blocks || keeper.read_base(block, &mut into).is_err() {
+        return false;
+    }
+    into == [byte; 4096]
+}
+
+#[test]
+fn write_is_answered_while_a_sync_is_held(rt: HostRuntime) {
+    let seen = Seen::new(true);
+    let ran = run(&rt, &rt, Clients::WriteBesideAHeldOne, &seen).expect(&rt, "a server");
+    assert!(rt; ran.clients.is_ok());
+    assert!(rt; ran.outcome.is_ok());
+    assert!(rt; seen.is_overtaken.load(Ordering::SeqCst));
+    let mut keeper = Keeper::open(rt.alloc(), ran.disk)
+        .ok()
+        .expect(&rt, "an image");
+    assert_eq!(rt; keeper.count(), 2);
+    assert!(rt; has_block(&mut keeper, 1, 0x41));
+    assert!(rt; has_block(&mut keeper, 2, 0x42));
+}
+
+#[test]
+fn flush_covers_what_another_connection_wrote(rt: HostRuntime) {
+    let seen = Seen::new(false);
+    let ran = run(&rt, &rt, Clients::FlushWhatAnotherWrote, &seen).expect(&rt, "a server");
+    assert!(rt; ran.clients.is_ok());
+    assert!(rt; ran.outcome.is_ok());
+    let mut keeper = Keeper::open(rt.alloc(), ran.disk)
+        .ok()
+        .expect(&rt, "an image");
+    assert_eq!(rt; keeper.count(), 16);
+    for block in 0..16 {
+        assert!(rt; has_block(&mut keeper, block, 0x60 + block as u8));
+    }
+}

@@ -1,0 +1,502 @@
+#!/bin/sh
+# Checks of `nbdj serve`, by the program NBDJ, with clients that others wrote: libnbd's (nbdinfo, nbdcopy, nbdfuse, and its library under
+# tests/libnbd_client.py), QEMU's (qemu-img, qemu-io), fio, and Linux's ext4 over nbdfuse and a loop device. Each that writes is met by a
+# kill of the server too: what a FLUSH had confirmed has to be there. A client that isn't installed is skipped, and the line says so;
+# `tests/clients.sh --install` installs Debian's packages. The last line is 'N passed, M failed'.
+set -u
+if [ "${1:-}" = --install ]; then
+    apt-get update && exec apt-get install -y --no-install-recommends libnbd-bin python3-libnbd qemu-utils qemu-block-extra fio fuse3 e2fsprogs nbdkit
+fi
+here=$(cd "$(dirname "$0")/.." && pwd)
+. "$here/tests/checks.sh"
+SIZE=67108864 HALF=33554432 AREA=8388608
+mounted='' loop='' fuse='' server=''
+
+# What a run leaves behind when it is stopped midway: mounts first, since they stand on the server.
+release() {
+    [ -z "$mounted" ] || umount "$mounted" 2>/dev/null
+    [ -z "$loop" ] || losetup -d "$loop" 2>/dev/null
+    [ -z "$fuse" ] || umount -l "$fuse" 2>/dev/null
+    [ -z "$server" ] || kill -9 "$(cat server_pid)" 2>/dev/null
+    mounted='' loop='' fuse='' server=''
+}
+trap 'release; rm -rf "$folder"' EXIT
+trap 'exit 1' HUP INT TERM
+
+# has COMMAND: whether it is installed; that it isn't is told once
+has() {
+    command -v "$1" >/dev/null 2>&1 && return 0
+    case " ${missing:-} " in *" $1 "*) ;; *) skipped "$1" 'it is not installed' ;; esac
+    missing="${missing:-} $1"
+    return 1
+}
+
+# python3 that knows libnbd, which is the system's own
+python=''
+for candidate in python3 /usr/bin/python3; do
+    "$candidate" -c 'import nbd' 2>/dev/null && python=$candidate && break
+done
+# client SECONDS COMMAND WORD..: the client of tests/libnbd_client.py
+client() {
+    limit=$1
+    shift
+    timeout "$limit" "$python" "$here/tests/libnbd_client.py" "$@" 2>&1
+}
+
+# image: a new d.img of holes
+image() {
+    rm -f d.img
+    "$NBDJ" format d.img --size "$SIZE" --area "$AREA" >/dev/null
+}
+
+# serves TRANSPORT WORD..: serves d.img over tcp or unix, and sets uri
+serves() {
+    transport=$1
+    shift
+    : >heard
+    case $transport in
+    tcp) address='--listen 127.0.0.1:0' ;;
+    unix) address="--unix $folder/socket" ;;
+    esac
+    # The signal of a kill goes to the program itself, whose number is kept; the limit ends it where a check hangs.
+    timeout 150 sh -c 'echo $$ >server_pid; exec "$@"' sh "$NBDJ" serve d.img $address "$@" >heard 2>serve_errors &
+    server=$!
+    tries=0
+    while ! grep -q '^listening ' heard && [ $tries -lt 200 ] && kill -0 "$server" 2>/dev/null; do
+        sleep 0.05
+        tries=$((tries + 1))
+    done
+    case $transport in
+    tcp) uri=nbd://127.0.0.1:$(sed -n 's/^listening //p' heard) ;;
+    unix) uri="nbd+unix:///?socket=$(sed -n 's/^listening //p' heard)" ;;
+    esac
+    is "$transport: the server listens" "listening" "$(cut -d ' ' -f 1 heard; cat serve_errors)"
+}
+
+# killed NAME: the server is killed as by a power cut, which it lived to see, and the image recovered
+killed() {
+    kill -9 "$(cat server_pid)" 2>/dev/null
+    wait "$server" 2>wait
+    is "$1: the server ended by the kill" "137|" "$?|$(cat serve_errors)"
+    server=''
+    recovered "$1"
+}
+
+# recovered NAME
+recovered() {
+    "$NBDJ" recover d.img >output 2>errors
+    is "$1: the recovery" '0|commands|' "$?|$(cut -d ' ' -f 1 output)|$(cat errors)"
+}
+
+# quiet WORD..: runs a client, at most 60 seconds; its status, and where that isn't 0 what it said
+quiet() {
+    timeout 60 "$@" >output 2>&1 </dev/null
+    status=$?
+    echo "$status"
+    [ $status -eq 0 ] || tail -n 3 output
+}
+
+# held NAME: what a recovered image holds, served again and copied to `found` (the data region alone doesn't tell: a hole's bytes may be
+# those that it had)
+held() {
+    serves unix --workers 8
+    if has nbdcopy; then
+        is "$1: the copy" 0 "$(quiet nbdcopy "$uri" found)"
+    else
+        is "$1: the copy" 0 "$(quiet qemu-img convert -f raw -O raw "$uri" found)"
+    fi
+    killed "$1, again"
+}
+
+# The images that are copied: halves of differing bytes, with holes, data in the midst and a last block of data; the second one has other
+# bytes and other holes.
+differing $((SIZE / 4)) 11 >bytes_a
+differing $((SIZE / 4)) 50000017 >bytes_b
+truncate -s "$SIZE" source_a source_b
+dd if=bytes_a of=source_a bs=1M conv=notrunc 2>/dev/null
+dd if=bytes_a of=source_a bs=4096 skip=100 seek=10240 count=256 conv=notrunc 2>/dev/null
+dd if=bytes_a of=source_a bs=4096 skip=1000 seek=16383 count=1 conv=notrunc 2>/dev/null
+dd if=bytes_b of=source_b bs=4096 seek=2048 conv=notrunc 2>/dev/null
+head -c "$HALF" source_a >half_a
+head -c "$HALF" source_b >half_b
+# Where each is data and where it is a hole, as `nbdinfo --map` writes it.
+map_a='0 16777216 0 data
+16777216 25165824 3 hole,zero
+41943040 1048576 0 data
+42991616 24113152 3 hole,zero
+67104768 4096 0 data'
+
+# map: that of the export
+map() { timeout 30 nbdinfo --map "$uri" 2>&1 | awk '{ print $1, $2, $3, $4 }'; }
+
+# What the export says of itself, and what it is asked for.
+informs() {
+    if has nbdinfo; then
+        is "$1: nbdinfo" 'protocol: newstyle-fixed without TLS, using structured packets
+export="":
+export-size: 67108864 (64M)
+base:allocation
+is_rotational: false
+is_read_only: false
+can_cache: false
+can_df: true
+can_fast_zero: false
+can_flush: true
+can_fua: true
+can_multi_conn: true
+can_trim: true
+can_zero: true
+block_size_minimum: 4096
+block_size_preferred: 4096
+block_size_maximum: 1048576' "$(timeout 30 nbdinfo --no-content "$uri" 2>&1 | tr -d '\t' | grep -v '^uri:\|^contexts:')"
+        is "$1: nbdinfo --list" '0|1|export="":' "$(quiet nbdinfo --list "$uri")|$(grep -c '^export=' output)|$(grep '^export=' output)"
+        is "$1: nbdinfo --map of holes" '0 67108864 3 hole,zero' "$(map)"
+    fi
+    if has qemu-img; then
+        is "$1: qemu-img info" '0|67108864|raw' "$(quiet qemu-img info --output=json "$uri")|$(sed -n 's/.*"virtual-size": \([0-9]*\).*/\1/p' output)|$(
+            sed -n 's/^    "format": "\(.*\)".*/\1/p' output)"
+    fi
+}
+
+# shell NAME: nbdsh with the Python that knows libnbd, whose first commands are those that its manual shows
+shell() {
+    { [ -n "$python" ] && has nbdsh; } || return
+    cat >commands.py <<'PYTHON'
+data = bytes(byte * 7 % 251 for byte in range(8192))
+h.pwrite(data, 4096, nbd.CMD_FLAG_FUA)
+h.trim(4096, 8192)
+h.flush()
+print(h.pread(8192, 4096) == data[:4096] + bytes(4096))
+found = []
+h.block_status(16384, 0, lambda context, offset, entries, error: found.extend(entries) or 0)
+print(found)
+PYTHON
+    is "$1: nbdsh" "0|True|[4096, 3, 4096, 0, 8192, 3]" "$(PATH="$(dirname "$(command -v "$python")"):$PATH" quiet nbdsh --base-allocation -u "$uri" -c "$(cat commands.py)")|$(
+        sed -n 1p output)|$(sed -n 2p output)"
+}
+
+# Whole images in and out, with what the export then says is data; over one connection and over four.
+copies() {
+    if has nbdcopy; then
+        for connections in 1 4; do
+            for source in b a; do
+                is "$1: nbdcopy in over $connections" 0 "$(quiet nbdcopy --connections=$connections --flush source_$source "$uri")"
+                is "$1: nbdcopy out over $connections" 0 "$(quiet nbdcopy --connections=$connections "$uri" found)"
+                same "$1: what nbdcopy copied over $connections" source_$source found
+            done
+        done
+        is "$1: nbdinfo --map of the copy" "$map_a" "$(map)"
+    fi
+    if has qemu-img; then
+        # (without -t writeback it wouldn't flush)
+        is "$1: qemu-img convert in" 0 "$(quiet qemu-img convert -n -f raw -O raw -t writeback source_b "$uri")"
+        is "$1: qemu-img compare" 0 "$(quiet qemu-img compare -f raw -F raw source_b "$uri")"
+        timeout 60 qemu-img compare -f raw -F raw source_a "$uri" >output 2>&1
+        is "$1: qemu-img compare with another" 1 $?
+        is "$1: qemu-img convert out" 0 "$(quiet qemu-img convert -f raw -O raw "$uri" found)"
+        same "$1: what qemu-img copied" source_b found
+        is "$1: qemu-img convert in again" 0 "$(quiet qemu-img convert -n -f raw -O raw -t writeback source_a "$uri")"
+        is "$1: qemu-img map" '0 16777216 true
+41943040 1048576 true
+67104768 4096 true' "$(timeout 30 qemu-img map --output=json -f raw "$uri" 2>&1 |
+            sed -n 's/.*"start": \([0-9]*\), "length": \([0-9]*\),.*"data": \(true\).*/\1 \2 \3/p')"
+        qemu-img convert -f raw -O raw "$uri" found
+        same "$1: what qemu-img copied again" source_a found
+    fi
+}
+
+# QEMU's requests one by one; those that aren't whole blocks it makes whole by itself. What has to come of them is made with dd.
+pokes() {
+    has qemu-io || return
+    head -c 131072 bytes_b >piece
+    head -c 3000 bytes_a | tail -c 1000 >crumb
+    is "$1: qemu-io" 0 "$(quiet qemu-io -f raw -c 'write -s piece 1M 128k' -c 'write -f -s piece 5M 128k' -c 'write -z 1092k 8k' -c 'write -z -u 1104k 8k' \
+        -c 'discard 5M 64k' -c "write -s crumb $((1048576 + 1500)) 1000" -c 'write -z 5308416 1000' -c flush -c 'write -P 0x5a 40000k 64k' -c 'read -P 0x5a 40000k 64k' \
+        -c 'read -P 0 5M 64k' "$uri")"
+    timeout 30 qemu-io -f raw -c 'read -P 0x5b 40000k 64k' "$uri" >output 2>&1
+    is "$1: qemu-io finds another pattern" '1|1' "$?|$(grep -c 'verification failed' output)"
+    cp source_a wanted
+    {
+        dd if=piece of=wanted bs=4096 seek=256 conv=notrunc
+        dd if=piece of=wanted bs=4096 seek=1280 conv=notrunc
+        dd if=/dev/zero of=wanted bs=4096 seek=273 count=2 conv=notrunc
+        dd if=/dev/zero of=wanted bs=4096 seek=276 count=2 conv=notrunc
+        dd if=/dev/zero of=wanted bs=4096 seek=1280 count=16 conv=notrunc
+        dd if=crumb of=wanted bs=1 seek=$((1048576 + 1500)) conv=notrunc
+        dd if=/dev/zero of=wanted bs=1 seek=5308416 count=1000 conv=notrunc
+        filled 65536 Z | dd of=wanted bs=4096 seek=10000 conv=notrunc
+    } 2>/dev/null
+    is "$1: the image behind qemu-io" 0 "$(quiet qemu-img convert -f raw -O raw "$uri" found)"
+    same "$1: what qemu-io wrote" wanted found
+}
+
+# All commands and flags, with structured replies and without.
+asks() {
+    if [ -z "$python" ]; then
+        skipped "$1: libnbd in Python" 'python3-libnbd is not installed'
+        return
+    fi
+    for kind in structured simple; do
+        is "$1: commands with $kind replies" ok "$(client 60 commands "$uri" $kind)"
+    done
+    is "$1: refusals" ok "$(client 30 refusals "$uri")"
+}
+
+for transport in tcp unix; do
+    image
+    serves $transport
+    informs $transport
+    shell $transport
+    copies $transport
+    pokes $transport
+    asks $transport
+    if has nbdcopy; then
+        # (nothing is sent behind the FLUSH of nbdcopy, so the kill may take none of it)
+        is "$transport: nbdcopy in before a kill" 0 "$(quiet nbdcopy --flush source_b "$uri")"
+        killed "$transport: behind nbdcopy"
+        held "$transport: behind nbdcopy"
+        same "$transport: the image after the kill" source_b found
+    else
+        killed "$transport: the end"
+    fi
+done
+
+# Writethrough: what was answered is there, without any FLUSH.
+if has nbdcopy; then
+    image
+    serves unix --cache writethrough
+    is 'writethrough: nbdcopy in' 0 "$(quiet nbdcopy source_a "$uri")"
+    killed 'writethrough'
+    held 'writethrough'
+    same 'writethrough: the image after the kill' source_a found
+fi
+
+# The end by itself: behind the last session all is stored, and the status is 0.
+if has qemu-io; then
+    image
+    serves unix --sessions 2
+    head -c 131072 bytes_a >piece
+    for at in 1M 3M; do
+        is "a session of two at $at" 0 "$(quiet qemu-io -f raw -t unsafe -c "write -s piece $at 128k" "$uri")"
+    done
+    tries=0
+    while kill -0 "$server" 2>/dev/null && [ $tries -lt 400 ]; do
+        sleep 0.05
+        tries=$((tries + 1))
+    done
+    kill "$server" 2>/dev/null
+    wait "$server" 2>wait
+    is 'the end behind two sessions' '0||no' "$?|$(cat serve_errors)|$([ -e socket ] && echo yes || echo no)"
+    server=''
+    recovered 'behind two sessions'
+    held 'behind two sessions'
+    rm -f wanted
+    truncate -s "$SIZE" wanted
+    dd if=piece of=wanted bs=1M seek=1 conv=notrunc 2>/dev/null
+    dd if=piece of=wanted bs=1M seek=3 conv=notrunc 2>/dev/null
+    same 'the image behind two sessions' wanted found
+fi
+
+# Addresses that can't be listened on, and an image in use: the server that has them goes on.
+image
+"$NBDJ" format other.img --size 64K --area 2M >/dev/null
+# refused NAME ERRORS WORD..: a second server is refused
+refused() {
+    name=$1 wanted="1||$2"
+    shift 2
+    timeout 20 "$NBDJ" serve "$@" >output 2>errors
+    is "$name" "$wanted" "$?|$(cat output)|$(cat errors)"
+}
+serves tcp
+refused 'a port in use' 'nbdj: stream fault (21)' other.img --listen "127.0.0.1:${uri##*:}"
+refused 'no address' 'nbdj: stream fault (21)' other.img --listen 127.0.0.1
+refused 'an image in use' 'nbdj: d.img is in use' d.img --listen 127.0.0.1:0
+killed 'behind a port in use'
+serves unix
+refused 'a socket in use' 'nbdj: stream fault (21)' other.img --unix socket
+: >file
+refused 'a socket where a file is' 'nbdj: stream fault (21)' other.img --unix file
+is 'the file where a socket was wanted' yes "$([ -f file ] && echo yes)"
+refused 'a socket in no folder' 'nbdj: stream fault (21)' other.img --unix none/socket
+if has nbdinfo; then
+    is 'the server of the socket in use' 67108864 "$(timeout 20 nbdinfo --size "$uri" 2>&1)"
+fi
+killed 'behind a socket in use'
+
+# fio's own check of what it wrote: four jobs, each over a connection of its own.
+fio_job() {
+    timeout 60 fio --name=job --ioengine=nbd --uri="$uri" --bs=4k --size=8m --numjobs=4 --offset_increment=8m --iodepth=16 --group_reporting "$@" >output 2>&1
+}
+has_fio() {
+    has fio || return 1
+    fio --enghelp 2>/dev/null | grep -qw nbd && return 0
+    skipped fio 'it was built without its engine nbd'
+    return 1
+}
+if has_fio; then
+    image
+    serves tcp --workers 8
+    fio_job --rw=randwrite --verify=crc32c --do_verify=1 --verify_fatal=1 --end_fsync=1
+    is 'fio writes and verifies' '0|0' "$?|$(grep -c 'verify: bad' output)"
+    # What fio finds after a kill it had flushed; a block that was changed it doesn't take.
+    killed 'behind fio'
+    serves tcp --workers 8
+    fio_job --rw=randwrite --verify=crc32c --verify_only --verify_fatal=1
+    is 'fio verifies after the kill' '0|0' "$?|$(grep -c 'verify: bad' output)"
+    if has qemu-io; then
+        is 'a byte of what fio wrote changes' 0 "$(quiet qemu-io -f raw -c 'write -P 0x11 1000 1' "$uri")"
+        fio_job --rw=randwrite --verify=crc32c --verify_only --verify_fatal=1
+        is 'fio finds the byte' yes "$([ $? -ne 0 ] && grep -q 'verify: bad\|crc32c: verify failed' output && echo yes)"
+    fi
+    killed 'behind the second fio'
+fi
+
+# What each client does again and again, until the kill: the first half of the image from the one source and from the other in turn.
+nbdcopy_half() { timeout 30 nbdcopy --connections=4 --flush "half_$1" "$uri"; }
+qemu_img_half() { timeout 30 qemu-img convert -n -f raw -O raw -t writeback "half_$1" "$uri"; }
+qemu_io_half() { timeout 30 qemu-io -f raw -c "write -s half_$1 0 32M" -c flush "$uri"; }
+fio_half() { timeout 30 fio --name=job --ioengine=nbd --uri="$uri" --rw=write --bs=64k --size=8m --numjobs=4 --offset_increment=8m --buffer_pattern="'half_$1'" --iodepth=8; }
+
+# midst NAME TRANSPORT CLIENT: the server is killed while the client writes half the image and libnbd's library the other half, over four
+# connections. Of that half is kept what a FLUSH or FUA had acknowledged; each block of the first half is of the one source or the other.
+midst() {
+    name="a kill in the midst of $1"
+    image
+    serves "$2" --workers 12
+    is "$name: the first copy" 0 "$(quiet nbdcopy --flush half_a "$uri")"
+    rm -f early
+    (
+        while "$3" b && "$3" a; do :; done
+        # (that it ended while the server lived would be a fault of the client)
+        if kill -0 "$(cat server_pid)" 2>/dev/null; then echo early >early; fi
+    ) >writer_output 2>&1 &
+    writer=$!
+    flooded=$(client 60 flood "$uri" log 8192 4096 "$(cat server_pid)" 400)
+    is "$name: writes over four connections" ok "$(echo "$flooded" | sed 's/^\(ok\) .*/\1/')"
+    wait $writer
+    is "$name: it went on up to the kill" '' "$(cat early writer_output 2>/dev/null | grep early)"
+    killed "$name"
+    serves "$2" --workers 12
+    verified=$(client 60 verify "$uri" log)
+    is "$name: what was acknowledged" ok "$(echo "$verified" | sed 's/^\(ok\) .*/\1/')"
+    echo "$name: ${flooded#ok }; ${verified#ok }"
+    # (fio's blocks aren't those of a file)
+    if [ "$3" != fio_half ]; then
+        is "$name: the copy" 0 "$(quiet nbdcopy "$uri" found)"
+        is "$name: the blocks of the first half" 'ok 8192 blocks' "$(client 30 mixed found half_a half_b)"
+    fi
+    killed "$name, again"
+}
+if [ -n "$python" ] && has nbdcopy; then
+    midst nbdcopy tcp nbdcopy_half
+    if has qemu-img; then midst 'qemu-img convert' unix qemu_img_half; fi
+    if has qemu-io; then midst qemu-io tcp qemu_io_half; fi
+    if has_fio; then midst fio unix fio_half; fi
+else
+    skipped 'a kill in the midst of each client' 'nbdcopy or python3-libnbd is not installed'
+fi
+
+# A file system. Debian's nbd-client can't be used, so nbdfuse makes a file of the export, and a loop device of 4,096 bytes a sector makes
+# whole blocks of what the file system writes. The server is killed after some files were synced, while more are written.
+skipped 'mke2fs on the file of nbdfuse' 'it writes 1,024 bytes at a time, nbdfuse passes them on, and a block has 4,096'
+blocks_device() {
+    timeout 120 nbdfuse -P fuse_pid export "$uri" >fuse_output 2>&1 &
+    fuser=$!
+    fuse=$folder/export
+    tries=0
+    while [ ! -e export/nbd ] && [ $tries -lt 100 ] && kill -0 $fuser 2>/dev/null; do
+        sleep 0.05
+        tries=$((tries + 1))
+    done
+    [ -e export/nbd ] && loop=$(losetup -f --show -b 4096 export/nbd 2>/dev/null)
+}
+# released: the file system is let go, and so is all that it stands on
+released() {
+    [ -z "$mounted" ] || timeout 30 umount "$mounted" 2>/dev/null
+    [ -z "$loop" ] || losetup -d "$loop" 2>/dev/null
+    # (a loop device is let go a moment later)
+    tries=0
+    while [ $tries -lt 100 ] && ! umount "$fuse" 2>/dev/null; do
+        sleep 0.05
+        tries=$((tries + 1))
+    done
+    wait $fuser 2>wait
+    mounted='' loop='' fuse=''
+}
+file_system() {
+    mkdir export mount tree tree/below
+    for k in 1 2 3 4 5 6 7 8; do differing $((k * 77777)) $((k * 1000003)) >tree/below/file_$k; done
+    image
+    serves unix
+    if ! blocks_device; then
+        skipped 'ext4 over nbdfuse' "there is no loop device here, or no FUSE: $(tail -n 1 fuse_output)"
+        [ -z "$fuse" ] || released
+        killed 'without a file system'
+        return
+    fi
+    is 'mke2fs with files' 0 "$(quiet mke2fs -q -F -t ext4 -b 4096 -d tree "$loop")"
+    is 'e2fsck of the device' 0 "$(quiet e2fsck -fn "$loop")"
+    if mount -t ext4 "$loop" mount 2>/dev/null; then
+        mounted=$folder/mount
+        for k in 1 2 3 4; do
+            cp tree/below/file_$k mount/synced_$k
+            sync mount/synced_$k mount
+        done
+        # The kill comes while files are written and synced one after another; those that were synced before it are in `synced`.
+        : >synced
+        (
+            k=100
+            while cp tree/below/file_8 mount/late_$k && sync mount/late_$k mount; do
+                echo late_$k
+                k=$((k + 1))
+            done
+        ) >>synced 2>/dev/null &
+        writer=$!
+        tries=0
+        while [ "$(wc -l <synced)" -lt 10 ] && [ $tries -lt 200 ]; do
+            sleep 0.05
+            tries=$((tries + 1))
+        done
+        kill -9 "$(cat server_pid)"
+        wait $writer
+        released
+        killed 'a file system'
+        held 'a file system'
+        # The first run of e2fsck replays ext4's journal (1: it changed something); the second finds nothing to mend.
+        timeout 30 e2fsck -p found >output 2>&1
+        is 'e2fsck replays the journal' yes "$([ $? -le 1 ] && echo yes)"
+        is 'e2fsck after the kill' 0 "$(quiet e2fsck -fn found)"
+        for k in 1 2 3 4; do
+            debugfs -R "dump synced_$k out" found >output 2>&1
+            same "the synced file $k" tree/below/file_$k out
+        done
+        is 'files were synced up to the kill' yes "$([ "$(wc -l <synced)" -ge 10 ] && echo yes)"
+        differ=''
+        for k in $(cat synced); do
+            rm -f out
+            debugfs -R "dump $k out" found >output 2>&1
+            cmp -s tree/below/file_8 out || differ="$differ $k"
+        done
+        is 'the files that were synced before the kill' '' "$differ"
+        echo "a kill in the midst of ext4: $(wc -l <synced) files were synced before it"
+    else
+        skipped 'ext4 mounted' 'this system lets nobody mount'
+        released
+        killed 'a file system'
+        held 'a file system'
+        is 'e2fsck after the kill' 0 "$(quiet e2fsck -fn found)"
+    fi
+    for k in 1 5 8; do
+        debugfs -R "dump below/file_$k out" found >output 2>&1
+        same "the file $k of the tree" tree/below/file_$k out
+    done
+}
+if has nbdfuse && has mke2fs && has debugfs && has losetup; then
+    if [ -w /dev/fuse ]; then
+        file_system
+    else
+        skipped 'ext4 over nbdfuse' 'there is no /dev/fuse that may be used'
+    fi
+fi
+
+the_end

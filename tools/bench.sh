@@ -1,0 +1,119 @@
+#!/bin/sh
+# Measures `nbdj serve`, by the program NBDJ, beside nbdkit's file plugin, the same behind nbdkit's cache filter, and qemu-nbd: one run on
+# one machine, over Unix sockets, each server with an image of 512 MiB of its own that is filled before. Prints a table in Markdown, with
+# nbdj's ratio to the best of the others. It is part of no gate.
+# It needs cc and Debian's libnbd-dev, nbdkit and qemu-utils. ROUNDS (1) says how often each is measured, the servers in turn; the median
+# counts. BENCH_SECONDS (4) is the time of each measurement, BENCH_FOLDER where the images are, TMPDIR otherwise. After the time each
+# client waits for the answers that are due.
+set -eu
+here=$(cd "$(dirname "$0")/.." && pwd)
+rounds=${ROUNDS:-1} seconds=${BENCH_SECONDS:-4}
+blocks=131072 hot=2048 frames=4096
+for tool in cc nbdkit qemu-nbd awk; do
+    command -v $tool >/dev/null || { echo "bench: there is no $tool" >&2; exit 1; }
+done
+folder=$(mktemp -d "${BENCH_FOLDER:-${TMPDIR:-/tmp}}/bench.XXXXXX")
+server=''
+# stop: ends the server; the signal goes on from `timeout` to it
+stop() {
+    if [ -n "$server" ]; then
+        kill "$server" 2>/dev/null || true
+        wait "$server" 2>/dev/null || true
+        server=''
+        # (what it has left in the system's cache is the next one's burden otherwise)
+        sync
+    fi
+}
+trap 'stop; rm -rf "$folder"' EXIT
+trap 'exit 1' HUP INT TERM
+cd "$folder"
+cc -O2 -Wall -Werror -o client "$here/tools/bench_client.c" -lnbd -lpthread
+
+servers='nbdj nbdkit cache qemu'
+"$NBDJ" format nbdj.img --blocks $blocks --area 64M >/dev/null
+for it in nbdkit cache qemu; do truncate -s $((blocks * 4096)) $it.img; done
+
+# command NAME: how it serves its image at the socket NAME.sock
+command_of() {
+    case $1 in
+    nbdj) echo "$NBDJ serve nbdj.img --unix nbdj.sock --workers 16 --frames $frames" ;;
+    nbdkit) echo 'nbdkit -f -U nbdkit.sock file nbdkit.img' ;;
+    cache) echo 'nbdkit -f -U cache.sock --filter=cache file cache.img' ;;
+    qemu) echo "qemu-nbd -t -e 16 -f raw --cache=writeback -k $folder/qemu.sock qemu.img" ;;
+    esac
+}
+
+# serve NAME: starts it, and waits until it takes clients
+serve() {
+    rm -f "$1.sock"
+    TMPDIR=$folder timeout 120 $(command_of "$1") >"$1.out" 2>"$1.err" &
+    limited=$!
+    tries=0
+    while ! nbdinfo --size "nbd+unix:///?socket=$folder/$1.sock" >/dev/null 2>&1; do
+        tries=$((tries + 1))
+        [ $tries -lt 200 ] || { echo "bench: $1 doesn't serve: $(cat "$1.err")" >&2; exit 1; }
+        sleep 0.05
+    done
+    server=$limited
+}
+
+# median: of the numbers on the input
+median() { sort -n | awk '{ it[NR] = $1 } END { print it[int((NR + 1) / 2)] }'; }
+
+# measure NAME KIND CONNECTIONS BLOCKS
+measure() { timeout 100 ./client run "nbd+unix:///?socket=$folder/$1.sock" "$2" "$3" "$seconds" "$4"; }
+
+# Each server has its whole life in a round, so that none shares the machine with another.
+round=0
+while [ $round -lt "$rounds" ]; do
+    for it in $servers; do
+        serve $it
+        ./client fill "nbd+unix:///?socket=$folder/$it.sock" $blocks
+        # (what the one has left unstored the next would pay for)
+        for row in 'sequential 1' 'flushed 8' 'fua 8' 'write 1' 'write 4'; do
+            measure $it $row $blocks >>"$it.$(echo "$row" | tr ' ' .)"
+            sync
+        done
+        # Reads that hit: of blocks that were written last, fewer than the frames.
+        ./client fill "nbd+unix:///?socket=$folder/$it.sock" $hot
+        measure $it read 1 $hot >>$it.read.1
+        measure $it read-long 1 $blocks >>$it.read-long.1
+        stop
+    done
+    round=$((round + 1))
+done
+
+# The start on a clean image, nine times.
+"$NBDJ" recover nbdj.img >/dev/null
+for it in $servers; do
+    for k in 1 2 3 4 5 6 7 8 9; do
+        rm -f $it.sock
+        TMPDIR=$folder ./client start "$folder/$it.sock" $(command_of $it) >>$it.start
+    done
+    cut -d ' ' -f 1 $it.start | median >$it.ms
+    cut -d ' ' -f 2 $it.start | median >$it.bytes
+done
+
+echo "$(uname -sr), $(nproc) processors, load $(cut -d ' ' -f 1-3 /proc/loadavg), images on $(df -T "$folder" | awk 'NR == 2 { print $2 }');"
+echo "$("$NBDJ" --version), $(nbdkit --version), $(qemu-nbd --version | head -n 1), libnbd $(nbdinfo --version | sed -n 's/^nbdinfo //p');"
+echo "$rounds rounds of $seconds s, nbdj with $frames frames and areas of 64 MiB, an image of $((blocks / 256)) MiB."
+echo
+echo '| Workload | Unit | nbdj | nbdkit file | nbdkit cache, file | qemu-nbd | nbdj to the best other | Aim |'
+echo '|---|---|---|---|---|---|---|---|'
+# row TEXT UNIT AIM FILE: larger is better
+row() {
+    echo "$1|$2|$(median <"nbdj.$4")|$(median <"nbdkit.$4")|$(median <"cache.$4")|$(median <"qemu.$4")|$3" |
+        awk -F '|' '{ best = $4; if ($5 > best) best = $5; if ($6 > best) best = $6
+            printf "| %s | %s | %s | %s | %s | %s | %.2f | %s |\n", $1, $2, $3, $4, $5, $6, $3 / best, $7 }'
+}
+row 'WRITE 4 KiB at random, 1 connection' '1/s' 1.0 write.1
+row 'WRITE 4 KiB at random, 4 connections' '1/s' 1.0 write.4
+row 'WRITE 4 KiB and FLUSH, 8 connections' '1/s' 1.5 flushed.8
+row 'WRITE 4 KiB with FUA, 8 connections' '1/s' 1.0 fua.8
+row 'WRITE 1 MiB in sequence, once over the image, FLUSH at the end' 'MiB/s' 0.6 sequential.1
+row 'READ 4 KiB at random that hits' '1/s' 0.8 read.1
+row 'READ 1 MiB' 'MiB/s' 0.6 read-long.1
+echo "| start until the greeting | ms | $(cat nbdj.ms) | $(cat nbdkit.ms) | $(cat cache.ms) | $(cat qemu.ms) | | 20 at most |"
+# The map of the image has two bits a block.
+most=$((frames * 4096 + blocks / 4 + 8388608))
+echo "| resident after the start | bytes | $(cat nbdj.bytes) | $(cat nbdkit.bytes) | $(cat cache.bytes) | $(cat qemu.bytes) | | $most at most |"

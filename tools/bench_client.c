@@ -1,0 +1,281 @@
+/* A client over libnbd that measures a server; tools/bench.sh runs it.
+ *
+ * bench_client run URI KIND CONNECTIONS SECONDS BLOCKS
+ *     Sends requests over so many connections, a thread for each, for so many seconds, to the first so many blocks of 4,096 bytes, and
+ *     prints how many were answered a second; requests of 1 MiB are counted in MiB. Kinds:
+ *         write      4 KiB at random places, 16 on their way on each connection
+ *         flushed    4 KiB at random places, each followed by a FLUSH, which is waited for
+ *         fua        4 KiB at random places with FUA, each waited for
+ *         sequential all blocks once, 1 MiB one behind the other, 4 on their way, and a FLUSH at the end, which counts: however long
+ *         read       4 KiB at random places, 16 on their way
+ *         read-long  1 MiB one behind the other, 4 on their way
+ * bench_client fill URI BLOCKS
+ *     Writes all those blocks, and a FLUSH.
+ * bench_client start SOCKET COMMAND...
+ *     Runs the server of a Unix socket, and prints after how many milliseconds it greeted a client, and how many bytes were resident
+ *     then; kills it.
+ */
+#include <errno.h>
+#include <libnbd.h>
+#include <pthread.h>
+#include <signal.h>
+#include <stdint.h>
+#include <stdio.h>
+#include <stdlib.h>
+#include <string.h>
+#include <sys/socket.h>
+#include <sys/un.h>
+#include <sys/wait.h>
+#include <time.h>
+#include <unistd.h>
+
+#define BLOCK 4096u
+#define LONG_BLOCKS 256u
+#define MOST_DEPTH 16
+#define MOST_CONNECTIONS 64
+
+struct kind {
+    const char *name;
+    unsigned blocks, depth;
+    int is_read, is_random, flushes, has_fua, is_one_pass;
+};
+
+static const struct kind kinds[] = {
+    {"write", 1, 16, 0, 1, 0, 0, 0},
+    {"flushed", 1, 1, 0, 1, 1, 0, 0},
+    {"fua", 1, 1, 0, 1, 0, 1, 0},
+    {"sequential", LONG_BLOCKS, 4, 0, 0, 0, 0, 1},
+    {"read", 1, 16, 1, 1, 0, 0, 0},
+    {"read-long", LONG_BLOCKS, 4, 1, 0, 0, 0, 0},
+};
+
+struct connection;
+
+struct slot {
+    struct connection *connection;
+    int is_busy;
+    char *data;
+};
+
+struct connection {
+    struct nbd_handle *nbd;
+    const struct kind *kind;
+    pthread_t thread;
+    uint64_t random, next, blocks, answered, number;
+    double end;
+    struct slot slots[MOST_DEPTH];
+};
+
+static double now(void) {
+    struct timespec it;
+    clock_gettime(CLOCK_MONOTONIC, &it);
+    return it.tv_sec + it.tv_nsec / 1e9;
+}
+
+static void fail(const char *what) {
+    const char *text = nbd_get_error();
+    fprintf(stderr, "bench_client: %s: %s\n", what, text ? text : strerror(errno));
+    exit(1);
+}
+
+static uint64_t any(struct connection *it) {
+    it->random ^= it->random << 13;
+    it->random ^= it->random >> 7;
+    it->random ^= it->random << 17;
+    return it->random;
+}
+
+/* Data that no server can take for those of another write: the number stands in each block. */
+static void mark(struct connection *it, char *data) {
+    it->number++;
+    for (unsigned block = 0; block < it->kind->blocks; block++) memcpy(data + block * BLOCK, &it->number, sizeof it->number);
+}
+
+static uint64_t place(struct connection *it) {
+    uint64_t most = it->blocks / it->kind->blocks;
+    uint64_t index = it->kind->is_random ? any(it) % most : it->next++ % most;
+    return index * it->kind->blocks * BLOCK;
+}
+
+static int completed(void *data, int *error) {
+    struct slot *slot = data;
+    if (*error) {
+        errno = *error;
+        fail("an answer");
+    }
+    slot->is_busy = 0;
+    slot->connection->answered++;
+    return 1;
+}
+
+static void ask(struct connection *it, struct slot *slot) {
+    nbd_completion_callback done = {.callback = completed, .user_data = slot};
+    size_t length = (size_t)it->kind->blocks * BLOCK;
+    int64_t cookie;
+    slot->is_busy = 1;
+    if (it->kind->is_read) {
+        cookie = nbd_aio_pread(it->nbd, slot->data, length, place(it), done, 0);
+    } else {
+        mark(it, slot->data);
+        cookie = nbd_aio_pwrite(it->nbd, slot->data, length, place(it), done, 0);
+    }
+    if (cookie == -1) fail("a request");
+}
+
+static int goes_on(struct connection *it) {
+    return it->kind->is_one_pass ? it->next < it->blocks / it->kind->blocks : now() < it->end;
+}
+
+/* Keeps as many requests on their way as the kind says, and waits for the last ones. */
+static void ask_many(struct connection *it) {
+    for (;;) {
+        unsigned busy = 0;
+        for (unsigned k = 0; k < it->kind->depth; k++) {
+            if (goes_on(it) && !it->slots[k].is_busy) ask(it, &it->slots[k]);
+            busy += it->slots[k].is_busy;
+        }
+        if (busy == 0) return;
+        if (nbd_poll(it->nbd, -1) == -1) fail("poll");
+    }
+}
+
+static void ask_in_turn(struct connection *it) {
+    char *data = it->slots[0].data;
+    while (now() < it->end) {
+        mark(it, data);
+        if (nbd_pwrite(it->nbd, data, BLOCK, place(it), it->kind->has_fua ? LIBNBD_CMD_FLAG_FUA : 0) == -1) fail("a write");
+        if (it->kind->flushes && nbd_flush(it->nbd, 0) == -1) fail("a flush");
+        it->answered++;
+    }
+}
+
+static void *serve_thread(void *data) {
+    struct connection *it = data;
+    if (it->kind->flushes || it->kind->has_fua) {
+        ask_in_turn(it);
+    } else {
+        ask_many(it);
+    }
+    if (it->kind->is_one_pass && nbd_flush(it->nbd, 0) == -1) fail("the flush at the end");
+    return NULL;
+}
+
+static void prepare(struct connection *it, const char *uri, const struct kind *kind, unsigned index, uint64_t blocks) {
+    memset(it, 0, sizeof *it);
+    it->kind = kind;
+    it->random = 0x9e3779b97f4a7c15u * (index + 1);
+    it->blocks = blocks;
+    it->number = (uint64_t)index << 48;
+    it->nbd = nbd_create();
+    if (!it->nbd || nbd_connect_uri(it->nbd, uri) == -1) fail("connect");
+    for (unsigned k = 0; k < kind->depth; k++) {
+        it->slots[k].connection = it;
+        it->slots[k].data = malloc((size_t)kind->blocks * BLOCK);
+        if (!it->slots[k].data) fail("memory");
+        for (size_t at = 0; at < (size_t)kind->blocks * BLOCK; at++) it->slots[k].data[at] = (char)(at * 31 + at / 251 + 1);
+    }
+}
+
+static void finish(struct connection *it) {
+    if (nbd_shutdown(it->nbd, 0) == -1) fail("shutdown");
+    nbd_close(it->nbd);
+    for (unsigned k = 0; k < it->kind->depth; k++) free(it->slots[k].data);
+}
+
+static void run(const char *uri, const char *name, unsigned count, double seconds, uint64_t blocks) {
+    static struct connection connections[MOST_CONNECTIONS];
+    const struct kind *kind = NULL;
+    for (size_t k = 0; k < sizeof kinds / sizeof kinds[0]; k++) {
+        if (strcmp(kinds[k].name, name) == 0) kind = &kinds[k];
+    }
+    if (!kind || count == 0 || count > MOST_CONNECTIONS || blocks < LONG_BLOCKS) {
+        fprintf(stderr, "bench_client: no such run\n");
+        exit(2);
+    }
+    for (unsigned k = 0; k < count; k++) prepare(&connections[k], uri, kind, k, blocks);
+    double begun = now();
+    for (unsigned k = 0; k < count; k++) {
+        connections[k].end = begun + seconds;
+        if (pthread_create(&connections[k].thread, NULL, serve_thread, &connections[k])) fail("a thread");
+    }
+    uint64_t answered = 0;
+    for (unsigned k = 0; k < count; k++) {
+        pthread_join(connections[k].thread, NULL);
+        answered += connections[k].answered;
+    }
+    double took = now() - begun;
+    for (unsigned k = 0; k < count; k++) finish(&connections[k]);
+    printf("%.0f\n", answered / took);
+}
+
+static void fill(const char *uri, uint64_t blocks) {
+    struct connection it;
+    prepare(&it, uri, &kinds[3], 0, blocks);
+    for (uint64_t at = 0; at + LONG_BLOCKS <= blocks; at += LONG_BLOCKS) {
+        mark(&it, it.slots[0].data);
+        if (nbd_pwrite(it.nbd, it.slots[0].data, (size_t)LONG_BLOCKS * BLOCK, at * BLOCK, 0) == -1) fail("a write");
+    }
+    if (nbd_flush(it.nbd, 0) == -1) fail("a flush");
+    finish(&it);
+}
+
+static long resident(pid_t pid) {
+    char path[64], line[256];
+    long found = 0;
+    snprintf(path, sizeof path, "/proc/%d/status", (int)pid);
+    FILE *file = fopen(path, "r");
+    while (file && fgets(line, sizeof line, file)) sscanf(line, "VmRSS: %ld", &found);
+    if (file) fclose(file);
+    return found * 1024;
+}
+
+/* Whether the server has greeted: the 18 bytes that each server of the protocol begins with. */
+static int is_greeted(const char *path) {
+    struct sockaddr_un address = {.sun_family = AF_UNIX};
+    char greeting[18];
+    snprintf(address.sun_path, sizeof address.sun_path, "%s", path);
+    int fd = socket(AF_UNIX, SOCK_STREAM, 0);
+    int greeted = fd >= 0 && connect(fd, (struct sockaddr *)&address, sizeof address) == 0 &&
+                  recv(fd, greeting, sizeof greeting, MSG_WAITALL) == (ssize_t)sizeof greeting;
+    if (fd >= 0) close(fd);
+    return greeted;
+}
+
+static void start(const char *path, char **command) {
+    double begun = now();
+    pid_t pid = fork();
+    if (pid == -1) fail("fork");
+    if (pid == 0) {
+        if (!freopen("/dev/null", "w", stdout) || !freopen("/dev/null", "w", stderr)) _exit(127);
+        execvp(command[0], command);
+        _exit(127);
+    }
+    while (!is_greeted(path)) {
+        if (now() - begun > 20 || waitpid(pid, NULL, WNOHANG) == pid) {
+            fprintf(stderr, "bench_client: the server doesn't start\n");
+            kill(pid, SIGKILL);
+            exit(1);
+        }
+        struct timespec moment = {0, 100000};
+        nanosleep(&moment, NULL);
+    }
+    double took = now() - begun;
+    long bytes = resident(pid);
+    kill(pid, SIGKILL);
+    waitpid(pid, NULL, 0);
+    printf("%.1f %ld\n", took * 1000, bytes);
+}
+
+int main(int argc, char **argv) {
+    if (argc == 7 && strcmp(argv[1], "run") == 0) {
+        run(argv[2], argv[3], (unsigned)atoi(argv[4]), atof(argv[5]), strtoull(argv[6], NULL, 10));
+    } else if (argc == 4 && strcmp(argv[1], "fill") == 0) {
+        fill(argv[2], strtoull(argv[3], NULL, 10));
+    } else if (argc > 3 && strcmp(argv[1], "start") == 0) {
+        start(argv[2], argv + 3);
+    } else {
+        fprintf(stderr, "bench_client: how it is run stands at the top of its source\n");
+        return 2;
+    }
+    return 0;
+}
