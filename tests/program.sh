@@ -104,20 +104,30 @@ for command in format pipe recover check rehearse; do
     is "the example of $command" "0|nbdj $command" "$(PATH="$folder/bin:$PATH" sh -c "$example" >printed 2>&1; echo $?)|$(echo "$example" | cut -d ' ' -f 1-2)"
 done
 fresh 16 2097152
-# serves NAME STATUS PRINTED ERRORS WORD..: how a server ends that is killed after a second where it goes on, with status 124
+# serves NAME STATUS PRINTED ERRORS WORD..: how a server ends; one that goes on is stopped once it has printed something, with status 143
 serves() {
     name=$1
     wanted="$2|$3|$4"
     shift 4
-    timeout 1 "$NBDJ" serve "$@" >printed 2>errors </dev/null
+    : >printed
+    : >errors
+    timeout 20 "$NBDJ" serve "$@" >printed 2>errors </dev/null &
+    serving=$!
+    tries=0
+    until [ -s printed ] || [ -s errors ] || [ "$tries" -eq 200 ]; do
+        sleep 0.05
+        tries=$((tries + 1))
+    done
+    [ -s errors ] || kill "$serving"
+    wait "$serving" 2>/dev/null
     is "$name" "$wanted" "$?|$(cat printed)|$(cat errors)"
     told
 }
 example=$("$NBDJ" serve --help | sed -n 's/^Example: nbdj serve //p')
-serves 'the example of serve' 124 "listening ${example##*:}" '' $example
-serves 'a Unix socket' 124 'listening d.sock' '' d.img --unix d.sock
+serves 'the example of serve' 143 "listening ${example##*:}" '' $example
+serves 'a Unix socket' 143 'listening d.sock' '' d.img --unix d.sock
 is 'the socket of a killed server' yes "$([ -S d.sock ] && echo yes)"
-serves 'a Unix socket that nobody listens on' 124 'listening d.sock' '' d.img --unix d.sock
+serves 'a Unix socket that nobody listens on' 143 'listening d.sock' '' d.img --unix d.sock
 : >d.file
 serves 'a file in the place of a socket' 1 '' 'nbdj: stream fault (21)' d.img --unix d.file
 is 'the file in the place of a socket' yes "$([ -f d.file ] && echo yes)"
