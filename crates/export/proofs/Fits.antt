@@ -1,5 +1,5 @@
 -- what a request is answered is of its type
-use Rattle.std.specs.Prelude.{IfOk, ◌&&◌, ◌||◌, not}
+use Rattle.std.specs.Prelude.{IfOk, ◌&&◌, ◌||◌, bit_and, not}
 use Rattle.std.proofs.Common.{◌≡◌, ◌≢◌, ◌⊎◌, ◌∙◌, ◌+◌, ◌==◌, inl, inr, ℕ, Bool, false, true, if◌then◌else◌, List, [], ◌∷◌, Result, Ok, Err, ap, refl, sym, subst, arith}
 use Rattle.std.proofs.lemmas.Bool.Decides.{nat_tests}
 use Rattle.alloc_map.specs.Codes.{state_at}
@@ -23,13 +23,13 @@ use Rattle.request_core.specs.Reading.{IsHeldReadServed, IsReadServed, IsStatusS
 use Rattle.request_core.specs.Serving.{IsWriteServed, ready_for, served_after}
 use Rattle.request_core.specs.declared.serving.Served.{Served}
 use Rattle.request_core.specs.declared.serving.Served.TheVariants as served
-use Rattle.world.specs.Log.{is_flush, waits_for_store}
+use Rattle.world.specs.Log.{is_flush, is_write, is_write_type, waits_for_store}
 use Rattle.world.specs.Shown.{shown_by}
 use Rattle.world.specs.Verdict.{allowed_flags, first_of_rules, is_known, range_verdict, verdict}
 use Rattle.world.specs.declared.action.Action.{Action}
 use Rattle.world.specs.declared.action.Action.TheVariants.{End, Serve}
 use Rattle.world.specs.declared.step.Mode.{Mode}
-use Rattle.export.specs.Submits.{FitsServed}
+use Rattle.export.specs.Submits.{FitsServed, IsJudged, IsWaiting}
 
 -- the sixth rule didn't apply where none of them is the fourth
 sixth : (first second third fourth fifth last : Bool) (otherwise : Result Action Errno) → fourth ≡ false
@@ -57,75 +57,127 @@ agreed head geometry flags is kind =
     (sixth (head.kind == 2) (not (is_known head.kind)) _ ((head.kind == 3) && (head.offset == 0) && (head.length == 0)) (head.kind == 3) ((head.kind == 7) && not (flags.structured && flags.context)) (range_verdict head geometry)
     (ap (λ (k : ℕ). (k == 3) && (head.offset == 0) && (head.length == 0)) kind) is)
 
+-- of rules that let a request be served the first two didn't apply
+first_two : (first second third fourth fifth last : Bool) (otherwise : Result Action Errno)
+    → first_of_rules ((first, Ok End) ∷ (second, Err Invalid) ∷ (third, Err Invalid) ∷ (fourth, Ok Serve) ∷ (fifth, Err Invalid) ∷ (last, Err Invalid) ∷ []) otherwise ≡ Ok Serve
+    → (first ≡ false) × (second ≡ false)
+first_two false false third fourth fifth last otherwise is = (refl, refl)
+first_two false true third fourth fifth last otherwise is = cc
+first_two true second third fourth fifth last otherwise is = cc
+
+type_left : (kind : ℕ) → (kind == 2) ≡ false → not (is_known kind) ≡ false → kind ≢ 0 → kind ≢ 7 → (kind == 3) ≡ false → is_write_type kind ≡ true
+type_left kind end known reads tells flush = grind (arith, nat_tests)
+
+-- a request that passes judgement and is no READ, BLOCK_STATUS or FLUSH is a write command
+pub writes : (request : Message) (geometry : Geometry) (flags : SessionFlags) → verdict request.head geometry flags ≡ Ok Serve
+    → request.head.kind ≢ 0 → request.head.kind ≢ 7 → is_flush request ≡ false → is_write request ≡ true
+writes request geometry flags is =
+    let two =
+    first_two (request.head.kind == 2) (not (is_known request.head.kind)) (not (bit_and request.head.flags (allowed_flags request.head.kind flags.structured) == request.head.flags))
+    ((request.head.kind == 3) && (request.head.offset == 0) && (request.head.length == 0)) (request.head.kind == 3) ((request.head.kind == 7) && not (flags.structured && flags.context))
+    (range_verdict request.head geometry) is in
+    type_left request.head.kind two.0 two.1
+
 three_else : (kind : ℕ) → (kind == 3) ≡ true → (kind ≢ 0) × (kind ≢ 7)
 three_else kind is = (λ same. absurd (apart (sym (ap (λ (k : ℕ). k == 3) same) ∙ is)), λ same. absurd (apart (sym (ap (λ (k : ℕ). k == 3) same) ∙ is)))
   where
     apart : false ≡ true → ⊥
     apart is = cc
 
-module _ (request : Message) (flags : SessionFlags) where
-  refused : (cookie : ℕ) (errno : Errno) (result : Served) → result ≡ ready_for cookie (Refused errno) → FitsServed flags request result
-  refused cookie errno result is = subst (λ (r : Served). FitsServed flags request r) (sym is) tt
+-- a READ or a BLOCK_STATUS is no FLUSH
+shows_three : (kind : ℕ) → (kind ≡ 0) ⊎ (kind ≡ 7) → (kind == 3) ≡ false
+shows_three kind (inl is) = ap (λ (k : ℕ). k == 3) is
+shows_three kind (inr is) = ap (λ (k : ℕ). k == 3) is
 
-  numbered : (waits : Bool) (cookie number : ℕ) (result : Served) → IsAnswerTo flags request.head.kind Done → result ≡ served_after waits cookie number → FitsServed flags request result
-  numbered true cookie number result done is = subst (λ (r : Served). FitsServed flags request r) (sym is) done
-  numbered false cookie number result done is = subst (λ (r : Served). FitsServed flags request r) (sym is) done
+module _ (request : Message) (geometry : Geometry) (flags : SessionFlags) where
+  -- an answer that the verdict allows
+  answered : (cookie : ℕ) (answer : Answer) (result : Served) → IsAnswerTo flags request.head.kind answer → IsJudged (verdict request.head geometry flags) request answer
+      → result ≡ ready_for cookie answer → FitsServed geometry flags request result
+  answered cookie answer result fits judged is = subst (λ (r : Served). FitsServed geometry flags request r) (sym is) (fits, judged)
 
-  shown : (image : Image) (cookie : ℕ) (result : Served) → (request.head.kind ≡ 0) ⊎ ((request.head.kind ≡ 7) × (flags.structured ≡ true) × (flags.context ≡ true))
-      → result ≡ ready_for cookie (shown_by image request.head) → FitsServed flags request result
-  shown image cookie result kind is = subst (λ (r : Served). FitsServed flags request r) (sym is) (by (request.head.kind == 0) _ _ refl kind)
-    where
-      zero_is : (request.head.kind == 0) ≡ true → request.head.kind ≡ 0
-      zero_is is = grind (arith, nat_tests)
+  refused : (cookie : ℕ) (errno : Errno) (result : Served) → IsJudged (verdict request.head geometry flags) request (Refused errno) → result ≡ ready_for cookie (Refused errno)
+      → FitsServed geometry flags request result
+  refused cookie errno result = answered cookie (Refused errno) result tt
 
-      not_zero : (request.head.kind == 0) ≡ false → request.head.kind ≡ 0 → ⊥
-      not_zero is zero = grind (arith, nat_tests)
+  module _ (passes : verdict request.head geometry flags ≡ Ok Serve) where
+    judged : (answer : Answer) → IsJudged (Ok Serve) request answer → IsJudged (verdict request.head geometry flags) request answer
+    judged answer allowed = subst (λ (given : Result Action Errno). IsJudged given request answer) (sym passes) allowed
 
-      by : (b : Bool) (read : BytesRead) (runs : List Run) → (request.head.kind == 0) ≡ b
-          → (request.head.kind ≡ 0) ⊎ ((request.head.kind ≡ 7) × (flags.structured ≡ true) × (flags.context ≡ true))
-          → IsAnswerTo flags request.head.kind (if b then Bytes read else States runs)
-      by true read runs test kind = zero_is test
-      by false read runs test (inl zero) = absurd (not_zero test zero)
-      by false read runs test (inr kind) = kind
+    failed : (cookie : ℕ) (result : Served) → result ≡ ready_for cookie (Refused Io) → FitsServed geometry flags request result
+    failed cookie result = refused cookie Io result (judged (Refused Io) (inl refl))
 
-  module _ (kept : Mode) (geometry : Geometry) (old new : OrderState) (result : Served) where
-    status_fits : request.head.kind ≡ 7 → (flags.structured ≡ true) × (flags.context ≡ true) → IsStatusServed request.head old result → FitsServed flags request result
-    status_fits kind agreed (inl none) = refused request.head.cookie NoMemory result none
-    status_fits kind agreed (inr shows) =
-        shown (record { blocks = 0; byte = λ place. 0; kind = state_at old.cache.states }) request.head.cookie result (inr (kind, agreed.0, agreed.1)) (shows _ (λ block. refl))
+    lacked : (cookie : ℕ) (result : Served) → is_flush request ≡ false → result ≡ ready_for cookie (Refused NoMemory) → FitsServed geometry flags request result
+    lacked cookie result other = refused cookie NoMemory result (judged (Refused NoMemory) (inr (inl (other, refl))))
 
-    write_fits : IsAnswerTo flags request.head.kind Done → IsWriteServed request geometry kept old new result → FitsServed flags request result
-    write_fits done (inl full) = refused request.head.cookie NoSpace result full.2
-    write_fits done (inr (command, change, takes, left, inl room)) = subst (λ (r : Served). FitsServed flags request r) (sym room.2) tt
-    write_fits done (inr (command, change, takes, left, inr (inl none))) = refused request.head.cookie NoMemory result none.2
-    write_fits done (inr (command, change, takes, left, inr (inr same))) = numbered (waits_for_store kept request) request.head.cookie (old.mark + 1) result done same.2
+    numbered : (waits : Bool) (cookie number : ℕ) (result : Served) → request.head.kind ≢ 0 → request.head.kind ≢ 7 → result ≡ served_after waits cookie number
+        → FitsServed geometry flags request result
+    numbered true cookie number result reads tells is = subst (λ (r : Served). FitsServed geometry flags request r) (sym is) (record { passes = passes; reads_none = reads; tells_none = tells })
+    numbered false cookie number result reads tells is = answered cookie Done result (reads, tells) (judged Done (inr (inr (inr (inl (reads, tells, refl)))))) is
 
-    passed_fits : (request.head.kind ≡ 7 → (flags.structured ≡ true) × (flags.context ≡ true)) → IsPassed request geometry kept old new result → FitsServed flags request result
-    passed_fits agreed (inl stopped) = refused request.head.cookie Io result stopped.2
-    passed_fits agreed (inr (inl flush)) = subst (λ (r : Served). FitsServed flags request r) (sym flush.3) (three_else request.head.kind flush.1)
-    passed_fits agreed (inr (inr (inl status))) = status_fits status.1 (agreed status.1) status.3
-    passed_fits agreed (inr (inr (inr write))) = write_fits (write.2, write.3) write.4
+    shown : (image : Image) (cookie : ℕ) (result : Served) → (request.head.kind ≡ 0) ⊎ ((request.head.kind ≡ 7) × (flags.structured ≡ true) × (flags.context ≡ true))
+        → result ≡ ready_for cookie (shown_by image request.head) → FitsServed geometry flags request result
+    shown image cookie result kind =
+        answered cookie (shown_by image request.head) result (by (request.head.kind == 0) _ _ refl kind) (judged (shown_by image request.head) (inr (inr (inr (inr (shows kind, image, refl))))))
+      where
+        shows : (request.head.kind ≡ 0) ⊎ ((request.head.kind ≡ 7) × (flags.structured ≡ true) × (flags.context ≡ true)) → (request.head.kind ≡ 0) ⊎ (request.head.kind ≡ 7)
+        shows (inl read) = inl read
+        shows (inr status) = inr status.0
 
-    pub here_fits : (given : Result Action Errno) → (given ≡ Ok Serve → request.head.kind ≡ 7 → (flags.structured ≡ true) × (flags.context ≡ true))
-        → IsServedHere given request geometry kept old new result → FitsServed flags request result
-    here_fits (Ok End) agreed here = absurd here
-    here_fits (Ok Serve) agreed (inl by) = passed_fits (agreed refl) by
-    here_fits (Ok Serve) agreed (inr (works, kind, same, inl none)) = refused request.head.cookie NoMemory result none
-    here_fits (Ok Serve) agreed (inr (works, kind, same, inr read)) = shown read.image request.head.cookie result (inl kind) read.answer
-    here_fits (Err errno) agreed here = refused request.head.cookie errno result here.1
+        zero_is : (request.head.kind == 0) ≡ true → request.head.kind ≡ 0
+        zero_is is = grind (arith, nat_tests)
 
-    pub with_fits : {D : Type 0} (state : D → State) (faults : D → ℕ) (honest : D → Type 0) (keeper left : KeeperState D) (given : Result Action Errno)
-        → (given ≡ Ok Serve → request.head.kind ≡ 7 → (flags.structured ≡ true) × (flags.context ≡ true))
-        → IsServedBy state faults honest given request geometry kept old new keeper left result → FitsServed flags request result
-    with_fits state faults honest keeper left (Ok End) agreed by = absurd by
-    with_fits state faults honest keeper left (Ok Serve) agreed (inl by) = passed_fits (agreed refl) by.1
-    with_fits state faults honest keeper left (Ok Serve) agreed (inr (works, kind, inl none)) = refused request.head.cookie NoMemory result none.2
-    with_fits state faults honest keeper left (Ok Serve) agreed (inr (works, kind, inr (inl read))) = shown read.image request.head.cookie result (inl kind) read.answer
-    with_fits state faults honest keeper left (Ok Serve) agreed (inr (works, kind, inr (inr unread))) = refused request.head.cookie Io result unread.answer
-    with_fits state faults honest keeper left (Err errno) agreed by = refused request.head.cookie errno result by.2
+        not_zero : (request.head.kind == 0) ≡ false → request.head.kind ≡ 0 → ⊥
+        not_zero is zero = grind (arith, nat_tests)
+
+        by : (b : Bool) (read : BytesRead) (runs : List Run) → (request.head.kind == 0) ≡ b
+            → (request.head.kind ≡ 0) ⊎ ((request.head.kind ≡ 7) × (flags.structured ≡ true) × (flags.context ≡ true))
+            → IsAnswerTo flags request.head.kind (if b then Bytes read else States runs)
+        by true read runs test kind = zero_is test
+        by false read runs test (inl zero) = absurd (not_zero test zero)
+        by false read runs test (inr kind) = kind
+
+  module _ (kept : Mode) (old new : OrderState) (result : Served) where
+    status_fits : verdict request.head geometry flags ≡ Ok Serve → request.head.kind ≡ 7 → IsStatusServed request.head old result → FitsServed geometry flags request result
+    status_fits passes kind (inl none) = lacked passes request.head.cookie result (shows_three request.head.kind (inr kind)) none
+    status_fits passes kind (inr image_shows) =
+        let agreed = agreed request.head geometry flags passes kind in
+        shown passes (record { blocks = 0; byte = λ place. 0; kind = state_at old.cache.states }) request.head.cookie result (inr (kind, agreed.0, agreed.1)) (image_shows _ (λ block. refl))
+
+    write_fits : verdict request.head geometry flags ≡ Ok Serve → is_flush request ≡ false → request.head.kind ≢ 0 → request.head.kind ≢ 7 → IsWriteServed request geometry kept old new result
+        → FitsServed geometry flags request result
+    write_fits passes other reads tells (inl full) =
+        refused request.head.cookie NoSpace result (judged passes (Refused NoSpace) (inr (inr (inl (other, reads, tells, refl))))) full.2
+    write_fits passes other reads tells (inr (command, change, takes, left, inl room)) = subst (λ (r : Served). FitsServed geometry flags request r) (sym room.2) tt
+    write_fits passes other reads tells (inr (command, change, takes, left, inr (inl none))) = lacked passes request.head.cookie result other none.2
+    write_fits passes other reads tells (inr (command, change, takes, left, inr (inr same))) =
+        numbered passes (waits_for_store kept request) request.head.cookie (old.mark + 1) result reads tells same.2
+
+    passed_fits : verdict request.head geometry flags ≡ Ok Serve → IsPassed request geometry kept old new result → FitsServed geometry flags request result
+    passed_fits passes (inl stopped) = failed passes request.head.cookie result stopped.2
+    passed_fits passes (inr (inl flush)) =
+        let none = three_else request.head.kind flush.1 in
+        subst (λ (r : Served). FitsServed geometry flags request r) (sym flush.3) (record { passes = passes; reads_none = none.0; tells_none = none.1 })
+    passed_fits passes (inr (inr (inl status))) = status_fits passes status.1 status.3
+    passed_fits passes (inr (inr (inr write))) = write_fits passes write.1 write.2 write.3 write.4
+
+    pub here_fits : (given : Result Action Errno) → verdict request.head geometry flags ≡ given → IsServedHere given request geometry kept old new result → FitsServed geometry flags request result
+    here_fits (Ok End) is here = absurd here
+    here_fits (Ok Serve) is (inl by) = passed_fits is by
+    here_fits (Ok Serve) is (inr (works, kind, same, inl none)) = lacked is request.head.cookie result (shows_three request.head.kind (inl kind)) none
+    here_fits (Ok Serve) is (inr (works, kind, same, inr read)) = shown is read.image request.head.cookie result (inl kind) read.answer
+    here_fits (Err errno) is here = refused request.head.cookie errno result (subst (λ (given : Result Action Errno). IsJudged given request (Refused errno)) (sym is) refl) here.1
+
+    pub with_fits : {D : Type 0} (state : D → State) (faults : D → ℕ) (honest : D → Type 0) (keeper left : KeeperState D) (given : Result Action Errno) → verdict request.head geometry flags ≡ given
+        → IsServedBy state faults honest given request geometry kept old new keeper left result → FitsServed geometry flags request result
+    with_fits state faults honest keeper left (Ok End) is by = absurd by
+    with_fits state faults honest keeper left (Ok Serve) is (inl by) = passed_fits is by.1
+    with_fits state faults honest keeper left (Ok Serve) is (inr (works, kind, inl none)) = lacked is request.head.cookie result (shows_three request.head.kind (inl kind)) none.2
+    with_fits state faults honest keeper left (Ok Serve) is (inr (works, kind, inr (inl read))) = shown is read.image request.head.cookie result (inl kind) read.answer
+    with_fits state faults honest keeper left (Ok Serve) is (inr (works, kind, inr (inr unread))) = failed is request.head.cookie result unread.answer
+    with_fits state faults honest keeper left (Err errno) is by = refused request.head.cookie errno result (subst (λ (given : Result Action Errno). IsJudged given request (Refused errno)) (sym is) refl) by.2
 
 -- the same of a request that may need the keeper
-pub if_fits : {E : Type 0} (request : Message) (flags : SessionFlags) (kept : Mode) (geometry : Geometry) (old new : OrderState) (result : Result Served E)
-    → IfOk result (λ s. IsServedHere (verdict request.head geometry flags) request geometry kept old new s) → IfOk result (λ s. FitsServed flags request s)
-if_fits request flags kept geometry old new (Ok s) here = here_fits request flags kept geometry old new s (verdict request.head geometry flags) (agreed request.head geometry flags) here
-if_fits request flags kept geometry old new (Err back) here = tt
+pub if_fits : {E : Type 0} (request : Message) (geometry : Geometry) (flags : SessionFlags) (kept : Mode) (old new : OrderState) (result : Result Served E)
+    → IfOk result (λ s. IsServedHere (verdict request.head geometry flags) request geometry kept old new s) → IfOk result (λ s. FitsServed geometry flags request s)
+if_fits request geometry flags kept old new (Ok s) here = here_fits request geometry flags kept old new s (verdict request.head geometry flags) refl here
+if_fits request geometry flags kept old new (Err back) here = tt

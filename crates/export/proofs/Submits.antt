@@ -1,6 +1,6 @@
 -- what serving leaves a pass with is what an answer promises
 use Rattle.std.specs.Prelude.{IfOk, MatchBool}
-use Rattle.std.proofs.Common.{◌≡◌, ◌≢◌, ◌∙◌, ◌<◌, ◌≤◌, ◌+◌, ◌==◌, inl, inr, ℕ, Bool, false, true, nat_lt, if◌then◌else◌, List, Result, Ok, Err, ap, refl, sym, subst, arith}
+use Rattle.std.proofs.Common.{◌≡◌, ◌≢◌, ◌⊎◌, ◌∙◌, ◌<◌, ◌≤◌, ◌+◌, ◌==◌, inl, inr, ℕ, Bool, false, true, nat_lt, if◌then◌else◌, List, Result, Ok, Err, ap, refl, sym, subst, arith}
 use Rattle.std.proofs.lemmas.Bool.{true≢false}
 use Rattle.std.proofs.lemmas.Bool.Decides.{nat_tests}
 use Rattle.alloc_map.specs.Codes.{state_at}
@@ -30,8 +30,8 @@ use Rattle.world.specs.declared.action.Action.TheVariants.{End, Serve}
 use Rattle.world.specs.declared.step.Mode.{Mode}
 use Rattle.export.specs.Submits.{IsAccepted, IsServedFor, IsSubmitted, IsWaitedFor}
 
-flush_writes_none : (kind : ℕ) → (kind == 3) ≡ true → is_write_type kind ≡ true → ⊥
-flush_writes_none kind flush write = grind (arith, nat_tests)
+write_flushes_none : (kind : ℕ) → is_write_type kind ≡ true → (kind == 3) ≡ false
+write_flushes_none kind write = grind (arith, nat_tests)
 
 refused_undone : (errno : Errno) → Refused errno ≢ Done
 refused_undone errno is = cc
@@ -58,7 +58,7 @@ module _ (request : Message) (kept : Mode) (pass next : PassState) where
       let none : nat_lt before after ≡ false = ap (nat_lt before) same ∙ no_less before in
       let left : next ≡ pass = subst (λ (b : Bool). MatchBool b ((known pass < after) × (next ≡ accepted_for request after pass)) (next ≡ pass)) none at in
       subst (λ (r : Served). IsServedFor request kept pass next r) (sym is)
-      (record { written = λ done. absurd (undone done); flushed = λ done. absurd (undone done); refused = λ errno is_errno other. left })
+      (record { written = λ done. absurd (undone done); flushed = λ done. absurd (undone done); refused = λ errno is_errno other. left; own = inl (ap (λ (p : PassState). p.own) left) })
 
   -- the same where the order is as it was
   as_it_was : (old new : OrderState) (cookie : ℕ) (answer : Answer) (result : Served) → answer ≢ Done → new ≡ old → result ≡ ready_for cookie answer
@@ -73,18 +73,18 @@ module _ (request : Message) (kept : Mode) (pass next : PassState) where
       → IsServedFor request kept pass next result
   flush_served before after number result flush is passed =
       let at = subst (λ (b : Bool). MatchBool b ((known pass ≤ number) × (next ≡ record pass { accepted = number })) ((known pass < number) × (next ≡ accepted_for request number pass))) flush (waiting before after number result is passed) in
-      subst (λ (r : Served). IsServedFor request kept pass next r) (sym is) (λ flush. at.0, λ write. absurd (flush_writes_none request.head.kind flush write))
+      subst (λ (r : Served). IsServedFor request kept pass next r) (sym is) (λ same. (at.0, ap (λ (p : PassState). p.own) at.1), λ other. absurd (true≢false (sym flush ∙ other)))
 
   own_of : (number : ℕ) → (known pass < number) → next ≡ accepted_for request number pass → IsAccepted request number pass next
   own_of number above is = record { above = above; own = ap (λ (p : PassState). p.own) is }
 
   -- a command that got the next number
-  numbered : (before after cookie : ℕ) (result : Served) (waits : Bool) → waits_for_store kept request ≡ waits → is_flush request ≡ false → after ≡ before + 1
+  numbered : (before after cookie : ℕ) (result : Served) (waits : Bool) → waits_for_store kept request ≡ waits → is_flush request ≡ false → is_write request ≡ true → after ≡ before + 1
       → result ≡ served_after waits cookie (before + 1) → IsPassServed request before after result pass next → IsServedFor request kept pass next result
-  numbered before after cookie result true waits other grown is passed =
+  numbered before after cookie result true waits other write grown is passed =
       let at = subst (λ (b : Bool). MatchBool b ((known pass ≤ before + 1) × (next ≡ record pass { accepted = before + 1 })) ((known pass < before + 1) × (next ≡ accepted_for request (before + 1) pass))) other (waiting before after (before + 1) result is passed) in
-      subst (λ (r : Served). IsServedFor request kept pass next r) (sym is) (λ flush. absurd (true≢false (sym flush ∙ other)), λ write. own_of (before + 1) at.0 at.1)
-  numbered before after cookie result false waits other grown is passed =
+      subst (λ (r : Served). IsServedFor request kept pass next r) (sym is) (λ flush. absurd (true≢false (sym flush ∙ other)), λ same. (write, own_of (before + 1) at.0 at.1))
+  numbered before after cookie result false waits other write grown is passed =
       let at : IsPassServed request before after (ready_for cookie Done) pass next = subst (λ (r : Served). IsPassServed request before after r pass next) is passed in
       let more : nat_lt before after ≡ true = ap (nat_lt before) grown ∙ less_next before in
       let own = subst (λ (b : Bool). MatchBool b ((known pass < after) × (next ≡ accepted_for request after pass)) (next ≡ pass)) more at in
@@ -93,6 +93,7 @@ module _ (request : Message) (kept : Mode) (pass next : PassState) where
         written = λ done write. (after, own_of after own.0 own.1, λ stored. absurd (true≢false (sym stored ∙ waits)));
         flushed = λ done flush. absurd (true≢false (sym flush ∙ other));
         refused = λ errno is_errno. absurd (refused_undone errno (sym is_errno));
+        own = inr (write, after, own_of after own.0 own.1);
       })
 
   module _ (geometry : Geometry) (old new : OrderState) (result : Served) (passed : IsPassServed request old.mark new.mark result pass next) where
@@ -102,50 +103,70 @@ module _ (request : Message) (kept : Mode) (pass next : PassState) where
         let image : Image = record { blocks = 0; byte = λ place. 0; kind = state_at old.cache.states } in
         as_it_was old new request.head.cookie _ result (shown_undone image request.head) same (shows image (λ block. refl)) passed
 
-    write_served : is_flush request ≡ false → IsWriteServed request geometry kept old new result → IsServedFor request kept pass next result
-    write_served other (inl full) = as_it_was old new request.head.cookie _ result (refused_undone NoSpace) full.1 full.2 passed
-    write_served other (inr (command, change, takes, left, inl room)) =
+    write_served : is_flush request ≡ false → is_write request ≡ true → IsWriteServed request geometry kept old new result → IsServedFor request kept pass next result
+    write_served other write (inl full) = as_it_was old new request.head.cookie _ result (refused_undone NoSpace) full.1 full.2 passed
+    write_served other write (inr (command, change, takes, left, inl room)) =
         subst (λ (r : Served). IsServedFor request kept pass next r) (sym room.2) (subst (λ (r : Served). IsPassServed request old.mark new.mark r pass next) room.2 passed, refl)
-    write_served other (inr (command, change, takes, left, inr (inl none))) = as_it_was old new request.head.cookie _ result (refused_undone NoMemory) none.1 none.2 passed
-    write_served other (inr (command, change, takes, left, inr (inr done))) =
-        numbered old.mark new.mark request.head.cookie result (waits_for_store kept request) refl other (ap (λ (o : OrderState). o.mark) done.1) done.2 passed
+    write_served other write (inr (command, change, takes, left, inr (inl none))) = as_it_was old new request.head.cookie _ result (refused_undone NoMemory) none.1 none.2 passed
+    write_served other write (inr (command, change, takes, left, inr (inr done))) =
+        numbered old.mark new.mark request.head.cookie result (waits_for_store kept request) refl other write (ap (λ (o : OrderState). o.mark) done.1) done.2 passed
 
-    passed_for : IsPassed request geometry kept old new result → IsServedFor request kept pass next result
-    passed_for (inl stopped) = as_it_was old new request.head.cookie _ result (refused_undone Io) stopped.1 stopped.2 passed
-    passed_for (inr (inl flush)) = flush_served old.mark new.mark old.mark result flush.1 flush.3 passed
-    passed_for (inr (inr (inl status))) = status_served status.2 status.3
-    passed_for (inr (inr (inr write))) = write_served write.1 write.4
+    passed_for : (request.head.kind ≢ 0 → request.head.kind ≢ 7 → is_flush request ≡ false → is_write request ≡ true) → IsPassed request geometry kept old new result → IsServedFor request kept pass next result
+    passed_for writes (inl stopped) = as_it_was old new request.head.cookie _ result (refused_undone Io) stopped.1 stopped.2 passed
+    passed_for writes (inr (inl flush)) = flush_served old.mark new.mark old.mark result flush.1 flush.3 passed
+    passed_for writes (inr (inr (inl status))) = status_served status.2 status.3
+    passed_for writes (inr (inr (inr write))) = write_served write.1 (writes write.2 write.3 write.1) write.4
 
-    pub served_for : (given : Result Action Errno) → IsServedHere given request geometry kept old new result → IsServedFor request kept pass next result
-    served_for (Ok End) here = absurd here
-    served_for (Ok Serve) (inl by) = passed_for by
-    served_for (Ok Serve) (inr (works, kind, same, inl none)) = as_it_was old new request.head.cookie _ result (refused_undone NoMemory) same none passed
-    served_for (Ok Serve) (inr (works, kind, same, inr read)) = as_it_was old new request.head.cookie _ result (shown_undone read.image request.head) same read.answer passed
-    served_for (Err errno) here = as_it_was old new request.head.cookie _ result (refused_undone errno) here.0 here.1 passed
+    pub served_for : (given : Result Action Errno) → (given ≡ Ok Serve → request.head.kind ≢ 0 → request.head.kind ≢ 7 → is_flush request ≡ false → is_write request ≡ true)
+        → IsServedHere given request geometry kept old new result → IsServedFor request kept pass next result
+    served_for (Ok End) writes here = absurd here
+    served_for (Ok Serve) writes (inl by) = passed_for (writes refl) by
+    served_for (Ok Serve) writes (inr (works, kind, same, inl none)) = as_it_was old new request.head.cookie _ result (refused_undone NoMemory) same none passed
+    served_for (Ok Serve) writes (inr (works, kind, same, inr read)) = as_it_was old new request.head.cookie _ result (shown_undone read.image request.head) same read.answer passed
+    served_for (Err errno) writes here = as_it_was old new request.head.cookie _ result (refused_undone errno) here.0 here.1 passed
 
     pub served_with : {D : Type 0} (state : D → State) (faults : D → ℕ) (honest : D → Type 0) (keeper left : KeeperState D) (given : Result Action Errno)
+        → (given ≡ Ok Serve → request.head.kind ≢ 0 → request.head.kind ≢ 7 → is_flush request ≡ false → is_write request ≡ true)
         → IsServedBy state faults honest given request geometry kept old new keeper left result → IsServedFor request kept pass next result
-    served_with state faults honest keeper left (Ok End) by = absurd by
-    served_with state faults honest keeper left (Ok Serve) (inl by) = passed_for by.1
-    served_with state faults honest keeper left (Ok Serve) (inr (works, kind, inl none)) = as_it_was old new request.head.cookie _ result (refused_undone NoMemory) none.0 none.2 passed
-    served_with state faults honest keeper left (Ok Serve) (inr (works, kind, inr (inl read))) =
+    served_with state faults honest keeper left (Ok End) writes by = absurd by
+    served_with state faults honest keeper left (Ok Serve) writes (inl by) = passed_for (writes refl) by.1
+    served_with state faults honest keeper left (Ok Serve) writes (inr (works, kind, inl none)) = as_it_was old new request.head.cookie _ result (refused_undone NoMemory) none.0 none.2 passed
+    served_with state faults honest keeper left (Ok Serve) writes (inr (works, kind, inr (inl read))) =
         quiet old.mark new.mark request.head.cookie _ result (shown_undone read.image request.head) (ap (λ (o : OrderState). o.mark) read.order) read.answer passed
-    served_with state faults honest keeper left (Ok Serve) (inr (works, kind, inr (inr unread))) =
+    served_with state faults honest keeper left (Ok Serve) writes (inr (works, kind, inr (inr unread))) =
         quiet old.mark new.mark request.head.cookie _ result (refused_undone Io) (ap (λ (o : OrderState). o.mark) unread.order) unread.answer passed
-    served_with state faults honest keeper left (Err errno) by = as_it_was old new request.head.cookie _ result (refused_undone errno) by.1 by.2 passed
+    served_with state faults honest keeper left (Err errno) writes by = as_it_was old new request.head.cookie _ result (refused_undone errno) by.1 by.2 passed
 
 -- the same of a request that may need the keeper
 pub if_served_for : {E : Type 0} (request : Message) (kept : Mode) (pass next : PassState) (geometry : Geometry) (old new : OrderState) (given : Result Action Errno) (result : Result Served E)
+    → (given ≡ Ok Serve → request.head.kind ≢ 0 → request.head.kind ≢ 7 → is_flush request ≡ false → is_write request ≡ true)
     → IfOk result (λ s. IsServedHere given request geometry kept old new s) → IfOk result (λ s. IsPassServed request old.mark new.mark s pass next)
     → IfOk result (λ s. IsServedFor request kept pass next s)
-if_served_for request kept pass next geometry old new given (Ok s) here passed = served_for request kept pass next geometry old new s passed given here
-if_served_for request kept pass next geometry old new given (Err back) here passed = tt
+if_served_for request kept pass next geometry old new given (Ok s) writes here passed = served_for request kept pass next geometry old new s passed given writes here
+if_served_for request kept pass next geometry old new given (Err back) writes here passed = tt
 
 -- what a request is answered that has waited for its number
-pub waited_for : (request : Message) (kept : Mode) (old mid new : PassState) (number : ℕ) (answer : Answer)
-    → (is_flush request ≡ true → known old ≤ number) × (is_write request ≡ true → IsAccepted request number old mid) → IsWaitedFor number mid new answer → IsSubmitted request kept old new answer
-waited_for request kept old mid new number answer served waited = record {
-  written = λ done write. (number, record { above = (served.1 write).above; own = waited.own ∙ (served.1 write).own }, λ stored. waited.done done);
-  flushed = λ done flush. let less = served.0 flush in let more = waited.done done in omega arith;
-  refused = λ errno is other. absurd (other (waited.only errno is));
-}
+module _ (request : Message) (kept : Mode) (old mid new : PassState) (number : ℕ) (answer : Answer)
+    (served : (is_flush request ≡ true → (known old ≤ number) × (mid.own ≡ old.own)) × (is_flush request ≡ false → (is_write request ≡ true) × IsAccepted request number old mid))
+    (waited : IsWaitedFor number mid new answer) where
+  accepted : is_flush request ≡ false → IsAccepted request number old new
+  accepted other = record { above = (served.1 other).1.above; own = waited.own ∙ (served.1 other).1.own }
+
+  own_by : (b : Bool) → is_flush request ≡ b → (new.own ≡ old.own) ⊎ ((is_write request ≡ true) × (number : ℕ) × IsAccepted request number old new)
+  own_by true is = inl (waited.own ∙ (served.0 is).1)
+  own_by false is = inr ((served.1 is).0, number, accepted is)
+
+  only_io : (errno : Errno) → (answer ≡ Done) ⊎ (answer ≡ Refused Io) → answer ≡ Refused errno → errno ≡ Io
+  only_io errno (inl done) is = absurd (refused_undone errno (sym is ∙ done))
+  only_io errno (inr io) is = same (sym is ∙ io)
+    where
+      same : Refused errno ≡ Refused Io → errno ≡ Io
+      same is = cc
+
+  pub waited_for : IsSubmitted request kept old new answer
+  waited_for = record {
+    written = λ done write. (number, accepted (write_flushes_none request.head.kind write), λ stored. waited.done done);
+    flushed = λ done flush. let less = (served.0 flush).0 in let more = waited.done done in omega arith;
+    refused = λ errno is other. absurd (other (only_io errno waited.answered is));
+    own = own_by (is_flush request) refl;
+  }

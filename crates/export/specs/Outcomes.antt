@@ -1,13 +1,14 @@
 -- what a request comes to once there was room for its command
-use Rattle.std.specs.Prelude.{◌≡◌, ◌≤◌, true}
+use Rattle.std.specs.Prelude.{◌≡◌, ◌≤◌, true, false}
+use Rattle.image_model.specs.declared.geometry.Geometry.{Geometry}
 use Rattle.marks.specs.Known.{PassState, known}
 use Rattle.nbd_reply.specs.Reply.{IsAnswerTo}
 use Rattle.nbd_wire.specs.Request.{Message}
-use Rattle.nbd_wire.specs.declared.message.Answer.TheVariants as answers
 use Rattle.nbd_wire.specs.declared.message.SessionFlags.{SessionFlags}
 use Rattle.world.specs.Log.{is_flush, is_write}
+use Rattle.world.specs.Verdict.{verdict}
 use Rattle.world.specs.declared.step.Mode.{Mode}
-use Rattle.export.specs.Submits.{IsAccepted, IsSubmitted}
+use Rattle.export.specs.Submits.{IsAccepted, IsJudged, IsSubmitted, IsWaiting}
 use Rattle.export.specs.declared.submitting.Outcome.{Outcome}
 use Rattle.export.specs.declared.submitting.Outcome.TheVariants.{Answered, Waits}
 
@@ -15,9 +16,9 @@ use Rattle.export.specs.declared.submitting.Outcome.TheVariants.{Answered, Waits
 abbrev pub IsOutcomeFor : Message → Mode → PassState → PassState → Outcome → Type 0
 IsOutcomeFor request kept old new (Answered answer) = IsSubmitted request kept old new answer
 IsOutcomeFor request kept old new (Waits number) =
-    (is_flush request ≡ true → known old ≤ number) × (is_write request ≡ true → IsAccepted request number old new)
+    (is_flush request ≡ true → (known old ≤ number) × (new.own ≡ old.own)) × (is_flush request ≡ false → (is_write request ≡ true) × IsAccepted request number old new)
 
--- its answer is one of its type
-abbrev pub FitsOutcome : SessionFlags → Message → Outcome → Type 0
-FitsOutcome flags request (Answered answer) = IsAnswerTo flags request.head.kind answer
-FitsOutcome flags request (Waits number) = IsAnswerTo flags request.head.kind answers.Done
+-- its answer is one of its type, which the verdict on it allows
+abbrev pub FitsOutcome : Geometry → SessionFlags → Message → Outcome → Type 0
+FitsOutcome geometry flags request (Answered answer) = IsAnswerTo flags request.head.kind answer × IsJudged (verdict request.head geometry flags) request answer
+FitsOutcome geometry flags request (Waits number) = IsWaiting geometry flags request

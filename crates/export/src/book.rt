@@ -79,7 +79,7 @@ impl<B: ExportName> Book<B> {
         requires kind { request.head.kind ≢ 2 }
         requires geometry { terms.geometry ≡ B.geometry }
         ensures served { IfOk result (λ served. IsServedFor request terms.mode pass.old pass.new served) }
-        ensures fits { IfOk result (λ served. FitsServed terms.flags request served) }
+        ensures fits { IfOk result (λ served. FitsServed terms.geometry terms.flags request served) }
         ensures handed_back { IfErr result (λ back. back.0 ≡ request) }
         ensures unchanged { OnErr result (pass.new ≡ pass.old) }
     {
@@ -100,7 +100,7 @@ impl<B: ExportName> Book<B> {
         requires geometry { terms.geometry ≡ B.geometry }
         requires device { keeper.old.geometry ≡ B.geometry }
         ensures served { IsServedFor request terms.mode pass.old pass.new result }
-        ensures fits { FitsServed terms.flags request result }
+        ensures fits { FitsServed terms.geometry terms.flags request result }
         ensures geometry { keeper.new.geometry ≡ keeper.old.geometry }
         ensures count { keeper.new.count ≡ keeper.old.count }
     {

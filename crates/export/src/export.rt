@@ -1,4 +1,9 @@
-ghost use Rattle.std.specs.Prelude.{◌≡◌, ◌≤◌, IfOk, length, vec_len};
+ghost use Rattle.std.specs.Prelude.{◌≡◌, ◌≤◌, ◌⊎◌, ℕ, IfOk, List, MatchResult, Ok, Err, Result, length, vec_len};
+ghost use Rattle.checkpoint.specs.Opening.{IsOpening};
+ghost use Rattle.checkpoint.specs.Recovery.{IsRecovered};
+ghost use Rattle.checkpoint.specs.declared.fault.KeeperFault.{KeeperFault as Fault};
+ghost use Rattle.checkpoint.specs.declared.fault.KeeperFault.TheVariants as fault;
+ghost use Rattle.device_image.specs.Keeper.{KeeperState};
 
 use crate::book::Book;
 use crate::name::ExportName;
@@ -22,8 +27,18 @@ pub struct OpenDevice<D: Disk> {
 
 impl<D: Disk> OpenDevice<D> {
     /// Opens a device, which recovers it. It refuses as `Keeper::open` does, and hands the device back.
-    pub fn open(alloc: Global, disk: D) -> Result<OpenDevice<D>, (KeeperFault, D)> {
-        let keeper = Keeper::open(alloc, disk)?;
+    pub fn open(alloc: Global, disk: D) -> Result<OpenDevice<D>, (KeeperFault, D)>
+        ensures recovered { IfOk result (λ opened. IsRecovered opened.keeper) }
+
+        // The keeper was opened, and this is what that came to, or memory was refused behind it.
+        ensures found { D.honest disk → (given : Result (KeeperState D) (Fault × D)) × (content : List ℕ) × IsOpening (D.state disk) D.state given content
+            × MatchResult result (λ opened. given ≡ Ok opened.keeper)
+            (λ refused. (given ≡ Err refused) ⊎ ((refused.0 ≡ fault.NoMemory) × (keeper : KeeperState D) × (given ≡ Ok keeper) × (refused.1 ≡ keeper.disk))) }
+    {
+        let keeper = match Keeper::open(alloc, disk) {
+            Ok(keeper) => keeper,
+            Err(refused) => return Err(refused),
+        };
         match BlankBoard::new(alloc, keeper.count()) {
             Ok(blank) => Ok(OpenDevice { blank, keeper }),
             Err(_) => Err((KeeperFault::NoMemory, keeper.into_disk())),

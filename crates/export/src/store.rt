@@ -132,7 +132,7 @@ impl<B: ExportName, D: Disk> Store<B, D> {
         requires kind { request.head.kind ≢ 2 }
         requires geometry { terms.geometry ≡ B.geometry }
         ensures served { IsServedFor request terms.mode pass.old pass.new result }
-        ensures fits { FitsServed terms.flags request result }
+        ensures fits { FitsServed terms.geometry terms.flags request result }
     {
         book.serve_with(alloc, request, &mut self.seated.keeper, board, pass, terms)
     }

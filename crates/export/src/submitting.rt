@@ -1,9 +1,10 @@
 ghost use Rattle.std.specs.Prelude.{◌≡◌, ◌≢◌, ◌≤◌, ◌<◌, max, IfNone, IfSome};
-ghost use Rattle.export.specs.Submits.{FitsServed, IsServedFor, IsSubmitted, IsWaitedFor};
+ghost use Rattle.export.specs.Submits.{FitsServed, IsJudged, IsServedFor, IsSubmitted, IsWaitedFor};
 ghost use Rattle.export.specs.Outcomes.{FitsOutcome, IsOutcomeFor};
 ghost use Rattle.marks.specs.Known.{known};
 ghost use Rattle.nbd_reply.specs.Reply.{IsAnswerTo};
 ghost use Rattle.nbd_wire.specs.declared.message.Answer.TheVariants as Answer;
+ghost use Rattle.world.specs.Verdict.{verdict};
 
 use crate::export::Export;
 use crate::name::ExportName;
@@ -17,7 +18,7 @@ impl<B: ExportName, D: Disk> Export<B, D> {
     /// What all that was accepted by now is answered with a FLUSH: Done where it is durable, and else nothing. It waits for
     /// nobody and takes no lock.
     pub fn flush_now(&self, pass: &mut Pass<B>) -> Option<Answer>
-        ensures done { IfSome result (λ answer. (answer ≡ Answer.Done) × (known pass.old ≤ pass.new.durable)) }
+        ensures done { IfSome result (λ answer. (answer ≡ Answer.Done) × (known pass.old ≤ pass.new.accepted) × (pass.new.accepted ≤ pass.new.durable)) }
         ensures none { IfNone result (pass.new.durable < pass.new.accepted) }
     {
         let accepted = self.board.look_accepted(pass);
@@ -47,6 +48,9 @@ impl<B: ExportName, D: Disk> Export<B, D> {
 
 impl<B: ExportName, D: Disk> Export<B, D> {
     /// Serves a request that isn't a DISC, for a pass, to its reply. It may wait: for room, and until what it says is durable.
+    ///
+    /// A request that is refused by the rules on requests is answered with their error, and any other one with EIO after a
+    /// device fault, ENOMEM where memory is refused, ENOSPC where no number is left, or what was asked for.
     pub fn submit<R: Wait>(
         &self,
         rt: &R,
@@ -58,6 +62,7 @@ impl<B: ExportName, D: Disk> Export<B, D> {
         ensures cookie { result.cookie ≡ request.head.cookie }
         ensures submitted { IsSubmitted request self.now.mode pass.old pass.new result.answer }
         ensures kind { IsAnswerTo flags.now request.head.kind result.answer }
+        ensures judged { IsJudged (verdict request.head self.now.geometry flags.now) request result.answer }
     {
         let cookie = request.head().cookie;
         let terms = Terms {
@@ -79,7 +84,7 @@ impl<B: ExportName, D: Disk> Export<B, D> {
         requires kind { request.head.kind ≢ 2 }
         requires geometry { terms.geometry ≡ B.geometry }
         ensures outcome { IsOutcomeFor request terms.mode pass.old pass.new result }
-        ensures fits { FitsOutcome terms.flags request result }
+        ensures fits { FitsOutcome terms.geometry terms.flags request result }
     {
         let mut request = request;
         for _ in rt.forever() {
@@ -140,7 +145,7 @@ impl<B: ExportName, D: Disk> Export<B, D> {
         requires kind { request.head.kind ≢ 2 }
         requires geometry { terms.geometry ≡ B.geometry }
         ensures served { IsServedFor request terms.mode pass.old pass.new result }
-        ensures fits { FitsServed terms.flags request result }
+        ensures fits { FitsServed terms.geometry terms.flags request result }
     {
         let mut store = self.store.lock(rt);
         let mut book = self.book.lock(rt);

@@ -1,5 +1,6 @@
 ghost use Rattle.std.specs.Prelude.{◌≡◌, ◌≢◌};
-ghost use Rattle.export.specs.Submits.{IsSubmitted};
+ghost use Rattle.export.specs.Submits.{IsJudged, IsSubmitted};
+ghost use Rattle.world.specs.Verdict.{verdict};
 
 use crate::client::Client;
 use bitflags::Flags;
@@ -27,7 +28,8 @@ pub struct Desk<'a, B: ExportName, D: Disk, R: Wait> {
 }
 
 impl<'a, B: ExportName, D: Disk, R: Wait> Serve<Pass<B>> for Desk<'a, B, D, R> {
-    ghost allows = { λ desk pass request flags next reply. request.head.kind ≢ 2 → IsSubmitted request desk.export.now.mode pass next reply.answer };
+    ghost allows = { λ desk pass request flags next reply. request.head.kind ≢ 2
+        → IsSubmitted request desk.export.now.mode pass next reply.answer × IsJudged (verdict request.head desk.export.now.geometry flags) request reply.answer };
 
     ghost extent = { λ desk. desk.export.now.geometry };
 

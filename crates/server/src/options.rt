@@ -36,8 +36,8 @@ impl ServeOptions {
     ) -> Option<ServeOptions>
         ensures { MatchOption result
             ((512 ≤ frames) × (frames ≤ 65536) × (0 < workers) × (workers ≤ 16) × (0 < handshake_seconds) → ⊥)
-            (λ options. (options.frames ≡ frames) × (options.mode ≡ mode) × (options.workers ≡ workers) × (options.sessions ≡ sessions)
-            × (options.handshake_seconds ≡ handshake_seconds)) }
+            (λ options. (512 ≤ frames) × (0 < handshake_seconds) × (options.frames ≡ frames) × (options.mode ≡ mode) × (options.workers ≡ workers)
+            × (options.sessions ≡ sessions) × (options.handshake_seconds ≡ handshake_seconds)) }
     {
         if !(LEAST_FRAMES..=MOST_FRAMES).contains(&frames) {
             return None;
