@@ -36,10 +36,11 @@ use std::io::{Read, Write};
 use std::marker::Brand;
 use world_law::schedule_law;
 
-// The most bytes that one read takes, and the most of them behind the data at hand: 32 heads of requests.
+// The most bytes that one read takes, and the most of them behind the data at hand: 8 heads of requests. The replies to as many
+// READs of 1 MiB still lie in a cache when they are written.
 const PIECE_BYTES: usize = 65_536;
 
-const HEAD_BYTES: usize = 896;
+const HEAD_BYTES: usize = 224;
 
 // What both sides of a pipe agree on without a handshake.
 const PLAIN: SessionFlags = SessionFlags {
