@@ -41,17 +41,13 @@ impl<'a> Read for Input<'a> {
     }
 }
 
-/// What a client is sent. The gate is reached after each write of replies.
+/// What a client is sent.
 #[derive(Drop)]
-pub(crate) struct Output<'a, G: Gate> {
-    pub client: &'a Client,
-    pub is_replying: &'a Cell<bool>,
-    pub gate: &'a mut G,
-}
+pub(crate) struct Output<'a>(pub &'a Client);
 
-impl<'a, G: Gate> Write for Output<'a, G> {
+impl<'a> Write for Output<'a> {
     fn write(&mut self, buf: &[u8]) -> io::Result<usize> {
-        let sent = match self.client {
+        match self.0 {
             Client::Tcp(stream) => {
                 let mut stream = stream;
                 stream.write(buf)
@@ -60,8 +56,27 @@ impl<'a, G: Gate> Write for Output<'a, G> {
                 let mut stream = stream;
                 stream.write(buf)
             }
-        };
-        let count = sent?;
+        }
+    }
+
+    fn flush(&mut self) -> io::Result<()> {
+        Ok(())
+    }
+}
+
+/// What is written to `inner`. The gate is reached after each write of replies.
+#[derive(Drop)]
+pub(crate) struct Gated<'a, W: Write + Drop, G: Gate> {
+    pub inner: W,
+    pub is_replying: &'a Cell<bool>,
+    pub gate: &'a mut G,
+}
+
+impl<'a, W: Write + Drop, G: Gate> Write for Gated<'a, W, G> {
+    ghost contents = { λ gated. W.contents gated.inner };
+
+    fn write(&mut self, buf: &[u8]) -> io::Result<usize> {
+        let count = self.inner.write(buf)?;
         if self.is_replying.get() {
             self.gate.reach(Point::Answered);
         }
@@ -69,6 +84,6 @@ impl<'a, G: Gate> Write for Output<'a, G> {
     }
 
     fn flush(&mut self) -> io::Result<()> {
-        Ok(())
+        self.inner.flush()
     }
 }

@@ -1,10 +1,11 @@
-ghost use Rattle.std.specs.Prelude.{◌≡◌};
+ghost use Rattle.std.specs.Prelude.{◌≡◌, IfOk, vec_len};
 
 use crate::listener::Listener;
 use crate::options::ServeOptions;
 use crate::worker::{Reception, worker};
 use disk_model::Disk;
 use export::{Export, ExportName, Gate, OpenDevice};
+use marks::Pass;
 use nbdj_pipe::Refusal;
 use std::alloc::Global;
 use std::marker::Brand;
@@ -47,13 +48,8 @@ where
     requires board { device.blank.board ≡ B.board }
     requires geometry { device.keeper.geometry ≡ B.geometry }
 {
-    let ServeOptions {
-        frames,
-        mode,
-        workers,
-        ..
-    } = options;
-    match Export::<B, D>::open(alloc, device, frames, mode, workers as usize) {
+    let workers = options.workers;
+    match open_export::<B, D>(alloc, device, &options) {
         Ok((export, passes)) => {
             let reception = Reception::new(alloc, listener, passes, &options);
             let outcome = if !run_threads(rt, &reception, &export, workers, gate) {
@@ -68,6 +64,29 @@ where
         }
         Err(disk) => (Err(Refusal::NoMemory), disk),
     }
+}
+
+// The export that the options ask for, and a pass for each worker.
+fn open_export<B, D>(
+    alloc: Global,
+    device: OpenDevice<D>,
+    options: &ServeOptions,
+) -> Result<(Export<B, D>, Vec<Pass<B>>), D>
+where
+    B: ExportName,
+    D: Disk,
+    requires board { device.blank.board ≡ B.board }
+    requires geometry { device.keeper.geometry ≡ B.geometry }
+    ensures mode { IfOk result (λ made. made.0.mode ≡ options.now.mode) }
+    ensures passes { IfOk result (λ made. vec_len made.1 ≡ options.now.workers) }
+{
+    Export::<B, D>::open(
+        alloc,
+        device,
+        options.frames,
+        options.mode,
+        options.workers as usize,
+    )
 }
 
 // Workers beside a flusher and a checkpointer, until all have ended. Where not as many threads can be made, fewer clients are

@@ -1,4 +1,7 @@
-use crate::client::{Client, Input, Output};
+ghost use Rattle.std.specs.Prelude.{◌≡◌, ℕ, ◌-◌, true, nat_lt};
+ghost use Rattle.server.specs.declared.worker.Sessions.TheVariants as Sessions;
+
+use crate::client::{Client, Gated, Input, Output};
 use crate::desk::Desk;
 use crate::listener::Listener;
 use crate::options::ServeOptions;
@@ -28,7 +31,10 @@ enum Sessions {
 
 impl Sessions {
     // Whether another session may begin, which does.
-    fn begin(&mut self) -> bool {
+    fn begin(&mut self) -> bool
+        ensures endless { self.old ≡ Sessions.Endless → (result ≡ true) × (self.new ≡ Sessions.Endless) }
+        ensures left { (left : ℕ) → self.old ≡ Sessions.Left left → (result ≡ nat_lt 0 left) × (self.new ≡ Sessions.Left (left - 1)) }
+    {
         match self {
             Sessions::Endless => true,
             Sessions::Left(0) => false,
@@ -127,8 +133,8 @@ fn serve_client<B: ExportName, D: Disk, R: Wait, G: Gate>(
         client,
         is_replying: &is_replying,
     };
-    let mut output = Output {
-        client,
+    let mut output = Gated {
+        inner: Output(client),
         is_replying: &is_replying,
         gate,
     };
