@@ -1,6 +1,6 @@
 -- what is served with no keeper at hand is served as with one, and what a pass knows once a READ was answered
 use Rattle.std.specs.Prelude.{MatchBool}
-use Rattle.std.proofs.Common.{◌≡◌, ◌∙◌, ◌<◌, inl, inr, ℕ, Bool, false, true, nat_lt, Result, Ok, Err, ap, refl, sym, subst, arith}
+use Rattle.std.proofs.Common.{◌≡◌, ◌<◌, inl, inr, ℕ, Bool, false, nat_lt, Result, Ok, Err, ap, refl, sym, subst, arith}
 use Rattle.std.proofs.lemmas.Bool.Decides.{nat_tests}
 use Rattle.device_image.specs.Keeper.{KeeperState}
 use Rattle.disk_model.specs.Disk.{State}

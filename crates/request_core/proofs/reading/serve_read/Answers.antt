@@ -1,15 +1,12 @@
-use Rattle.std.proofs.Common.{◌≡◌, ◌≢◌, ◌+◌, ◌-◌, ◌*◌, ◌/◌, ℕ, zero, suc, inl, inr, Option, Some, List, ◌++◌, drop, take, get_or, length, replicate, sym, ◌∙◌, ap, subst, refl, arith}
-use Rattle.std.proofs.lemmas.List.{take_at}
+use Rattle.std.proofs.Common.{◌≡◌, ◌≢◌, ◌+◌, ◌-◌, ◌*◌, ◌/◌, ℕ, inl, inr, List, get_or, length, replicate, sym, ◌∙◌, ap, subst, refl, arith}
 use Rattle.alloc_map.specs.Codes.{state_at}
 use Rattle.image_model.specs.Image.{Image}
 use Rattle.image_model.specs.declared.command.Kind.{Kind}
-use Rattle.image_model.specs.declared.command.Kind.TheVariants.{Data, Zero, Hole}
+use Rattle.image_model.specs.declared.command.Kind.TheVariants.{Data}
 use Rattle.nbd_wire.specs.declared.message.Answer.{Answer}
 use Rattle.request_core.specs.Serving.{ready_for}
 use Rattle.request_core.proofs.InMemory.{seen_zero, whole, zero_there}
 use Rattle.request_core.proofs.reading.serve_read.Goals as goal
-use Rattle.shared_cache.specs.Blocks.{bytes_of}
-use Rattle.shared_cache.specs.Cache.{CacheState, bytes_for, bytes_seen}
 
 pub bytes_answer-requires-clause-zero : goal.bytes_answer-requires-clause-zero
 bytes_answer-requires-clause-zero g c = λ j k below inside other.

@@ -1,7 +1,6 @@
-use Rattle.std.proofs.Common.{◌≡◌, ◌∙◌, ap, refl, sym, subst}
+use Rattle.std.proofs.Common.{refl, sym, subst}
 use Rattle.journal.proofs.Chained.{none_read}
 use Rattle.marks.specs.Known.{PassState}
-use Rattle.nbd_wire.specs.declared.head.RequestHead.{RequestHead}
 use Rattle.order_book.specs.Order.{OrderState}
 use Rattle.request_core.specs.Serving.{IsPassServed}
 use Rattle.request_core.proofs.Here.{read_leaves, read_passes, served_here}
