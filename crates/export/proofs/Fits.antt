@@ -1,5 +1,5 @@
 -- what a request is answered is of its type
-use Rattle.std.specs.Prelude.{IfOk, ◌&&◌, ◌||◌, bit_and, not}
+use Rattle.std.specs.Prelude.{IfOk, ◌&&◌, bit_and, not}
 use Rattle.std.proofs.Common.{◌≡◌, ◌≢◌, ◌⊎◌, ◌∙◌, ◌+◌, ◌==◌, inl, inr, ℕ, Bool, false, true, if◌then◌else◌, List, [], ◌∷◌, Result, Ok, Err, ap, refl, sym, subst, arith}
 use Rattle.std.proofs.lemmas.Bool.Decides.{nat_tests}
 use Rattle.alloc_map.specs.Codes.{state_at}
@@ -19,17 +19,16 @@ use Rattle.nbd_wire.specs.declared.message.Run.{Run}
 use Rattle.nbd_wire.specs.declared.message.SessionFlags.{SessionFlags}
 use Rattle.order_book.specs.Order.{OrderState}
 use Rattle.request_core.specs.Outcomes.{IsPassed, IsServedBy, IsServedHere}
-use Rattle.request_core.specs.Reading.{IsHeldReadServed, IsReadServed, IsStatusServed}
+use Rattle.request_core.specs.Reading.{IsStatusServed}
 use Rattle.request_core.specs.Serving.{IsWriteServed, ready_for, served_after}
 use Rattle.request_core.specs.declared.serving.Served.{Served}
-use Rattle.request_core.specs.declared.serving.Served.TheVariants as served
 use Rattle.world.specs.Log.{is_flush, is_write, is_write_type, waits_for_store}
 use Rattle.world.specs.Shown.{shown_by}
 use Rattle.world.specs.Verdict.{allowed_flags, first_of_rules, is_known, range_verdict, verdict}
 use Rattle.world.specs.declared.action.Action.{Action}
 use Rattle.world.specs.declared.action.Action.TheVariants.{End, Serve}
 use Rattle.world.specs.declared.step.Mode.{Mode}
-use Rattle.export.specs.Submits.{FitsServed, IsJudged, IsWaiting}
+use Rattle.export.specs.Submits.{FitsServed, IsJudged}
 
 -- the sixth rule didn't apply where none of them is the fourth
 sixth : (first second third fourth fifth last : Bool) (otherwise : Result Action Errno) → fourth ≡ false

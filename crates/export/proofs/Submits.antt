@@ -8,7 +8,7 @@ use Rattle.device_image.specs.Keeper.{KeeperState}
 use Rattle.disk_model.specs.Disk.{State}
 use Rattle.image_model.specs.Image.{Image}
 use Rattle.image_model.specs.declared.geometry.Geometry.{Geometry}
-use Rattle.marks.specs.Known.{Numbered, PassState, known}
+use Rattle.marks.specs.Known.{PassState, known}
 use Rattle.nbd_wire.specs.Answer.{BytesRead}
 use Rattle.nbd_wire.specs.Request.{Message}
 use Rattle.nbd_wire.specs.declared.error.Errno.{Errno}
@@ -17,10 +17,10 @@ use Rattle.nbd_wire.specs.declared.head.RequestHead.{RequestHead}
 use Rattle.nbd_wire.specs.declared.message.Answer.{Answer}
 use Rattle.nbd_wire.specs.declared.message.Answer.TheVariants.{Bytes, Done, Refused, States}
 use Rattle.nbd_wire.specs.declared.message.Run.{Run}
-use Rattle.order_book.specs.Order.{OrderState, with_command}
+use Rattle.order_book.specs.Order.{OrderState}
 use Rattle.request_core.specs.Outcomes.{IsPassed, IsServedBy, IsServedHere}
-use Rattle.request_core.specs.Reading.{IsHeldReadServed, IsReadServed, IsStatusServed}
-use Rattle.request_core.specs.Serving.{IsCommandServed, IsPassServed, IsWriteServed, accepted_for, ready_for, served_after}
+use Rattle.request_core.specs.Reading.{IsStatusServed}
+use Rattle.request_core.specs.Serving.{IsPassServed, IsWriteServed, accepted_for, ready_for, served_after}
 use Rattle.request_core.specs.declared.serving.Served.{Served}
 use Rattle.request_core.specs.declared.serving.Served.TheVariants as served
 use Rattle.world.specs.Log.{is_flush, is_write, is_write_type, waits_for_store}

@@ -1,9 +1,8 @@
 -- what a pass knows once a request was served for it, and once it was answered
-use Rattle.std.specs.Prelude.{ℕ, ◌≡◌, ◌≢◌, ◌<◌, ◌≤◌, ◌⊎◌, true, false, Option, Some, Result, Ok, Err}
-use Rattle.image_model.specs.Change.{Change}
+use Rattle.std.specs.Prelude.{ℕ, ◌≡◌, ◌≢◌, ◌<◌, ◌≤◌, ◌⊎◌, true, false, Some, Result, Ok, Err}
 use Rattle.image_model.specs.Image.{Image}
 use Rattle.image_model.specs.declared.geometry.Geometry.{Geometry}
-use Rattle.marks.specs.Known.{Numbered, PassState, known}
+use Rattle.marks.specs.Known.{PassState, known}
 use Rattle.nbd_reply.specs.Reply.{IsAnswerTo}
 use Rattle.nbd_wire.specs.Request.{Message}
 use Rattle.nbd_wire.specs.declared.error.Errno.{Errno}

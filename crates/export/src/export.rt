@@ -1,9 +1,10 @@
-ghost use Rattle.std.specs.Prelude.{◌≡◌, ◌≤◌, ◌⊎◌, ℕ, IfOk, List, MatchResult, Ok, Err, Result, length, vec_len};
+ghost use Rattle.std.specs.Prelude.{◌≡◌, ◌≤◌, ◌⊎◌, ℕ, IfOk, List, MatchResult, Ok, Err, Result, length, replicate, vec_len};
 ghost use Rattle.checkpoint.specs.Opening.{IsOpening};
 ghost use Rattle.checkpoint.specs.Recovery.{IsRecovered};
 ghost use Rattle.checkpoint.specs.declared.fault.KeeperFault.{KeeperFault as Fault};
 ghost use Rattle.checkpoint.specs.declared.fault.KeeperFault.TheVariants as fault;
 ghost use Rattle.device_image.specs.Keeper.{KeeperState};
+ghost use Rattle.marks.specs.Known.{new_pass};
 
 use crate::book::Book;
 use crate::name::ExportName;
@@ -97,6 +98,7 @@ impl<B: ExportName, D: Disk> Export<B, D> {
         requires frames { frames ≤ 65536 }
         ensures mode { IfOk result (λ made. made.0.mode ≡ mode) }
         ensures passes { IfOk result (λ made. vec_len made.1 ≡ workers) }
+        ensures known { IfOk result (λ made. made.1.items ≡ replicate workers (new_pass device.keeper.count)) }
     {
         let OpenDevice { blank, keeper } = device;
         match open_parts::<B, D>(alloc, blank, &keeper, frames, workers) {
@@ -154,6 +156,7 @@ fn open_parts<B: ExportName, D: Disk>(
     ensures seat { IfOk result (λ parts. parts.1.durable ≤ keeper.now.count) }
     ensures blocks { IfOk result (λ parts. length parts.2.cache.states ≡ keeper.now.geometry.blocks) }
     ensures passes { IfOk result (λ parts. vec_len parts.3 ≡ workers) }
+    ensures known { IfOk result (λ parts. parts.3.items ≡ replicate workers (new_pass keeper.now.count)) }
 {
     let Opened {
         board,

@@ -1,4 +1,4 @@
-use Rattle.std.proofs.Common.{◌⊎◌, inl, inr, refl}
+use Rattle.std.proofs.Common.{inl, inr, refl}
 use Rattle.export.proofs.export.OpenDevice.open.Goals as goal
 
 pub returns-in-Err-clause-found : goal.returns-in-Err-clause-found
