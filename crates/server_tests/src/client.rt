@@ -1,7 +1,7 @@
 //! A client that asks for blocks of 4,096 bytes, and waits for its server at most five seconds at a time.
 ghost use Rattle.std.specs.Prelude.{◌<◌, ◌^◌};
 
-use nbd_wire::{DISCONNECT, FLUSH, RequestHead, WRITE, encode_request};
+use nbd_wire::{DISCONNECT, FLUSH, READ, RequestHead, WRITE, encode_request};
 use std::io::{self, ErrorKind, Read, Write};
 use std::net::{Ipv4Addr, SocketAddr, TcpStream};
 use std::time::Duration;
@@ -53,6 +53,20 @@ impl Client {
         self.stream.write_all(&[byte; 4096])
     }
 
+    // Sends a READ of two blocks.
+    pub fn send_read(&mut self, block: u64) -> io::Result<()>
+        requires { block < 2 ^ 24 }
+    {
+        let head = RequestHead {
+            flags: 0,
+            kind: READ,
+            cookie: block,
+            offset: 4096 * block,
+            length: 8192,
+        };
+        self.stream.write_all(&encode_request(&head))
+    }
+
     // Sends a FLUSH, whose cookie is this.
     pub fn send_flush(&mut self, cookie: u64) -> io::Result<()> {
         self.send(FLUSH, cookie)
@@ -76,14 +90,33 @@ impl Client {
 
     // Waits for a simple reply without an error to the request with this cookie.
     pub fn expect_done(&mut self, cookie: u64) -> io::Result<()> {
+        self.expect(cookie, 0)
+    }
+
+    // Waits for a simple reply with this error, 0 for none.
+    pub fn expect(&mut self, cookie: u64, error: u32) -> io::Result<()> {
         let mut reply = [0; 16];
         self.stream.read_exact(&mut reply)?;
         let mut expected = [0x67, 0x44, 0x66, 0x98, 0, 0, 0, 0, 0, 0, 0, 0, 0, 0, 0, 0];
+        expected[4..8].copy_from_slice(&error.to_be_bytes());
         expected[8..].copy_from_slice(&cookie.to_be_bytes());
-        if reply == expected {
-            Ok(())
-        } else {
-            Err(io::Error::from(ErrorKind::InvalidData))
+        wanted(reply == expected)
+    }
+
+    // Waits for the bytes of two blocks behind a reply, each of one byte over and over.
+    pub fn expect_blocks(&mut self, first: u8, second: u8) -> io::Result<()> {
+        let mut blocks = [[0; 4096]; 2];
+        for block in &mut blocks {
+            self.stream.read_exact(block)?;
         }
+        wanted(blocks[0] == [first; 4096] && blocks[1] == [second; 4096])
+    }
+}
+
+fn wanted(is_so: bool) -> io::Result<()> {
+    if is_so {
+        Ok(())
+    } else {
+        Err(io::Error::from(ErrorKind::InvalidData))
     }
 }

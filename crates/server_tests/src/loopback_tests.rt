@@ -3,7 +3,7 @@
 use crate::client::Client;
 use bitflags::Flags;
 use checkpoint::Keeper;
-use disk_model::SimDisk;
+use disk_model::{CallKind, SimDisk};
 use export::{Gate, OpenDevice, Point};
 use image_model::Geometry;
 use nbd_wire::CommandFlags;
@@ -18,6 +18,9 @@ use std::sync::atomic::{AtomicBool, AtomicU64, Ordering};
 use std::thread::{self, Threads};
 use std::time::Duration;
 use world::Mode;
+
+// The number of the error EIO on the wire.
+const EIO: u32 = 5;
 
 // What the threads of a server have come to.
 #[derive(Drop)]
@@ -113,7 +116,7 @@ fn write_beside_a_held_one(rt: &HostRuntime, port: u16, seen: &Seen) -> io::Resu
     other.disconnect()
 }
 
-// One client writes, and then another flushes.
+// One client writes, and then another flushes, and reads two of the blocks.
 fn flush_what_another_wrote(rt: &HostRuntime, port: u16) -> io::Result<()> {
     let mut one = Client::connect(rt, port)?;
     let mut other = Client::connect(rt, port)?;
@@ -123,15 +126,31 @@ fn flush_what_another_wrote(rt: &HostRuntime, port: u16) -> io::Result<()> {
     }
     other.send_flush(77)?;
     other.expect_done(77)?;
+    other.send_read(5)?;
+    other.expect_done(5)?;
+    other.expect_blocks(0x65, 0x66)?;
     one.disconnect()?;
     other.disconnect()
 }
 
-// A device over holes that was opened.
-fn fresh(alloc: Global) -> Option<OpenDevice<SimDisk>> {
+// A client's FUA WRITE meets a sync that fails, and so does what it asks behind that.
+fn write_to_a_failing_device(rt: &HostRuntime, port: u16) -> io::Result<()> {
+    let mut one = Client::connect(rt, port)?;
+    one.send_write(1, 0x41, CommandFlags::FUA.bits())?;
+    one.expect(1, EIO)?;
+    one.send_flush(2)?;
+    one.expect(2, EIO)?;
+    one.disconnect()
+}
+
+// A device over holes that was opened. Where it fails, the first sync behind the opening does, which has one.
+fn fresh(alloc: Global, fails: bool) -> Option<OpenDevice<SimDisk>> {
     let geometry = Geometry::new(64, 2_097_152)?;
     let mut disk = SimDisk::new(alloc, geometry.device_bytes()).ok()?;
     Keeper::format(alloc, &mut disk, geometry).ok()?;
+    if fails {
+        disk.fail(CallKind::Sync, 2);
+    }
     OpenDevice::open(alloc, disk).ok()
 }
 
@@ -140,6 +159,7 @@ fn fresh(alloc: Global) -> Option<OpenDevice<SimDisk>> {
 enum Clients {
     WriteBesideAHeldOne,
     FlushWhatAnotherWrote,
+    WriteToAFailingDevice,
 }
 
 // What a run came to: what the clients met, and what the server and its device did.
@@ -162,7 +182,11 @@ fn run<R: Threads + Wait + Clock + Sync>(
     let port = socket.local_addr().ok()?.port();
     let listener = Listener::Tcp(socket);
     let options = ServeOptions::new(512, Mode::Writeback, 2, 2, 5)?;
-    let device = fresh(alloc)?;
+    let fails = match clients {
+        Clients::WriteToAFailingDevice => true,
+        Clients::WriteBesideAHeldOne | Clients::FlushWhatAnotherWrote => false,
+    };
+    let device = fresh(alloc, fails)?;
     beside_a_server(
         rt, threads, alloc, device, listener, port, options, clients, seen,
     )
@@ -188,6 +212,7 @@ fn beside_a_server<R: Threads + Wait + Clock + Sync>(
         let met = match clients {
             Clients::WriteBesideAHeldOne => write_beside_a_held_one(rt, port, seen),
             Clients::FlushWhatAnotherWrote => flush_what_another_wrote(rt, port),
+            Clients::WriteToAFailingDevice => write_to_a_failing_device(rt, port),
         };
         // Where clients gave up, a group may still be held, and the server still waits for sessions.
         seen.holds.store(false, Ordering::SeqCst);
@@ -240,4 +265,12 @@ fn flush_covers_what_another_connection_wrote(rt: HostRuntime) {
     for block in 0..16 {
         assert!(rt; has_block(&mut keeper, block, 0x60 + block as u8));
     }
+}
+
+#[test]
+fn a_device_that_fails_ends_the_server_with_its_fault(rt: HostRuntime) {
+    let seen = Seen::new(false);
+    let ran = run(&rt, &rt, Clients::WriteToAFailingDevice, &seen).expect(&rt, "a server");
+    assert!(rt; ran.clients.is_ok());
+    assert!(rt; ran.outcome == Err(Refusal::DeviceFault));
 }
