@@ -1,7 +1,7 @@
 //! A client that asks for blocks of 4,096 bytes, and waits for its server at most five seconds at a time.
 ghost use Rattle.std.specs.Prelude.{◌<◌, ◌^◌};
 
-use nbd_wire::{DISCONNECT, FLUSH, READ, RequestHead, WRITE, encode_request};
+use nbd_wire::{DISCONNECT, FLUSH, READ, RequestHead, TRIM, WRITE, encode_request};
 use std::io::{self, ErrorKind, Read, Write};
 use std::net::{Ipv4Addr, SocketAddr, TcpStream};
 use std::time::Duration;
@@ -51,6 +51,28 @@ impl Client {
         };
         self.stream.write_all(&encode_request(&head))?;
         self.stream.write_all(&[byte; 4096])
+    }
+
+    // Sends a TRIM of one block and a FLUSH at once.
+    pub fn send_trim_and_flush(&mut self, block: u64, cookie: u64) -> io::Result<()>
+        requires { block < 2 ^ 24 }
+    {
+        let trim = RequestHead {
+            flags: 0,
+            kind: TRIM,
+            cookie: block,
+            offset: 4096 * block,
+            length: 4096,
+        };
+        let flush = RequestHead {
+            flags: 0,
+            kind: FLUSH,
+            cookie,
+            offset: 0,
+            length: 0,
+        };
+        self.stream
+            .write_all(&joined(&encode_request(&trim), &encode_request(&flush)))
     }
 
     // Sends a READ of two blocks.
@@ -111,6 +133,14 @@ impl Client {
         }
         wanted(blocks[0] == [first; 4096] && blocks[1] == [second; 4096])
     }
+}
+
+// Two heads of requests, one behind the other.
+fn joined(one: &[u8; 28], other: &[u8; 28]) -> [u8; 56] {
+    let mut both = [0; 56];
+    both[..28].copy_from_slice(one);
+    both[28..].copy_from_slice(other);
+    both
 }
 
 fn wanted(is_so: bool) -> io::Result<()> {

@@ -33,6 +33,8 @@ struct Seen {
     is_overtaken: AtomicBool,
     // How many times replies were written.
     answers: AtomicU64,
+    // One more than that was when the first group was to be stored.
+    answers_before: AtomicU64,
 }
 
 impl Seen {
@@ -42,6 +44,7 @@ impl Seen {
             is_held: AtomicBool::new(false),
             is_overtaken: AtomicBool::new(false),
             answers: AtomicU64::new(0),
+            answers_before: AtomicU64::new(0),
         }
     }
 }
@@ -74,10 +77,15 @@ impl<'a, R: Clock> Gate for Holding<'a, R> {
 
 impl<'a, R: Clock> Holding<'a, R> {
     fn hold(&self) {
+        let before = self.seen.answers.load(Ordering::SeqCst);
+        if self.seen.answers_before.load(Ordering::SeqCst) == 0 {
+            self.seen
+                .answers_before
+                .store(before.saturating_add(1), Ordering::SeqCst);
+        }
         if !self.seen.holds.load(Ordering::SeqCst) {
             return;
         }
-        let before = self.seen.answers.load(Ordering::SeqCst);
         self.seen.is_held.store(true, Ordering::SeqCst);
         for _ in 0..10_000 {
             if self.seen.answers.load(Ordering::SeqCst) != before {
@@ -133,6 +141,15 @@ fn flush_what_another_wrote(rt: &HostRuntime, port: u16) -> io::Result<()> {
     other.disconnect()
 }
 
+// A client sends a TRIM and a FLUSH at once.
+fn flush_behind_a_trim(rt: &HostRuntime, port: u16) -> io::Result<()> {
+    let mut one = Client::connect(rt, port)?;
+    one.send_trim_and_flush(1, 2)?;
+    one.expect_done(1)?;
+    one.expect_done(2)?;
+    one.disconnect()
+}
+
 // A client's FUA WRITE meets a sync that fails, and so does what it asks behind that.
 fn write_to_a_failing_device(rt: &HostRuntime, port: u16) -> io::Result<()> {
     let mut one = Client::connect(rt, port)?;
@@ -159,6 +176,7 @@ fn fresh(alloc: Global, fails: bool) -> Option<OpenDevice<SimDisk>> {
 enum Clients {
     WriteBesideAHeldOne,
     FlushWhatAnotherWrote,
+    FlushBehindATrim,
     WriteToAFailingDevice,
 }
 
@@ -184,7 +202,8 @@ fn run<R: Threads + Wait + Clock + Sync>(
     let options = ServeOptions::new(512, Mode::Writeback, 2, 2, 5)?;
     let fails = match clients {
         Clients::WriteToAFailingDevice => true,
-        Clients::WriteBesideAHeldOne | Clients::FlushWhatAnotherWrote => false,
+        Clients::WriteBesideAHeldOne | Clients::FlushWhatAnotherWrote | Clients::FlushBehindATrim =>
+            false,
     };
     let device = fresh(alloc, fails)?;
     beside_a_server(
@@ -212,6 +231,7 @@ fn beside_a_server<R: Threads + Wait + Clock + Sync>(
         let met = match clients {
             Clients::WriteBesideAHeldOne => write_beside_a_held_one(rt, port, seen),
             Clients::FlushWhatAnotherWrote => flush_what_another_wrote(rt, port),
+            Clients::FlushBehindATrim => flush_behind_a_trim(rt, port),
             Clients::WriteToAFailingDevice => write_to_a_failing_device(rt, port),
         };
         // Where clients gave up, a group may still be held, and the server still waits for sessions.
@@ -265,6 +285,15 @@ fn flush_covers_what_another_connection_wrote(rt: HostRuntime) {
     for block in 0..16 {
         assert!(rt; has_block(&mut keeper, block, 0x60 + block as u8));
     }
+}
+
+#[test]
+fn reply_is_written_before_a_flush_waits(rt: HostRuntime) {
+    let seen = Seen::new(false);
+    let ran = run(&rt, &rt, Clients::FlushBehindATrim, &seen).expect(&rt, "a server");
+    assert!(rt; ran.clients.is_ok());
+    assert!(rt; ran.outcome.is_ok());
+    assert_eq!(rt; seen.answers_before.load(Ordering::SeqCst), 2);
 }
 
 #[test]
