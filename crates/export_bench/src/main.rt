@@ -201,7 +201,7 @@ fn measure_all<R: Threads + Wait + Clock + Sync>(
         let what = load_of(Load::Writes, 20_000, count, 65_536, 0);
         print_load(rt, threads, path, "a write of 4 KiB", what)?;
     }
-    for count in [1, 8] {
+    for count in [1, 8, 64] {
         measure_device(rt, path)?;
         let what = load_of(Load::FlushedWrites, 500, count, 65_536, 0);
         print_load(rt, threads, path, "a write of 4 KiB with a FLUSH", what)?;
