@@ -1,3 +1,0 @@
-pub mod Coded
-pub mod Spelling
-pub mod States

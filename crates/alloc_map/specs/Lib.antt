@@ -1,3 +1,4 @@
 pub mod Codes
 pub mod Map
 pub mod Runs
+pub mod laws

@@ -7,24 +7,24 @@ use Rattle.header_slots.specs.declared.header.Areas.{Areas}
 use Rattle.image_model.specs.Side.{other_of}
 use Rattle.image_model.specs.Image.{Image, apply_all}
 use Rattle.checkpoint.specs.declared.fault.KeeperFault.TheVariants.{OutOfOrder}
-use Rattle.journal.specs.declared.fault.JournalFault.{JournalFault}
-use Rattle.journal.specs.declared.fault.JournalFault.TheVariants as journals
-use Rattle.journal.specs.Area.{AreaState}
-use Rattle.journal.specs.GroupList.{IsListStored, LeavesEither, size_of}
-use Rattle.journal.specs.Spelling.{StoredGroup}
-use Rattle.journal.proofs.Spelled.{sizes-push}
+use Rattle.group_list.specs.declared.fault.JournalFault.{JournalFault}
+use Rattle.group_list.specs.declared.fault.JournalFault.TheVariants as journals
+use Rattle.group_list.specs.Area.{AreaState}
+use Rattle.group_list.specs.GroupList.{IsListStored, LeavesEither, size_of}
+use Rattle.group_list.specs.Spelling.{StoredGroup}
+use Rattle.group_list.specs.laws.Spelled.{sizes-push}
 use Rattle.regions.specs.Layout.{block_at, area_at, behind}
 use Rattle.checkpoint.specs.Faults.{of_journal}
 use Rattle.device_image.specs.Keeper.{KeeperState, PlanState, earlier_of, phase_of}
 use Rattle.device_image.specs.Keeps.{AreHeld, IsCopyPlace, IsInPhase, Keeps}
 use Rattle.device_image.specs.Stands.{StandsFor, next_number}
-use Rattle.device_image.proofs.Copied.{phase_on}
-use Rattle.device_image.proofs.Frame.{apart, area_high, fronts_of, held_kept, last_of, moved_list, others_in_use}
-use Rattle.device_image.proofs.Kept.{first, in_area, stands_more, stands_same}
-use Rattle.device_image.proofs.Lists.{KeepsLists}
+use Rattle.device_image.specs.laws.Copied.{phase_on}
+use Rattle.device_image.specs.laws.Frame.{apart, area_high, fronts_of, held_kept, last_of, moved_list, others_in_use}
+use Rattle.device_image.specs.laws.Kept.{first, in_area, stands_more, stands_same}
+use Rattle.device_image.specs.laws.Lists.{KeepsLists}
 use Rattle.image_model.specs.Change.{Change}
 use Rattle.device_image.specs.Holds.{Holds}
-use Rattle.device_image.proofs.Holding.{holds_more}
+use Rattle.device_image.specs.laws.Holding.{holds_more}
 
 module _ {D : Type 0} (keeper : KeeperState D) (state : State) (image : Image) (number : ℕ) (keeps : Keeps keeper state image number) where
   torn_same : (content : List ℕ) → MayLeaveTorn state keeper.memory.area.from keeper.memory.area.bytes content → (place : ℕ)

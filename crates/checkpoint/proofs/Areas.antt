@@ -6,18 +6,18 @@ use Rattle.header_slots.specs.Header.{mode_of}
 use Rattle.header_slots.specs.declared.header.Areas.{Areas}
 use Rattle.header_slots.specs.declared.header.Header.{Header}
 use Rattle.image_model.specs.declared.side.Side.{Side}
-use Rattle.journal.specs.Area.{AreaState}
-use Rattle.journal.specs.GroupList.{HoldsList, IsDamaged, IsHeld, IsList, IsNextGroup, IsOpen, Lead, StandsAt, next_behind, size_of, sizes_of}
-use Rattle.journal.specs.Spelling.{StoredGroup, group_bytes}
-use Rattle.journal.specs.Scanning.{IsScanFault}
-use Rattle.journal.specs.declared.fault.JournalFault.{JournalFault}
-use Rattle.journal.specs.declared.fault.JournalFault.TheVariants as journals
+use Rattle.group_list.specs.Area.{AreaState}
+use Rattle.group_list.specs.GroupList.{HoldsList, IsDamaged, IsHeld, IsList, IsNextGroup, IsOpen, Lead, StandsAt, next_behind, size_of, sizes_of}
+use Rattle.group_list.specs.Spelling.{StoredGroup, group_bytes}
+use Rattle.group_list.specs.Scanning.{IsScanFault}
+use Rattle.group_list.specs.declared.fault.JournalFault.{JournalFault}
+use Rattle.group_list.specs.declared.fault.JournalFault.TheVariants as journals
 use Rattle.checkpoint.specs.Faults.{of_journal}
 use Rattle.device_image.specs.Keeps.{AreHeld, HoldsAreas, IsPlaced}
 use Rattle.device_image.specs.Damage.{IsAreaDamaged, IsOneDamaged}
 use Rattle.checkpoint.specs.Opening.{IsGroupsRefused}
 use Rattle.device_image.specs.Stands.{area_of, next_number}
-use Rattle.device_image.proofs.Frame.{moved_list, one_kept}
+use Rattle.device_image.specs.laws.Frame.{moved_list, one_kept}
 use Rattle.regions.specs.Layout.{behind, ring}
 
 -- one area is in use

@@ -9,18 +9,18 @@ use Rattle.image_model.specs.Image.{Image, apply_all}
 use Rattle.image_model.specs.declared.command.Kind.{Kind}
 use Rattle.image_model.specs.declared.command.Kind.TheVariants.{Data}
 use Rattle.image_model.specs.declared.geometry.Geometry.{Geometry}
-use Rattle.journal.specs.Reading.{IsOnlyRead}
+use Rattle.group_list.specs.Reading.{IsOnlyRead}
 use Rattle.regions.specs.Layout.{behind, block_at, map_at}
 use Rattle.regions.specs.Map.{HoldsMap}
 use Rattle.device_image.specs.Holds.{Holds, IsBase, is_written}
 use Rattle.device_image.specs.Keeper.{KeeperState, earlier_of}
 use Rattle.device_image.specs.Keeps.{Keeps}
 use Rattle.device_image.specs.Stands.{StandsFor, HoldLists, all_changes, in_use, is_data, next_number, stored_image}
-use Rattle.device_image.proofs.Copied.{phase_on}
-use Rattle.device_image.proofs.Frame.{area_high, held_kept, one_kept, others_in_use}
-use Rattle.device_image.proofs.Holds.{holds_lists}
-use Rattle.device_image.proofs.Kept.{low_synced}
-use Rattle.device_image.proofs.Lists.{KeepsLists}
+use Rattle.device_image.specs.laws.Copied.{phase_on}
+use Rattle.device_image.specs.laws.Frame.{area_high, held_kept, one_kept, others_in_use}
+use Rattle.device_image.specs.laws.Holds.{holds_lists}
+use Rattle.device_image.specs.laws.Kept.{low_synced}
+use Rattle.device_image.specs.laws.Lists.{KeepsLists}
 use Rattle.checkpoint.proofs.Readings.{seen_steady}
 
 -- what stands for an image still does where the content is the same

@@ -1,11 +1,11 @@
 -- What a device is while an area comes into use.
 use Rattle.std.proofs.Common.{◌≡◌, ◌≢◌, ⊎_elim, inl, inr, ℕ, ◌≤◌, List, [], ◌∷◌, slice_index, Ok, sym, ◌∙◌, arith}
 use Rattle.disk_model.specs.Disk.{State, IsAllSynced, IsSound, IsStored, IsSyncedIn, MayLeaveTorn}
-use Rattle.disk_model.proofs.Contents.{stored_first}
+use Rattle.disk_model.specs.laws.Contents.{stored_first}
 use Rattle.header_slots.specs.Change.{IsInPlace, LeavesEither}
 use Rattle.header_slots.specs.Slots.{HoldsHeader}
 use Rattle.header_slots.specs.declared.header.Header.{Header}
-use Rattle.header_slots.proofs.Frame.{same_reading}
+use Rattle.header_slots.specs.laws.Frame.{same_reading}
 use Rattle.image_model.specs.declared.side.Side.{Side}
 use Rattle.device_image.specs.Copied.{IsTurnBegun, LeavesTurn}
 

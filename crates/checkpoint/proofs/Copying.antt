@@ -5,11 +5,11 @@ use Rattle.header_slots.specs.Header.{mode_of}
 use Rattle.header_slots.specs.declared.header.Areas.{Areas}
 use Rattle.header_slots.specs.declared.header.Header.{Header}
 use Rattle.image_model.specs.Image.{Image}
-use Rattle.journal.specs.Area.{AreaState}
-use Rattle.journal.specs.Spelling.{StoredGroup}
-use Rattle.journal.specs.Touches.{last_touch, touched_by_groups}
-use Rattle.journal.specs.declared.touch.Touch.TheVariants.{Put}
-use Rattle.journal.specs.declared.touch.TouchedRange.{TouchedRange}
+use Rattle.group_list.specs.Area.{AreaState}
+use Rattle.group_list.specs.Spelling.{StoredGroup}
+use Rattle.group_list.specs.Touches.{last_touch, touched_by_groups}
+use Rattle.group_list.specs.declared.touch.Touch.TheVariants.{Put}
+use Rattle.group_list.specs.declared.touch.TouchedRange.{TouchedRange}
 use Rattle.last_touches.specs.declared.range.PutRange.{PutRange}
 use Rattle.regions.specs.Layout.{block_at, ring}
 use Rattle.device_image.specs.Copied.{IsCopiedOver}
@@ -17,14 +17,14 @@ use Rattle.device_image.specs.Free.{to_be_copied}
 use Rattle.device_image.specs.Keeper.{KeeperState, PlanState, count_puts, earlier_of, is_put, phase_of}
 use Rattle.device_image.specs.Keeps.{AreHeld, IsCopying, IsInPhase, IsPlaced, Keeps, touched_first}
 use Rattle.device_image.specs.Stands.{StandsFor, next_number}
-use Rattle.device_image.proofs.Copied.{copy_places, keeps_copied}
-use Rattle.device_image.proofs.Free.{torn_free}
+use Rattle.device_image.specs.laws.Copied.{copy_places, keeps_copied}
+use Rattle.device_image.specs.laws.Free.{torn_free}
 use Rattle.copy_plan.specs.Plan.{IsNextCopy}
-use Rattle.device_image.proofs.Puts.{all_counted, none_counted}
-use Rattle.device_image.proofs.Lists.{KeepsLists}
+use Rattle.device_image.specs.laws.Puts.{all_counted, none_counted}
+use Rattle.device_image.specs.laws.Lists.{KeepsLists}
 use Rattle.image_model.specs.Change.{Change}
 use Rattle.device_image.specs.Holds.{Holds}
-use Rattle.device_image.proofs.Holding.{holds_still}
+use Rattle.device_image.specs.laws.Holding.{holds_still}
 
 -- the first area, where two are in use
 pub record IsFirst (area : AreaState) (header : Header) (front : List (List StoredGroup)) : Type 0 where

@@ -3,13 +3,13 @@ use Rattle.std.proofs.Common.{◌≡◌, inl, inr, ℕ, ◌+◌, ◌-◌, ◌/�
 use Rattle.std.proofs.lemmas.Bool.{cases_eq, cases_lt}
 use Rattle.std.proofs.lemmas.List.{get_or-replicate, get_or_past, length-replicate}
 use Rattle.alloc_map.specs.Codes.{state_at}
-use Rattle.alloc_map.proofs.States.{byte_of_zeroes, map_of_zeroes, own_states, states_of-zeroes}
+use Rattle.alloc_map.specs.laws.States.{byte_of_zeroes, map_of_zeroes, own_states, states_of-zeroes}
 use Rattle.disk_model.specs.Disk.{State, InRange, IsSound, IsSteady, IsSynced, IsWritten, LeavesOnly, MayLeave, MayLeaveTorn}
-use Rattle.disk_model.proofs.Moments.{goes_on, weakens}
+use Rattle.disk_model.specs.laws.Moments.{goes_on, weakens}
 use Rattle.header_slots.specs.Slots.{HoldsHeader, HoldsNone, IsBodyWritten, IsOpen}
 use Rattle.image_model.specs.declared.side.Side.{Side}
 use Rattle.image_model.specs.declared.side.Side.TheVariants.{Zero, One}
-use Rattle.header_slots.proofs.Frame.{moved_spelling}
+use Rattle.header_slots.specs.laws.Frame.{moved_spelling}
 use Rattle.image_model.specs.Geometry.{device_bytes_of, map_bytes_of}
 use Rattle.image_model.specs.declared.command.Kind.TheVariants.{Hole}
 use Rattle.image_model.specs.declared.geometry.Geometry.{Geometry}

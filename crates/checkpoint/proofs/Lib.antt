@@ -1,15 +1,15 @@
-pub mod Added
-pub mod Areas
-pub mod BaseRead
-pub mod Beginning
-pub mod Copying
-pub mod Formatted
-pub mod MapStored
-pub mod Mapping
-pub mod Opened
-pub mod Readings
-pub mod Recovered
-pub mod Refused
-pub mod Reopened
-pub mod Reported
-pub mod Rotating
+mod Added
+mod Areas
+mod BaseRead
+mod Beginning
+mod Copying
+mod Formatted
+mod MapStored
+mod Mapping
+mod Opened
+mod Readings
+mod Recovered
+mod Refused
+mod Reopened
+mod Reported
+mod Rotating

@@ -5,22 +5,22 @@ use Rattle.image_model.specs.Geometry.{map_bytes_of}
 use Rattle.image_model.specs.Image.{Image}
 use Rattle.image_model.specs.Side.{other_of}
 use Rattle.image_model.specs.declared.command.Kind.{Kind}
-use Rattle.journal.specs.declared.touch.TouchedRange.{TouchedRange}
+use Rattle.group_list.specs.declared.touch.TouchedRange.{TouchedRange}
 use Rattle.regions.specs.Layout.{block_at, map_at}
 use Rattle.device_image.specs.Copied.{IsMapStored}
 use Rattle.device_image.specs.Free.{in_spare_map}
 use Rattle.device_image.specs.Keeper.{AreStatesAfter, KeeperState, PlanState, earlier_of, phase_of}
 use Rattle.device_image.specs.Keeps.{AreCopied, Keeps, touched_first}
 use Rattle.device_image.specs.Stands.{StandsFor}
-use Rattle.device_image.proofs.Copied.{first_puts}
-use Rattle.device_image.proofs.Frame.{area_high, map_high, map_low}
-use Rattle.device_image.proofs.Free.{torn_free}
-use Rattle.device_image.proofs.Steps.{keeps_after}
+use Rattle.device_image.specs.laws.Copied.{first_puts}
+use Rattle.device_image.specs.laws.Frame.{area_high, map_high, map_low}
+use Rattle.device_image.specs.laws.Free.{torn_free}
+use Rattle.device_image.specs.laws.Steps.{keeps_after}
 use Rattle.checkpoint.proofs.Copying.{copying, first}
-use Rattle.device_image.proofs.Lists.{KeepsLists}
+use Rattle.device_image.specs.laws.Lists.{KeepsLists}
 use Rattle.image_model.specs.Change.{Change}
 use Rattle.device_image.specs.Holds.{Holds}
-use Rattle.device_image.proofs.Holding.{holds_still}
+use Rattle.device_image.specs.laws.Holding.{holds_still}
 
 module _ {D : Type 0} (keeper : KeeperState D) (state : State) (image : Image) (number : ℕ) (keeps : Keeps keeper state image number) where
   -- while the map slot that isn't in force is written

@@ -2,7 +2,7 @@
 use Rattle.std.proofs.Common.{◌≡◌, ℕ, ◌+◌, ◌%◌, ◌<◌, Option, Some, None, List, [], ◌∷◌, ◌++◌, length, false, refl, sym, ◌∙◌, ap, subst, arith, length-append}
 use Rattle.std.proofs.lemmas.List.{append-nil}
 use Rattle.disk_model.specs.Disk.{State, IsAllSynced, IsSound, MayLeave}
-use Rattle.disk_model.proofs.Contents.{leaves_seen}
+use Rattle.disk_model.specs.laws.Contents.{leaves_seen}
 use Rattle.header_slots.specs.Header.{mode_of}
 use Rattle.header_slots.specs.declared.header.Areas.{Areas}
 use Rattle.header_slots.specs.declared.header.Header.{Header}
@@ -11,10 +11,10 @@ use Rattle.image_model.specs.declared.geometry.Geometry.{Geometry}
 use Rattle.image_model.specs.declared.side.Side.{Side}
 use Rattle.image_model.specs.Image.{Image, apply_all}
 use Rattle.image_model.specs.declared.command.Kind.{Kind}
-use Rattle.journal.specs.Area.{AreaState}
-use Rattle.journal.specs.GroupList.{IsHeld, next_behind, changes_of}
-use Rattle.journal.specs.Spelling.{StoredGroup}
-use Rattle.journal.specs.Touches.{touched_by_groups}
+use Rattle.group_list.specs.Area.{AreaState}
+use Rattle.group_list.specs.GroupList.{IsHeld, next_behind, changes_of}
+use Rattle.group_list.specs.Spelling.{StoredGroup}
+use Rattle.group_list.specs.Touches.{touched_by_groups}
 use Rattle.regions.specs.Layout.{area_at, behind, ring}
 use Rattle.device_image.specs.Keeper.{KeeperState, PlanState, count_puts, earlier_of, phase_in, phase_of}
 use Rattle.device_image.specs.Keeps.{AreHeld, IsCopying, IsInPhase, IsMapWritten, IsPlaced, Keeps, behind_lists}
@@ -23,10 +23,10 @@ use Rattle.checkpoint.specs.Recovery.{IsBegun}
 use Rattle.device_image.specs.Stands.{StandsFor, HoldLists, all_changes, area_of, in_use, next_number, stored_image}
 use Rattle.checkpoint.specs.declared.fault.KeeperFault.{KeeperFault}
 use Rattle.checkpoint.specs.declared.fault.KeeperFault.TheVariants.{NoMemory, DeviceFault, BadMap, NoHeader, BadHeader, NumbersFull, AreaFull, OutOfOrder, DamagedGroup, NotNow, Failed}
-use Rattle.device_image.proofs.Frame.{all_changes-append, held_lists, moved_list, ring-last, with_last}
-use Rattle.device_image.proofs.Sole.{one_image, one_number}
-use Rattle.device_image.proofs.Turned.{follows}
-use Rattle.device_image.proofs.Puts.{count_zero}
+use Rattle.device_image.specs.laws.Frame.{all_changes-append, held_lists, moved_list, ring-last, with_last}
+use Rattle.device_image.specs.laws.Sole.{one_image, one_number}
+use Rattle.device_image.specs.laws.Turned.{follows}
+use Rattle.device_image.specs.laws.Puts.{count_zero}
 use Rattle.checkpoint.proofs.Refused.{never_refused}
 
 -- and the same behind lists of such groups

@@ -1,8 +1,8 @@
 -- A content that an opening refuses stands for no image.
 use Rattle.std.proofs.Common.{ℕ, List, length}
 use Rattle.device_image.specs.Stands.{StandsFor}
-use Rattle.device_image.proofs.Sole.{groups_sound, map_sound}
-use Rattle.header_slots.proofs.Sole.{held_or_none, held_or_bad}
+use Rattle.device_image.specs.laws.Sole.{groups_sound, map_sound}
+use Rattle.header_slots.specs.laws.Sole.{held_or_none, held_or_bad}
 use Rattle.image_model.specs.Image.{Image}
 use Rattle.checkpoint.specs.Opening.{IsPassing, IsRefused}
 use Rattle.checkpoint.specs.declared.fault.KeeperFault.{KeeperFault}

@@ -2,8 +2,8 @@
 use Rattle.std.proofs.Common.{◌≡◌, ◌⊎◌, inl, inr, ℕ, ◌<◌, ◌^◌, Option, Some, None, List, [], ◌∷◌, ◌++◌, length, refl, sym, ◌∙◌, ap, subst, arith}
 use Rattle.std.proofs.lemmas.List.Sums.{sum_by-cons}
 use Rattle.disk_model.specs.Disk.{State, IsAllSynced, LeavesOnly, MayLeave}
-use Rattle.disk_model.proofs.Contents.{leaves_seen}
-use Rattle.disk_model.proofs.Moments.{goes_on, weakens}
+use Rattle.disk_model.specs.laws.Contents.{leaves_seen}
+use Rattle.disk_model.specs.laws.Moments.{goes_on, weakens}
 use Rattle.header_slots.specs.Header.{mode_of}
 use Rattle.header_slots.specs.declared.header.Areas.{Areas}
 use Rattle.header_slots.specs.declared.header.Header.{Header}
@@ -11,15 +11,15 @@ use Rattle.image_model.specs.Image.{Image}
 use Rattle.image_model.specs.declared.command.Kind.{Kind}
 use Rattle.image_model.specs.declared.geometry.Geometry.{Geometry}
 use Rattle.image_model.specs.declared.side.Side.{Side}
-use Rattle.journal.specs.Area.{AreaState}
-use Rattle.journal.specs.GroupList.{Stand, size_of, sizes_of}
-use Rattle.journal.specs.Spelling.{StoredGroup}
-use Rattle.journal.proofs.OneList.{one_list}
+use Rattle.group_list.specs.Area.{AreaState}
+use Rattle.group_list.specs.GroupList.{Stand, size_of, sizes_of}
+use Rattle.group_list.specs.Spelling.{StoredGroup}
+use Rattle.group_list.specs.laws.OneList.{one_list}
 use Rattle.regions.specs.Layout.{area_at, behind, ring}
 use Rattle.device_image.specs.Keeper.{KeeperState, One, PlanState, earlier_of, phase_in, phase_of}
 use Rattle.device_image.specs.Keeps.{AreHeld, IsInPhase, Keeps, behind_lists}
 use Rattle.device_image.specs.Stands.{StandsFor, all_changes, next_number}
-use Rattle.device_image.proofs.Sole.{same_header}
+use Rattle.device_image.specs.laws.Sole.{same_header}
 use Rattle.checkpoint.specs.Opening.{HasLastGeneration, IsAtRest, IsOpeningRefused, IsRefused, StandsAs}
 use Rattle.checkpoint.specs.Recovery.{IsRecoveryFault}
 use Rattle.checkpoint.specs.declared.fault.KeeperFault.{KeeperFault}

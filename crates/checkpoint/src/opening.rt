@@ -6,14 +6,14 @@ ghost use Rattle.checkpoint.specs.Opening.{IsGroupsRefused, IsOpened, IsRefused,
 ghost use Rattle.checkpoint.specs.Recovery.{IsBegun};
 ghost use Rattle.checkpoint.specs.declared.fault.KeeperFault.TheVariants as KeeperFault;
 ghost use Rattle.device_image.specs.Keeper.{earlier_of, turned_of};
-ghost use Rattle.journal.specs.GroupList.{HoldsList, IsDamaged};
+ghost use Rattle.group_list.specs.GroupList.{HoldsList, IsDamaged};
 ghost use Rattle.device_image.specs.Stands.{area_of, next_number};
 ghost use Rattle.disk_model.specs.Disk.{IsAllSynced, LeavesOnly, MayLeave};
 ghost use Rattle.image_model.specs.Geometry.{device_bytes_of};
 ghost use Rattle.image_model.specs.Image.{Image};
 ghost use Rattle.header_slots.specs.Header.{mode_of};
-ghost use Rattle.journal.specs.Reading.{IsOnlyRead};
-ghost use Rattle.journal.specs.Spelling.{StoredGroup};
+ghost use Rattle.group_list.specs.Reading.{IsOnlyRead};
+ghost use Rattle.group_list.specs.Spelling.{StoredGroup};
 ghost use Rattle.regions.specs.Layout.{behind};
 
 use crate::fault::KeeperFault;

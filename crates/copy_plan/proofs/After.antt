@@ -6,10 +6,10 @@ use Rattle.image_model.specs.Image.{covers}
 use Rattle.image_model.specs.Patched.{patched}
 use Rattle.image_model.specs.declared.command.Kind.{Kind}
 use Rattle.image_model.specs.declared.command.Kind.TheVariants.{Hole}
-use Rattle.image_model.proofs.Positions.{filled_at}
-use Rattle.journal.specs.Touches.{kind_after}
-use Rattle.journal.specs.declared.touch.Touch.{Touch}
-use Rattle.journal.specs.declared.touch.TouchedRange.{TouchedRange}
+use Rattle.image_model.specs.laws.Positions.{filled_at}
+use Rattle.group_list.specs.Touches.{kind_after}
+use Rattle.group_list.specs.declared.touch.Touch.{Touch}
+use Rattle.group_list.specs.declared.touch.TouchedRange.{TouchedRange}
 use Rattle.device_image.specs.Keeper.{AreStatesAfter}
 use Rattle.last_touches.specs.declared.touch.LastTouch.{LastTouch}
 use Rattle.last_touches.specs.declared.touch.LastTouch.TheVariants.{Put, Clear}
@@ -17,7 +17,7 @@ use Rattle.last_touches.specs.declared.range.LastRange.{LastRange}
 use Rattle.last_touches.specs.Touches.{later, said_by, touch_on_device, touch_within}
 use Rattle.last_touches.specs.Ranges.{AreLastTouches, AreRanges, touch_at}
 use Rattle.copy_plan.specs.Plan.{kind_given}
-use Rattle.last_touches.proofs.Said.{AreRanges-order, touch_at-append}
+use Rattle.last_touches.specs.laws.Said.{AreRanges-order, touch_at-append}
 
 -- ranges end in time
 pub range_ends : (from to : ℕ) (ranges : List LastRange) (index : ℕ) (d : LastRange) → AreRanges from to ranges → index < length ranges → (get_or ranges index d).first + (get_or ranges index d).blocks ≤ to

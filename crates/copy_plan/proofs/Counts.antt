@@ -2,8 +2,8 @@
 use Rattle.std.proofs.Common.{◌≡◌, ℕ, zero, suc, ◌+◌, ◌≤◌, ◌<◌, cond, if◌then◌else◌, count_by, Option, Some, None, List, [], ◌∷◌, ◌++◌, sym, ◌∙◌, ap, refl, arith}
 use Rattle.std.specs.List.{range_with_len}
 use Rattle.std.proofs.lemmas.List.Sums.{sum_by_push}
-use Rattle.journal.specs.Touches.{last_touch}
-use Rattle.journal.specs.declared.touch.TouchedRange.{TouchedRange}
+use Rattle.group_list.specs.Touches.{last_touch}
+use Rattle.group_list.specs.declared.touch.TouchedRange.{TouchedRange}
 use Rattle.last_touches.specs.declared.touch.LastTouch.{LastTouch}
 use Rattle.last_touches.specs.declared.touch.LastTouch.TheVariants.{Put, Clear}
 use Rattle.last_touches.specs.declared.range.LastRange.{LastRange}
@@ -11,7 +11,7 @@ use Rattle.last_touches.specs.Touches.{touch_on_device}
 use Rattle.last_touches.specs.Ranges.{AreLastTouches, touch_at}
 use Rattle.last_touches.specs.Puts as puts
 use Rattle.device_image.specs.Keeper.{count_puts, is_put}
-use Rattle.device_image.proofs.Puts.{count_suc, count_zero, one_if}
+use Rattle.device_image.specs.laws.Puts.{count_suc, count_zero, one_if}
 
 -- a last touch is a put in the area where it is one on the device
 put_on_device : (from : ℕ) (touch : Option LastTouch) → is_put (touch_on_device from touch) ≡ puts.is_put touch

@@ -1,3 +1,3 @@
-pub mod After
-pub mod Counts
-pub mod Next
+mod After
+mod Counts
+mod Next

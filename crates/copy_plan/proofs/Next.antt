@@ -3,9 +3,9 @@ use Rattle.std.proofs.Common.{◌≡◌, ⊎_elim, ℕ, ◌+◌, ◌-◌, ◌*�
 use Rattle.std.proofs.lemmas.Bool.{cases_lt}
 use Rattle.std.specs.Prelude.{IfSome}
 use Rattle.image_model.specs.declared.command.Kind.{Kind}
-use Rattle.journal.specs.Touches.{last_touch}
-use Rattle.journal.specs.declared.touch.Touch.TheVariants as journal
-use Rattle.journal.proofs.Within.{last_put_within}
+use Rattle.group_list.specs.Touches.{last_touch}
+use Rattle.group_list.specs.declared.touch.Touch.TheVariants as journal
+use Rattle.group_list.specs.laws.Within.{last_put_within}
 use Rattle.last_touches.specs.Resolved.{ResolvedTouches}
 use Rattle.last_touches.specs.Touches.{touch_on_device}
 use Rattle.last_touches.specs.Puts.{HasNoPut, IsNextPut}
@@ -14,7 +14,7 @@ use Rattle.last_touches.specs.declared.touch.LastTouch.{LastTouch}
 use Rattle.device_image.specs.Keeper.{PlanState, count_puts, is_put}
 use Rattle.copy_plan.specs.Plan.{IsNextCopy, IsPlan}
 use Rattle.copy_plan.proofs.Counts.{is_put_at}
-use Rattle.device_image.proofs.Puts.{all_counted, count_more, none_counted}
+use Rattle.device_image.specs.laws.Puts.{all_counted, count_more, none_counted}
 
 some_is_none : {touch : LastTouch} → Some touch ≡ None → ⊥
 some_is_none is = cc

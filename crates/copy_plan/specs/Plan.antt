@@ -1,10 +1,10 @@
 -- A checkpoint that is under way, in memory: what is left of it, and what comes next.
 use Rattle.std.specs.Prelude.{ℕ, ◌≡◌, ◌+◌, ◌*◌, ◌<◌, ◌≤◌, false, List, length, Option, Some, IfSome}
-use Rattle.journal.specs.Area.{AreaState}
-use Rattle.journal.specs.Touches.{AreWithin, last_touch}
+use Rattle.group_list.specs.Area.{AreaState}
+use Rattle.group_list.specs.Touches.{AreWithin, last_touch}
 use Rattle.image_model.specs.declared.command.Kind.{Kind}
 use Rattle.image_model.specs.declared.command.Kind.TheVariants.{Data}
-use Rattle.journal.specs.declared.touch.Touch.TheVariants.{Put}
+use Rattle.group_list.specs.declared.touch.Touch.TheVariants.{Put}
 use Rattle.last_touches.specs.Ranges.{AreLastTouches}
 use Rattle.last_touches.specs.Resolved.{ResolvedTouches}
 use Rattle.last_touches.specs.declared.range.PutRange.{PutRange}

@@ -1,8 +1,8 @@
 ghost use Rattle.std.specs.Prelude.{◌≡◌, ℕ, ◌+◌, ◌-◌, ◌*◌, ◌≤◌, List, length, is_some, IfNone, IfOk, IfSome, None, Some};
 ghost use Rattle.copy_plan.specs.Plan.{IsNextCopy, kind_given};
 ghost use Rattle.device_image.specs.Keeper.{AreStatesAfter, count_puts};
-ghost use Rattle.journal.specs.Touches.{AreWithin};
-ghost use Rattle.journal.specs.declared.touch.TouchedRange.{TouchedRange};
+ghost use Rattle.group_list.specs.Touches.{AreWithin};
+ghost use Rattle.group_list.specs.declared.touch.TouchedRange.{TouchedRange};
 ghost use Rattle.last_touches.specs.Ranges.{AreLastTouches};
 
 use alloc_map::AllocMap;

@@ -8,7 +8,7 @@ use Rattle.image_model.specs.Dirty.{is_write, touches}
 use Rattle.image_model.specs.Image.{Image, apply_all}
 use Rattle.image_model.specs.declared.command.Kind.{Kind}
 use Rattle.image_model.specs.declared.geometry.Geometry.{Geometry}
-use Rattle.journal.specs.GroupList.{changes_of}
+use Rattle.group_list.specs.GroupList.{changes_of}
 use Rattle.device_image.specs.Keeper.{KeeperState, One}
 use Rattle.device_image.specs.Keeps.{Keeps}
 use Rattle.device_image.specs.Stands.{all_changes, stored_image}

@@ -7,3 +7,4 @@ pub mod Keeps
 pub mod Remembers
 pub mod Stands
 pub mod Turn
+pub mod laws

@@ -11,9 +11,9 @@ use Rattle.image_model.specs.Image.{Image, apply_all}
 use Rattle.image_model.specs.declared.command.Kind.{Kind}
 use Rattle.image_model.specs.declared.command.Kind.TheVariants.{Data, Zero, Hole}
 use Rattle.image_model.specs.declared.geometry.Geometry.{Geometry}
-use Rattle.journal.specs.Area.{AreaState}
-use Rattle.journal.specs.GroupList.{IsList, changes_of, next_behind}
-use Rattle.journal.specs.Spelling.{StoredGroup}
+use Rattle.group_list.specs.Area.{AreaState}
+use Rattle.group_list.specs.GroupList.{IsList, changes_of, next_behind}
+use Rattle.group_list.specs.Spelling.{StoredGroup}
 use Rattle.regions.specs.Layout.{area_at, block_at, map_at, ring}
 use Rattle.regions.specs.Map.{HoldsMap}
 

@@ -5,3 +5,4 @@ pub mod FileDisk
 pub mod History
 pub mod HistoryLaws
 pub mod SimDisk
+pub mod laws

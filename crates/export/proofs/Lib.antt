@@ -1,2 +1,2 @@
-pub mod Submits
+mod Submits
 mod Fits

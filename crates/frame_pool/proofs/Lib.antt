@@ -1,6 +1,5 @@
-pub mod Fresh
-pub mod Linked
-pub mod Moved
-pub mod Numbered
-pub mod RingMoves
-pub mod Times
+mod Fresh
+mod Linked
+mod Moved
+mod Numbered
+mod RingMoves

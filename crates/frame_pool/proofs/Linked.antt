@@ -7,7 +7,7 @@ use Rattle.frame_pool.specs.declared.place.Place.{Place}
 use Rattle.frame_pool.specs.declared.place.Place.TheVariants.{Free, Clean, Dirty}
 use Rattle.frame_pool.specs.Lists.{ListsState, total, times, without, moved, list_at}
 use Rattle.frame_pool.specs.Ring.{IsPath, AreLinks, AreLinked, start_of, end_of, ring_of, linked as linked_list, lists_of}
-use Rattle.frame_pool.proofs.Times.{times-append, times-without_same, times-without_other, times_other, head_other}
+use Rattle.frame_pool.specs.laws.Times.{times-append, times-without_same, times-without_other, times_other, head_other}
 use Rattle.frame_pool.proofs.Moved.{times_in, times_once, times_none, total-moved, HoldEach-moved}
 use Rattle.frame_pool.proofs.RingMoves.{next-previous, previous-next, path-unlinked, path-linked, walk_path}
 

@@ -5,7 +5,7 @@ use Rattle.std.proofs.lemmas.Bool.{ne_eqb, eq-eqb}
 use Rattle.std.proofs.lemmas.Bool.Decides.{eqb_tells}
 use Rattle.frame_pool.specs.Lists.{times, without}
 use Rattle.frame_pool.specs.Ring.{IsPath, walk}
-use Rattle.frame_pool.proofs.Times.{times-append, without_absent, head_other, tail_none, times_head, times_other, differ}
+use Rattle.frame_pool.specs.laws.Times.{times-append, without_absent, head_other, tail_none, times_head, times_other, differ}
 
 -- A path stays where the links between its nodes do.
 pub path_kept : (next previous next' previous' : List ℕ) (from : ℕ) (nodes : List ℕ)

@@ -11,7 +11,7 @@ use Rattle.header_slots.specs.declared.header.Header.{Header}
 use Rattle.header_slots.specs.Header.{number_at, SpellsAt}
 use Rattle.header_slots.specs.Slots.{slot_at, generation_in, HoldsHeader, IsOpen}
 use Rattle.header_slots.specs.Change.{ComesNext, IsBodyStored, IsGateClosed, IsInPlace, IsLeftOutside, LeavesClosing, LeavesEither}
-use Rattle.header_slots.proofs.Frame.{moved_spelling, same_number}
+use Rattle.header_slots.specs.laws.Frame.{moved_spelling, same_number}
 
 pub twice_other : (slot : Side) → other_of (other_of slot) ≡ slot
 twice_other Zero = refl

@@ -1,7 +1,7 @@
 -- a gate that is closed behind a read
 use Rattle.std.proofs.Common.{ℕ, inr, List, [], ◌∷◌, sym, ◌∙◌, arith}
 use Rattle.disk_model.specs.Disk.{State, IsKept, IsSound, IsStored, IsSyncedIn, MayLeaveTorn}
-use Rattle.disk_model.proofs.Contents.{stored_first}
+use Rattle.disk_model.specs.laws.Contents.{stored_first}
 use Rattle.image_model.specs.declared.side.Side.{Side}
 use Rattle.header_slots.specs.Slots.{slot_at, IsOpen}
 use Rattle.header_slots.specs.Change.{IsGateClosed, LeavesClosing}

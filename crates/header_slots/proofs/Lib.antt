@@ -1,4 +1,2 @@
-pub mod Changed
-pub mod Closing
-pub mod Frame
-pub mod Sole
+mod Changed
+mod Closing

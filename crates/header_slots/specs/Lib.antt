@@ -1,3 +1,4 @@
 pub mod Change
 pub mod Header
 pub mod Slots
+pub mod laws

@@ -1,4 +1,4 @@
-pub mod Bytes
-pub mod Joined
-pub mod Parts
-pub mod Stretches
+mod Bytes
+mod Joined
+mod Parts
+mod Stretches

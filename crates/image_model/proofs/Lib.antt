@@ -1,5 +1,0 @@
-pub mod CleanedMaps
-pub mod DirtyCounts
-pub mod DirtyMaps
-pub mod DirtyTails
-pub mod Positions

@@ -6,3 +6,4 @@ pub mod Geometry
 pub mod Image
 pub mod Patched
 pub mod Side
+pub mod laws

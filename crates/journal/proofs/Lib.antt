@@ -1,14 +1,2 @@
-pub mod Added
-pub mod Bodies
-pub mod Chained
-pub mod Contents
-pub mod Found
-pub mod Groups
-pub mod Heads
-pub mod LastTouches
-pub mod Noted
-pub mod OneList
-pub mod Spelled
-pub mod Torn
-pub mod Windows
-pub mod Within
+mod Bodies
+mod Torn

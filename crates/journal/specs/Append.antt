@@ -1,13 +1,10 @@
 -- what adding a group does to an area, and when it is refused
 use Rattle.std.specs.Prelude.{ℕ, ◌≡◌, ◌+◌, ◌≤◌, ◌++◌}
-use Rattle.disk_model.specs.Faults.{counted}
 use Rattle.image_model.specs.Command.{bodies_of}
-use Rattle.journal.specs.declared.fault.JournalFault.{JournalFault}
-use Rattle.journal.specs.declared.fault.JournalFault.TheVariants.{NoMemory, DeviceFault, AreaFull, OutOfOrder, DamagedGroup}
-use Rattle.journal.specs.Area.{AreaState}
-use Rattle.journal.specs.Group.{Numbered, number_after}
-use Rattle.journal.specs.Spelling.{stored_of}
-use Rattle.journal.specs.Touches.{touched_by_changes}
+use Rattle.group_list.specs.Area.{AreaState}
+use Rattle.group_list.specs.Group.{Numbered, number_after}
+use Rattle.group_list.specs.Spelling.{stored_of}
+use Rattle.group_list.specs.Touches.{touched_by_changes}
 
 -- where in the area the gate behind the group would end
 abbrev pub end_after : AreaState → Numbered → ℕ
@@ -24,11 +21,3 @@ grown area group = record area {
   gate = area.gate + 17 + bodies_of group.commands;
   touched = area.touched ++ touched_by_changes (area.from + area.gate + 17) (stored_of group).changes;
 }
-
--- the number of faults of the device after a refusal: only a device fault is counted
-abbrev pub faults_by : JournalFault → ℕ → ℕ
-faults_by NoMemory faults = faults
-faults_by DeviceFault faults = counted faults
-faults_by AreaFull faults = faults
-faults_by OutOfOrder faults = faults
-faults_by DamagedGroup faults = faults

@@ -2,25 +2,21 @@ ghost use Rattle.std.specs.Prelude.{◌≡◌, ◌≢◌, ◌⊎◌, ℕ, ◌+�
 ghost use Rattle.disk_model.specs.Disk.{IsSyncedIn, IsWritten, IsWriteFailed, LeavesOnly, MayLeaveTorn};
 ghost use Rattle.disk_model.specs.Faults.{faults_after};
 ghost use Rattle.image_model.specs.Change.{AreChanges};
-ghost use Rattle.journal.specs.Append.{end_after, grown, IsNext, faults_by};
-ghost use Rattle.journal.specs.Group.{IsGroup};
-ghost use Rattle.journal.specs.GroupList.{HoldsList, IsDamaged, IsHeld, IsList, IsListStored, IsOpenBefore, LeavesEither, LeavesGateOrBytes};
-ghost use Rattle.journal.specs.Reading.{IsOnlyRead};
-ghost use Rattle.journal.specs.Scanning.{IsScanFault};
-ghost use Rattle.journal.specs.Spelling.{StoredGroup, stored_of};
-ghost use Rattle.journal.specs.Touches.{AreWithin};
+ghost use Rattle.journal.specs.Append.{end_after, grown, IsNext};
+ghost use Rattle.group_list.specs.Faults.{faults_by};
+ghost use Rattle.group_list.specs.Group.{IsGroup};
+ghost use Rattle.group_list.specs.GroupList.{HoldsList, IsDamaged, IsHeld, IsList, IsListStored, IsOpenBefore, LeavesEither, LeavesGateOrBytes};
+ghost use Rattle.group_list.specs.Reading.{IsOnlyRead};
+ghost use Rattle.group_list.specs.Scanning.{IsScanFault};
+ghost use Rattle.group_list.specs.Spelling.{StoredGroup, stored_of};
+ghost use Rattle.group_list.specs.Touches.{AreWithin};
 
-use crate::fault::JournalFault;
 use crate::group::Group;
-use crate::scan::Place;
-use crate::touch::TouchedRange;
 use disk_model::{DeviceFault, Disk, write_synced};
+use group_list::{GROUP_HEAD_BYTES, JournalFault, Place, TouchedRange};
 use image_model::{CLOSED, OPEN};
 use std::alloc::Global;
 use std::marker::Model;
-
-// The gate of a group, the length of its body, its first number and its count of commands.
-pub const GROUP_HEAD_BYTES: u32 = 17;
 
 // The most bytes of memory that are kept for the next group.
 const MOST_KEPT_BYTES: usize = 1_048_576;
@@ -56,8 +52,8 @@ impl Drop for Area {
 
 impl Model for Area {
     ghost use Rattle.std.specs.Prelude.{◌+◌, ◌<◌, ◌^◌};
-    ghost use Rattle.journal.specs.Area.{AreaState};
-    ghost use Rattle.journal.specs.Touches.{AreWithin};
+    ghost use Rattle.group_list.specs.Area.{AreaState};
+    ghost use Rattle.group_list.specs.Touches.{AreWithin};
 
     ghost Value = { AreaState };
 

@@ -1,22 +1,14 @@
 ghost use Rattle.std.specs.Prelude.{◌≡◌, ℕ, take, ◌+◌, ◌≤◌, ◌<◌, ◌^◌, [], ◌∷◌, ◌++◌, length, OnOk};
 ghost use Rattle.image_model.specs.Change.{change_of};
 ghost use Rattle.image_model.specs.Command.{bodies_of, body_of};
-ghost use Rattle.journal.specs.Group.{IsGroup, number_after};
-ghost use Rattle.journal.specs.Touches.{AreWithin, touched_by, touched_by_changes};
-ghost use Rattle.journal.specs.Spelling.{stored_of, clear_byte, change_head, change_bytes, group_head, group_bytes};
+ghost use Rattle.group_list.specs.Group.{IsGroup, number_after};
+ghost use Rattle.group_list.specs.Touches.{AreWithin, touched_by, touched_by_changes};
+ghost use Rattle.group_list.specs.Spelling.{stored_of, clear_byte, change_head, change_bytes, group_head, group_bytes};
 
-use crate::scan::COMMAND_HEAD_BYTES;
-use crate::touch::{Touch, TouchedRange, note};
+use group_list::{ALLOCATED_ZERO, COMMAND_HEAD_BYTES, HOLE, PUT, Touch, TouchedRange, note};
 use image_model::{BLOCK_BYTES, CLOSED, Command, Kind};
 use std::alloc::AllocError;
 use std::marker::Model;
-
-// The kinds of a command in a group.
-pub const PUT: u8 = 1;
-
-pub const HOLE: u8 = 2;
-
-pub const ALLOCATED_ZERO: u8 = 3;
 
 /// Commands with consecutive numbers, which are stored whole or not at all.
 ///
@@ -31,7 +23,7 @@ pub struct Group {
 impl Model for Group {
     ghost use Rattle.std.specs.Prelude.{◌≡◌};
     ghost use Rattle.image_model.specs.Command.{bodies_of};
-    ghost use Rattle.journal.specs.Group.{IsGroup, Numbered};
+    ghost use Rattle.group_list.specs.Group.{IsGroup, Numbered};
 
     ghost Value = { Numbered };
 
@@ -186,7 +178,7 @@ fn touched_by(place: u64, command: &Command) -> TouchedRange
 }
 
 // The head of a group behind its gate: the length of its body, its first number, its count of commands.
-#[tactic(auto, unfolding(crate::specs::Spelling::group_head))]
+#[tactic(auto, unfolding(group_list::specs::Spelling::group_head))]
 fn spell_group_head(
     body: u32,
     first: u64,
@@ -201,7 +193,7 @@ fn spell_group_head(
 }
 
 // A command of a group: its head, and a put's bytes.
-#[tactic(auto, unfolding(crate::specs::Spelling::change_bytes))]
+#[tactic(auto, unfolding(group_list::specs::Spelling::change_bytes))]
 fn spell_command(command: &Command, buffer: &mut Vec<u8>) -> Result<(), AllocError>
     requires { body_of command.now ≤ 8388608 }
     ensures { OnOk result (buffer.new.items ≡ buffer.old.items ++ change_bytes (change_of command.now)) }
@@ -221,7 +213,7 @@ fn spell_command(command: &Command, buffer: &mut Vec<u8>) -> Result<(), AllocErr
 }
 
 // The head of a command: its kind, its first block, its blocks.
-#[tactic(auto, unfolding(crate::specs::Spelling::change_head))]
+#[tactic(auto, unfolding(group_list::specs::Spelling::change_head))]
 fn spell_head(kind: u8, first: u64, blocks: u32, buffer: &mut Vec<u8>) -> Result<(), AllocError>
     ensures { OnOk result (buffer.new.items ≡ buffer.old.items ++ change_head kind first blocks) }
 {

@@ -2,16 +2,7 @@
 #![tactic(auto)]
 
 mod area;
-mod fault;
 mod group;
-mod laws;
-mod scan;
-mod touch;
-mod window;
 
 pub use area::Area;
-pub use fault::JournalFault;
 pub use group::Group;
-pub use laws::{damaged_holds_none, holds_one_list, last_puts_within, last_touches_tell};
-pub use scan::MOST_BODY_BYTES;
-pub use touch::{Touch, TouchedRange};

@@ -3,14 +3,14 @@
 #![tactic(auto)]
 
 ghost use Rattle.std.specs.Prelude.{◌≤◌};
-ghost use Rattle.journal.specs.Touches.{AreWithin};
+ghost use Rattle.group_list.specs.Touches.{AreWithin};
 
 mod opening;
 mod scanning;
 mod touches;
 
 use anyhow::Result;
-use journal::TouchedRange;
+use group_list::TouchedRange;
 use last_touches::LastTouches;
 use std::alloc::Global;
 use std::env;

@@ -1,9 +1,9 @@
 ghost use Rattle.std.specs.Prelude.{◌≡◌, ◌+◌, ◌*◌, ◌≤◌, ◌<◌, ◌^◌, IfOk};
-ghost use Rattle.journal.specs.Touches.{AreWithin, IsWithin};
+ghost use Rattle.group_list.specs.Touches.{AreWithin, IsWithin};
 
 use anyhow::Result;
+use group_list::{Touch, TouchedRange};
 use image_model::Kind;
-use journal::{Touch, TouchedRange};
 use last_touches::LastTouches;
 use std::alloc::{AllocError, Global};
 

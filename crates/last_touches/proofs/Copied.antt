@@ -9,7 +9,7 @@ use Rattle.last_touches.specs.declared.range.PutRange.{PutRange}
 use Rattle.last_touches.specs.Touches.{touch_within}
 use Rattle.last_touches.specs.Ranges.{AreRanges, touch_at}
 use Rattle.last_touches.specs.Puts.{is_put, put_of, puts_of}
-use Rattle.last_touches.proofs.Said.{said_inside, said_by_none_before, touch_at_first, touch_at_rest, AreRanges-order}
+use Rattle.last_touches.specs.laws.Said.{said_inside, said_by_none_before, touch_at_first, touch_at_rest, AreRanges-order}
 
 abbrev one_if : Bool → ℕ
 one_if b = cond b 1 0

@@ -12,7 +12,7 @@ use Rattle.last_touches.specs.declared.range.PutRange.{PutRange}
 use Rattle.last_touches.specs.Touches.{HasBytesWithin, later, said_by, touch_within}
 use Rattle.last_touches.specs.Ranges.{AreLongest, AreRanges, EndsBefore, touch_at}
 use Rattle.last_touches.specs.Puts.{EndsBehind, EndsBy, HasNoPut, IsNextPut, is_put, put_from, put_of, puts_of}
-use Rattle.last_touches.proofs.Said.{said_before, said_behind, said_inside, said_by_none_before, same_some, some_is_none, touch_at_first, touch_at_rest, touch_within_zero}
+use Rattle.last_touches.specs.laws.Said.{said_before, said_behind, said_inside, said_by_none_before, same_some, some_is_none, touch_at_first, touch_at_rest, touch_within_zero}
 
 -- a put of ranges that begin at a block: each of its blocks was put last, and it is as long as can be
 pub record IsFound (from : ℕ) (ranges : List LastRange) (put : PutRange) : Type 0 where

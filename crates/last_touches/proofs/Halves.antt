@@ -1,9 +1,9 @@
 -- The last touches of a list by those of its halves.
 use Rattle.std.proofs.Common.{◌≡◌, ℕ, Option, Some, None, List, ◌++◌, sym, ◌∙◌, ap, refl}
-use Rattle.journal.specs.declared.touch.Touch.{Touch}
-use Rattle.journal.specs.declared.touch.TouchedRange.{TouchedRange}
-use Rattle.journal.specs.Touches as journal
-use Rattle.journal.proofs.LastTouches.{last_touch-append}
+use Rattle.group_list.specs.declared.touch.Touch.{Touch}
+use Rattle.group_list.specs.declared.touch.TouchedRange.{TouchedRange}
+use Rattle.group_list.specs.Touches as journal
+use Rattle.group_list.specs.laws.LastTouches.{last_touch-append}
 use Rattle.last_touches.specs.declared.touch.LastTouch.{LastTouch}
 use Rattle.last_touches.specs.declared.range.LastRange.{LastRange}
 use Rattle.last_touches.specs.Touches.{later, touch_on_device}

@@ -5,7 +5,7 @@ use Rattle.last_touches.specs.declared.touch.LastTouch.{LastTouch}
 use Rattle.last_touches.specs.declared.range.LastRange.{LastRange}
 use Rattle.last_touches.specs.Touches.{later, said_by, touch_within}
 use Rattle.last_touches.specs.Ranges.{AreLongest, AreRanges, GoesOn, IsRange, touch_at}
-use Rattle.last_touches.proofs.Said.{later_later, said_before, said_behind, said_inside, touch_at-append, touch_within-touch_within, AreRanges-earlier, HasBytesWithin-joined}
+use Rattle.last_touches.specs.laws.Said.{later_later, said_before, said_behind, said_inside, touch_at-append, touch_within-touch_within, AreRanges-earlier, HasBytesWithin-joined}
 
 -- ranges behind others
 pub AreRanges-append : (from at to : ℕ) (xs ys : List LastRange) → AreRanges from at xs → AreRanges at to ys → AreRanges from to (xs ++ ys)

@@ -7,7 +7,7 @@ use Rattle.last_touches.specs.declared.touch.LastTouch.{LastTouch}
 use Rattle.last_touches.specs.declared.range.LastRange.{LastRange}
 use Rattle.last_touches.specs.Touches.{later, said_by, touch_within}
 use Rattle.last_touches.specs.Ranges.{AreRanges, IsNextLaid, IsPartOf, left_at, touch_at}
-use Rattle.last_touches.proofs.Said.{later_none, said_before, said_behind, said_inside, said_by_none_before, said_by_none_behind, touch_at_first, touch_at_rest, touch_within-touch_within, AreRanges-earlier, HasBytesWithin-behind, HasBytesWithin-fewer}
+use Rattle.last_touches.specs.laws.Said.{later_none, said_before, said_behind, said_inside, said_by_none_before, said_by_none_behind, touch_at_first, touch_at_rest, touch_within-touch_within, AreRanges-earlier, HasBytesWithin-behind, HasBytesWithin-fewer}
 
 -- before `done` nothing is left, and behind it all
 pub left_before : (older newer : List LastRange) (done block : ℕ) → block < done → left_at older newer done block ≡ None

@@ -1,6 +1,5 @@
-pub mod Said
-pub mod Laid
-pub mod Joined
-pub mod Halves
-pub mod Copied
-pub mod Found
+mod Laid
+mod Joined
+mod Halves
+mod Copied
+mod Found

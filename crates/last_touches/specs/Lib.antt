@@ -2,3 +2,4 @@ pub mod Touches
 pub mod Ranges
 pub mod Puts
 pub mod Resolved
+pub mod laws

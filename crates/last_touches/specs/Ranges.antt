@@ -2,8 +2,8 @@
 -- also in the area.
 use Rattle.std.specs.Prelude.{ℕ, ◌≡◌, ◌+◌, ◌<◌, ◌≤◌, nat_lt, if◌then◌else◌, List, [], ◌∷◌, Option, None}
 use Rattle.last_touches.specs.declared.touch.LastTouch.{LastTouch}
-use Rattle.journal.specs.Touches.{last_touch}
-use Rattle.journal.specs.declared.touch.TouchedRange.{TouchedRange}
+use Rattle.group_list.specs.Touches.{last_touch}
+use Rattle.group_list.specs.declared.touch.TouchedRange.{TouchedRange}
 use Rattle.last_touches.specs.declared.range.LastRange.{LastRange}
 use Rattle.last_touches.specs.Touches.{HasBytesWithin, later, said_by, touch_on_device, touch_within}
 

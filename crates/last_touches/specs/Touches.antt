@@ -1,8 +1,8 @@
 -- The last touches of blocks. A place is a byte of the area.
 use Rattle.std.specs.Prelude.{ℕ, ◌+◌, ◌-◌, ◌*◌, ◌≤◌, if◌then◌else◌, Option, Some, None}
 use Rattle.image_model.specs.Image.{covers}
-use Rattle.journal.specs.declared.touch.Touch.{Touch}
-use Rattle.journal.specs.declared.touch.Touch.TheVariants as journal
+use Rattle.group_list.specs.declared.touch.Touch.{Touch}
+use Rattle.group_list.specs.declared.touch.Touch.TheVariants as journal
 use Rattle.last_touches.specs.declared.touch.LastTouch.{LastTouch}
 use Rattle.last_touches.specs.declared.touch.LastTouch.TheVariants.{Put, Clear}
 

@@ -1,14 +1,14 @@
 ghost use Rattle.std.specs.Prelude.{◌≡◌, ◌+◌, ◌<◌, ◌≤◌, ℕ, length, IfOk, IfSome, IfNone, count_by, sum_by};
 ghost use Rattle.std.specs.List.{AllWithin, range_with_len};
 ghost use Rattle.std.specs.List.Sorted.{IsNonDecreasingBy};
-ghost use Rattle.journal.specs.Touches.{AreWithin};
+ghost use Rattle.group_list.specs.Touches.{AreWithin};
 ghost use Rattle.last_touches.specs.Puts.{EndsBehind, EndsBy, HasNoPut, IsNextPut, is_put, puts_of};
 ghost use Rattle.last_touches.specs.Ranges.{AreLastTouches, AreRanges, touch_at};
 
 use crate::overlay::overlay;
 use crate::range::{LastRange, PutRange, clip};
 use crate::touch::LastTouch;
-use journal::TouchedRange;
+use group_list::TouchedRange;
 use std::alloc::{AllocError, Global};
 use std::marker::Model;
 

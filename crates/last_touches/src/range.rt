@@ -3,11 +3,11 @@ ghost use Rattle.std.specs.Option.{option_to_list};
 ghost use Rattle.last_touches.specs.Puts.{put_from};
 ghost use Rattle.last_touches.specs.Ranges.{GoesOn, IsRange, touch_at};
 ghost use Rattle.last_touches.specs.Touches.{HasBytesWithin, on_device, touch_on_device, touch_within};
-ghost use Rattle.journal.specs.Touches.{IsWithin, touch_in};
+ghost use Rattle.group_list.specs.Touches.{IsWithin, touch_in};
 
 use crate::touch::LastTouch;
+use group_list::{Touch, TouchedRange};
 use image_model::BLOCK_BYTES;
-use journal::{Touch, TouchedRange};
 
 /// Blocks that follow one another and have their last touches from one command, or are of one kind of clear; the touch
 /// is that of the first of them.

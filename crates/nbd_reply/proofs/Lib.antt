@@ -1,5 +1,5 @@
-pub mod Appends
-pub mod Chunks
-pub mod Decoding
-pub mod Parts
-pub mod Spelling
+mod Appends
+mod Chunks
+mod Decoding
+mod Parts
+mod Spelling

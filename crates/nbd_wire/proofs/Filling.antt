@@ -7,7 +7,7 @@ use Rattle.nbd_wire.specs.declared.head.RequestHead.{RequestHead}
 use Rattle.nbd_wire.specs.Head.{head_bytes}
 use Rattle.nbd_wire.specs.Stream.{Feeds, Fills, in_data, reading}
 use Rattle.nbd_wire.specs.State.{Advances, IsReadBehind}
-use Rattle.nbd_wire.proofs.Streams.{Feeds-advances}
+use Rattle.nbd_wire.specs.laws.Streams.{Feeds-advances}
 
 -- what was there stays in front of its room
 pub kept_front : (before now zeroes : List ℕ) (len most : ℕ) → len ≡ length before → length before ≤ most → now ≡ take most before ++ zeroes → take len now ≡ before

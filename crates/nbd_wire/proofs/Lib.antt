@@ -1,5 +1,2 @@
-pub mod Heads
-pub mod Requests
-pub mod Streams
-pub mod Parts
+mod Parts
 mod Filling

@@ -4,3 +4,4 @@ pub mod Stream
 pub mod State
 pub mod Errno
 pub mod Answer
+pub mod laws

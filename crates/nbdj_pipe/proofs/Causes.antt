@@ -7,7 +7,7 @@ use Rattle.image_model.specs.Change.{Change, Written, Cleared, AreChanges, IsCha
 use Rattle.order_book.specs.Order.{OrderState}
 use Rattle.request_core.specs.Bench.{ConnectionsState}
 use Rattle.request_core.specs.Parts.{IsOrderOf}
-use Rattle.request_core.proofs.Lives.{all_behind}
+use Rattle.request_core.specs.laws.Lives.{all_behind}
 use Rattle.world.specs.declared.connection.Connection.TheVariants.{Waiting}
 use Rattle.world.specs.declared.event.Event.{Event}
 use Rattle.world.specs.declared.event.Event.TheVariants.{Took, Held, Failed}

@@ -1,8 +1,8 @@
-pub mod Dialogs
-pub mod Steps
-pub mod Causes
-pub mod Wanted
-pub mod Checkpoints
-pub mod Sessions
-pub mod Runs
-pub mod Lives
+mod Dialogs
+mod Steps
+mod Causes
+mod Wanted
+mod Checkpoints
+mod Sessions
+mod Runs
+mod Lives

@@ -7,7 +7,7 @@ use Rattle.checkpoint.specs.declared.fault.KeeperFault.TheVariants.{NoMemory}
 use Rattle.device_image.specs.Keeper.{KeeperState}
 use Rattle.device_image.specs.Keeps.{Keeps}
 use Rattle.device_image.specs.Stands.{holes}
-use Rattle.device_image.proofs.Kept.{kept_content}
+use Rattle.device_image.specs.laws.Kept.{kept_content}
 use Rattle.disk_model.specs.Disk.{State, MayLeave}
 use Rattle.disk_model.specs.Faults.{HasRisen}
 use Rattle.image_model.specs.Image.{Image}

@@ -19,7 +19,7 @@ use Rattle.nbdj_pipe.specs.declared.session.Flow.{Flow}
 use Rattle.nbdj_pipe.specs.declared.refusal.Refusal.{Refusal}
 use Rattle.nbdj_pipe.specs.declared.refusal.Refusal.TheVariants.{DeviceFault, PeerClosed, ProtocolEnd}
 use Rattle.nbdj_pipe.proofs.Causes.{IsBare}
-use Rattle.byte_streams.proofs.Bytes.{appends_none, appends_on, consumes_kept, consumes_none, consumes_on}
+use Rattle.byte_streams.specs.laws.Bytes.{appends_none, appends_on, consumes_kept, consumes_none, consumes_on}
 use Rattle.nbdj_pipe.proofs.Dialogs.{HaveNoDisc, all_of, asked-append, asked_whole, behind, dialog-append, disc_behind, each_append, nothing, served_all, served_behind, served_cut, served_nothing, whole_all, whole_behind, whole_nothing}
 
 -- what a session does of requests and answers

@@ -5,7 +5,7 @@ ghost use Rattle.nbdj_pipe.specs.Life.{IsLived};
 ghost use Rattle.nbdj_pipe.specs.Pipe.{IsPiped, IsUnopened, status_of};
 ghost use Rattle.nbdj_pipe.specs.declared.refusal.Refusal.{Refusal};
 ghost use Rattle.nbdj_pipe.specs.declared.refusal.Refusal.TheVariants.{DeviceFault};
-ghost use Rattle.journal.specs.Reading.{IsOnlyRead};
+ghost use Rattle.group_list.specs.Reading.{IsOnlyRead};
 ghost use Rattle.nbdj_run.specs.Plan.{IfCheck, IfPipe, Suits};
 
 use crate::plan::Plan;

@@ -1,1 +1,1 @@
-pub mod Lives
+mod Lives

@@ -5,9 +5,9 @@ use Rattle.device_image.specs.Keeper.{KeeperState}
 use Rattle.device_image.specs.Keeps.{Keeps}
 use Rattle.checkpoint.specs.Opening.{StandsAs}
 use Rattle.device_image.specs.Stands.{StandsFor}
-use Rattle.device_image.proofs.Sole.{one_image, one_number}
+use Rattle.device_image.specs.laws.Sole.{one_image, one_number}
 use Rattle.disk_model.specs.Disk.{IsKept, IsSound, LeavesOnly, MayLeave, State}
-use Rattle.disk_model.proofs.Moments.{ends}
+use Rattle.disk_model.specs.laws.Moments.{ends}
 use Rattle.device_image.specs.Holds.{Holds}
 use Rattle.image_model.specs.Change.{Change}
 use Rattle.image_model.specs.Image.{Image}

@@ -6,8 +6,8 @@ use Rattle.nbd_wire.specs.declared.message.SessionFlags.{SessionFlags}
 use Rattle.negotiation.specs.Dialog.{Standing, in_requests}
 use Rattle.negotiation.specs.Ends.{end_for}
 use Rattle.negotiation.specs.Session.{Fills, HandsNone}
-use Rattle.negotiation.proofs.Dialogs.{session_at}
-use Rattle.negotiation.proofs.Requests.{hands_none}
+use Rattle.negotiation.specs.laws.Dialogs.{session_at}
+use Rattle.negotiation.specs.laws.Requests.{hands_none}
 use Rattle.negotiation.proofs.Sessions.{fed_behind}
 
 pub hands_filled : (old new : Reader) (input left : Option (List ℕ)) (count : ℕ) → FillsReader old input left count new → HandsNone (in_requests old) input left count (in_requests new)

@@ -1,5 +1,2 @@
-pub mod Dialogs
-pub mod OneHearing
-pub mod Requests
-pub mod Sessions
-pub mod Filling
+mod Sessions
+mod Filling

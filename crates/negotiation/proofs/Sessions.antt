@@ -21,7 +21,7 @@ use Rattle.negotiation.specs.Dialog.{IsNoOption, IsTooLong, Leaves, Standing, Tu
 use Rattle.negotiation.specs.Ends.{end_for}
 use Rattle.negotiation.specs.Session.{Advances, Feeds, Greets, Hands, HearsOn, IsBehind, IsData, IsGreeted, IsLongPart, IsSaid, Runs, SessionState, Settles, Step, end_of, greeting_due, handed, held_by, standing_of, state_of, wanted_of}
 use Rattle.negotiation.specs.declared.stage.Talk.{Talk}
-use Rattle.negotiation.proofs.Dialogs.{hears_none, hears_on, hears_then, session_at}
+use Rattle.negotiation.specs.laws.Dialogs.{hears_none, hears_on, hears_then, session_at}
 
 -- ---- the greeting
 

@@ -7,8 +7,8 @@ use Rattle.std.proofs.lemmas.List.{append-nil, nil_from_length}
 use Rattle.option_wire.specs.declared.error.OptionFault.{OptionFault}
 use Rattle.option_wire.specs.declared.error.OptionFault.TheVariants.{Malformed}
 use Rattle.option_wire.specs.Field.{AreQueries, AreTypes, IsText, counted, queries_bytes, types_bytes}
-use Rattle.option_wire.proofs.Texts.{number_16, number_32}
-use Rattle.option_wire.proofs.Items.{Reads, Reads-more, Reads-end, types_apart, texts_apart}
+use Rattle.option_wire.specs.laws.Texts.{number_16, number_32}
+use Rattle.option_wire.specs.laws.Items.{Reads, Reads-more, Reads-end, types_apart, texts_apart}
 
 pub no_types : (content types : List ℕ) → length content < 2 → content ≡ types_bytes types → ⊥
 unfolding types_bytes

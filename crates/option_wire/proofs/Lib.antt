@@ -1,6 +1,2 @@
-pub mod Asked
-pub mod Counts
-pub mod Heads
-pub mod Items
-pub mod Replies
-pub mod Texts
+mod Counts
+mod Replies

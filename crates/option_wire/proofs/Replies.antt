@@ -8,8 +8,8 @@ use Rattle.option_wire.specs.declared.reply.OptionError.TheVariants.{Unsupported
 use Rattle.option_wire.specs.declared.reply.OptionReply.{OptionReply}
 use Rattle.option_wire.specs.declared.reply.OptionReply.TheVariants.{Ack, Server, Info, MetaContext, Refused}
 use Rattle.option_wire.specs.Reply.{FitsInformation, FitsReply, error_code, information_data, reply_bytes, reply_data, reply_head, reply_type}
-use Rattle.option_wire.proofs.Heads.{one_reply_head}
-use Rattle.option_wire.proofs.Texts.{number_16, number_32, number_64, one_text, same_front}
+use Rattle.option_wire.specs.laws.Heads.{one_reply_head}
+use Rattle.option_wire.specs.laws.Texts.{number_16, number_32, number_64, one_text, same_front}
 
 same_error : (a b : OptionError) → error_code a ≡ error_code b → a ≡ b
 same_error Unsupported Unsupported same = refl

@@ -3,3 +3,4 @@ pub mod Handshake
 pub mod Head
 pub mod Options
 pub mod Reply
+pub mod laws

@@ -17,10 +17,10 @@ use Rattle.std.proofs.Math.Dec.{eqb}
 use borrow.Author.Tests.{eqb-true, eq-eqb}
 use Rattle.image_model.specs.Dirty.{with_blocks, without_blocks, clean_through}
 use Rattle.image_model.specs.Image.{covers}
-use Rattle.image_model.proofs.DirtyMaps.{with_blocks_none}
+use Rattle.image_model.specs.laws.DirtyMaps.{with_blocks_none}
 use Rattle.shared_cache.specs.Blocks.{BlocksState, DirtyBlock, IsOnce, as_clean, at_hand, cleaned, count_missing, dirty_outside, is_dirty, times_in, with_put, with_puts, without}
-use Rattle.shared_cache.proofs.Once.{times_in-append}
-use Rattle.shared_cache.proofs.Ranges.{at_hand_put, clean_le, count_put, outside_le, outside_less}
+use Rattle.shared_cache.specs.laws.Once.{times_in-append}
+use Rattle.shared_cache.specs.laws.Ranges.{at_hand_put, clean_le, count_put, outside_le, outside_less}
 use Rattle.order_book.proofs.Maps.{Entries, get-entries, len-entries, len-with_blocks_step, made-clean_through, made-with_blocks, made-without_blocks, all_kept}
 
 -- the blocks of some frames and their numbers

@@ -11,7 +11,7 @@ use Rattle.image_model.specs.declared.command.Kind.{Kind}
 use Rattle.image_model.specs.declared.command.Kind.TheVariants.{Data}
 use Rattle.shared_cache.specs.Blocks.{BlocksState, is_clean, is_dirty, is_held}
 use Rattle.shared_cache.specs.Cache.{CacheState, bytes_seen}
-use Rattle.shared_cache.proofs.Views.{missing_seen}
+use Rattle.shared_cache.specs.laws.Views.{missing_seen}
 use Rattle.order_book.specs.Cached.{dirty_of}
 use Rattle.order_book.specs.Reading.{IsCleanAt, ShowsRead, block_of}
 use Rattle.order_book.specs.Shown.{ShowsImage}

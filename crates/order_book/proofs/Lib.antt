@@ -1,6 +1,6 @@
-pub mod Filled
-pub mod Frames
-pub mod Imaged
-pub mod Maps
-pub mod Missing
-pub mod Shown
+mod Filled
+mod Frames
+mod Imaged
+mod Maps
+mod Missing
+mod Shown

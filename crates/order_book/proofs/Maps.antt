@@ -12,8 +12,8 @@ use Rattle.image_model.specs.declared.command.Command.{Command}
 use Rattle.image_model.specs.Change.{change_of}
 use Rattle.image_model.specs.Image.{covers}
 use Rattle.image_model.specs.Dirty.{Dirty, with_blocks, without_blocks, clean_through, dirty_from}
-use Rattle.image_model.proofs.DirtyMaps.{get-with_blocks, get-without_blocks, len-with_blocks_more}
-use Rattle.image_model.proofs.CleanedMaps.{above, get-clean_through}
+use Rattle.image_model.specs.laws.DirtyMaps.{get-with_blocks, get-without_blocks, len-with_blocks_more}
+use Rattle.image_model.specs.laws.CleanedMaps.{above, get-clean_through}
 use Rattle.order_book.specs.Order.{OrderState, with_command}
 
 abbrev pub Entries : Type 0

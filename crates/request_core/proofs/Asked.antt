@@ -24,15 +24,15 @@ use Rattle.std.proofs.lemmas.List.{set-set}
 use Rattle.nbd_wire.specs.declared.message.SessionFlags.{SessionFlags}
 use Rattle.world.specs.Verdict.{verdict}
 use Rattle.request_core.specs.Reading.{IsRead, IsReadServed, IsUnread}
-use Rattle.device_image.proofs.Counted.{remembers_still}
+use Rattle.device_image.specs.laws.Counted.{remembers_still}
 use Rattle.disk_model.specs.Disk.{IsSound, LeavesOnly}
 use Rattle.disk_model.specs.Faults.{counted}
-use Rattle.disk_model.proofs.Moments.{ends, weakens}
+use Rattle.disk_model.specs.laws.Moments.{ends, weakens}
 use Rattle.checkpoint.specs.Keeper.{faults_by, refused_by}
 use Rattle.checkpoint.specs.declared.fault.KeeperFault.{KeeperFault}
 use Rattle.checkpoint.specs.declared.fault.KeeperFault.TheVariants as fault
-use Rattle.journal.specs.Group.{Numbered}
-use Rattle.journal.specs.Reading.{IsOnlyRead}
+use Rattle.group_list.specs.Group.{Numbered}
+use Rattle.group_list.specs.Reading.{IsOnlyRead}
 use Rattle.nbd_wire.specs.declared.message.Answer.{Answer}
 use Rattle.order_book.specs.Reading.{IsCleanAt}
 use Rattle.request_core.specs.Parts.{AreConnectionsOf, IsDiskOf, IsKeeperOf, IsOrderOf, Shows, StandsAfter, first_commands}
@@ -41,7 +41,7 @@ use Rattle.request_core.proofs.Turns.{order_stopped}
 use Rattle.nbd_wire.specs.declared.error.Errno.TheVariants.{Io, NoMemory}
 use Rattle.request_core.specs.Steps.{IsAnyServed, IsAnyTalked, IsAsked, IsSure, KeepsDisk}
 use Rattle.request_core.proofs.Clean.{clean_at}
-use Rattle.request_core.proofs.Lives.{ordered}
+use Rattle.request_core.specs.laws.Lives.{ordered}
 use Rattle.request_core.proofs.Serves.{event_quiet}
 use Rattle.world.specs.declared.event.Event.{Event}
 use Rattle.world.specs.declared.event.Event.TheVariants.{Took}

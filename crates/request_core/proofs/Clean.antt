@@ -5,16 +5,16 @@ use Rattle.std.specs.List.{AllByRecursion, list_any}
 use Rattle.std.proofs.lemmas.Bool.{both_ways, cases_Bool, or_parts}
 use Rattle.std.proofs.lemmas.Bool.Decides.{nat_tests}
 use Rattle.std.proofs.lemmas.List.{drop-drop, take-append-drop, take_all}
-use Rattle.device_image.proofs.Written.{untouched_unwritten}
+use Rattle.device_image.specs.laws.Written.{untouched_unwritten}
 use Rattle.image_model.specs.Change.{AreChanges, Change, Cleared, IsChange, IsCleared, Written}
 use Rattle.image_model.specs.Dirty.{is_write, last_write, touches}
 use Rattle.image_model.specs.Image.{Image, apply, apply_all, byte_after, covers, kind_given}
 use Rattle.image_model.specs.declared.command.Kind.{Kind}
 use Rattle.image_model.specs.declared.command.Kind.TheVariants.{Data, Zero, Hole}
-use Rattle.image_model.proofs.DirtyMaps.{get-dirty_blocks}
+use Rattle.image_model.specs.laws.DirtyMaps.{get-dirty_blocks}
 use Rattle.order_book.specs.Reading.{IsCleanAt}
 use Rattle.request_core.specs.Parts.{first_commands, part, turned_at}
-use Rattle.request_core.proofs.Lives.{IsOrdered, all_behind, apply_append, take_part}
+use Rattle.request_core.specs.laws.Lives.{IsOrdered, all_behind, apply_append, take_part}
 use Rattle.world.specs.World.{Stage, dirty_behind, image_after}
 
 -- a block that no command touches keeps its state

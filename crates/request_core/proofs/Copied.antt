@@ -5,14 +5,14 @@ use Rattle.std.proofs.lemmas.List.{append-nil}
 use Rattle.checkpoint.specs.declared.fault.KeeperFault.{KeeperFault}
 use Rattle.device_image.specs.Keeper.{KeeperState}
 use Rattle.disk_model.specs.Disk.{State}
-use Rattle.disk_model.proofs.Moments.{weakens}
+use Rattle.disk_model.specs.laws.Moments.{weakens}
 use Rattle.order_book.specs.Order.{OrderState}
 use Rattle.request_core.specs.Bench.{ConnectionsState}
 use Rattle.request_core.specs.Copies.{copied}
 use Rattle.request_core.specs.Life.{Leads}
 use Rattle.request_core.specs.Parts.{IsExportOf}
 use Rattle.request_core.specs.Steps.{IsAppended}
-use Rattle.request_core.proofs.Lives.{stands_less}
+use Rattle.request_core.specs.laws.Lives.{stands_less}
 use Rattle.world.specs.declared.event.Event.TheVariants.{Took, Failed}
 use Rattle.world.specs.declared.event.StepFault.TheVariants.{FailedBefore}
 use Rattle.world.specs.declared.step.Step.TheVariants.{Copy}

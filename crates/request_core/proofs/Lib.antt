@@ -1,20 +1,18 @@
-pub mod Appended
-pub mod Asked
-pub mod Clean
-pub mod Copied
-pub mod Fresh
-pub mod Here
-pub mod InMemory
-pub mod Lifted
-pub mod Lives
-pub mod Orders
-pub mod Performed
-pub mod Runs
-pub mod Serves
-pub mod Steady
-pub mod Stored
-pub mod Talks
-pub mod Times
-pub mod Turns
-pub mod Opened
-pub mod Passes
+mod Appended
+mod Asked
+mod Clean
+mod Copied
+mod Fresh
+mod Here
+mod InMemory
+mod Lifted
+mod Performed
+mod Runs
+mod Serves
+mod Steady
+mod Stored
+mod Talks
+mod Times
+mod Turns
+mod Opened
+mod Passes

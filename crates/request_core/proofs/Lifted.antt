@@ -5,10 +5,10 @@ use Rattle.alloc_map.specs.Codes.{state_at}
 use Rattle.image_model.specs.Change.{Change, IsChange, change_of}
 use Rattle.image_model.specs.Image.{Image, apply, apply_all}
 use Rattle.order_book.specs.Shown.{ShowsImage}
-use Rattle.request_core.proofs.Lives.{apply_append}
+use Rattle.request_core.specs.laws.Lives.{apply_append}
 use Rattle.std.proofs.lemmas.List.{take_all}
 use Rattle.image_model.specs.declared.command.Command.{Command}
-use Rattle.journal.specs.Group.{Numbered}
+use Rattle.group_list.specs.Group.{Numbered}
 use Rattle.nbd_wire.specs.Request.{Message}
 use Rattle.nbd_wire.specs.declared.error.Errno.{Errno}
 use Rattle.nbd_wire.specs.declared.error.Errno.TheVariants as errno

@@ -2,16 +2,16 @@
 use Rattle.std.proofs.Common.{◌≡◌, inl, inr, Option, ℕ, ◌&&◌, ◌==◌, Bool, true, false, if◌then◌else◌, nat_lt, List, [], ◌∷◌, ◌++◌, length, sym, ◌∙◌, ap, subst}
 use Rattle.device_image.specs.Keeper.{KeeperState}
 use Rattle.disk_model.specs.Disk.{State, IsSound}
-use Rattle.disk_model.proofs.Moments.{begins}
+use Rattle.disk_model.specs.laws.Moments.{begins}
 use Rattle.image_model.specs.Change.{Change, AreChanges}
-use Rattle.journal.specs.Group.{Numbered}
+use Rattle.group_list.specs.Group.{Numbered}
 use Rattle.order_book.specs.Order.{OrderState}
 use Rattle.request_core.specs.Bench.{ConnectionsState}
 use Rattle.request_core.specs.Steps.{IsAnyTalked, IsAppended, IsPerformed}
 use Rattle.request_core.specs.Parts.{AreConnectionsOf, IsDiskOf, IsKeeperOf, IsOrderOf, Shows}
 use Rattle.request_core.specs.Serving.{IsTalked, with_commands}
 use Rattle.request_core.specs.Storing.{IsKept}
-use Rattle.request_core.proofs.Lives.{all_both, disk_grows, IsOrdered, last_stay, ordered}
+use Rattle.request_core.specs.laws.Lives.{all_both, disk_grows, IsOrdered, last_stay, ordered}
 use Rattle.world.specs.declared.connection.Connection.{Connection}
 use Rattle.world.specs.declared.event.Event.{Event}
 use Rattle.world.specs.Serve.{Failure, Nothing, OutOfMemory, DeviceFailure, Misread}

@@ -2,7 +2,7 @@
 use Rattle.std.proofs.Common.{◌≡◌, ℕ, Bool, true, false, List, [], ◌∷◌, ◌++◌, sym, ◌∙◌, ap, subst, refl, arith}
 use Rattle.device_image.specs.Keeper.{KeeperState}
 use Rattle.disk_model.specs.Disk.{State, IsSound}
-use Rattle.disk_model.proofs.Moments.{begins, goes_on, weakens}
+use Rattle.disk_model.specs.laws.Moments.{begins, goes_on, weakens}
 use Rattle.image_model.specs.Change.{Change}
 use Rattle.image_model.specs.Image.{Image}
 use Rattle.order_book.specs.Order.{OrderState}
@@ -11,7 +11,7 @@ use Rattle.request_core.specs.Life.{IsDurable, IsRehearsed, IsStepped, Leads, Tr
 use Rattle.request_core.specs.Parts.{IsExportOf, StandsAfter}
 use Rattle.request_core.specs.Serving.{sent_state}
 use Rattle.request_core.specs.Steps.{IsPerformed}
-use Rattle.request_core.proofs.Lives.{stands_less, stands_more}
+use Rattle.request_core.specs.laws.Lives.{stands_less, stands_more}
 use Rattle.request_core.proofs.Talks.{sent_states}
 use Rattle.world.specs.declared.event.Event.{Event}
 use Rattle.nbd_wire.specs.Request.{Message}

@@ -9,7 +9,7 @@ use Rattle.world.specs.declared.step.Mode.TheVariants.{Writeback, Writethrough}
 use Rattle.world.specs.Verdict.{IsServedRange}
 use Rattle.image_model.specs.Change.{Change, Cleared, IsChange, IsCleared, Written, change_of}
 use Rattle.image_model.specs.declared.command.Kind.TheVariants.{Zero, Hole}
-use Rattle.journal.specs.Group.{Numbered}
+use Rattle.group_list.specs.Group.{Numbered}
 use Rattle.nbd_wire.specs.Request.{Message}
 use Rattle.nbd_wire.specs.declared.error.Errno.TheVariants.{NoSpace}
 use Rattle.order_book.specs.Order.{OrderState, with_command}
@@ -17,7 +17,7 @@ use Rattle.order_book.specs.Order as book
 use Rattle.request_core.specs.Parts.{IsOrderOf}
 use Rattle.request_core.specs.Serving.{IsGrown, IsServed, event_for, quiet_event, request_in, served_after, state_of}
 use Rattle.request_core.specs.declared.serving.Served.{Served}
-use Rattle.request_core.proofs.Orders.{order_accepts, room_of}
+use Rattle.request_core.specs.laws.Orders.{order_accepts, room_of}
 use Rattle.world.specs.declared.connection.Connection.{Connection}
 use Rattle.world.specs.declared.connection.Connection.TheVariants.{Idle, Requested, Waiting, Ready, Closed}
 use Rattle.world.specs.declared.event.Event.{Event}
@@ -27,7 +27,7 @@ use Rattle.world.specs.Log.{cleared_as, command_of, waits_for_store}
 use Rattle.world.specs.Serve.{Failure, Nothing, logged, held, moved, ready, accepted, write_served, state_after}
 use Rattle.world.specs.World.{World, put, last_number, has_room, Stage}
 use Rattle.world_law.specs.Law.{IsWithin}
-use Rattle.world_law.proofs.Within.{rising_through}
+use Rattle.world_law.specs.laws.Within.{rising_through}
 
 -- a choice whose test is known
 pub if_true : {X : Type 0} (P : X → Type 0) (test : Bool) (x y : X) → test ≡ true → P x → P (if test then x else y)

@@ -13,7 +13,7 @@ use Rattle.world.specs.Checkpoint.{can_clean, can_copy, can_finish, can_map, can
 use Rattle.world.specs.Serve.{Failure, Nothing, OutOfMemory, DeviceFailure, Misread, answer}
 use Rattle.world.specs.Step.{append, clean, copy_block, finish, in_time, publish, rotate, seal, sealed_more, send, sent, with_generation, without_memory, write_map, written}
 use Rattle.world.specs.World.{Setting, Stage, World, fits, image_after}
-use Rattle.world_law.proofs.Steps.{of_either}
+use Rattle.world_law.specs.laws.Steps.{of_either}
 
 -- the order of commands stays, and what stays as long as the device isn't opened again
 pub record IsSteady (old new : Stage) : Type 0 where

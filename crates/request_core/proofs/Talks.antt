@@ -6,7 +6,7 @@ use Rattle.std.proofs.Math.ListN.{set, get_or-eq_default}
 use Rattle.std.proofs.lemmas.Bool.{cases_lt}
 use Rattle.nbd_wire.specs.Request.{Message}
 use Rattle.nbd_wire.specs.declared.error.Errno.TheVariants.{Io}
-use Rattle.journal.specs.Group.{Numbered}
+use Rattle.group_list.specs.Group.{Numbered}
 use Rattle.order_book.specs.Order.{OrderState}
 use Rattle.request_core.specs.Parts.{AreConnectionsOf, IsOrderOf}
 use Rattle.request_core.specs.Serving.{IsAnsweredBy, IsSentBy, IsServed, IsTalked, answer_due, due_of, is_idle, request_in, sent_state}

@@ -11,21 +11,21 @@ use Rattle.device_image.specs.Keeper.{KeeperState, Phase, Copying}
 use Rattle.device_image.specs.Keeps.{Keeps}
 use Rattle.device_image.specs.Remembers.{Remembers}
 use Rattle.device_image.specs.Stands.{StandsFor}
-use Rattle.device_image.proofs.Counted.{remembers_still}
+use Rattle.device_image.specs.laws.Counted.{remembers_still}
 use Rattle.disk_model.specs.Disk.{State, LeavesOnly, IsSound, MayLeave}
 use Rattle.disk_model.specs.Faults.{counted}
-use Rattle.disk_model.proofs.Moments.{begins, ends, weakens}
+use Rattle.disk_model.specs.laws.Moments.{begins, ends, weakens}
 use Rattle.image_model.specs.Change.{Change}
 use Rattle.image_model.specs.Dirty.{dirty_blocks}
 use Rattle.image_model.specs.Image.{Image, apply_all}
-use Rattle.image_model.proofs.DirtyCounts.{dirty_count}
-use Rattle.journal.specs.Group.{Numbered}
+use Rattle.image_model.specs.laws.DirtyCounts.{dirty_count}
+use Rattle.group_list.specs.Group.{Numbered}
 use Rattle.order_book.specs.Order.{OrderState, with_group}
 use Rattle.request_core.specs.Steps.{IsAppended}
 use Rattle.request_core.specs.Parts.{IsDiskOf, IsKeeperOf, IsOrderOf, StandsAfter, first_commands, last_commands, part, phase_at, turned_at}
 use Rattle.request_core.specs.Storing.{hand_refused, order_refused, step_event, stopped_with}
-use Rattle.request_core.proofs.Lives.{IsOrdered, apply_append, keeps_of, ordered, take_part}
-use Rattle.request_core.proofs.Orders.{order_puts_back, order_stops}
+use Rattle.request_core.specs.laws.Lives.{IsOrdered, apply_append, keeps_of, ordered, take_part}
+use Rattle.request_core.specs.laws.Orders.{order_puts_back, order_stops}
 use Rattle.request_core.proofs.Stored.{not_true_is}
 use Rattle.request_core.proofs.Times.{copy_phase, copy_sound, copy_whole, finish_one, finish_sound, finish_whole, map_phase, map_sound, map_whole, rotate_empty, rotate_phase, rotate_sound, rotate_whole}
 use Rattle.world.specs.Checkpoint.{can_copy, can_finish, can_map, can_rotate, finished, is_full, is_turned, last_turned, rotated, to_copy}
@@ -36,7 +36,7 @@ use Rattle.world.specs.Serve.{Failure, Nothing, OutOfMemory, DeviceFailure, held
 use Rattle.world.specs.Step.{copy_block, finish, in_time, out_of_memory, rotate, without_memory, write_map, written}
 use Rattle.world.specs.World.{World, Stage, image_after}
 use Rattle.world_law.specs.Law.{IsWithin}
-use Rattle.world_law.proofs.Within.{last_of_more}
+use Rattle.world_law.specs.laws.Within.{last_of_more}
 
 pub not_true : (b : Bool) → (b ≡ true → ⊥) → b ≡ false
 not_true true none = absurd (none refl)

@@ -1,6 +1,6 @@
 -- benches as callers see them
 use Rattle.std.specs.Prelude.{ℕ, Option, None, List, [], replicate}
-use Rattle.journal.specs.Group.{Numbered}
+use Rattle.group_list.specs.Group.{Numbered}
 use Rattle.nbd_wire.specs.declared.message.SessionFlags.{SessionFlags}
 use Rattle.world.specs.declared.connection.Connection.{Connection}
 use Rattle.world.specs.declared.connection.Connection.TheVariants.{Idle}

@@ -7,3 +7,4 @@ pub mod Reading
 pub mod Serving
 pub mod Steps
 pub mod Storing
+pub mod laws

@@ -10,7 +10,7 @@ use Rattle.disk_model.specs.Disk.{State}
 use Rattle.image_model.specs.Change.{Change}
 use Rattle.image_model.specs.Image.{Image}
 use Rattle.image_model.specs.declared.command.Kind.TheVariants.{Data}
-use Rattle.journal.specs.Reading.{IsOnlyRead}
+use Rattle.group_list.specs.Reading.{IsOnlyRead}
 use Rattle.nbd_wire.specs.declared.error.Errno.TheVariants.{Io, NoMemory}
 use Rattle.nbd_wire.specs.declared.head.RequestHead.{RequestHead}
 use Rattle.nbd_wire.specs.declared.message.Answer.TheVariants.{Refused}

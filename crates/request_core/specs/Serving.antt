@@ -5,7 +5,7 @@ use Rattle.image_model.specs.declared.command.Command.{Command}
 use Rattle.image_model.specs.declared.command.Command.TheVariants.{Put, Clear}
 use Rattle.image_model.specs.declared.geometry.Geometry.{Geometry}
 use Rattle.image_model.specs.Image.{Image, apply}
-use Rattle.journal.specs.Group.{Numbered}
+use Rattle.group_list.specs.Group.{Numbered}
 use Rattle.marks.specs.Known.{PassState, known}
 use Rattle.nbd_wire.specs.Request.{Message, handed_len}
 use Rattle.nbd_wire.specs.declared.error.Errno.TheVariants as errno

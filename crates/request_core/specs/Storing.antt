@@ -3,7 +3,7 @@ use Rattle.std.specs.Prelude.{ℕ, ◌≡◌, ◌⊎◌, ◌<◌, ◌≤◌, tru
 use Rattle.device_image.specs.Keeper.{KeeperState}
 use Rattle.checkpoint.specs.declared.fault.KeeperFault.{KeeperFault}
 use Rattle.checkpoint.specs.declared.fault.KeeperFault.TheVariants as fault
-use Rattle.journal.specs.Group.{Numbered}
+use Rattle.group_list.specs.Group.{Numbered}
 use Rattle.std.specs.FinMap.{len}
 use Rattle.order_book.specs.Order.{OrderState, Seals, with_clean, with_durable, with_group}
 use Rattle.request_core.specs.Parts.{IsKeeperOf, IsOrderOf}

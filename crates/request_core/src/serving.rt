@@ -1,5 +1,5 @@
 ghost use Rattle.std.specs.Prelude.{◌≡◌, ◌≢◌, ◌/◌, ◌<◌, ◌↔◌, ℕ, false, [], Some, IfSome, IfOk, IfErr, IsErr, IsTrue, OnErr, MatchOption, IfNone, Option, Result, length, slice_index_or, slice_set, vec_len};
-ghost use Rattle.journal.specs.Group.{Numbered};
+ghost use Rattle.group_list.specs.Group.{Numbered};
 ghost use Rattle.nbd_wire.specs.Request.{Message};
 ghost use Rattle.nbd_wire.specs.declared.error.Errno.{Errno};
 ghost use Rattle.order_book.specs.Order.{IsInHand};

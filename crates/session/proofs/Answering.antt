@@ -11,7 +11,7 @@ use Rattle.byte_streams.specs.Streams.{WritesPart}
 use Rattle.byte_streams.specs.declared.streams.StreamFault.{StreamFault}
 use Rattle.session.specs.Streams.{Writes}
 use Rattle.session.specs.Talk.{Answers, AreSteps, Exchange, Serves, asked, exchange_text, talk_text}
-use Rattle.byte_streams.proofs.Bytes.{appends_none, appends_on}
+use Rattle.byte_streams.specs.laws.Bytes.{appends_none, appends_on}
 
 -- ---- writing
 

@@ -8,8 +8,8 @@ use Rattle.negotiation.specs.Dialog.{Standing, broken, ended, exhausted, in_disc
 use Rattle.negotiation.specs.Session.{IsSaid, SessionState, room_of}
 use Rattle.negotiation.specs.declared.end.End.{End}
 use Rattle.negotiation.specs.declared.end.End.TheVariants.{IoFault}
-use Rattle.negotiation.proofs.Dialogs.{hears_none}
-use Rattle.byte_streams.proofs.Bytes.{appends_none}
+use Rattle.negotiation.specs.laws.Dialogs.{hears_none}
+use Rattle.byte_streams.specs.laws.Bytes.{appends_none}
 use Rattle.session.specs.Hearing.{Hearing, Tells, as_outcome}
 use Rattle.session.proofs.Hearing.{consumes_failed, no_greeting}
 

@@ -10,12 +10,12 @@ use Rattle.negotiation.specs.Dialog.{Standing, Turn, broken, ended, exhausted, i
 use Rattle.negotiation.specs.Session.{Feeds, HearsOn, IsBehind, IsSaid, SessionState, end_of, greeting_due, handed}
 use Rattle.negotiation.specs.declared.end.End.{End}
 use Rattle.negotiation.specs.declared.end.End.TheVariants.{IoFault, NoMemory, PeerClosed, ProtocolEnd}
-use Rattle.negotiation.proofs.Dialogs.{hears_none, hears_then}
+use Rattle.negotiation.specs.laws.Dialogs.{hears_none, hears_then}
 use Rattle.session.specs.Hearing.{Hearing, Tells}
 use Rattle.session.specs.Streams.{Writes}
 use Rattle.option_wire.specs.Handshake.{greeting_bytes}
 use Rattle.negotiation.specs.Answered.{replies_bytes}
-use Rattle.byte_streams.proofs.Bytes.{appends_none, appends_on, consumes_kept, consumes_none, consumes_on}
+use Rattle.byte_streams.specs.laws.Bytes.{appends_none, appends_on, consumes_kept, consumes_none, consumes_on}
 
 pub no_greeting : (old new : Standing) → IsSaid old → greeting_due old new ≡ []
 no_greeting silent new said = absurd said

@@ -1,6 +1,6 @@
-pub mod Answering
-pub mod Hearing
-pub mod OneDialog
-pub mod Serving
-pub mod Transmitting
-pub mod Filling
+mod Answering
+mod Hearing
+mod OneDialog
+mod Serving
+mod Transmitting
+mod Filling

@@ -1,7 +1,7 @@
 -- A stream has one dialog, by the replies to its requests.
 use Rattle.std.proofs.Common.{◌≡◌, List, [], ◌∷◌, ◌++◌, refl, sym, ◌∙◌}
 use Rattle.nbd_wire.specs.Request.{Message}
-use Rattle.negotiation.proofs.OneHearing.{one_hearing_lem}
+use Rattle.negotiation.specs.laws.OneHearing.{one_hearing_lem}
 use Rattle.session.specs.Serving.{OneDialog, dialog}
 use Rattle.session.specs.Talk.{Exchange, answered, asked}
 

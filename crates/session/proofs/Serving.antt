@@ -17,7 +17,7 @@ use Rattle.session.specs.Hearing.{Hearing}
 use Rattle.session.specs.Serving.{Ends, IsServed, Stands, Transmits, dialog}
 use Rattle.session.specs.Streams.{IsEarly}
 use Rattle.session.specs.Talk.{AreSteps, talk_text}
-use Rattle.byte_streams.proofs.Bytes.{appends_none, appends_on, consumes_none, consumes_on}
+use Rattle.byte_streams.specs.laws.Bytes.{appends_none, appends_on, consumes_none, consumes_on}
 use Rattle.session.proofs.Hearing.{due_said}
 use Rattle.session.proofs.Transmitting.{behind_said, early_ends, front_none}
 

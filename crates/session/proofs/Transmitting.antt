@@ -11,13 +11,13 @@ use Rattle.negotiation.specs.Dialog.{Standing, Turn, broken, ended, exhausted, i
 use Rattle.negotiation.specs.Session.{HearsOn, IsBehind, IsSaid, SessionState, end_of}
 use Rattle.negotiation.specs.declared.end.End.{End}
 use Rattle.negotiation.specs.declared.end.End.TheVariants.{IoFault, NoMemory, PeerClosed, ProtocolEnd}
-use Rattle.negotiation.proofs.Dialogs.{hears_none, hears_then}
+use Rattle.negotiation.specs.laws.Dialogs.{hears_none, hears_then}
 use Rattle.session.specs.Hearing.{Hearing}
 use Rattle.session.specs.Serving.{Ends, Stands, Transmits}
 use Rattle.session.specs.Streams.{IsEarly}
 use Rattle.session.specs.Talk.{Answers, AreSteps, Exchange, asked, talk_text}
 use Rattle.session.proofs.Answering.{asked-append, steps_on, talk_text-append}
-use Rattle.byte_streams.proofs.Bytes.{appends_none, appends_on, consumes_none, consumes_on}
+use Rattle.byte_streams.specs.laws.Bytes.{appends_none, appends_on, consumes_none, consumes_on}
 use Rattle.session.proofs.Hearing.{no_greeting}
 
 pub early_ends : (end : Result (Unit {0}) End) → IsErrAnd end IsEarly → (standing : Standing) (unheard unsent : List ℕ) (unanswered : List Message) (left : Option (List ℕ)) → Ends standing unheard unsent unanswered left end

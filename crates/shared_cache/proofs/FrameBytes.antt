@@ -7,7 +7,7 @@ use Rattle.std.proofs.lemmas.List.{get_or-map, length-map}
 use Rattle.std.proofs.Math.Dec.{ltb}
 use Rattle.frame_pool.specs.Lists.{times}
 use Rattle.frame_pool.specs.Pool.{DirtyFrame, PoolState, frames_of}
-use Rattle.frame_pool.proofs.Times.{times_head}
+use Rattle.frame_pool.specs.laws.Times.{times_head}
 use Rattle.shared_cache.specs.Blocks.{DirtyBlock, bytes_of, clean_bytes, dirty_bytes}
 use Rattle.shared_cache.specs.Held.{HeldState, IsHeld, IsMissing, block_at, bytes_at, blocks_of, clean_block, dirty_block, held_times}
 

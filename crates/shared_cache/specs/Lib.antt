@@ -2,3 +2,4 @@ pub mod Blocks
 pub mod Cache
 pub mod Held
 pub mod View
+pub mod laws

@@ -1,12 +1,4 @@
-pub mod Events
-pub mod Logged
-pub mod Ordered
-pub mod Parts
-pub mod Reached
-pub mod Shown
-pub mod Sound
-pub mod Steps
-pub mod Talk
-pub mod Truthful
-pub mod Waiting
-pub mod Within
+mod Reached
+mod Shown
+mod Truthful
+mod Waiting

@@ -27,10 +27,10 @@ use Rattle.image_model.specs.Image.{Image}
 use Rattle.world.specs.Shown.{bytes_from, most_runs, read_status_of, runs_from, shown_by, status_of}
 use Rattle.world.specs.World.{World, Stage, last_number, has_room, fits}
 use Rattle.world_law.specs.Law.{Grows, IsRising, IsWithin}
-use Rattle.world_law.proofs.Logged.{put_other}
-use Rattle.world_law.proofs.Sound.{IsSound}
-use Rattle.world_law.proofs.Steps.{of_either, sound_fresh, sound_step}
-use Rattle.world_law.proofs.Within.{within_step}
+use Rattle.world_law.specs.laws.Logged.{put_other}
+use Rattle.world_law.specs.laws.Sound.{IsSound}
+use Rattle.world_law.specs.laws.Steps.{of_either, sound_fresh, sound_step}
+use Rattle.world_law.specs.laws.Within.{within_step}
 
 -- what schedules lead to is sound
 pub sound_reached : (world : World) → IsReached world → IsSound world

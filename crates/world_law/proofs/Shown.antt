@@ -31,13 +31,13 @@ use Rattle.world.specs.Shown.{shown_by}
 use Rattle.world.specs.Step.{after_step, in_time, put_back, send, sent, with_generation, written, without_memory, sealed_more, append}
 use Rattle.world.specs.Verdict.{verdict}
 use Rattle.world.specs.World.{World, Stage, Setting, fits, fresh, has_room, image_after, in_hand, last_number, put}
-use Rattle.world_law.proofs.Events.{IsLast, answered_split, get_split}
-use Rattle.world_law.proofs.Logged.{IsQuiet, put_other, put_same}
-use Rattle.world_law.proofs.Ordered.{no_answer, one_sender}
+use Rattle.world_law.specs.laws.Events.{IsLast, answered_split, get_split}
+use Rattle.world_law.specs.laws.Logged.{IsQuiet, put_other, put_same}
+use Rattle.world_law.specs.laws.Ordered.{no_answer, one_sender}
 use Rattle.world_law.proofs.Reached.{sound_reached}
-use Rattle.world_law.proofs.Sound.{IsOpen, IsSound, IsRight, facts_of, one_event}
-use Rattle.world_law.proofs.Steps.{of_either, quiet_failed, quiet_held, quiet_numbered, quiet_took}
-use Rattle.world_law.proofs.Talk.{own_place, pair_within}
+use Rattle.world_law.specs.laws.Sound.{IsOpen, IsSound, IsRight, facts_of, one_event}
+use Rattle.world_law.specs.laws.Steps.{of_either, quiet_failed, quiet_held, quiet_numbered, quiet_took}
+use Rattle.world_law.specs.laws.Talk.{own_place, pair_within}
 
 -- what answers that show an image are judged by
 record Facts : Type 0 where

@@ -29,9 +29,9 @@ use Rattle.image_model.specs.Image.{Image}
 use Rattle.world.specs.Shown.{bytes_from, most_runs, read_status_of, runs_from, shown_by, status_of}
 use Rattle.world.specs.World.{World, Stage, Setting, fresh, put, last_number, has_room, in_hand, fits}
 use Rattle.world_law.specs.Law.{HasFailed, TellsFault, TellsTruth}
-use Rattle.world_law.proofs.Events.{get_split}
-use Rattle.world_law.proofs.Logged.{put_same, put_other}
-use Rattle.world_law.proofs.Steps.{of_either}
+use Rattle.world_law.specs.laws.Events.{get_split}
+use Rattle.world_law.specs.laws.Logged.{put_same, put_other}
+use Rattle.world_law.specs.laws.Steps.{of_either}
 
 -- what an event tells is so: an order that was stopped where it tells of a fault, and no generation left where it says so
 abbrev IsBacked : Stage → Event → Type 0

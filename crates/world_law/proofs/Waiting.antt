@@ -20,7 +20,7 @@ use Rattle.world.specs.Verdict.{verdict}
 use Rattle.image_model.specs.Image.{Image}
 use Rattle.world.specs.Shown.{bytes_from, most_runs, read_status_of, runs_from, shown_by, status_of}
 use Rattle.world.specs.World.{World, Stage, Setting, fits, fresh, has_room, in_hand, last_number, put}
-use Rattle.world_law.proofs.Steps.{of_either}
+use Rattle.world_law.specs.laws.Steps.{of_either}
 
 -- where a connection in this state waits for a number, it is no greater than the last one
 abbrev WaitsWithin : ℕ → Connection → Type 0

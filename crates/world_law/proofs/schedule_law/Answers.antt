@@ -2,7 +2,7 @@ use Rattle.world_law.proofs.Shown.{reads_fit}
 use Rattle.world_law.proofs.Reached.{sound_reached, covers_durable, grows_run, reached_run}
 use Rattle.world_law.proofs.Truthful.{truth_reached}
 use Rattle.world_law.proofs.Waiting.{waiting_reached}
-use Rattle.world_law.proofs.Within.{within_reached}
+use Rattle.world_law.specs.laws.Within.{within_reached}
 use Rattle.world_law.proofs.schedule_law.Goals as goal
 
 pub returns : goal.returns

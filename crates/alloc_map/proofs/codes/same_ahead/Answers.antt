@@ -1,5 +1,5 @@
 use Rattle.std.proofs.Common.{◌≡◌, ◌+◌, ◌/◌, slice_index, arith, ap, ◌∙◌}
-use Rattle.alloc_map.proofs.Coded.{code_in_bytes}
+use Rattle.alloc_map.specs.laws.Coded.{code_in_bytes}
 use Rattle.alloc_map.proofs.codes.same_ahead.Goals as goal
 
 pub returns-then-is_word_of-clause-same : goal.returns-then-is_word_of-clause-same

@@ -1,4 +1,4 @@
-use Rattle.alloc_map.proofs.Coded.{code_at-filled}
+use Rattle.alloc_map.specs.laws.Coded.{code_at-filled}
 use Rattle.alloc_map.proofs.codes.set_bytes.Goals as goal
 
 pub returns-clause-codes : goal.returns-clause-codes

@@ -1,5 +1,5 @@
 use Rattle.std.proofs.Common.{arith}
-use Rattle.alloc_map.proofs.Coded.{joined}
+use Rattle.alloc_map.specs.laws.Coded.{joined}
 use Rattle.alloc_map.proofs.codes.set_codes.Goals as goal
 
 pub returns-clause-codes : goal.returns-clause-codes

@@ -1,6 +1,6 @@
 use Rattle.std.proofs.Common.{ℕ, ◌≡◌, ◌/◌, ◌%◌, ◌<◌, nat_eq, if◌then◌else◌, length, slice_index, arith, rules, ap, subst, ◌∙◌}
 use Rattle.std.proofs.lemmas.List.{get_or_default}
-use Rattle.alloc_map.proofs.Coded.{HasCode, code_at-set, set_more}
+use Rattle.alloc_map.specs.laws.Coded.{HasCode, code_at-set, set_more}
 use Rattle.alloc_map.proofs.codes.set_each.Goals as goal
 
 pub loop-block-preserved : goal.loop-block-preserved

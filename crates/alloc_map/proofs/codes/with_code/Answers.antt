@@ -1,5 +1,5 @@
 use Rattle.std.proofs.Common.{◌≡◌, arith}
-use Rattle.alloc_map.proofs.Coded.{first_code, second_code, third_code, fourth_code}
+use Rattle.alloc_map.specs.laws.Coded.{first_code, second_code, third_code, fourth_code}
 use Rattle.alloc_map.proofs.codes.with_code.Goals as goal
 
 pub returns-in-0 : goal.returns-in-0

@@ -1,4 +1,4 @@
-use Rattle.alloc_map.proofs.Spelling.{one_map, one_spelling, never_bad}
+use Rattle.alloc_map.specs.laws.Spelling.{one_map, one_spelling, never_bad}
 use Rattle.alloc_map.proofs.laws.map_laws.Goals as goal
 
 pub returns : goal.returns

@@ -1,6 +1,6 @@
 use Rattle.std.proofs.Common.{◌≡◌, ◌++◌, ◌∙◌, sym, ap, take, drop, List, ℕ, append_assoc}
 use Rattle.std.proofs.lemmas.List.{take-append-drop}
-use Rattle.byte_streams.proofs.Bytes.{appends_on}
+use Rattle.byte_streams.specs.laws.Bytes.{appends_on}
 use Rattle.byte_streams.proofs.streams.write_each.Goals as goal
 
 pub loop-rest-preserved : goal.loop-rest-preserved

@@ -1,12 +1,12 @@
 use Rattle.std.proofs.Common.{◌≡◌, ℕ, List, length, replicate, arith, ap, ◌∙◌, refl}
 use Rattle.std.proofs.lemmas.List.{length-replicate}
-use Rattle.alloc_map.proofs.Coded.{length-patched}
+use Rattle.alloc_map.specs.laws.Coded.{length-patched}
 use Rattle.alloc_map.specs.Codes.{state_at}
 use Rattle.image_model.specs.declared.command.Kind.{Kind}
 use Rattle.image_model.specs.declared.command.Kind.TheVariants.{Data, Hole}
 use Rattle.image_model.specs.Patched.{patched}
-use Rattle.image_model.proofs.Positions.{filled_at}
-use Rattle.shared_cache.proofs.Ranges.{covers_true}
+use Rattle.image_model.specs.laws.Positions.{filled_at}
+use Rattle.shared_cache.specs.laws.Ranges.{covers_true}
 use Rattle.cache_bench.specs.States.{AreData}
 use Rattle.cache_bench.proofs.frames.all_data.Goals as goal
 

@@ -1,6 +1,6 @@
 use Rattle.std.proofs.Common.{length, replicate, arith, ap, ◌∙◌}
 use Rattle.std.proofs.lemmas.List.{length-replicate}
-use Rattle.alloc_map.proofs.Coded.{length-patched}
+use Rattle.alloc_map.specs.laws.Coded.{length-patched}
 use Rattle.cache_bench.proofs.maps.set.Goals as goal
 
 pub returns : goal.returns

@@ -1,7 +1,7 @@
 use Rattle.std.proofs.Common.{subst}
 use Rattle.std.proofs.lemmas.Result.{on_ok_weaker}
 use Rattle.disk_model.specs.Disk.{IsSound}
-use Rattle.disk_model.proofs.Moments.{stays_on}
+use Rattle.disk_model.specs.laws.Moments.{stays_on}
 use Rattle.checkpoint.proofs.Formatted.{closed_after, gates_moments}
 use Rattle.checkpoint.proofs.format.close_headers.Goals as goal
 

@@ -1,5 +1,5 @@
 use Rattle.std.proofs.Common.{inl, inr, ◌∙◌}
-use Rattle.disk_model.proofs.Moments.{goes_on, weakens}
+use Rattle.disk_model.specs.laws.Moments.{goes_on, weakens}
 use Rattle.checkpoint.proofs.format.write_device.Goals as goal
 
 pub returns-in_err-write_parts-clause-any_moment : goal.returns-in_err-write_parts-clause-any_moment

@@ -2,7 +2,7 @@ use Rattle.std.proofs.Common.{ℕ, List, length, Err, sym, ◌∙◌, subst}
 use Rattle.disk_model.specs.Disk.{IsSound}
 use Rattle.header_slots.specs.Slots.{HoldsHeader}
 use Rattle.image_model.specs.declared.geometry.Geometry.{Geometry}
-use Rattle.journal.proofs.Chained.{one_read, reads_on}
+use Rattle.group_list.specs.laws.Chained.{one_read, reads_on}
 use Rattle.regions.specs.Layout.{map_at}
 use Rattle.regions.specs.Map.{HoldsMap, IsMapReading}
 use Rattle.checkpoint.proofs.Readings.{at_refusal, groups_refused, header_read, header_refused, header_stays, map_refused, map_stays, seen_same, still_synced}

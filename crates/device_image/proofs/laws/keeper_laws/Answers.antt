@@ -1,5 +1,5 @@
-use Rattle.device_image.proofs.Holding.{held_as, held_empty}
-use Rattle.device_image.proofs.Kept.{kept_content, kept_size}
+use Rattle.device_image.specs.laws.Holding.{held_as, held_empty}
+use Rattle.device_image.specs.laws.Kept.{kept_content, kept_size}
 use Rattle.device_image.proofs.laws.keeper_laws.Goals as goal
 
 pub returns : goal.returns

@@ -1,4 +1,4 @@
-use Rattle.device_image.proofs.Sole.{groups_sound, map_sound, one_image, one_number}
+use Rattle.device_image.specs.laws.Sole.{groups_sound, map_sound, one_image, one_number}
 use Rattle.device_image.proofs.laws.stands_laws.Goals as goal
 
 pub returns-clause-one_image : goal.returns-clause-one_image

@@ -2,7 +2,7 @@ use Rattle.std.proofs.Common.{◌+◌, [], ◌∷◌, ◌∙◌, subst, arith}
 use Rattle.std.specs.Prelude.{OnOk}
 use Rattle.std.proofs.lemmas.Result.{on_ok_weaker}
 use Rattle.disk_model.specs.Disk.{State, IsSound, IsStored, IsSyncedIn, LeavesOnly, MayLeaveTorn}
-use Rattle.disk_model.proofs.Moments.{weakens, goes_on}
+use Rattle.disk_model.specs.laws.Moments.{weakens, goes_on}
 use Rattle.image_model.specs.declared.side.Side.{Side}
 use Rattle.header_slots.specs.Slots.{slot_at}
 use Rattle.header_slots.specs.Change.{IsBodyStored, IsGateClosed, LeavesClosing}

@@ -2,7 +2,7 @@ use Rattle.std.proofs.Common.{ℕ, [], ◌∷◌, ◌∙◌, inl, subst}
 use Rattle.std.specs.Prelude.{OnOk}
 use Rattle.std.proofs.lemmas.Result.{on_ok_weaker}
 use Rattle.disk_model.specs.Disk.{IsSound, IsStored, LeavesOnly, MayLeaveTorn}
-use Rattle.disk_model.proofs.Moments.{weakens, goes_on}
+use Rattle.disk_model.specs.laws.Moments.{weakens, goes_on}
 use Rattle.header_slots.proofs.Closing.{closing_left, gate_closed}
 use Rattle.header_slots.proofs.change.close_other.Goals as goal
 

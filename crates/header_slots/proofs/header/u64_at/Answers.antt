@@ -1,5 +1,5 @@
 use Rattle.std.proofs.Common.{◌∙◌}
-use Rattle.header_slots.proofs.Frame.{number_behind}
+use Rattle.header_slots.specs.laws.Frame.{number_behind}
 use Rattle.header_slots.proofs.header.u64_at.Goals as goal
 
 pub returns : goal.returns

@@ -1,5 +1,5 @@
-use Rattle.header_slots.proofs.Frame.{same_reading}
-use Rattle.header_slots.proofs.Sole.{one_slot, one_header, held_or_none, held_or_bad, none_or_bad}
+use Rattle.header_slots.specs.laws.Frame.{same_reading}
+use Rattle.header_slots.specs.laws.Sole.{one_slot, one_header, held_or_none, held_or_bad, none_or_bad}
 use Rattle.header_slots.proofs.laws.header_laws.Goals as goal
 
 pub returns : goal.returns

@@ -3,7 +3,7 @@ use Rattle.std.proofs.lemmas.Bool.{cases_lt}
 use Rattle.std.proofs.lemmas.List.{drop-replicate, get_or-append_right, get_or_append_left, get_or-replicate, get_or_past, length-append, length-replicate}
 use Rattle.header_slots.specs.declared.header.Header.{Header}
 use Rattle.header_slots.specs.Header.{SpellsAt, IsBodyOf}
-use Rattle.header_slots.proofs.Frame.{moved_spelling}
+use Rattle.header_slots.specs.laws.Frame.{moved_spelling}
 use Rattle.header_slots.proofs.slots.body_of.Goals as goal
 
 zero_at : (n place : ℕ) → slice_index (replicate n 0) place ≡ 0

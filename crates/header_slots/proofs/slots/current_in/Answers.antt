@@ -1,6 +1,6 @@
 use Rattle.std.proofs.Common.{◌+◌, arith}
 use Rattle.header_slots.specs.Slots.{slot_at, no_header_there, another_size}
-use Rattle.header_slots.proofs.Frame.{cut_out, moved_spelling, moved_bad}
+use Rattle.header_slots.specs.laws.Frame.{cut_out, moved_spelling, moved_bad}
 use Rattle.header_slots.proofs.slots.current_in.Goals as goal
 
 pub returns-clause-reading : goal.returns-clause-reading

@@ -1,6 +1,6 @@
 use Rattle.std.proofs.Common.{ℕ, ◌≡◌, ◌+◌, ◌<◌, ◌∙◌, length, slice_index, arith, ap, subst}
 use Rattle.header_slots.specs.Slots.{IsReading}
-use Rattle.header_slots.proofs.Frame.{same_reading}
+use Rattle.header_slots.specs.laws.Frame.{same_reading}
 use Rattle.header_slots.proofs.slots.read_current.Goals as goal
 
 pub returns-clause-reading : goal.returns-clause-reading

@@ -2,7 +2,7 @@
 use Rattle.std.proofs.Common.{[], ◌∷◌, ◌+◌, length, subst, rules}
 use Rattle.std.specs.Prelude.{OnOk}
 use Rattle.disk_model.specs.Disk.{IsSound, IsStored, LeavesOnly, MayLeaveTorn}
-use Rattle.disk_model.proofs.Moments.{weakens, goes_on}
+use Rattle.disk_model.specs.laws.Moments.{weakens, goes_on}
 use Rattle.std.proofs.lemmas.Result.{on_ok_weaker}
 use Rattle.journal.proofs.Torn.{torn_body, torn_gate, opened}
 use Rattle.journal.proofs.area.write_group.Goals as goal

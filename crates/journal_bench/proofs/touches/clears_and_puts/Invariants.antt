@@ -1,4 +1,4 @@
-use Rattle.journal.specs.Touches.{AreWithin}
+use Rattle.group_list.specs.Touches.{AreWithin}
 use Rattle.journal_bench.proofs.touches.clears_and_puts.Given as goal
 
 abbrev pub invariant-loop-index : goal.invariant-loop-index

@@ -2,7 +2,7 @@ use Rattle.std.proofs.Common.{ap, sym, ◌∙◌, Option}
 use Rattle.last_touches.specs.declared.touch.LastTouch.{LastTouch}
 use Rattle.last_touches.specs.Ranges.{touch_at}
 use Rattle.last_touches.specs.Touches.{later}
-use Rattle.last_touches.proofs.Said.{AreRanges-later}
+use Rattle.last_touches.specs.laws.Said.{AreRanges-later}
 use Rattle.last_touches.proofs.overlay.overlay.Goals as goal
 
 pub join-requires-clause-apart : goal.join-requires-clause-apart

@@ -1,6 +1,6 @@
 use Rattle.std.proofs.Common.{◌≢◌, take, ap, rules}
 use Rattle.nbd_wire.specs.Head.{request_magic, head_bytes}
-use Rattle.nbd_wire.proofs.Heads.{head_bytes_of}
+use Rattle.nbd_wire.specs.laws.Heads.{head_bytes_of}
 use Rattle.nbd_wire.proofs.head.decode_request.Goals as goal
 
 pub returns-then-read_u32-ne-REQUEST_MAGIC-clause-none : goal.returns-then-read_u32-ne-REQUEST_MAGIC-clause-none

@@ -1,4 +1,4 @@
-use Rattle.nbd_wire.proofs.Streams.{whole_stream_lem, first_of_stream_lem, any_pieces_lem}
+use Rattle.nbd_wire.specs.laws.Streams.{whole_stream_lem, first_of_stream_lem, any_pieces_lem}
 use Rattle.nbd_wire.proofs.laws.any_pieces.Goals as goal
 
 pub returns-clause-whole : goal.returns-clause-whole

@@ -1,4 +1,4 @@
-use Rattle.nbd_wire.proofs.Streams.{one_reading_lem, no_request_lem, first_requests_lem}
+use Rattle.nbd_wire.specs.laws.Streams.{one_reading_lem, no_request_lem, first_requests_lem}
 use Rattle.nbd_wire.proofs.laws.one_reading.Goals as goal
 
 pub returns-clause-one : goal.returns-clause-one

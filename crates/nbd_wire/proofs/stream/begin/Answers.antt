@@ -1,7 +1,7 @@
 use Rattle.std.proofs.Common.{◌≡◌, [], sym, subst, ◌∙◌}
 use Rattle.nbd_wire.specs.Request.{Message, IsRequest, data_len}
-use Rattle.nbd_wire.proofs.Requests.{plain_request, data_len_write, data_len_other}
-use Rattle.nbd_wire.proofs.Streams.{reads_one}
+use Rattle.nbd_wire.specs.laws.Requests.{plain_request, data_len_write, data_len_other}
+use Rattle.nbd_wire.specs.laws.Streams.{reads_one}
 use Rattle.nbd_wire.proofs.stream.begin.Goals as goal
 use Rattle.nbd_wire.proofs.stream.begin.Goals.{then-head-ne-WRITE-via-then-head-ne-WRITE, then-head-ne-WRITE-via-else-head-ne-WRITE+then-head-eq0}
 

@@ -1,8 +1,8 @@
 use Rattle.std.proofs.Common.{◌++◌, sym, subst, arith}
 use Rattle.nbd_wire.specs.Head.{head_bytes}
 use Rattle.nbd_wire.specs.Request.{Message, IsRequest}
-use Rattle.nbd_wire.proofs.Requests.{discarded_request}
-use Rattle.nbd_wire.proofs.Streams.{reads_one}
+use Rattle.nbd_wire.specs.laws.Requests.{discarded_request}
+use Rattle.nbd_wire.specs.laws.Streams.{reads_one}
 use Rattle.nbd_wire.proofs.stream.discard.Goals as goal
 
 pub returns-clause-reads : goal.returns-clause-reads

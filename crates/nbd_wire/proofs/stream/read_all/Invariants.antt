@@ -1,7 +1,7 @@
 use Rattle.std.proofs.Common.{◌<◌, length}
 use Rattle.nbd_wire.specs.State.{kept, IsState}
 use Rattle.nbd_wire.specs.Stream.{reading, missing_len}
-use Rattle.nbd_wire.proofs.Streams.{Step}
+use Rattle.nbd_wire.specs.laws.Streams.{Step}
 use Rattle.nbd_wire.proofs.Parts.{Quiet}
 use Rattle.nbd_wire.proofs.stream.read_all.Given as goal
 

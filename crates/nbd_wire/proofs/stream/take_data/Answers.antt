@@ -3,8 +3,8 @@ use Rattle.nbd_wire.specs.Head.{head_bytes}
 use Rattle.nbd_wire.specs.Request.{Message}
 use Rattle.nbd_wire.specs.Stream.{Reads}
 use Rattle.nbd_wire.specs.State.{kept}
-use Rattle.nbd_wire.proofs.Requests.{kept_request}
-use Rattle.nbd_wire.proofs.Streams.{reads_one}
+use Rattle.nbd_wire.specs.laws.Requests.{kept_request}
+use Rattle.nbd_wire.specs.laws.Streams.{reads_one}
 use Rattle.nbd_wire.proofs.stream.take_data.Goals as goal
 
 pub returns-clause-reads : goal.returns-clause-reads

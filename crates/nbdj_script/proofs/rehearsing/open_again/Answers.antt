@@ -1,7 +1,7 @@
 use Rattle.std.proofs.Common.{◌∙◌, subst, ℕ, List}
 use Rattle.device_image.specs.Stands.{StandsFor}
 use Rattle.disk_model.specs.SimDisk.{seen_bytes, state_now}
-use Rattle.disk_model.proofs.Contents.{leaves_seen}
+use Rattle.disk_model.specs.laws.Contents.{leaves_seen}
 use Rattle.nbdj_script.proofs.rehearsing.open_again.Goals as goal
 
 pub returns-in-Ok-open : goal.returns-in-Ok-open

@@ -1,4 +1,4 @@
-use Rattle.negotiation.proofs.OneHearing.{one_hearing_lem}
+use Rattle.negotiation.specs.laws.OneHearing.{one_hearing_lem}
 use Rattle.negotiation.proofs.laws.one_hearing.Goals as goal
 
 pub returns : goal.returns

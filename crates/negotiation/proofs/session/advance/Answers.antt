@@ -6,7 +6,7 @@ use Rattle.negotiation.specs.Session.{Advances, IsLongPart, IsPart, Step, standi
 use Rattle.negotiation.specs.declared.stage.Stage.{Stage}
 use Rattle.negotiation.specs.declared.stage.Stage.TheVariants as stages
 use Rattle.negotiation.specs.declared.stage.Talk.{Talk}
-use Rattle.negotiation.proofs.Dialogs.{data_advances, discard_advances, flags_advances, head_advances, session_at}
+use Rattle.negotiation.specs.laws.Dialogs.{data_advances, discard_advances, flags_advances, head_advances, session_at}
 use Rattle.negotiation.proofs.Sessions.{advances_nothing, idle}
 use Rattle.negotiation.proofs.session.advance.Goals as goal
 

@@ -3,7 +3,7 @@ use Rattle.std.specs.List.{position}
 use Rattle.nbd_wire.specs.Request.{Message}
 use Rattle.negotiation.specs.Dialog.{ended, in_requests, is_disc}
 use Rattle.negotiation.specs.Session.{Hands}
-use Rattle.negotiation.proofs.Requests.{found_place, hands_disc, hands_none, no_place}
+use Rattle.negotiation.specs.laws.Requests.{found_place, hands_disc, hands_none, no_place}
 use Rattle.negotiation.proofs.Sessions.{end_from}
 use Rattle.negotiation.proofs.session.ask.Goals as goal
 

@@ -1,6 +1,6 @@
 use Rattle.std.proofs.Common.{◌≡◌, ◌<◌, ◌^◌, vec_len}
 use Rattle.std.specs.Int.{w16, to_be_bytes}
-use Rattle.option_wire.proofs.Items.{Reads}
+use Rattle.option_wire.specs.laws.Items.{Reads}
 use Rattle.option_wire.proofs.field.read_types.Given as goal
 
 abbrev pub invariant-loop : goal.invariant-loop

@@ -1,5 +1,5 @@
 use Rattle.std.proofs.Common.{arith, rules}
-use Rattle.option_wire.proofs.Texts.{no_number, no_text, text_of}
+use Rattle.option_wire.specs.laws.Texts.{no_number, no_text, text_of}
 use Rattle.option_wire.proofs.field.take_text.Goals as goal
 
 pub returns-in_err-len-clause-none : goal.returns-in_err-len-clause-none

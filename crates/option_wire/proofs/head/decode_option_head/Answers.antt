@@ -1,5 +1,5 @@
 use Rattle.std.proofs.Common.{sym, ◌∙◌, rules}
-use Rattle.option_wire.proofs.Heads.{head_of}
+use Rattle.option_wire.specs.laws.Heads.{head_of}
 use Rattle.option_wire.proofs.head.decode_option_head.Goals as goal
 
 pub returns-clause-found : goal.returns-clause-found

@@ -1,4 +1,4 @@
-use Rattle.option_wire.proofs.Asked.{one_option_lem, one_request_lem}
+use Rattle.option_wire.specs.laws.Asked.{one_option_lem, one_request_lem}
 use Rattle.option_wire.proofs.laws.one_option.Goals as goal
 
 pub returns-clause-option : goal.returns-clause-option

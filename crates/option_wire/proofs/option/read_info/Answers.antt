@@ -1,6 +1,6 @@
 use Rattle.std.proofs.lemmas.Result.{err_from_is_err_and}
 use Rattle.option_wire.proofs.Counts.{same_fault}
-use Rattle.option_wire.proofs.Texts.{behind_text}
+use Rattle.option_wire.specs.laws.Texts.{behind_text}
 use Rattle.option_wire.proofs.option.read_info.Goals as goal
 
 pub returns-in_err-types-clause-none : goal.returns-in_err-types-clause-none

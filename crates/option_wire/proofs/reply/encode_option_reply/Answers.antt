@@ -1,4 +1,4 @@
-use Rattle.option_wire.proofs.Heads.{no_room}
+use Rattle.option_wire.specs.laws.Heads.{no_room}
 use Rattle.option_wire.proofs.reply.encode_option_reply.Goals as goal
 
 pub returns-in_err-reserve-clause-full : goal.returns-in_err-reserve-clause-full

@@ -7,7 +7,7 @@ use Rattle.std.proofs.lemmas.List.Elements.{All-filter}
 use Rattle.image_model.specs.Dirty.{with_blocks}
 use Rattle.image_model.specs.Image.{covers}
 use Rattle.image_model.specs.declared.command.Kind.TheVariants.{Data}
-use Rattle.image_model.proofs.Positions.{length-patched}
+use Rattle.image_model.specs.laws.Positions.{length-patched}
 use Rattle.shared_cache.specs.Blocks.{DirtyBlock, IsOnce, count_missing}
 use Rattle.shared_cache.specs.Cache.{CacheState}
 use Rattle.shared_cache.specs.View.{ShowsPut}

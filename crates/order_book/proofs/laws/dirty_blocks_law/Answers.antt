@@ -1,4 +1,4 @@
-use Rattle.image_model.proofs.DirtyMaps.{get-dirty_blocks}
+use Rattle.image_model.specs.laws.DirtyMaps.{get-dirty_blocks}
 use Rattle.order_book.specs.Order.{new_order}
 use Rattle.order_book.proofs.Maps.{dirty-fold}
 use Rattle.order_book.proofs.laws.dirty_blocks_law.Goals as goal

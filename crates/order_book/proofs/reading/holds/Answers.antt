@@ -1,5 +1,5 @@
 use Rattle.std.proofs.Common.{◌+◌, arith, refl, sym}
-use Rattle.shared_cache.proofs.Views.{seen_missing}
+use Rattle.shared_cache.specs.laws.Views.{seen_missing}
 use Rattle.order_book.proofs.Missing.{lacks_at}
 use Rattle.order_book.proofs.reading.holds.Goals as goal
 

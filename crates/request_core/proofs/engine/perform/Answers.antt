@@ -1,5 +1,5 @@
 use Rattle.std.proofs.Common.{Option, refl, sym, ◌∙◌, ap, subst}
-use Rattle.journal.specs.Group.{Numbered}
+use Rattle.group_list.specs.Group.{Numbered}
 use Rattle.request_core.specs.Bench.{ConnectionsState}
 use Rattle.request_core.specs.Parts.{AreConnectionsOf, IsOrderOf}
 use Rattle.request_core.specs.Serving.{AreTermsOf}

@@ -1,5 +1,5 @@
 use Rattle.std.proofs.Common.{refl, sym, subst}
-use Rattle.journal.proofs.Chained.{none_read}
+use Rattle.group_list.specs.laws.Chained.{none_read}
 use Rattle.marks.specs.Known.{PassState}
 use Rattle.order_book.specs.Order.{OrderState}
 use Rattle.request_core.specs.Serving.{IsPassServed}

@@ -1,7 +1,7 @@
 use Rattle.std.proofs.Common.{◌≡◌, ◌≤◌, ◌<◌, ◌⊎◌, inl, inr, ℕ, Option, Some, None, sym, ◌∙◌, ap, subst, refl}
 use Rattle.std.proofs.lemmas.Bool.{cases_lt}
 use Rattle.checkpoint.specs.Keeper.{end_after}
-use Rattle.journal.specs.Group.{Numbered}
+use Rattle.group_list.specs.Group.{Numbered}
 use Rattle.order_book.specs.Order.{OrderState}
 use Rattle.request_core.specs.Steps.{IsAppended}
 use Rattle.request_core.specs.Parts.{IsOrderOf}

@@ -5,7 +5,7 @@ use Rattle.nbd_wire.specs.Request.{Message}
 use Rattle.negotiation.specs.declared.end.End.{End}
 use Rattle.negotiation.specs.declared.end.End.TheVariants.{IoFault}
 use Rattle.session.specs.Hearing.{Hearing}
-use Rattle.byte_streams.proofs.Bytes.{consumes_none}
+use Rattle.byte_streams.specs.laws.Bytes.{consumes_none}
 use Rattle.session.proofs.Hearing.{as_error, heard_last, heard_none, heard_then, items_none, went_on}
 use Rattle.session.proofs.hear.carry_on.Goals as goal
 

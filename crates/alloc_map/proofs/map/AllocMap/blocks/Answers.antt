@@ -1,5 +1,5 @@
 use Rattle.std.proofs.Common.{length, sym, ap, ◌∙◌}
-use Rattle.alloc_map.proofs.States.{length-states_of}
+use Rattle.alloc_map.specs.laws.States.{length-states_of}
 use Rattle.alloc_map.proofs.map.AllocMap.blocks.Goals as goal
 
 pub returns : goal.returns

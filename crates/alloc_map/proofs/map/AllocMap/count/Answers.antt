@@ -6,8 +6,8 @@ use Rattle.image_model.specs.contracts.command.Kind.{the_type}
 use Rattle.image_model.specs.declared.command.Kind.{Kind}
 use Rattle.image_model.specs.declared.command.Kind.TheVariants.{Data, Zero, Hole}
 use Rattle.alloc_map.specs.Codes.{is_state}
-use Rattle.alloc_map.proofs.Coded.{counted_run}
-use Rattle.alloc_map.proofs.States.{length-states_of}
+use Rattle.alloc_map.specs.laws.Coded.{counted_run}
+use Rattle.alloc_map.specs.laws.States.{length-states_of}
 use Rattle.alloc_map.proofs.map.AllocMap.count.Goals as goal
 use Rattle.alloc_map.proofs.map.AllocMap.count.Goals.{then-eq, else-eq}
 

@@ -1,6 +1,6 @@
 use Rattle.std.proofs.Common.{refl, rules}
 use Rattle.alloc_map.specs.Map.{IsMap}
-use Rattle.alloc_map.proofs.States.{length-states_of, own_states}
+use Rattle.alloc_map.specs.laws.States.{length-states_of, own_states}
 use Rattle.alloc_map.proofs.map.AllocMap.from_bytes.Goals as goal
 
 pub returns-clause-blocks : goal.returns-clause-blocks

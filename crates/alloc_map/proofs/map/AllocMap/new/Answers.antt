@@ -1,4 +1,4 @@
-use Rattle.alloc_map.proofs.States.{states_of-zeroes}
+use Rattle.alloc_map.specs.laws.States.{states_of-zeroes}
 use Rattle.alloc_map.proofs.map.AllocMap.new.Goals as goal
 
 pub returns : goal.returns

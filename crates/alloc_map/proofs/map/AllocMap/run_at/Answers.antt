@@ -1,6 +1,6 @@
 use Rattle.std.proofs.Common.{◌≡◌, length, arith, refl, sym, ap, ◌∙◌}
-use Rattle.alloc_map.proofs.Coded.{run_of_codes}
-use Rattle.alloc_map.proofs.States.{length-states_of}
+use Rattle.alloc_map.specs.laws.Coded.{run_of_codes}
+use Rattle.alloc_map.specs.laws.States.{length-states_of}
 use Rattle.alloc_map.proofs.map.AllocMap.run_at.Goals as goal
 
 pub run_end-requires-clause-inside : goal.run_end-requires-clause-inside

@@ -1,10 +1,10 @@
 use Rattle.std.proofs.Common.{◌≡◌, ◌+◌, ◌-◌, ℕ, List, if◌then◌else◌, length, replicate, arith, sym, ap, ◌∙◌}
-use Rattle.alloc_map.proofs.States.{length-states_of}
+use Rattle.alloc_map.specs.laws.States.{length-states_of}
 use Rattle.image_model.specs.declared.command.Kind.{Kind}
 use Rattle.image_model.specs.Image.{covers}
 use Rattle.image_model.specs.Patched.{patched}
 use Rattle.alloc_map.specs.Codes.{code_at, code_of}
-use Rattle.alloc_map.proofs.Coded.{map_set, states_set}
+use Rattle.alloc_map.specs.laws.Coded.{map_set, states_set}
 use Rattle.alloc_map.proofs.map.AllocMap.set_range.Goals as goal
 
 -- the range by its first block and how many there are

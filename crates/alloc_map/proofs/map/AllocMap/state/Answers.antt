@@ -1,6 +1,6 @@
 use Rattle.std.proofs.Common.{◌≡◌, length, arith, sym, ap, ◌∙◌}
 use Rattle.alloc_map.specs.Codes.{code_at}
-use Rattle.alloc_map.proofs.States.{length-states_of, state_of_code}
+use Rattle.alloc_map.specs.laws.States.{length-states_of, state_of_code}
 use Rattle.alloc_map.proofs.map.AllocMap.state.Goals as goal
 
 pub code_in-requires : goal.code_in-requires

@@ -1,4 +1,4 @@
-use Rattle.alloc_map.proofs.States.{own_states}
+use Rattle.alloc_map.specs.laws.States.{own_states}
 use Rattle.alloc_map.proofs.map.AllocMap.to_bytes.Goals as goal
 
 pub returns : goal.returns

@@ -1,25 +1,25 @@
 use Rattle.std.proofs.Common.{◌≡◌, ℕ, ◌+◌, ◌⊎◌, List, length, map, false, refl, sym, ◌∙◌, ap, subst, arith, rules}
 use Rattle.std.proofs.lemmas.List.{length-map}
 use Rattle.disk_model.specs.Disk.{State, LeavesOnly}
-use Rattle.disk_model.proofs.Moments.{weakens}
+use Rattle.disk_model.specs.laws.Moments.{weakens}
 use Rattle.image_model.specs.Change.{AreChanges, change_of}
 use Rattle.image_model.specs.Image.{Image, apply_all}
 use Rattle.image_model.specs.declared.geometry.Geometry.{Geometry}
-use Rattle.journal.specs.Area.{AreaState}
-use Rattle.journal.specs.Group.{IsGroup, Numbered}
-use Rattle.journal.specs.GroupList.{IsHeld, LeavesEither}
-use Rattle.journal.specs.Spelling.{StoredGroup, stored_of}
-use Rattle.journal.proofs.Added.{size-stored}
+use Rattle.group_list.specs.Area.{AreaState}
+use Rattle.group_list.specs.Group.{IsGroup, Numbered}
+use Rattle.group_list.specs.GroupList.{IsHeld, LeavesEither}
+use Rattle.group_list.specs.Spelling.{StoredGroup, stored_of}
+use Rattle.journal.specs.laws.Added.{size-stored}
 use Rattle.checkpoint.specs.Faults.{of_journal}
 use Rattle.device_image.specs.Keeper.{KeeperState}
 use Rattle.device_image.specs.Keeps.{Keeps}
 use Rattle.device_image.specs.Stands.{StandsFor}
-use Rattle.device_image.proofs.Kept.{first}
+use Rattle.device_image.specs.laws.Kept.{first}
 use Rattle.checkpoint.proofs.Added.{more_held, leaves_either, count_below, count_above, count_on, is_next, ordered}
 use Rattle.checkpoint.proofs.keeper.Keeper.append.Goals as goal
 use Rattle.device_image.specs.Holds.{Holds}
 use Rattle.device_image.specs.Remembers.{Remembers}
-use Rattle.device_image.proofs.Counted.{remembers_more}
+use Rattle.device_image.specs.laws.Counted.{remembers_more}
 
 -- the area takes what the keeper's sizes take
 taken : {D : Type 0} (keeper : KeeperState D) (state : State) (image : Image) (number : ℕ) (group : Numbered) → Keeps keeper state image number

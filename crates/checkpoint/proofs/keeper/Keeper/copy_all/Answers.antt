@@ -1,7 +1,7 @@
 use Rattle.device_image.specs.Keeper.{KeeperState}
 use Rattle.std.proofs.Common.{ap, ◌∙◌, refl, arith}
-use Rattle.disk_model.proofs.Moments.{begins, goes_on}
-use Rattle.device_image.proofs.Kept.{kept_content}
+use Rattle.disk_model.specs.laws.Moments.{begins, goes_on}
+use Rattle.device_image.specs.laws.Kept.{kept_content}
 use Rattle.checkpoint.proofs.Recovered.{copied_first, copied_last, copied_next, keeps_by}
 use Rattle.checkpoint.proofs.keeper.Keeper.copy_all.Goals as goal
 

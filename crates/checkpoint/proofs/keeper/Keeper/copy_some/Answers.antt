@@ -1,11 +1,11 @@
 use Rattle.std.proofs.Common.{◌≡◌, ℕ, ◌+◌, ◌*◌, length, refl, sym, ◌∙◌, ap, subst, arith}
 use Rattle.disk_model.specs.Disk.{LeavesOnly}
-use Rattle.disk_model.proofs.Moments.{begins, weakens}
+use Rattle.disk_model.specs.laws.Moments.{begins, weakens}
 use Rattle.image_model.specs.declared.geometry.Geometry.{Geometry}
 use Rattle.device_image.specs.Keeper.{KeeperState}
 use Rattle.device_image.specs.Keeps.{Keeps}
 use Rattle.device_image.specs.Stands.{StandsFor}
-use Rattle.device_image.proofs.Kept.{kept_content}
+use Rattle.device_image.specs.laws.Kept.{kept_content}
 use Rattle.regions.specs.Layout.{block_at}
 use Rattle.checkpoint.proofs.Copying.{copy_held, copy_left}
 use Rattle.checkpoint.proofs.keeper.Keeper.copy_some.Goals as goal

@@ -1,5 +1,5 @@
-use Rattle.disk_model.proofs.Moments.{begins}
-use Rattle.device_image.proofs.Kept.{kept_content}
+use Rattle.disk_model.specs.laws.Moments.{begins}
+use Rattle.device_image.specs.laws.Kept.{kept_content}
 use Rattle.checkpoint.proofs.keeper.Keeper.end_begun.Goals as goal
 
 pub returns-then-not-is_turning-clause-any_moment : goal.returns-then-not-is_turning-clause-any_moment

@@ -1,6 +1,6 @@
 use Rattle.std.proofs.Common.{ap}
 use Rattle.device_image.specs.Keeper.{KeeperState}
-use Rattle.disk_model.proofs.Moments.{goes_on}
+use Rattle.disk_model.specs.laws.Moments.{goes_on}
 use Rattle.checkpoint.proofs.Recovered.{count_ended, keeps_by, keeps_ended, still_kept}
 use Rattle.checkpoint.proofs.keeper.Keeper.end_checkpoint.Goals as goal
 

@@ -1,10 +1,10 @@
 use Rattle.std.proofs.Common.{[], ◌≡◌, ℕ, ◌<◌, sym, ◌∙◌, ap, subst, arith}
 use Rattle.disk_model.specs.Disk.{IsSound, LeavesOnly}
-use Rattle.disk_model.proofs.Moments.{begins, weakens}
+use Rattle.disk_model.specs.laws.Moments.{begins, weakens}
 use Rattle.device_image.specs.Keeper.{KeeperState}
 use Rattle.device_image.specs.Keeps.{Keeps}
 use Rattle.device_image.specs.Stands.{StandsFor}
-use Rattle.device_image.proofs.Kept.{kept_content}
+use Rattle.device_image.specs.laws.Kept.{kept_content}
 use Rattle.device_image.specs.Turn.{ended, with_second}
 use Rattle.header_slots.specs.Change.{renewed}
 use Rattle.checkpoint.specs.Steps.{IsFinishTime}

@@ -1,5 +1,5 @@
 use Rattle.std.proofs.Common.{inl}
-use Rattle.disk_model.proofs.Moments.{begins}
+use Rattle.disk_model.specs.laws.Moments.{begins}
 use Rattle.checkpoint.proofs.keeper.Keeper.format.Goals as goal
 
 pub returns-in_err-map-clause-any_moment : goal.returns-in_err-map-clause-any_moment

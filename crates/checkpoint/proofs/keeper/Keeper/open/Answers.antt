@@ -1,10 +1,10 @@
 use Rattle.std.proofs.Common.{◌≡◌, ◌⊎◌, inl, inr, ℕ, List, Err, sym, ◌∙◌, ap, subst}
 use Rattle.disk_model.specs.Disk.{LeavesOnly, MayLeave}
-use Rattle.disk_model.proofs.Contents.{leaves_seen}
-use Rattle.disk_model.proofs.Moments.{goes_on, weakens}
+use Rattle.disk_model.specs.laws.Contents.{leaves_seen}
+use Rattle.disk_model.specs.laws.Moments.{goes_on, weakens}
 use Rattle.device_image.specs.Keeper.{KeeperState}
 use Rattle.device_image.specs.Keeps.{Keeps}
-use Rattle.device_image.proofs.Kept.{kept_content}
+use Rattle.device_image.specs.laws.Kept.{kept_content}
 use Rattle.device_image.specs.Stands.{StandsFor}
 use Rattle.checkpoint.specs.Opening.{IsAtRest, IsOpeningRefused, StandsAs}
 use Rattle.checkpoint.specs.declared.fault.KeeperFault.TheVariants.{DeviceFault, NumbersFull}

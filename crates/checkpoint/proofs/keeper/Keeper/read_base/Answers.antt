@@ -5,7 +5,7 @@ use Rattle.device_image.specs.Holds.{Holds}
 use Rattle.device_image.specs.Keeper.{KeeperState}
 use Rattle.disk_model.specs.Disk.{State}
 use Rattle.image_model.specs.declared.geometry.Geometry.{Geometry}
-use Rattle.journal.specs.Reading.{IsOnlyRead}
+use Rattle.group_list.specs.Reading.{IsOnlyRead}
 use Rattle.regions.specs.Layout.{block_at}
 use Rattle.checkpoint.proofs.keeper.Keeper.read_base.Goals as goal
 

@@ -1,9 +1,9 @@
 use Rattle.std.proofs.Common.{ap, [], ◌∙◌, ◌≡◌, arith, ℕ, true, ◌==◌, sym}
 use Rattle.device_image.specs.Keeper.{KeeperState}
 use Rattle.checkpoint.proofs.Recovered.{keeps_begun, recovered_by}
-use Rattle.disk_model.proofs.Moments.{goes_on}
+use Rattle.disk_model.specs.laws.Moments.{goes_on}
 use Rattle.checkpoint.proofs.keeper.Keeper.recover.Goals as goal
-use Rattle.device_image.proofs.Counted.{remembers_none}
+use Rattle.device_image.specs.laws.Counted.{remembers_none}
 use Rattle.std.proofs.lemmas.Bool.Decides.{nat_tests}
 
 pub returns-in_err-rotate-clause-any_moment : goal.returns-in_err-rotate-clause-any_moment

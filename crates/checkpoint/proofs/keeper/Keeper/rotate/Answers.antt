@@ -1,13 +1,13 @@
 use Rattle.std.proofs.Common.{◌≡◌, ℕ, None, [], refl, sym, ◌∙◌, ap, subst}
 use Rattle.disk_model.specs.Disk.{IsSound, LeavesOnly}
-use Rattle.disk_model.proofs.Moments.{begins, weakens}
+use Rattle.disk_model.specs.laws.Moments.{begins, weakens}
 use Rattle.image_model.specs.Side.{other_of}
 use Rattle.device_image.specs.Keeper.{KeeperState, PlanState, count_puts}
 use Rattle.device_image.specs.Keeps.{Keeps}
 use Rattle.device_image.specs.Stands.{StandsFor}
-use Rattle.device_image.proofs.Kept.{kept_content}
+use Rattle.device_image.specs.laws.Kept.{kept_content}
 use Rattle.regions.specs.Layout.{area_at}
-use Rattle.journal.specs.Area.{AreaState}
+use Rattle.group_list.specs.Area.{AreaState}
 use Rattle.device_image.specs.Turn.{begun, with_both}
 use Rattle.header_slots.specs.Change.{renewed}
 use Rattle.checkpoint.proofs.Rotating.{rotate_held, comes_next, current_held, from_above, none_of, rotate_left, synced_before, rotated_left}

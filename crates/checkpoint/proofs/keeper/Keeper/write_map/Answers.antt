@@ -1,6 +1,6 @@
 use Rattle.std.proofs.Common.{◌≡◌, refl, sym, ◌∙◌, ap, subst, arith}
 use Rattle.disk_model.specs.Disk.{LeavesOnly}
-use Rattle.disk_model.proofs.Moments.{begins, weakens}
+use Rattle.disk_model.specs.laws.Moments.{begins, weakens}
 use Rattle.image_model.specs.Side.{other_of}
 use Rattle.image_model.specs.declared.geometry.Geometry.{Geometry}
 use Rattle.image_model.specs.declared.side.Side.{Side}
@@ -8,7 +8,7 @@ use Rattle.header_slots.specs.declared.header.Header.{Header}
 use Rattle.device_image.specs.Keeper.{KeeperState}
 use Rattle.device_image.specs.Keeps.{Keeps}
 use Rattle.device_image.specs.Stands.{StandsFor}
-use Rattle.device_image.proofs.Kept.{kept_content}
+use Rattle.device_image.specs.laws.Kept.{kept_content}
 use Rattle.image_model.specs.Geometry.{map_bytes_of}
 use Rattle.regions.specs.Layout.{map_at}
 use Rattle.device_image.specs.Copied.{IsMapStored}

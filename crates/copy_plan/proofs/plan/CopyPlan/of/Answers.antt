@@ -4,7 +4,7 @@ use Rattle.last_touches.specs.Puts.{is_put}
 use Rattle.last_touches.specs.Ranges.{touch_at}
 use Rattle.device_image.specs.Keeper.{PlanState}
 use Rattle.copy_plan.proofs.Counts.{counted_puts}
-use Rattle.device_image.proofs.Puts.{count_zero}
+use Rattle.device_image.specs.laws.Puts.{count_zero}
 use Rattle.copy_plan.proofs.plan.CopyPlan.of.Goals as goal
 
 pub invariant_of-result : goal.invariant_of-result

@@ -3,7 +3,7 @@ use Rattle.image_model.specs.declared.command.Command.{Command}
 use Rattle.image_model.specs.Change.{Written, Cleared, change_of}
 use Rattle.image_model.specs.Image.{PlainState, apply, image_of}
 use Rattle.image_model.specs.Patched.{patched}
-use Rattle.image_model.proofs.Positions.{put_applied, clear_applied}
+use Rattle.image_model.specs.laws.Positions.{put_applied, clear_applied}
 use Rattle.image_model.proofs.plain_image.PlainImage.apply.Goals as goal
 
 pub returns-in_ok-first-in-Put-clause-ok : goal.returns-in_ok-first-in-Put-clause-ok

@@ -1,7 +1,7 @@
 use Rattle.std.proofs.Common.{ℕ, ◌+◌, ◌≤◌, subst}
-use Rattle.journal.specs.Area.{AreaState}
-use Rattle.journal.specs.Touches.{AreWithin}
-use Rattle.journal.proofs.Found.{within_more}
+use Rattle.group_list.specs.Area.{AreaState}
+use Rattle.group_list.specs.Touches.{AreWithin}
+use Rattle.group_list.specs.laws.Found.{within_more}
 use Rattle.journal.proofs.area.Area.touched.Goals as goal
 
 pub returns-clause-within : goal.returns-clause-within

@@ -2,7 +2,7 @@ use Rattle.std.proofs.Common.{List, ap, sum_by, ◌∙◌, arith}
 use Rattle.last_touches.specs.declared.range.PutRange.{PutRange}
 use Rattle.last_touches.specs.Puts.{puts_of}
 use Rattle.last_touches.proofs.Copied.{puts_within}
-use Rattle.last_touches.proofs.Said.{AreRanges-before}
+use Rattle.last_touches.specs.laws.Said.{AreRanges-before}
 use Rattle.last_touches.proofs.last_touches.LastTouches.resolve.Goals as goal
 
 pub sum_of_blocks-blocks_to_copy-requires : goal.sum_of_blocks-blocks_to_copy-requires

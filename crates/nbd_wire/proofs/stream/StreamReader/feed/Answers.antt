@@ -2,7 +2,7 @@ use Rattle.std.proofs.Common.{◌≡◌, List, sym, subst, ap, ◌∙◌}
 use Rattle.nbd_wire.specs.Request.{Message}
 use Rattle.nbd_wire.specs.Stream.{Reader, reading, Feeds, answered}
 use Rattle.nbd_wire.specs.State.{kept, reader_of}
-use Rattle.nbd_wire.proofs.Streams.{Feeds-advances}
+use Rattle.nbd_wire.specs.laws.Streams.{Feeds-advances}
 use Rattle.nbd_wire.proofs.stream.StreamReader.feed.Goals as goal
 
 pub returns-clause-stream : goal.returns-clause-stream

@@ -11,7 +11,7 @@ use Rattle.world.specs.declared.step.Step.TheVariants as steps
 use Rattle.world.specs.Serve.{Failure, serve}
 use Rattle.world.specs.Step.{after_step}
 use Rattle.world.specs.World.{World}
-use Rattle.world_law.proofs.Steps.{passes_write}
+use Rattle.world_law.specs.laws.Steps.{passes_write}
 use Rattle.nbdj_pipe.specs.Causes.{LacksRoom}
 use Rattle.nbdj_pipe.specs.Export.{Follows, IsJudged}
 use Rattle.nbdj_pipe.specs.Talk.{spoken, verdict_on}

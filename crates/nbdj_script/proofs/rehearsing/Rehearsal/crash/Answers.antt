@@ -2,7 +2,7 @@ use Rattle.std.proofs.Common.{◌∙◌, sym, subst}
 use Rattle.disk_model.specs.Disk.{MayLeave}
 use Rattle.disk_model.specs.SimDisk.{seen_bytes, state_now}
 use Rattle.disk_model.specs.declared.sim.SimDisk.{SimDisk}
-use Rattle.disk_model.proofs.Contents.{leaves_seen}
+use Rattle.disk_model.specs.laws.Contents.{leaves_seen}
 use Rattle.nbdj_script.proofs.rehearsing.Rehearsal.crash.Goals as goal
 
 pub returns : goal.returns

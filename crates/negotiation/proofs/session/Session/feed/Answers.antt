@@ -6,7 +6,7 @@ use Rattle.negotiation.specs.Session.{Feeds, Hands, IsBehind, SessionState, end_
 use Rattle.negotiation.specs.declared.end.End.TheVariants.{NoMemory}
 use Rattle.negotiation.specs.declared.stage.Stage.{Stage}
 use Rattle.negotiation.specs.declared.stage.Talk.{Talk}
-use Rattle.negotiation.proofs.Dialogs.{session_at}
+use Rattle.negotiation.specs.laws.Dialogs.{session_at}
 use Rattle.negotiation.proofs.Sessions.{behind_idle, behind_or, cut_short, ended_idle, fed, fed_behind, greets_behind, greets_ended, handed_error, not_greeted, said_behind}
 use Rattle.negotiation.proofs.session.Session.feed.Goals as goal
 

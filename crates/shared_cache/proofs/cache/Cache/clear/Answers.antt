@@ -1,5 +1,5 @@
 use Rattle.std.proofs.Common.{rules}
-use Rattle.shared_cache.proofs.Views.{shows_clear}
+use Rattle.shared_cache.specs.laws.Views.{shows_clear}
 use Rattle.shared_cache.proofs.cache.Cache.clear.Goals as goal
 
 pub returns-clause-view : goal.returns-clause-view

@@ -1,6 +1,6 @@
 use Rattle.std.proofs.Common.{ap, rules}
 use Rattle.shared_cache.specs.Cache.{CacheState}
-use Rattle.shared_cache.proofs.Views.{once_seen, shows_fill}
+use Rattle.shared_cache.specs.laws.Views.{once_seen, shows_fill}
 use Rattle.shared_cache.proofs.cache.Cache.fill.Goals as goal
 
 pub returns-clause-view : goal.returns-clause-view

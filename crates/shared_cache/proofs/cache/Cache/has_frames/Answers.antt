@@ -1,6 +1,6 @@
 use Rattle.std.proofs.Common.{ap}
 use Rattle.shared_cache.specs.Cache.{CacheState}
-use Rattle.shared_cache.proofs.Views.{once_seen}
+use Rattle.shared_cache.specs.laws.Views.{once_seen}
 use Rattle.shared_cache.proofs.cache.Cache.has_frames.Goals as goal
 
 pub returns-clause-once : goal.returns-clause-once

@@ -1,8 +1,8 @@
 use Rattle.std.proofs.Common.{ap, rules}
 use Rattle.shared_cache.specs.Cache.{CacheState}
 use Rattle.shared_cache.proofs.FrameBytes.{order_seen}
-use Rattle.shared_cache.proofs.Once.{held_once}
-use Rattle.shared_cache.proofs.Views.{once_seen, shows_put}
+use Rattle.shared_cache.specs.laws.Once.{held_once}
+use Rattle.shared_cache.specs.laws.Views.{once_seen, shows_put}
 use Rattle.shared_cache.proofs.cache.Cache.put.Goals as goal
 
 pub put_all-requires-clause-order : goal.put_all-requires-clause-order

@@ -1,7 +1,7 @@
 use Rattle.std.proofs.Common.{◌≡◌, ◌+◌, ◌<◌, ℕ, List, [], Option, None, Some, arith, refl, ap, sym, ◌∙◌}
 use Rattle.std.specs.Option.{option_copied}
 use Rattle.std.proofs.lemmas.Bool.{false≢true}
-use Rattle.shared_cache.proofs.Views.{missing_seen, seen_missing}
+use Rattle.shared_cache.specs.laws.Views.{missing_seen, seen_missing}
 use Rattle.shared_cache.proofs.cache.Cache.read_cached.Goals as goal
 
 -- bytes that are there aren't missing

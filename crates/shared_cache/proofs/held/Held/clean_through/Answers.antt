@@ -1,5 +1,5 @@
 use Rattle.std.proofs.Common.{◌∙◌, refl, sym}
-use Rattle.shared_cache.proofs.Ranges.{clean_done, clean_step, same_held}
+use Rattle.shared_cache.specs.laws.Ranges.{clean_done, clean_step, same_held}
 use Rattle.shared_cache.proofs.held.Held.clean_through.Goals as goal
 
 pub loop-init : goal.loop-init

@@ -1,7 +1,7 @@
 use Rattle.std.proofs.Common.{◌+◌, arith}
 use Rattle.shared_cache.specs.Blocks.{is_dirty}
 use Rattle.shared_cache.specs.Held.{blocks_of}
-use Rattle.shared_cache.proofs.Ranges.{count_next, one_at_most}
+use Rattle.shared_cache.specs.laws.Ranges.{count_next, one_at_most}
 use Rattle.shared_cache.proofs.held.Held.count_missing.Goals as goal
 
 pub loop-offset-preserved : goal.loop-offset-preserved

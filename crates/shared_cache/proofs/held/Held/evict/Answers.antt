@@ -2,8 +2,8 @@ use Rattle.std.proofs.Common.{◌≤◌, nat_eq, ap, ◌∙◌, subst}
 use Rattle.std.specs.HashMap as hash
 use Rattle.shared_cache.specs.Blocks.{evicted}
 use Rattle.shared_cache.specs.Held.{HeldState, IsIndexed, blocks_of, held_times}
-use Rattle.shared_cache.proofs.Indexed.{IsHeld_indexed, held_before, free_now, indexed-evict}
-use Rattle.shared_cache.proofs.Kept.{blocks_of-evict}
+use Rattle.shared_cache.specs.laws.Indexed.{IsHeld_indexed, held_before, free_now, indexed-evict}
+use Rattle.shared_cache.specs.laws.Kept.{blocks_of-evict}
 use Rattle.shared_cache.proofs.held.Held.evict.Goals as goal
 
 indexed_now : (c : goal.After-unset) → IsIndexed c.evict_front.new.self c.self.inside.blocks.items (hash.get nat_eq c.unset.new.index)

@@ -1,6 +1,6 @@
 use Rattle.std.proofs.Common.{◌∙◌, refl, sym}
 use Rattle.std.proofs.lemmas.Bool.{false≢true}
-use Rattle.shared_cache.proofs.Lookups.{blocks-fill, is_held-frame, no_frame_now}
+use Rattle.shared_cache.specs.laws.Lookups.{blocks-fill, is_held-frame, no_frame_now}
 use Rattle.shared_cache.proofs.held.Held.fill.Goals as goal
 
 pub returns-in-Some-clause-ok : goal.returns-in-Some-clause-ok

@@ -1,7 +1,7 @@
 use Rattle.std.proofs.Common.{nat_eq, set}
 use Rattle.std.specs.HashMap as hash
 use Rattle.shared_cache.specs.Held.{IsIndexed}
-use Rattle.shared_cache.proofs.Indexed.{IsHeld_indexed, indexed-hold_dirty, free_seen, missing_seen}
+use Rattle.shared_cache.specs.laws.Indexed.{IsHeld_indexed, indexed-hold_dirty, free_seen, missing_seen}
 use Rattle.shared_cache.proofs.held.Held.hold_dirty.Goals as goal
 
 indexed_now : (c : goal.After-write_dirty) → IsIndexed c.write_dirty.new.self (set c.self.inside.blocks.items c.args.frame c.args.block) (hash.get nat_eq c.set.new.index)

@@ -1,5 +1,5 @@
 use Rattle.std.proofs.Common.{◌∙◌, sym}
-use Rattle.shared_cache.proofs.Lookups.{is_dirty-frame, is_dirty-missing}
+use Rattle.shared_cache.specs.laws.Lookups.{is_dirty-frame, is_dirty-missing}
 use Rattle.shared_cache.proofs.held.Held.is_dirty.Goals as goal
 
 pub returns-in-Some : goal.returns-in-Some

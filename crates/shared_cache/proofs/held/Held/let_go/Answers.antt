@@ -1,7 +1,7 @@
 use Rattle.std.proofs.Common.{nat_eq}
 use Rattle.std.specs.HashMap as hash
 use Rattle.shared_cache.specs.Held.{IsIndexed}
-use Rattle.shared_cache.proofs.Indexed.{IsHeld_indexed, indexed-let_go, held_seen}
+use Rattle.shared_cache.specs.laws.Indexed.{IsHeld_indexed, indexed-let_go, held_seen}
 use Rattle.shared_cache.proofs.held.Held.let_go.Goals as goal
 
 indexed_now : (c : goal.After-release) → IsIndexed c.release.new.self c.self.inside.blocks.items (hash.get nat_eq c.unset.new.index)

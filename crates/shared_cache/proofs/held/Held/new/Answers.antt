@@ -2,8 +2,8 @@ use Rattle.std.proofs.Common.{nat_eq, ap, ◌∙◌, length, refl}
 use Rattle.std.specs.HashMap as hash
 use Rattle.std.proofs.lemmas.List.{length-replicate}
 use Rattle.shared_cache.specs.Held.{IsIndexed}
-use Rattle.shared_cache.proofs.Indexed.{indexed_made, IsHeld_indexed}
-use Rattle.shared_cache.proofs.Kept.{blocks_of-fresh}
+use Rattle.shared_cache.specs.laws.Indexed.{indexed_made, IsHeld_indexed}
+use Rattle.shared_cache.specs.laws.Kept.{blocks_of-fresh}
 use Rattle.shared_cache.proofs.held.Held.new.Goals as goal
 
 indexed_now : (c : goal.In_ok-with_capacity) → IsIndexed c.in_ok-new.field-0 c.in_ok-vec.field-0.items (hash.get nat_eq c.in_ok-with_capacity.field-0)

@@ -1,5 +1,5 @@
 use Rattle.std.proofs.Common.{length, arith, ap, refl}
-use Rattle.shared_cache.proofs.Lookups.{blocks-put, blocks-write_again, counted_missing, no_frame_now, order_put}
+use Rattle.shared_cache.specs.laws.Lookups.{blocks-put, blocks-write_again, counted_missing, no_frame_now, order_put}
 use Rattle.shared_cache.proofs.held.Held.put.Goals as goal
 
 pub unreachable-requires : goal.unreachable-requires

@@ -1,6 +1,6 @@
 use Rattle.std.proofs.Common.{length, arith}
 use Rattle.shared_cache.specs.Held.{blocks_of}
-use Rattle.shared_cache.proofs.Ranges.{count_next, frames_step, puts_step}
+use Rattle.shared_cache.specs.laws.Ranges.{count_next, frames_step, puts_step}
 use Rattle.shared_cache.proofs.held.Held.put_all.Goals as goal
 
 pub put-requires-clause-frames : goal.put-requires-clause-frames

@@ -1,6 +1,6 @@
 use Rattle.std.proofs.Common.{sym}
-use Rattle.shared_cache.proofs.Indexed.{held_before}
-use Rattle.shared_cache.proofs.Lookups.{blocks-let_go, without_missing}
+use Rattle.shared_cache.specs.laws.Indexed.{held_before}
+use Rattle.shared_cache.specs.laws.Lookups.{blocks-let_go, without_missing}
 use Rattle.shared_cache.proofs.held.Held.release.Goals as goal
 
 pub returns-in-Some-clause-blocks : goal.returns-in-Some-clause-blocks

@@ -1,6 +1,6 @@
 use Rattle.std.proofs.Common.{length, ap, ◌∙◌, arith}
 use Rattle.shared_cache.specs.Held.{HeldState}
-use Rattle.shared_cache.proofs.Ranges.{block_read, gone_step, none_covered}
+use Rattle.shared_cache.specs.laws.Ranges.{block_read, gone_step, none_covered}
 use Rattle.shared_cache.proofs.held.Held.release_frames.Goals as goal
 
 pub loop-frame-preserved : goal.loop-frame-preserved

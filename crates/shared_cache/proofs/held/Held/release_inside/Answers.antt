@@ -1,7 +1,7 @@
 use Rattle.std.proofs.Common.{ap, ◌∙◌}
 use Rattle.image_model.specs.Image.{covers}
 use Rattle.shared_cache.specs.Blocks.{BlocksState, without}
-use Rattle.shared_cache.proofs.Ranges.{covers_true, left_out}
+use Rattle.shared_cache.specs.laws.Ranges.{covers_true, left_out}
 use Rattle.shared_cache.proofs.held.Held.release_inside.Goals as goal
 
 pub returns-then-block-first-clause-left : goal.returns-then-block-first-clause-left

@@ -1,5 +1,5 @@
 use Rattle.std.proofs.Common.{◌∙◌, refl}
-use Rattle.shared_cache.proofs.Ranges.{release_next, without_empty}
+use Rattle.shared_cache.specs.laws.Ranges.{release_next, without_empty}
 use Rattle.shared_cache.proofs.held.Held.release_range.Goals as goal
 
 pub loop-offset-init : goal.loop-offset-init

@@ -1,4 +1,4 @@
-use Rattle.shared_cache.proofs.Indexed.{indexed_agree}
+use Rattle.shared_cache.specs.laws.Indexed.{indexed_agree}
 use Rattle.shared_cache.proofs.held.Held.reserve.Goals as goal
 
 pub invariant_of-self : goal.invariant_of-self

@@ -1,7 +1,7 @@
 use Rattle.std.proofs.Common.{◌≤◌, subst}
 use Rattle.frame_pool.specs.Lists.{times}
 use Rattle.shared_cache.specs.Held.{HeldState}
-use Rattle.shared_cache.proofs.Indexed.{front_times}
+use Rattle.shared_cache.specs.laws.Indexed.{front_times}
 use Rattle.shared_cache.proofs.held.Held.take.Goals as goal
 
 pub returns-in-Ok-clause-free : goal.returns-in-Ok-clause-free

@@ -1,7 +1,7 @@
 use Rattle.std.proofs.Common.{nat_eq}
 use Rattle.std.specs.HashMap as hash
 use Rattle.shared_cache.specs.Held.{IsIndexed}
-use Rattle.shared_cache.proofs.Indexed.{IsHeld_indexed, indexed-write_again, held_seen}
+use Rattle.shared_cache.specs.laws.Indexed.{IsHeld_indexed, indexed-write_again, held_seen}
 use Rattle.shared_cache.proofs.held.Held.write_again.Goals as goal
 
 indexed_now : (c : goal.After-write_dirty) → IsIndexed c.write_dirty.new.self c.self.inside.blocks.items (hash.get nat_eq c.self.inside.frames)

@@ -1,0 +1,9 @@
+pub mod Area
+pub mod Faults
+pub mod Group
+pub mod GroupList
+pub mod Reading
+pub mod Scanning
+pub mod Spelling
+pub mod Touches
+pub mod laws

@@ -1,0 +1,11 @@
+pub mod Chained
+pub mod Contents
+pub mod Found
+pub mod Groups
+pub mod Heads
+pub mod LastTouches
+pub mod Noted
+pub mod OneList
+pub mod Spelled
+pub mod Windows
+pub mod Within

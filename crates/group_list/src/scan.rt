@@ -1,0 +1,409 @@
+ghost use Rattle.std.specs.Prelude.{◌≡◌, ℕ, ◌+◌, ◌≤◌, ◌<◌, ◌↔◌, ◌^◌, List, [], length, slice_index, IfOk, IfErr, IfSome, IfNone, OnOk, IsErrOf, IsTrue};
+ghost use Rattle.disk_model.specs.Faults.{faults_after};
+ghost use Rattle.group_list.specs.Faults.{faults_by};
+ghost use Rattle.group_list.specs.GroupList.{IsOpen, StandsAt};
+ghost use Rattle.group_list.specs.Reading.{IsOnlyRead};
+ghost use Rattle.group_list.specs.Scanning.{FoundChange, FoundChanges, FoundGroup, FoundList, HasNoChange, HasNoChanges, HasNoGroup, IsHead, IsNextHead, touch_of_head, IsReadAs, IsScanFault, IsScanned, FoundDamage};
+ghost use Rattle.group_list.specs.Spelling.{change_head, group_head};
+ghost use Rattle.group_list.specs.Touches.{AreWithin, IsWithin};
+
+use crate::fault::JournalFault;
+use crate::spelling::{
+    ALLOCATED_ZERO, COMMAND_HEAD_BYTES, GROUP_HEAD_BYTES, HOLE, MOST_BODY_BYTES, PUT,
+};
+use crate::touch::{Touch, TouchedRange, note};
+use crate::window::Window;
+use byteorder::{BigEndian, ByteOrder};
+use disk_model::{DeviceFault, Disk};
+use image_model::{BLOCK_BYTES, Kind, OPEN};
+use std::alloc::Global;
+
+// The most blocks of a put.
+const MOST_PUT_BLOCKS: u32 = 256;
+
+/// A part of a device that is read as an area: where it begins, its bytes, the image's blocks.
+#[derive(Clone, Copy)]
+pub struct Place {
+    pub from: u64,
+    pub bytes: u32,
+    pub blocks: u64,
+    ghost blocks_fit: { blocks < 2 ^ 64 },
+}
+
+// The head of a group.
+#[derive(Clone, Copy)]
+struct GroupHead {
+    body: u32,
+    first: u64,
+    count: u32,
+    ghost body_fits: { body < 2 ^ 32 },
+    ghost first_fits: { first < 2 ^ 64 },
+    ghost count_fits: { count < 2 ^ 32 },
+}
+
+// The head of a command.
+#[derive(Clone, Copy)]
+struct CommandHead {
+    kind: u8,
+    first: u64,
+    blocks: u32,
+    ghost first_fits: { first < 2 ^ 64 },
+    ghost blocks_fit: { blocks < 2 ^ 32 },
+}
+
+// A command: what it touches, and where it ends.
+#[derive(Clone, Copy)]
+struct FoundCommand {
+    range: TouchedRange,
+    end: u32,
+}
+
+/// Where the next gate stands, and the number that follows the group; 0 where no number is left.
+#[derive(Clone, Copy)]
+pub struct Behind {
+    pub gate: u32,
+    pub next: u64,
+}
+
+impl Place {
+    /// Where the list ends whose first group has to begin with `next`; what its commands touch is noted. Refusals 0 (no
+    /// memory), 1 (device fault) and 12 (damaged group).
+    pub fn list_end<D: Disk>(
+        &self,
+        alloc: Global,
+        disk: &mut D,
+        next: u64,
+        touched: &mut Vec<TouchedRange>,
+    ) -> Result<Behind, JournalFault>
+        requires on_disk { self.now.from + self.now.bytes ≤ D.extent disk.old }
+        requires some { 0 < self.now.bytes }
+        requires none_noted { touched.old.items ≡ [] }
+        ensures causes { IfErr result IsScanFault }
+        ensures extent { D.extent disk.new ≡ D.extent disk.old }
+        ensures faults_ok { OnOk result (D.faults disk.new ≡ D.faults disk.old) }
+        ensures faults_err { IfErr result (λ fault. D.faults disk.new ≡ faults_by fault (D.faults disk.old)) }
+        ensures honest { D.honest disk.new ↔ D.honest disk.old }
+        ensures only_read { D.honest disk.old → IsOnlyRead (D.state disk.old) (D.state disk.new) }
+        ensures inside { IfOk result (λ end. end.gate < self.now.bytes) }
+        ensures within { OnOk result (AreWithin self.now.from (self.now.from + self.now.bytes) touched.new.items) }
+        ensures none { IfOk result (λ end. end.gate ≡ 0 → (touched.new.items ≡ []) × (end.next ≡ next)) }
+        ensures found { D.honest disk.old → (content : List ℕ) → IsScanned content (D.state disk.old) self.now.from self.now.bytes
+            → IfOk result (λ end. FoundList self.now.blocks content self.now.from next end.gate end.next touched.new.items) }
+        ensures damaged { D.honest disk.old → (content : List ℕ) → IsScanned content (D.state disk.old) self.now.from self.now.bytes
+            → IsErrOf result JournalFault.DamagedGroup → FoundDamage self.now.blocks content self.now.from self.now.bytes next }
+    {
+        let mut window = Window::new(alloc)?;
+        let mut end = Behind { gate: 0, next };
+        while let Some(behind) = self.group_at(disk, &mut window, end, touched)? {
+            end = behind;
+        }
+        Ok(end)
+    }
+
+    // What stands behind the group at this gate, whose first number has to be `next`; none where the gate is closed.
+    fn group_at<D: Disk>(
+        &self,
+        disk: &mut D,
+        window: &mut Window,
+        at: Behind,
+        touched: &mut Vec<TouchedRange>,
+    ) -> Result<Option<Behind>, JournalFault>
+        requires on_disk { self.now.from + self.now.bytes ≤ D.extent disk.old }
+        requires inside { at.gate < self.now.bytes }
+        ensures causes { IfErr result IsScanFault }
+        ensures extent { D.extent disk.new ≡ D.extent disk.old }
+        ensures faults_ok { OnOk result (D.faults disk.new ≡ D.faults disk.old) }
+        ensures faults_err { IfErr result (λ fault. D.faults disk.new ≡ faults_by fault (D.faults disk.old)) }
+        ensures honest { D.honest disk.new ↔ D.honest disk.old }
+        ensures only_read { D.honest disk.old → IsOnlyRead (D.state disk.old) (D.state disk.new) }
+        ensures read_as { D.honest disk.old → (content : List ℕ) → IsReadAs content (D.state disk.old) self.now.from self.now.bytes window.old
+            → IsReadAs content (D.state disk.new) self.now.from self.now.bytes window.new }
+        ensures later { IfOk result (λ found. IfSome found (λ behind. (at.gate < behind.gate) × (behind.gate < self.now.bytes))) }
+        ensures within { OnOk result (AreWithin self.now.from (self.now.from + self.now.bytes) touched.old.items
+            → AreWithin self.now.from (self.now.from + self.now.bytes) touched.new.items) }
+        ensures same { IfOk result (λ found. IfNone found (touched.new.items ≡ touched.old.items)) }
+        ensures closed { D.honest disk.old → (content : List ℕ) → IsReadAs content (D.state disk.old) self.now.from self.now.bytes window.old
+            → IfOk result (λ found. IfNone found (IsOpen content (self.now.from + at.gate) → ⊥)) }
+        ensures found { D.honest disk.old → (content : List ℕ) → IsReadAs content (D.state disk.old) self.now.from self.now.bytes window.old
+            → IfOk result (λ found. IfSome found (λ behind. FoundGroup self.now.blocks content (self.now.from + at.gate) at.next
+            (self.now.from + behind.gate) behind.next touched.old.items touched.new.items)) }
+        ensures damaged { D.honest disk.old → (content : List ℕ) → IsReadAs content (D.state disk.old) self.now.from self.now.bytes window.old
+            → IsErrOf result JournalFault.DamagedGroup
+            → HasNoGroup self.now.blocks content (self.now.from + at.gate) at.next (self.now.from + self.now.bytes) }
+    {
+        if self.gate_byte(disk, window, at.gate)? != OPEN {
+            return Ok(None);
+        }
+        let found = self.open_group(disk, window, at, touched)?;
+        Ok(Some(found))
+    }
+
+    // What stands behind the group at this gate, which is open.
+    fn open_group<D: Disk>(
+        &self,
+        disk: &mut D,
+        window: &mut Window,
+        at: Behind,
+        touched: &mut Vec<TouchedRange>,
+    ) -> Result<Behind, JournalFault>
+        requires on_disk { self.now.from + self.now.bytes ≤ D.extent disk.old }
+        requires inside { at.gate < self.now.bytes }
+        ensures causes { IfErr result IsScanFault }
+        ensures extent { D.extent disk.new ≡ D.extent disk.old }
+        ensures faults_ok { OnOk result (D.faults disk.new ≡ D.faults disk.old) }
+        ensures faults_err { IfErr result (λ fault. D.faults disk.new ≡ faults_by fault (D.faults disk.old)) }
+        ensures honest { D.honest disk.new ↔ D.honest disk.old }
+        ensures only_read { D.honest disk.old → IsOnlyRead (D.state disk.old) (D.state disk.new) }
+        ensures read_as { D.honest disk.old → (content : List ℕ) → IsReadAs content (D.state disk.old) self.now.from self.now.bytes window.old
+            → IsReadAs content (D.state disk.new) self.now.from self.now.bytes window.new }
+        ensures later { IfOk result (λ behind. (at.gate < behind.gate) × (behind.gate < self.now.bytes)) }
+        ensures within { OnOk result (AreWithin self.now.from (self.now.from + self.now.bytes) touched.old.items
+            → AreWithin self.now.from (self.now.from + self.now.bytes) touched.new.items) }
+        ensures found { D.honest disk.old → (content : List ℕ) → IsReadAs content (D.state disk.old) self.now.from self.now.bytes window.old
+            → IsOpen content (self.now.from + at.gate)
+            → IfOk result (λ behind. FoundGroup self.now.blocks content (self.now.from + at.gate) at.next
+            (self.now.from + behind.gate) behind.next touched.old.items touched.new.items) }
+        ensures damaged { D.honest disk.old → (content : List ℕ) → IsReadAs content (D.state disk.old) self.now.from self.now.bytes window.old
+            → IsOpen content (self.now.from + at.gate) → IsErrOf result JournalFault.DamagedGroup
+            → HasNoGroup self.now.blocks content (self.now.from + at.gate) at.next (self.now.from + self.now.bytes) }
+    {
+        if self.bytes - at.gate < GROUP_HEAD_BYTES + 1 {
+            return Err(JournalFault::DamagedGroup);
+        }
+        let head = self.group_head(disk, window, at.gate)?;
+        if !head.is_next(at.next) || self.bytes - at.gate - (GROUP_HEAD_BYTES + 1) < head.body {
+            return Err(JournalFault::DamagedGroup);
+        }
+        let body = at.gate + GROUP_HEAD_BYTES;
+        self.commands(disk, window, body, body + head.body, head.count, touched)?;
+        Ok(Behind {
+            gate: body + head.body,
+            next: head.first.wrapping_add(head.count as u64),
+        })
+    }
+
+    // That exactly so many well formed commands stand between these places; what they touch is noted.
+    fn commands<D: Disk>(
+        &self,
+        disk: &mut D,
+        window: &mut Window,
+        from: u32,
+        end: u32,
+        count: u32,
+        touched: &mut Vec<TouchedRange>,
+    ) -> Result<(), JournalFault>
+        requires on_disk { self.now.from + self.now.bytes ≤ D.extent disk.old }
+        requires order { from ≤ end }
+        requires inside { end ≤ self.now.bytes }
+        ensures causes { IfErr result IsScanFault }
+        ensures extent { D.extent disk.new ≡ D.extent disk.old }
+        ensures faults_ok { OnOk result (D.faults disk.new ≡ D.faults disk.old) }
+        ensures faults_err { IfErr result (λ fault. D.faults disk.new ≡ faults_by fault (D.faults disk.old)) }
+        ensures honest { D.honest disk.new ↔ D.honest disk.old }
+        ensures only_read { D.honest disk.old → IsOnlyRead (D.state disk.old) (D.state disk.new) }
+        ensures read_as { D.honest disk.old → (content : List ℕ) → IsReadAs content (D.state disk.old) self.now.from self.now.bytes window.old
+            → IsReadAs content (D.state disk.new) self.now.from self.now.bytes window.new }
+        ensures within { OnOk result (AreWithin self.now.from (self.now.from + self.now.bytes) touched.old.items
+            → AreWithin self.now.from (self.now.from + self.now.bytes) touched.new.items) }
+        ensures found { D.honest disk.old → (content : List ℕ) → IsReadAs content (D.state disk.old) self.now.from self.now.bytes window.old
+            → OnOk result (FoundChanges self.now.blocks content (self.now.from + from) (self.now.from + end) count
+            touched.old.items touched.new.items) }
+        ensures damaged { D.honest disk.old → (content : List ℕ) → IsReadAs content (D.state disk.old) self.now.from self.now.bytes window.old
+            → IsErrOf result JournalFault.DamagedGroup
+            → HasNoChanges self.now.blocks content (self.now.from + from) (self.now.from + end) count }
+    {
+        let mut place = from;
+        for _ in 0..count {
+            let found = self.command(disk, window, place, end)?;
+            note(touched, found.range)?;
+            place = found.end;
+        }
+        if place == end {
+            Ok(())
+        } else {
+            Err(JournalFault::DamagedGroup)
+        }
+    }
+
+    // The command at this place, which is well formed and ends at `end` at the latest.
+    fn command<D: Disk>(
+        &self,
+        disk: &mut D,
+        window: &mut Window,
+        place: u32,
+        end: u32,
+    ) -> Result<FoundCommand, JournalFault>
+        requires on_disk { self.now.from + self.now.bytes ≤ D.extent disk.old }
+        requires order { place ≤ end }
+        requires inside { end ≤ self.now.bytes }
+        ensures causes { IfErr result IsScanFault }
+        ensures extent { D.extent disk.new ≡ D.extent disk.old }
+        ensures faults_ok { OnOk result (D.faults disk.new ≡ D.faults disk.old) }
+        ensures faults_err { IfErr result (λ fault. D.faults disk.new ≡ faults_by fault (D.faults disk.old)) }
+        ensures honest { D.honest disk.new ↔ D.honest disk.old }
+        ensures only_read { D.honest disk.old → IsOnlyRead (D.state disk.old) (D.state disk.new) }
+        ensures read_as { D.honest disk.old → (content : List ℕ) → IsReadAs content (D.state disk.old) self.now.from self.now.bytes window.old
+            → IsReadAs content (D.state disk.new) self.now.from self.now.bytes window.new }
+        ensures inside { IfOk result (λ found. (place ≤ found.end) × (found.end ≤ end)) }
+        ensures within { IfOk result (λ found. IsWithin self.now.from (self.now.from + found.end) found.range) }
+        ensures found { D.honest disk.old → (content : List ℕ) → IsReadAs content (D.state disk.old) self.now.from self.now.bytes window.old
+            → IfOk result (λ found. FoundChange self.now.blocks content (self.now.from + place) (self.now.from + found.end) found.range) }
+        ensures damaged { D.honest disk.old → (content : List ℕ) → IsReadAs content (D.state disk.old) self.now.from self.now.bytes window.old
+            → IsErrOf result JournalFault.DamagedGroup → HasNoChange self.now.blocks content (self.now.from + place) (self.now.from + end) }
+    {
+        if end - place < COMMAND_HEAD_BYTES {
+            return Err(JournalFault::DamagedGroup);
+        }
+        let head = self.command_head(disk, window, place)?;
+        let Some(data) = head.data_bytes(self.blocks) else {
+            return Err(JournalFault::DamagedGroup);
+        };
+        let bytes = place + COMMAND_HEAD_BYTES;
+        if end - bytes < data {
+            return Err(JournalFault::DamagedGroup);
+        }
+        Ok(FoundCommand {
+            range: head.range(self.from + bytes as u64),
+            end: bytes + data,
+        })
+    }
+}
+
+impl Place {
+    // The byte of the gate at this place.
+    fn gate_byte<D: Disk>(
+        &self,
+        disk: &mut D,
+        window: &mut Window,
+        place: u32,
+    ) -> Result<u8, DeviceFault>
+        requires on_disk { self.now.from + self.now.bytes ≤ D.extent disk.old }
+        requires inside { place + 1 ≤ self.now.bytes }
+        ensures extent { D.extent disk.new ≡ D.extent disk.old }
+        ensures faults { D.faults disk.new ≡ faults_after result (D.faults disk.old) }
+        ensures honest { D.honest disk.new ↔ D.honest disk.old }
+        ensures only_read { D.honest disk.old → IsOnlyRead (D.state disk.old) (D.state disk.new) }
+        ensures read_as { D.honest disk.old → (content : List ℕ) → IsReadAs content (D.state disk.old) self.now.from self.now.bytes window.old
+            → IsReadAs content (D.state disk.new) self.now.from self.now.bytes window.new }
+        ensures bytes { D.honest disk.old → (content : List ℕ) → IsReadAs content (D.state disk.old) self.now.from self.now.bytes window.old
+            → IfOk result (λ byte. slice_index content (self.now.from + place) ≡ byte) }
+    {
+        window.load(disk, self.from, self.bytes, place, 1)?;
+        Ok(window.bytes(place, 1)[0])
+    }
+
+    // The head of the group whose gate is at this place.
+    fn group_head<D: Disk>(
+        &self,
+        disk: &mut D,
+        window: &mut Window,
+        place: u32,
+    ) -> Result<GroupHead, DeviceFault>
+        requires on_disk { self.now.from + self.now.bytes ≤ D.extent disk.old }
+        requires inside { place + 17 ≤ self.now.bytes }
+        ensures extent { D.extent disk.new ≡ D.extent disk.old }
+        ensures faults { D.faults disk.new ≡ faults_after result (D.faults disk.old) }
+        ensures honest { D.honest disk.new ↔ D.honest disk.old }
+        ensures only_read { D.honest disk.old → IsOnlyRead (D.state disk.old) (D.state disk.new) }
+        ensures read_as { D.honest disk.old → (content : List ℕ) → IsReadAs content (D.state disk.old) self.now.from self.now.bytes window.old
+            → IsReadAs content (D.state disk.new) self.now.from self.now.bytes window.new }
+        ensures bytes { D.honest disk.old → (content : List ℕ) → IsReadAs content (D.state disk.old) self.now.from self.now.bytes window.old
+            → IfOk result (λ head. StandsAt content (self.now.from + place + 1) (group_head head.body head.first head.count)) }
+    {
+        window.load(disk, self.from, self.bytes, place, GROUP_HEAD_BYTES)?;
+        Ok(group_head(window.bytes(place, GROUP_HEAD_BYTES)))
+    }
+
+    // The head of the command at this place.
+    fn command_head<D: Disk>(
+        &self,
+        disk: &mut D,
+        window: &mut Window,
+        place: u32,
+    ) -> Result<CommandHead, DeviceFault>
+        requires on_disk { self.now.from + self.now.bytes ≤ D.extent disk.old }
+        requires inside { place + 13 ≤ self.now.bytes }
+        ensures extent { D.extent disk.new ≡ D.extent disk.old }
+        ensures faults { D.faults disk.new ≡ faults_after result (D.faults disk.old) }
+        ensures honest { D.honest disk.new ↔ D.honest disk.old }
+        ensures only_read { D.honest disk.old → IsOnlyRead (D.state disk.old) (D.state disk.new) }
+        ensures read_as { D.honest disk.old → (content : List ℕ) → IsReadAs content (D.state disk.old) self.now.from self.now.bytes window.old
+            → IsReadAs content (D.state disk.new) self.now.from self.now.bytes window.new }
+        ensures bytes { D.honest disk.old → (content : List ℕ) → IsReadAs content (D.state disk.old) self.now.from self.now.bytes window.old
+            → IfOk result (λ head. StandsAt content (self.now.from + place) (change_head head.kind head.first head.blocks)) }
+    {
+        window.load(disk, self.from, self.bytes, place, COMMAND_HEAD_BYTES)?;
+        Ok(command_head(window.bytes(place, COMMAND_HEAD_BYTES)))
+    }
+}
+
+impl GroupHead {
+    // Whether the next group may have this head, where its first number has to be `next`.
+    fn is_next(self, next: u64) -> bool
+        ensures { IsTrue result ↔ IsNextHead next self.body self.first self.count }
+    {
+        self.body <= MOST_BODY_BYTES
+            && self.count > 0
+            && next > 0
+            && self.first == next
+            && u64::MAX - self.first >= self.count as u64 - 1
+    }
+}
+
+impl CommandHead {
+    // The bytes of data behind the head; none where the command isn't one for an image of so many blocks.
+    fn data_bytes(self, image: u64) -> Option<u32>
+        ensures bounded { IfSome result (λ bytes. bytes ≤ 1048576) }
+        ensures some { IfSome result (λ bytes. IsHead image self.kind self.first self.blocks bytes) }
+        ensures none { IfNone result ((bytes : ℕ) → IsHead image self.kind self.first self.blocks bytes → ⊥) }
+    {
+        if self.blocks == 0 || image < self.first || image - self.first < self.blocks as u64 {
+            return None;
+        }
+        match self.kind {
+            PUT if self.blocks <= MOST_PUT_BLOCKS => Some(self.blocks * BLOCK_BYTES as u32),
+            HOLE | ALLOCATED_ZERO => Some(0),
+            _ => None,
+        }
+    }
+
+    // What the command touches, whose data stand from this place of the device on.
+    fn range(self, place: u64) -> TouchedRange
+        ensures { result ≡ record { first = self.first; blocks = self.blocks; touch = touch_of_head self.kind place } }
+    {
+        let touch = match self.kind {
+            PUT => Touch::Put(place),
+            HOLE => Touch::Clear(Kind::Hole),
+            _ => Touch::Clear(Kind::Zero),
+        };
+        TouchedRange {
+            first: self.first,
+            blocks: self.blocks,
+            touch,
+        }
+    }
+}
+
+// The head of a group from its bytes, the first of which is the gate.
+fn group_head(bytes: &[u8]) -> GroupHead
+    requires { length bytes.now ≡ 17 }
+    ensures { StandsAt bytes.now 1 (group_head result.body result.first result.count) }
+{
+    GroupHead {
+        body: BigEndian::read_u32(&bytes[1..]),
+        first: BigEndian::read_u64(&bytes[5..]),
+        count: BigEndian::read_u32(&bytes[13..]),
+    }
+}
+
+// The head of a command from its bytes.
+fn command_head(bytes: &[u8]) -> CommandHead
+    requires { length bytes.now ≡ 13 }
+    ensures { StandsAt bytes.now 0 (change_head result.kind result.first result.blocks) }
+{
+    CommandHead {
+        kind: bytes[0],
+        first: BigEndian::read_u64(&bytes[1..]),
+        blocks: BigEndian::read_u32(&bytes[9..]),
+    }
+}

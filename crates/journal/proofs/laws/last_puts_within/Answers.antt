@@ -1,5 +1,0 @@
-use Rattle.journal.proofs.Within.{last_put_within}
-use Rattle.journal.proofs.laws.last_puts_within.Goals as goal
-
-pub returns : goal.returns
-returns c = last_put_within

@@ -1,0 +1,3 @@
+pub mod Dialogs
+pub mod OneHearing
+pub mod Requests

@@ -1,0 +1,4 @@
+pub mod Asked
+pub mod Heads
+pub mod Items
+pub mod Texts

@@ -1,0 +1,6 @@
+pub mod Indexed
+pub mod Kept
+pub mod Lookups
+pub mod Once
+pub mod Ranges
+pub mod Views
