@@ -1,8 +1,12 @@
 -- the numbers of dirty frames, kept for each frame
-use Rattle.std.specs.Prelude.{ℕ, ◌≡◌, ◌+◌, ◌<◌, ◌^◌, if◌then◌else◌, List, length, map, slice_index_or, Option, None, is_some, unwrap_or}
+use Rattle.std.specs.Prelude.{ℕ, ◌≡◌, ◌==◌, ◌+◌, ◌<◌, ◌^◌, if◌then◌else◌, List, length, map, slice_index_or, Option, None, Some, is_some, unwrap_or}
 use Rattle.std.specs.List.Sorted.{IsNonDecreasingBy}
 use Rattle.frame_pool.specs.Lists.{ListsState, HoldEach, total, times}
 use Rattle.frame_pool.specs.Pool.{DirtyFrame, PoolState}
+
+-- a frame's number as it lies in memory, where 0 stands for none
+abbrev pub option_of : ℕ → Option ℕ
+option_of n = if n == 0 then None else Some n
 
 abbrev pub kept_at : List (Option ℕ) → ℕ → Option ℕ
 kept_at numbers frame = slice_index_or numbers frame None

@@ -4,6 +4,7 @@
 mod fault;
 mod links;
 mod lists;
+mod numbers;
 mod place;
 mod pool;
 

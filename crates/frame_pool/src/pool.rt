@@ -5,18 +5,18 @@ ghost use Rattle.frame_pool.specs.Pool.{DirtyFrame, IsPool, front_through, is_di
 
 use crate::fault::NoFrame;
 use crate::lists::FrameLists;
+use crate::numbers::Numbers;
 use crate::place::Place;
 use std::alloc::{AllocError, Global};
 use std::marker::Model;
-use std::mem;
 
 /// Frames of 4,096 bytes, named by their numbers from 0 on. Each is in one of three lists: free, clean, or dirty with a
 /// number. Every call but `new` takes the same few steps however many frames there are, beside the copy of a frame's
-/// bytes, and no memory; a pool takes 4,096 bytes a frame and 24 more.
+/// bytes, and no memory; a pool takes 4,096 bytes a frame and 16 more.
 #[derive(Drop)]
 pub struct FramePool {
     lists: FrameLists,
-    numbers: Vec<Option<u64>>,
+    numbers: Numbers,
     dirty: u32,
     frames: Vec<[u8; 4096]>,
 }
@@ -29,23 +29,24 @@ impl Model for FramePool {
 
     ghost Value = { PoolState };
 
-    ghost view = { λ pool. pool_of pool.lists pool.numbers.items pool.frames.items };
+    ghost view = { λ pool. pool_of pool.lists pool.numbers pool.frames.items };
 
-    ghost invariant = { λ pool. AreNumbered (length pool.frames.items) pool.lists pool.numbers.items pool.dirty };
+    ghost invariant = { λ pool. AreNumbered (length pool.frames.items) pool.lists pool.numbers pool.dirty };
 }
 
 // Keeps this number, or none, for a frame, and counts the numbers that are kept.
-fn keep(numbers: &mut Vec<Option<u64>>, count: &mut u32, frame: u32, number: Option<u64>)
-    requires frame { frame < length numbers.old.items }
-    requires counted { one_if_kept (kept_at numbers.old.items frame) ≤ count.old }
+fn keep(numbers: &mut Numbers, count: &mut u32, frame: u32, number: Option<u64>)
+    requires frame { frame < length numbers.old }
+    requires counted { one_if_kept (kept_at numbers.old frame) ≤ count.old }
     requires few { count.old + 1 < 2 ^ 32 }
-    ensures numbers { numbers.new.items ≡ slice_set numbers.old.items frame number }
-    ensures count { count.new + one_if_kept (kept_at numbers.old.items frame) ≡ count.old + one_if_kept number }
+    requires some { IfSome number (λ n. 0 < n) }
+    ensures numbers { numbers.new ≡ slice_set numbers.old frame number }
+    ensures count { count.new + one_if_kept (kept_at numbers.old frame) ≡ count.old + one_if_kept number }
 {
     if number.is_some() {
         *count += 1;
     }
-    let before = mem::replace(&mut numbers[frame as usize], number);
+    let before = numbers.replace(frame, number);
     if before.is_some() {
         *count -= 1;
     }
@@ -65,7 +66,7 @@ impl FramePool {
     {
         Ok(FramePool {
             lists: FrameLists::new(alloc, frames)?,
-            numbers: vec![in alloc; None; frames as usize]?,
+            numbers: Numbers::new(alloc, frames)?,
             dirty: 0,
             frames: vec![in alloc; [0; 4096]; frames as usize]?,
         })
@@ -91,7 +92,7 @@ impl FramePool {
         requires { frame < length self.now.bytes }
         ensures { result ≡ is_dirty frame self.now.dirty }
     {
-        self.numbers[frame as usize].is_some()
+        self.numbers.get(frame).is_some()
     }
 
     /// The bytes that were last written to a frame.
@@ -146,11 +147,12 @@ impl FramePool {
         self.move_to_clean(frame);
     }
 
-    /// Writes a frame, and moves it from where it is to the back of the dirty ones, with this number, which is no
-    /// smaller than the others there.
+    /// Writes a frame, and moves it from where it is to the back of the dirty ones, with this number, which is at
+    /// least 1 and no smaller than the others there.
     pub fn write_dirty(&mut self, frame: u32, number: u64, bytes: &[u8; 4096])
         requires frame { frame < length self.old.bytes }
         requires order { All (λ (held : DirtyFrame). held.number ≤ number) self.old.dirty }
+        requires some { 0 < number }
         ensures written { self.new ≡ with_bytes frame bytes.now (with_dirty frame number self.old) }
         ensures pool { IsPool self.new }
     {
@@ -180,7 +182,7 @@ impl FramePool {
         ensures pool { IsPool self.now }
     {
         let frame = self.lists.front(Place::Dirty)?;
-        let kept = self.numbers[frame as usize].unwrap_or(0);
+        let kept = self.numbers.get(frame).unwrap_or(0);
         if kept <= number { Some(frame) } else { None }
     }
 

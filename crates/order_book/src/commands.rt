@@ -36,6 +36,7 @@ pub(crate) fn apply(cache: &mut Cache, command: &Command, number: u64) -> Result
     requires inside { IsCommand (length cache.old.states) command.now }
     requires frames { frames_suffice (frames_of cache.old) (dirty_of cache.old) number (change_of command.now) ≡ true }
     requires order { All (λ (held : DirtyBlock). held.number ≤ number) cache.old.blocks.dirty }
+    requires some { 0 < number }
     ensures after { OnOk result (cache.new ≡ cache_after cache.old number (change_of command.now)) }
     ensures view { OnOk result (ShowsCommand (change_of command.now) cache.old cache.new) }
     ensures image { OnOk result ((image : Image) → ShowsImage image cache.old → ShowsImage (image_after (change_of command.now) image) cache.new) }

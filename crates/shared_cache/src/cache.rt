@@ -75,12 +75,14 @@ impl Cache {
         self.held.count_missing(first, count) <= self.held.at_hand()
     }
 
-    /// Writes blocks from the first one on, with the number of their command, which is no smaller than those of the
-    /// blocks that are dirty; they become data. Each takes the frame that it has, else a free one, else that of the
-    /// clean front. It is refused with 13 exactly where these don't suffice, and where it is refused nothing has changed.
+    /// Writes blocks from the first one on, with the number of their command, which is at least 1 and no smaller than
+    /// those of the blocks that are dirty; they become data. Each takes the frame that it has, else a free one, else
+    /// that of the clean front. It is refused with 13 exactly where these don't suffice, and where it is refused nothing
+    /// has changed.
     pub fn put(&mut self, number: u64, first: u64, blocks: &[[u8; 4096]]) -> Result<(), KeepFault>
         requires range { first + length blocks.now ≤ length self.old.states }
         requires order { All (λ (held : DirtyBlock). held.number ≤ number) self.old.blocks.dirty }
+        requires some { 0 < number }
         ensures ok { OnOk result (self.new ≡ record {
           states = patched self.old.states first (replicate (length blocks.now) Kind.Data);
           blocks = with_puts number first blocks.now self.old.blocks;

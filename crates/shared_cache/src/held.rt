@@ -83,6 +83,7 @@ impl Held {
         requires free { 1 ≤ times frame self.old.pool.free }
         requires missing { IsMissing block self.old }
         requires order { All (λ (held : DirtyFrame). held.number ≤ number) self.old.pool.dirty }
+        requires some { 0 < number }
         requires room { 0 < self.old.spare }
         ensures pool { self.new.pool ≡ with_bytes frame bytes.now (with_dirty frame number self.old.pool) }
         ensures blocks { self.new.blocks ≡ slice_set self.old.blocks frame block }
@@ -98,6 +99,7 @@ impl Held {
     fn write_again(&mut self, frame: u32, number: u64, bytes: &[u8; 4096])
         requires held { 1 ≤ held_times frame self.old.pool }
         requires order { All (λ (held : DirtyFrame). held.number ≤ number) self.old.pool.dirty }
+        requires some { 0 < number }
         ensures pool { self.new.pool ≡ with_bytes frame bytes.now (with_dirty frame number self.old.pool) }
         ensures blocks { self.new.blocks ≡ self.old.blocks }
         ensures spare { self.new.spare ≡ self.old.spare }
@@ -182,6 +184,7 @@ impl Held {
     pub fn put(&mut self, block: u64, number: u64, bytes: &[u8; 4096])
         requires frames { count_missing block 1 (blocks_of self.old.pool self.old.blocks) ≤ at_hand (blocks_of self.old.pool self.old.blocks) }
         requires order { All (λ (held : DirtyFrame). held.number ≤ number) self.old.pool.dirty }
+        requires some { 0 < number }
         requires room { 0 < self.old.spare }
         ensures blocks { blocks_of self.new.pool self.new.blocks ≡ with_put number block bytes.now (blocks_of self.old.pool self.old.blocks) }
         ensures order { All (λ (held : DirtyFrame). held.number ≤ number) self.new.pool.dirty }
@@ -273,6 +276,7 @@ impl Held {
         requires frames { count_missing first (length blocks.now) (blocks_of self.old.pool self.old.blocks)
             ≤ at_hand (blocks_of self.old.pool self.old.blocks) }
         requires order { All (λ (held : DirtyFrame). held.number ≤ number) self.old.pool.dirty }
+        requires some { 0 < number }
         requires room { length blocks.now ≤ self.old.spare }
         requires held { IsHeld self.old }
         ensures blocks { blocks_of self.new.pool self.new.blocks ≡ with_puts number first blocks.now (blocks_of self.old.pool self.old.blocks) }

@@ -1,4 +1,4 @@
-use Rattle.std.proofs.Common.{◌≡◌, ◌+◌, ◌<◌, ◌^◌, None, replicate, length, arith, rules}
+use Rattle.std.proofs.Common.{◌≡◌, ◌+◌, ◌<◌, ◌^◌, replicate, length, arith}
 use Rattle.std.proofs.lemmas.List.{length-replicate}
 use Rattle.std.proofs.lemmas.List.Elements.{same_from_all_zip}
 use Rattle.frame_pool.specs.Numbers.{AreNumbered}
@@ -6,17 +6,14 @@ use Rattle.frame_pool.proofs.Numbered.{IsPool_numbered}
 use Rattle.frame_pool.proofs.Fresh.{AreNumbered-fresh, pool_of-fresh}
 use Rattle.frame_pool.proofs.pool.FramePool.new.Goals as goal
 
--- the parts of a new pool
-numbers_made : (c : goal.In_ok-vec-2) → c.in_ok-vec.field-0.items ≡ replicate c.args.frames None
-numbers_made c = c.in_ok-vec.ensures.items_if_clones_equal (λ o same. search rules)
+-- the bytes of a new pool
+bytes_made : (c : goal.In_ok-vec) → c.in_ok-vec.field-0.items ≡ replicate c.args.frames (replicate 4096 0)
+bytes_made c = c.in_ok-vec.ensures.items_if_clones_equal (λ list same. same_from_all_zip _ _ list same.whole (λ x y equal. equal))
 
-bytes_made : (c : goal.In_ok-vec-2) → c.in_ok-vec-2.field-0.items ≡ replicate c.args.frames (replicate 4096 0)
-bytes_made c = c.in_ok-vec-2.ensures.items_if_clones_equal (λ list same. same_from_all_zip _ _ list same.whole (λ x y equal. equal))
-
-numbers_now : (c : goal.In_ok-vec-2) → AreNumbered (length c.in_ok-vec-2.field-0.items) c.in_ok-new.field-0 c.in_ok-vec.field-0.items 0
+numbers_now : (c : goal.In_ok-vec) → AreNumbered (length c.in_ok-vec.field-0.items) c.in_ok-new.field-0 c.in_ok-new-2.field-0 0
 numbers_now c =
     let few : c.args.frames + 3 < 2 ^ 32 = omega (arith, c.requires) in
-    rw (bytes_made c, c.in_ok-new.ensures, numbers_made c, length-replicate) (AreNumbered-fresh c.args.frames few)
+    rw (bytes_made c, c.in_ok-new.ensures, c.in_ok-new-2.ensures, length-replicate) (AreNumbered-fresh c.args.frames few)
 
 pub invariant_of-result : goal.invariant_of-result
 invariant_of-result c = numbers_now c
