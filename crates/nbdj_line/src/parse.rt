@@ -187,7 +187,7 @@ fn serve<'a>(alloc: Global, matches: &ArgMatches<'a>) -> Result<Plan<'a>, Error>
         }),
         None => Err(fault(
             alloc,
-            "--frames: the frames are 512 to 65536, and the workers 1 to 16",
+            "--frames: the frames are 512 to 65536, the workers 1 to 16, and the handshake takes 1 second or more",
         )),
     }
 }
