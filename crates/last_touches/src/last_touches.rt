@@ -115,7 +115,9 @@ fn resolved(
 
 // The most ranges of so many commands: each adds at most one, and leaves at most two parts of another; so of a newer range
 // with the older ones.
-fn most_ranges(commands: usize, older: usize, newer: usize) -> usize {
+fn most_ranges(commands: usize, older: usize, newer: usize) -> usize
+    ensures { result ≤ commands + commands }
+{
     let laid = older.saturating_add(newer).saturating_add(newer);
     laid.min(commands.saturating_mul(2))
 }

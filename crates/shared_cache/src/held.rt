@@ -34,11 +34,12 @@ impl Model for Held {
 }
 
 impl Held {
-    // So many frames that hold no blocks.
+    // So many frames that hold no blocks, with room in the index for a block of each.
     pub fn new(alloc: Global, frames: u32) -> Result<Held, AllocError>
         requires { frames + 3 < 2 ^ 31 }
         ensures blocks { IfOk result (λ held. blocks_of held.pool held.blocks ≡ record { free = frames; clean = []; dirty = [] }) }
         ensures held { IfOk result IsHeld }
+        ensures spare { IfOk result (λ held. frames ≤ held.spare) }
     {
         Ok(Held {
             pool: FramePool::new(alloc, frames)?,
@@ -50,6 +51,7 @@ impl Held {
     // Makes room for so many blocks more.
     pub fn reserve(&mut self, count: usize) -> Result<(), AllocError>
         ensures room { OnOk result (count ≤ self.new.spare) }
+        ensures enough { count ≤ self.old.spare → OnErr result ⊥ }
         ensures pool { self.new.pool ≡ self.old.pool }
         ensures blocks { self.new.blocks ≡ self.old.blocks }
         ensures held { IsHeld self.new }

@@ -14,8 +14,8 @@ indexed_now c =
 pub invariant_of-result : goal.invariant_of-result
 invariant_of-result c = indexed_now c
 
-pub returns : goal.returns
-returns c = record {
-  blocks = blocks_of-fresh c.args.frames _ _ _ c.in_ok-new.ensures.made;
-  held = IsHeld_indexed _ _ _ _ (indexed_now c);
-}
+pub returns-clause-blocks : goal.returns-clause-blocks
+returns-clause-blocks c = blocks_of-fresh c.args.frames _ _ _ c.in_ok-new.ensures.made
+
+pub returns-clause-held : goal.returns-clause-held
+returns-clause-held c = IsHeld_indexed _ _ _ _ (indexed_now c)
