@@ -1,14 +1,12 @@
 -- A keeper after reads of its device, and what they gave of the base.
-use Rattle.std.proofs.Common.{◌≡◌, ℕ, ◌+◌, ◌*◌, ◌/◌, ◌%◌, ◌<◌, false, if◌then◌else◌, List, [], ◌∷◌, ◌++◌, length, slice_index, refl, sym, ◌∙◌, ap, subst, arith}
+use Rattle.std.proofs.Common.{◌≡◌, ℕ, ◌+◌, ◌*◌, ◌/◌, ◌%◌, ◌<◌, false, if◌then◌else◌, List, length, slice_index, refl, sym, ◌∙◌, ap, subst, arith}
 use Rattle.alloc_map.specs.Codes.{state_at}
 use Rattle.disk_model.specs.Disk.{State}
 use Rattle.header_slots.specs.Header.{mode_of}
 use Rattle.header_slots.specs.Slots.{HoldsHeader}
 use Rattle.image_model.specs.Change.{Change}
 use Rattle.image_model.specs.Image.{Image, apply_all}
-use Rattle.image_model.specs.declared.command.Kind.{Kind}
 use Rattle.image_model.specs.declared.command.Kind.TheVariants.{Data}
-use Rattle.image_model.specs.declared.geometry.Geometry.{Geometry}
 use Rattle.group_list.specs.Reading.{IsOnlyRead}
 use Rattle.regions.specs.Layout.{behind, block_at, map_at}
 use Rattle.regions.specs.Map.{HoldsMap}

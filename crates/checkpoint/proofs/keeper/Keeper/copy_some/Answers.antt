@@ -1,4 +1,4 @@
-use Rattle.std.proofs.Common.{◌≡◌, ℕ, ◌+◌, ◌*◌, length, refl, sym, ◌∙◌, ap, subst, arith}
+use Rattle.std.proofs.Common.{◌≡◌, ◌*◌, length, refl, rules, sym, ◌∙◌, ap, subst, arith}
 use Rattle.disk_model.specs.Disk.{LeavesOnly}
 use Rattle.disk_model.specs.laws.Moments.{begins, weakens}
 use Rattle.image_model.specs.declared.geometry.Geometry.{Geometry}
@@ -29,6 +29,7 @@ returns-in_err-buffer-clause-any_moment g c honest image number keeps =
     subst (λ (disk : g.row.D.Denot). LeavesOnly (g.D.Disk.state c.args.self.now.disk) (g.D.Disk.state disk) (λ content. StandsFor content image number)) same
     (begins (g.met.D.Disk.sound c.args.self.now.disk honest) (λ content left. kept_content _ _ image number keeps content left))
 
+-- That the bytes are read from the area that the plan copies is searched for: of another place it is found nowhere.
 pub returns-in-Ok-clause-held : goal.returns-in-Ok-clause-held
 returns-in-Ok-clause-held g c honest base first last holds =
     let inside = subst (λ (k : KeeperState g.row.D.Denot). Holds k (g.D.Disk.state k.disk) base first last) (sym c.self.view_is) holds in
@@ -36,9 +37,8 @@ returns-in-Ok-clause-held g c honest base first last holds =
     let put = c.in-Some-next_copy.put in
     let place : block_at c.of-regions.result.geometry put.first ≡ block_at inside.keeps.stands.header.geometry put.first = ap (λ (size : Geometry). block_at size put.first) (c.of-regions.ensures ∙ inside.keeps.sizes) in
     let count : length c.deref_mut.result.now ≡ 4096 * put.blocks = omega (arith, c.deref_mut.ensures.len, c.in_ok-buffer.ensures.len) in
-    let from : c.start.result + put.place ≡ c.in-Some.plan.first.from + put.place = ap (λ (n : ℕ). n + put.place) (c.start.ensures ∙ ap (λ a. a.from) c.first.ensures) in
     copy_held _ (g.D.Disk.state c.self.inside.disk) base first last inside c.in-Some.plan c.in-Some.is put c.args.most c.in-Some-next_copy.ensures.some c.in-Some-next_copy.ensures.unmapped
-    (g.D.Disk.state c.copy_over.new.disk) _ _ _ _ c.advance.new.self place count from
+    (g.D.Disk.state c.copy_over.new.disk) _ _ _ _ c.advance.new.self place count (search rules)
     (c.in-Ok.ensures.copied sound inside.keeps.steady) c.advance.ensures refl
 
 pub returns-in-Ok-clause-any_moment : goal.returns-in-Ok-clause-any_moment

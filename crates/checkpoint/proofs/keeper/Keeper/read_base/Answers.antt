@@ -1,9 +1,8 @@
-use Rattle.std.proofs.Common.{◌≡◌, ℕ, ◌+◌, ◌*◌, ◌/◌, ◌<◌, false, List, slice_index, length, sym, ◌∙◌, ap, subst, arith}
+use Rattle.std.proofs.Common.{ℕ, ◌+◌, List, slice_index, sym, ◌∙◌, ap, subst}
 use Rattle.checkpoint.proofs.BaseRead.{base_byte, holds_reading}
 use Rattle.checkpoint.proofs.Readings.{seen_steady}
 use Rattle.device_image.specs.Holds.{Holds}
 use Rattle.device_image.specs.Keeper.{KeeperState}
-use Rattle.disk_model.specs.Disk.{State}
 use Rattle.image_model.specs.declared.geometry.Geometry.{Geometry}
 use Rattle.group_list.specs.Reading.{IsOnlyRead}
 use Rattle.regions.specs.Layout.{block_at}

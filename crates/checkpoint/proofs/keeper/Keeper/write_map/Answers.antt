@@ -1,7 +1,8 @@
-use Rattle.std.proofs.Common.{◌≡◌, refl, sym, ◌∙◌, ap, subst, arith}
-use Rattle.disk_model.specs.Disk.{LeavesOnly}
+use Rattle.std.proofs.Common.{◌≡◌, List, refl, rules, sym, ◌∙◌, ap, subst, arith}
+use Rattle.disk_model.specs.Disk.{LeavesOnly, State}
 use Rattle.disk_model.specs.laws.Moments.{begins, weakens}
 use Rattle.image_model.specs.Side.{other_of}
+use Rattle.image_model.specs.declared.command.Kind.{Kind}
 use Rattle.image_model.specs.declared.geometry.Geometry.{Geometry}
 use Rattle.image_model.specs.declared.side.Side.{Side}
 use Rattle.header_slots.specs.declared.header.Header.{Header}
@@ -15,6 +16,15 @@ use Rattle.device_image.specs.Copied.{IsMapStored}
 use Rattle.checkpoint.proofs.Mapping.{map_held, map_left}
 use Rattle.checkpoint.proofs.keeper.Keeper.write_map.Goals as goal
 use Rattle.device_image.specs.Holds.{Holds}
+
+-- That it is the slot which isn't in force is searched for: of another slot it is found nowhere.
+place_there : {size geometry : Geometry} {side spare other : Side} → size ≡ geometry → side ≡ spare → spare ≡ other → map_at size side ≡ map_at geometry other
+place_there {size} {geometry} {side} sizes same is = ap (λ (s : Geometry). map_at s side) sizes ∙ ap (map_at geometry) (same ∙ is)
+
+stored_there : {before after : State} {size geometry : Geometry} {side spare other : Side} {states : List Kind} → IsMapStored before (map_at size side) size.blocks states after → size ≡ geometry → side ≡ spare → spare ≡ other
+    → IsMapStored before (map_at geometry other) geometry.blocks states after
+stored_there {before} {after} {size} {geometry} {side} {spare} {other} {states} stored sizes same is =
+    subst (λ (s : Side). IsMapStored before (map_at geometry s) geometry.blocks states after) (same ∙ is) (subst (λ (s : Geometry). IsMapStored before (map_at s side) s.blocks states after) sizes stored)
 
 pub returns-in_default-clause-any_moment : goal.returns-in_default-clause-any_moment
 returns-in_default-clause-any_moment g c honest image number keeps =
@@ -46,11 +56,10 @@ returns-in-Ok-clause-held g c honest base first last holds =
     let sound = subst (λ (k : KeeperState g.row.D.Denot). g.D.Disk.honest k.disk) (sym c.self.view_is) honest in
     let call = c.in-Ok.ensures in
     let geometry : c.of.result.geometry ≡ inside.keeps.stands.header.geometry = c.of.ensures ∙ inside.keeps.sizes in
-    let slot : c.other-slot.result ≡ other_of inside.keeps.stands.header.map_slot = c.other-slot.ensures ∙ ap (λ (h : Header). other_of h.map_slot) inside.keeps.headed in
     let before = g.D.Disk.state c.self.inside.disk in
     let after = g.D.Disk.state c.store_map.new.disk in
-    let stored = subst (λ (s : Side). IsMapStored before (map_at inside.keeps.stands.header.geometry s) inside.keeps.stands.header.geometry.blocks c.in_ok-map.map after) slot
-    (subst (λ (size : Geometry). IsMapStored before (map_at size c.other-slot.result) size.blocks c.in_ok-map.map after) geometry (call.stored sound inside.keeps.steady)) in
+    let stored : IsMapStored before (map_at inside.keeps.stands.header.geometry (other_of inside.keeps.stands.header.map_slot)) inside.keeps.stands.header.geometry.blocks c.in_ok-map.map after =
+    stored_there (call.stored sound inside.keeps.steady) geometry (search rules) (ap (λ (h : Header). other_of h.map_slot) inside.keeps.headed) in
     map_held _ before base first last inside c.in-Some.plan c.in-Some.is (omega (arith, c.if-left-gt0.false, c.left.ensures)) after (g.met.D.Disk.sound c.store_map.new.disk (call.honest.1 sound)) c.in_ok-map.map stored
     c.in_ok-map.ensures _ c.set_map.new.self c.set_map.ensures refl
 
@@ -59,11 +68,8 @@ returns-in-Ok-clause-any_moment g c honest image number keeps =
     subst (λ (k : KeeperState g.row.D.Denot). g.D.Disk.honest k.disk → Keeps k (g.D.Disk.state k.disk) image number → LeavesOnly (g.D.Disk.state k.disk) (g.D.Disk.state c.store_map.new.disk) (λ content. StandsFor content image number)) c.self.view_is
     (λ sound inside.
     let geometry : c.of.result.geometry ≡ inside.stands.header.geometry = c.of.ensures ∙ inside.sizes in
-    let slot : c.other-slot.result ≡ other_of inside.stands.header.map_slot = c.other-slot.ensures ∙ ap (λ (h : Header). other_of h.map_slot) inside.headed in
-    let place : map_at c.of.result.geometry c.other-slot.result ≡ map_at inside.stands.header.geometry (other_of inside.stands.header.map_slot) =
-    ap (λ (size : Geometry). map_at size c.other-slot.result) geometry ∙ ap (map_at inside.stands.header.geometry) slot in
     weakens (c.store_map.ensures.any_moment sound)
-    (map_left _ (g.D.Disk.state c.self.inside.disk) image number inside _ _ place (ap (λ (size : Geometry). map_bytes_of size.blocks) geometry)))
+    (map_left _ (g.D.Disk.state c.self.inside.disk) image number inside _ _ (place_there geometry (search rules) (ap (λ (h : Header). other_of h.map_slot) inside.headed)) (ap (λ (size : Geometry). map_bytes_of size.blocks) geometry)))
     honest keeps
 
 pub returns-in-Err-clause-any_moment : goal.returns-in-Err-clause-any_moment
@@ -71,9 +77,6 @@ returns-in-Err-clause-any_moment g c honest image number keeps =
     subst (λ (k : KeeperState g.row.D.Denot). g.D.Disk.honest k.disk → Keeps k (g.D.Disk.state k.disk) image number → LeavesOnly (g.D.Disk.state k.disk) (g.D.Disk.state c.store_map.new.disk) (λ content. StandsFor content image number)) c.self.view_is
     (λ sound inside.
     let geometry : c.of.result.geometry ≡ inside.stands.header.geometry = c.of.ensures ∙ inside.sizes in
-    let slot : c.other-slot.result ≡ other_of inside.stands.header.map_slot = c.other-slot.ensures ∙ ap (λ (h : Header). other_of h.map_slot) inside.headed in
-    let place : map_at c.of.result.geometry c.other-slot.result ≡ map_at inside.stands.header.geometry (other_of inside.stands.header.map_slot) =
-    ap (λ (size : Geometry). map_at size c.other-slot.result) geometry ∙ ap (map_at inside.stands.header.geometry) slot in
     weakens (c.store_map.ensures.any_moment sound)
-    (map_left _ (g.D.Disk.state c.self.inside.disk) image number inside _ _ place (ap (λ (size : Geometry). map_bytes_of size.blocks) geometry)))
+    (map_left _ (g.D.Disk.state c.self.inside.disk) image number inside _ _ (place_there geometry (search rules) (ap (λ (h : Header). other_of h.map_slot) inside.headed)) (ap (λ (size : Geometry). map_bytes_of size.blocks) geometry)))
     honest keeps
