@@ -18,7 +18,7 @@ hands_filled old new input left count fills = record {
   hands = hands_none old new fills.piece [] fills.feeds refl;
   was = tt;
   said = tt;
-  going = ap (option_map end_for) fills.going;
+  going = (ap (option_map end_for) fills.going, λ is. cc is);
   end = fills.end;
 }
 

@@ -143,6 +143,10 @@ end_of ended = None
 end_of broken = Some ProtocolEnd
 end_of exhausted = Some NoMemory
 
+-- neither its client nor what it sent has ended the session, and there was memory for it
+abbrev pub IsOpen : Standing → Type 0
+IsOpen standing = (end_of standing ≡ None) × (standing ≡ ended → ⊥)
+
 -- something was said
 abbrev pub IsSaid : Standing → Type 0
 IsSaid silent = ⊥
@@ -195,7 +199,7 @@ pub record Fills (old : SessionState) (input left : Option (List ℕ)) (count : 
   pub feeds : Feeds old piece [] [] [] new
   pub size : new.size ≡ old.size
   pub said : IsSaid new.standing
-  pub going : end_of new.standing ≡ None
+  pub going : IsOpen new.standing
   pub end : count ≡ 0 → IsAtEnd left
 
 -- the greeting is written where nothing was said yet, and else nothing
@@ -229,7 +233,7 @@ pub record HandsNone (old : Standing) (input left : Option (List ℕ)) (count : 
   pub hands : Hands old piece [] new
   pub was : IsBehind old
   pub said : IsSaid new
-  pub going : end_of new ≡ None
+  pub going : IsOpen new
   pub end : count ≡ 0 → IsAtEnd left
 
 -- some first part of the piece was read, and the replies to the options in it were written

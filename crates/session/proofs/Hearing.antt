@@ -1,5 +1,5 @@
 -- How what a session heard goes on.
-use Rattle.std.proofs.Common.{◌≡◌, ℕ, ◌<◌, true, false, List, [], ◌∷◌, ◌++◌, Option, Some, None, Result, Ok, Err, ◌⊎◌, inl, inr, refl, sym, ap, subst, ◌∙◌, append_assoc, length, vec_len, arith}
+use Rattle.std.proofs.Common.{◌≡◌, ℕ, ◌<◌, ◌≤◌, true, false, List, [], ◌∷◌, ◌++◌, Option, Some, None, Result, Ok, Err, ◌⊎◌, inl, inr, refl, sym, ap, subst, ◌∙◌, append_assoc, length, vec_len, arith}
 use Rattle.std.proofs.lemmas.List.{append-nil}
 use Rattle.std.specs.Global.{Vec}
 use Rattle.std.specs.Prelude.{IfErr, IfOk, IsErrAnd}
@@ -7,11 +7,11 @@ use Rattle.std.specs.Io.KnownBytes.{Appends, Consumes, Keeps}
 use Rattle.nbd_wire.specs.Request.{Message}
 use Rattle.nbd_wire.specs.Stream.{failed, in_data as keeps_data, in_discard as keeps_count, in_head as keeps_head, reading, starved}
 use Rattle.negotiation.specs.Dialog.{Standing, Turn, broken, ended, exhausted, in_discard, in_flags, in_head, in_option, in_requests, replies_text, silent}
-use Rattle.negotiation.specs.Session.{Feeds, HearsOn, IsBehind, IsSaid, SessionState, end_of, greeting_due, handed}
+use Rattle.negotiation.specs.Session.{Feeds, HearsOn, IsBehind, IsOpen, IsSaid, SessionState, end_of, greeting_due, handed}
 use Rattle.negotiation.specs.declared.end.End.{End}
 use Rattle.negotiation.specs.declared.end.End.TheVariants.{IoFault, NoMemory, PeerClosed, ProtocolEnd}
 use Rattle.negotiation.specs.laws.Dialogs.{hears_none, hears_then}
-use Rattle.session.specs.Hearing.{Hearing, Tells}
+use Rattle.session.specs.Hearing.{Hearing, IsTimely, ReadsOn, Tells, piece_bytes}
 use Rattle.session.specs.Streams.{Writes}
 use Rattle.option_wire.specs.Handshake.{greeting_bytes}
 use Rattle.negotiation.specs.Answered.{replies_bytes}
@@ -87,7 +87,7 @@ tells old new between requests unsent unheard (Ok given) same sent whole fault f
     | inr all ↦ inl all
   ],
 )
-tells old new between requests unsent unheard (Err NoMemory) same sent whole fault first = tt
+tells old new between requests unsent unheard (Err NoMemory) same sent whole fault first = fault
 tells old new between requests unsent unheard (Err PeerClosed) same sent whole fault first = absurd (never_closed new.standing fault)
 tells old new between requests unsent unheard (Err ProtocolEnd) same sent whole fault first =
     elim whole [ inl end ↦ absurd (other_end (end_of new.standing) end.0 fault) | inr all ↦ (same, sent, all.0, all.1, fault) ]
@@ -144,17 +144,42 @@ fault_tells (Ok given) fault is io new requests unsent unheard between = elim is
 fault_tells (Err end) fault is io new requests unsent unheard between =
     subst (λ (e : End). Tells requests unsent unheard between new (Err e)) (sym (is ∙ io)) tt
 
+pub if_ok : {X : Type 0} (P : X → Type 0) (r : Result X End) → ((x : X) → P x) → IfOk r P
+if_ok P (Ok x) all = all x
+if_ok P (Err end) all = tt
+
 pub none_of : (o : Option End) → ((end : End) → o ≡ Some end → ⊥) → o ≡ None
 none_of None not = refl
 none_of (Some end) not = absurd (not end refl)
 
 -- ---- one piece after another
 
+-- what is read later of an open session is timely too
+pub timely_on : (old now : SessionState) (stream bytes : List ℕ) (turns : List Turn) (requests : List Message) → now.size ≡ old.size → HearsOn old stream turns requests now → (stream ≡ []) ⊎ IsTimely old stream → (bytes ≡ []) ⊎ IsTimely now bytes
+    → (stream ++ bytes ≡ []) ⊎ IsTimely old (stream ++ bytes)
+timely_on old now stream bytes turns requests size hears first (inl none) =
+    subst (λ (b : List ℕ). (b ≡ []) ⊎ IsTimely old b) (sym (ap (λ (b : List ℕ). stream ++ b) none ∙ append-nil stream)) first
+timely_on old now stream bytes turns requests size hears first (inr timely) = inr (record {
+  front = stream ++ timely.front;
+  last = timely.last;
+  turns = turns ++ timely.turns;
+  requests = requests ++ timely.requests;
+  between = timely.between;
+  parts = ap (λ (b : List ℕ). stream ++ b) timely.parts ∙ sym (append_assoc stream timely.front timely.last);
+  short = timely.short;
+  hears = hears_then old now timely.between stream timely.front turns timely.turns requests timely.requests size hears timely.hears;
+  going = timely.going;
+})
+
+-- a piece that an open session reads
+pub timely_piece : (now : SessionState) (bytes : List ℕ) → IsOpen now.standing → length bytes ≤ piece_bytes → (bytes ≡ []) ⊎ IsTimely now bytes
+timely_piece now bytes going short = inr (record { front = []; last = bytes; turns = []; requests = []; between = now; parts = refl; short = short; hears = hears_none now; going = going })
+
 -- all that was read was heard, no request came, and all replies are written
 pub record Heard (old : SessionState) (input mid output made : Option (List ℕ)) (now : SessionState) : Type 0 where
   pub stream : List ℕ
   pub turns : List Turn
-  pub read : Consumes input mid stream
+  pub read : ReadsOn old input mid stream
   pub hears : HearsOn old stream turns [] now
   pub written : Appends output made (greeting_due old.standing now.standing ++ replies_text turns)
   pub said : IsSaid now.standing
@@ -165,7 +190,7 @@ pub heard_none : (old : SessionState) (input output : Option (List ℕ)) → IsS
 heard_none old input output said = record {
   stream = [];
   turns = [];
-  read = consumes_none input;
+  read = (consumes_none input, inl refl);
   hears = hears_none old;
   written = subst (λ (t : List ℕ). Appends output output (t ++ [])) (sym (no_greeting old.standing old.standing said)) (appends_none output);
   said = said;
@@ -178,7 +203,7 @@ replies-append [] more = refl
 replies-append (turn ∷ turns) more =
     ap (λ (t : List ℕ). replies_bytes turn.code turn.answer.replies ++ t) (replies-append turns more) ∙ sym (append_assoc (replies_bytes turn.code turn.answer.replies) (replies_text turns) (replies_text more))
 
-pub went_on : (old new : SessionState) (IsRead : List ℕ → Type 0) (input mid output made : Option (List ℕ)) (given : Vec Message) → Hearing old IsRead output made (Ok given) new → ((bytes : List ℕ) → IsRead bytes → Consumes input mid bytes)
+pub went_on : (old new : SessionState) (IsRead : List ℕ → Type 0) (input mid output made : Option (List ℕ)) (given : Vec Message) → Hearing old IsRead output made (Ok given) new → ((bytes : List ℕ) → IsRead bytes → ReadsOn old input mid bytes)
     → given.items ≡ [] → (0 < vec_len given → ⊥) → IsSaid new.standing → Heard old input mid output made new
 went_on old new IsRead input mid output made given hearing read none few said =
     let (same, sent, whole) = hearing.tells in
@@ -187,7 +212,7 @@ went_on old new IsRead input mid output made given hearing read none few said =
       | inl all ↦ record {
         stream = hearing.stream;
         turns = hearing.turns;
-        read = subst (Consumes input mid) (ap (λ (t : List ℕ). hearing.stream ++ t) all.0 ∙ append-nil hearing.stream) (read (hearing.stream ++ hearing.unheard) hearing.read);
+        read = subst (ReadsOn old input mid) (ap (λ (t : List ℕ). hearing.stream ++ t) all.0 ∙ append-nil hearing.stream) (read (hearing.stream ++ hearing.unheard) hearing.read);
         hears = subst (λ (now : SessionState). HearsOn old hearing.stream hearing.turns [] now) (sym all.1)
             (subst (λ (r : List Message). HearsOn old hearing.stream hearing.turns r hearing.between) (same ∙ none) hearing.hears);
         written = subst (Appends output made)
@@ -203,8 +228,8 @@ module _ (old now : SessionState) (input mid output made : Option (List ℕ)) (h
   abbrev said_text : List ℕ
   said_text = greeting_due old.standing now.standing ++ replies_text heard.turns
 
-  pub heard_then : (new : SessionState) (left later : Option (List ℕ)) (IsRead : List ℕ → Type 0) (outcome : Result (Vec Message) End) → Hearing now IsRead made later outcome new → ((bytes : List ℕ) → IsRead bytes → Consumes mid left bytes)
-      → Hearing old (Consumes input left) output later outcome new
+  pub heard_then : (new : SessionState) (left later : Option (List ℕ)) (IsRead : List ℕ → Type 0) (outcome : Result (Vec Message) End) → Hearing now IsRead made later outcome new → ((bytes : List ℕ) → IsRead bytes → ReadsOn now mid left bytes)
+      → Hearing old (ReadsOn old input left) output later outcome new
   heard_then new left later IsRead outcome hearing read = record {
     stream = heard.stream ++ hearing.stream;
     unheard = hearing.unheard;
@@ -213,8 +238,10 @@ module _ (old now : SessionState) (input mid output made : Option (List ℕ)) (h
     between = hearing.between;
     text = said_text ++ hearing.text;
     unsent = hearing.unsent;
-    read = subst (Consumes input left) (sym (append_assoc heard.stream hearing.stream hearing.unheard))
-        (consumes_on input mid left heard.stream (hearing.stream ++ hearing.unheard) heard.read (read (hearing.stream ++ hearing.unheard) hearing.read));
+    read =
+        let more = read (hearing.stream ++ hearing.unheard) hearing.read in
+        subst (ReadsOn old input left) (sym (append_assoc heard.stream hearing.stream hearing.unheard))
+        (consumes_on input mid left heard.stream (hearing.stream ++ hearing.unheard) heard.read.0 more.0, timely_on old now heard.stream (hearing.stream ++ hearing.unheard) heard.turns [] heard.size heard.hears heard.read.1 more.1);
     hears = hears_then old now hearing.between heard.stream hearing.stream heard.turns hearing.turns [] hearing.requests heard.size heard.hears hearing.hears;
     begins =
         let greeting = greeting_due old.standing now.standing in
@@ -234,7 +261,7 @@ module _ (old now : SessionState) (input mid output made : Option (List ℕ)) (h
   }
 
   -- nothing more was heard
-  pub heard_last : (left : Option (List ℕ)) (outcome : Result (Vec Message) End) → Consumes mid left [] → Tells [] [] [] now now outcome → Hearing old (Consumes input left) output made outcome now
+  pub heard_last : (left : Option (List ℕ)) (outcome : Result (Vec Message) End) → Consumes mid left [] → Tells [] [] [] now now outcome → Hearing old (ReadsOn old input left) output made outcome now
   heard_last left outcome none tell = record {
     stream = heard.stream;
     unheard = [];
@@ -243,7 +270,7 @@ module _ (old now : SessionState) (input mid output made : Option (List ℕ)) (h
     between = now;
     text = said_text;
     unsent = [];
-    read = consumes_on input mid left heard.stream [] heard.read none;
+    read = (consumes_on input mid left heard.stream [] heard.read.0 none, timely_on old now heard.stream [] heard.turns [] heard.size heard.hears heard.read.1 (inl refl));
     hears = heard.hears;
     begins = sym (append-nil said_text);
     written = heard.written;
@@ -253,8 +280,8 @@ module _ (old now : SessionState) (input mid output made : Option (List ℕ)) (h
     tells = tell;
   }
 
-pub consumes_nothing : (mid : Option (List ℕ)) (bytes : List ℕ) → bytes ≡ [] → Consumes mid mid bytes
-consumes_nothing mid bytes none = subst (Consumes mid mid) (sym none) (consumes_none mid)
+pub reads_nothing : (now : SessionState) (mid : Option (List ℕ)) (bytes : List ℕ) → bytes ≡ [] → ReadsOn now mid mid bytes
+reads_nothing now mid bytes none = (subst (Consumes mid mid) (sym none) (consumes_none mid), inl none)
 
 pub consumes_failed : (mid left : Option (List ℕ)) → Keeps mid left → Consumes mid left []
 consumes_failed mid left kept = consumes_kept mid mid left [] (consumes_none mid) kept

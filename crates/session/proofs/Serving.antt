@@ -1,24 +1,24 @@
 -- A whole session, from its handshake and what came behind it.
-use Rattle.std.proofs.Common.{◌≡◌, ℕ, List, [], ◌∷◌, ◌++◌, Option, Result, Ok, Err, inl, inr, refl, sym, ap, subst, ◌∙◌, append_assoc}
+use Rattle.std.proofs.Common.{◌≡◌, ℕ, List, [], ◌∷◌, ◌++◌, ◌⊎◌, Option, Result, Ok, Err, inl, inr, refl, sym, ap, subst, ◌∙◌, append_assoc}
 use Rattle.std.proofs.lemmas.List.{append-nil}
 use Rattle.std.specs.Global.{Vec}
 use Rattle.std.specs.Prelude.{IsErrAnd}
-use Rattle.std.specs.Io.KnownBytes.{Consumes, IsAtEnd}
+use Rattle.std.specs.Io.KnownBytes.{IsAtEnd}
 use Rattle.nbd_wire.specs.Request.{Message}
 use Rattle.nbd_wire.specs.declared.message.Reply.{Reply}
 use Rattle.nbd_wire.specs.declared.message.SessionFlags.{SessionFlags}
 use Rattle.negotiation.specs.Dialog.{Asks, Follows, Hears, Leaves, Negotiates, Outcome, Standing, Turn, broken, ended, exhausted, in_discard, in_flags, in_head, in_option, in_requests, handshake_text, plain, replies_text, silent}
-use Rattle.negotiation.specs.Session.{IsBehind, IsSaid, SessionState, end_of, greeting_due, outcome_of}
+use Rattle.negotiation.specs.Session.{HearsOn, IsBehind, IsOpen, IsSaid, SessionState, end_of, greeting_due, outcome_of}
 use Rattle.negotiation.specs.declared.answer.Next.{Next}
 use Rattle.negotiation.specs.declared.answer.Next.TheVariants as behind
 use Rattle.negotiation.specs.declared.end.End.{End}
 use Rattle.negotiation.specs.declared.end.End.TheVariants.{IoFault, NoMemory, PeerClosed, ProtocolEnd}
-use Rattle.session.specs.Hearing.{Hearing}
-use Rattle.session.specs.Serving.{Ends, IsServed, Stands, Transmits, dialog}
+use Rattle.session.specs.Hearing.{Hearing, IsTimely, ReadsOn}
+use Rattle.session.specs.Serving.{Ends, IsServed, Stands, Transmits, begun, dialog}
 use Rattle.session.specs.Streams.{IsEarly}
 use Rattle.session.specs.Talk.{AreSteps, talk_text}
 use Rattle.byte_streams.specs.laws.Bytes.{appends_none, appends_on, consumes_none, consumes_on}
-use Rattle.session.proofs.Hearing.{due_said}
+use Rattle.session.proofs.Hearing.{due_said, timely_on}
 use Rattle.session.proofs.Transmitting.{behind_said, early_ends, front_none}
 
 -- where nothing was said no option was heard
@@ -61,9 +61,6 @@ says ended turns text unsent none begins = says_all ended turns text unsent tt b
 says broken turns text unsent none begins = says_all broken turns text unsent tt begins
 says exhausted turns text unsent none begins = says_all exhausted turns text unsent tt begins
 
-abbrev pub begun : ℕ → SessionState
-begun size = record { size = size; flags = plain; standing = silent }
-
 -- nothing was heard yet
 hears_silent : (size : ℕ) → Hears size [] [] (outcome_of [] (begun size))
 hears_silent size = inl (record { none = refl; requests = refl; flags = refl; leaves = refl })
@@ -79,7 +76,7 @@ module _ {P : Type 0} (allows : P → Message → SessionFlags → P → Reply �
     unanswered = [];
     text = [];
     unsent = dialog [] plain [];
-    read = consumes_none input;
+    read = (consumes_none input, inl refl);
     owed = record { turns = []; hears = hears_silent size; requests = refl; whole = refl };
     steps = refl;
     written = appends_none output;
@@ -87,13 +84,13 @@ module _ {P : Type 0} (allows : P → Message → SessionFlags → P → Reply �
   }
 
   module _ (mid made : Option (List ℕ)) (new : SessionState) where
-    ends_with : (end : End) (h : Hearing (begun size) (Consumes input mid) output made (Err end) new) (unsent : List ℕ) → (IsSaid h.between.standing → unsent ≡ h.unsent) → IsSaid new.standing → (end ≡ PeerClosed → IsAtEnd mid)
+    ends_with : (end : End) (h : Hearing (begun size) (ReadsOn (begun size) input mid) output made (Err end) new) (unsent : List ℕ) → (IsSaid h.between.standing → unsent ≡ h.unsent) → IsSaid new.standing → (end ≡ PeerClosed → IsAtEnd mid)
         → Ends h.between.standing h.unheard unsent h.requests mid (Err end)
     ends_with NoMemory h unsent left said closed = tt
     ends_with PeerClosed h unsent left said closed =
         let (none, sent, all, same, going) = h.tells in
         let said_so : IsSaid h.between.standing = subst (λ (s : SessionState). IsSaid s.standing) same said in
-        (record { heard = all; sent = left said_so ∙ sent; answered = none }, ap (λ (s : SessionState). end_of s.standing) (sym same) ∙ going, closed refl)
+        (record { heard = all; sent = left said_so ∙ sent; answered = none }, subst (λ (s : SessionState). IsOpen s.standing) same going, closed refl)
     ends_with ProtocolEnd h unsent left said closed =
         let (none, sent, all, same, bad) = h.tells in
         let said_so : IsSaid h.between.standing = subst (λ (s : SessionState). IsSaid s.standing) same said in
@@ -101,7 +98,7 @@ module _ {P : Type 0} (allows : P → Message → SessionFlags → P → Reply �
     ends_with IoFault h unsent left said closed = tt
 
     -- the handshake ended otherwise than its client asked for
-    pub served_handshake : (end : End) (h : Hearing (begun size) (Consumes input mid) output made (Err end) new) → IsSaid new.standing → (end ≡ PeerClosed → IsAtEnd mid) → IsServed allows size pass pass input mid output made (Err end)
+    pub served_handshake : (end : End) (h : Hearing (begun size) (ReadsOn (begun size) input mid) output made (Err end) new) → IsSaid new.standing → (end ≡ PeerClosed → IsAtEnd mid) → IsServed allows size pass pass input mid output made (Err end)
     served_handshake end h said closed =
         let heard = h.hears [] [] [] (hears_silent size) in
         let said_so = says h.between.standing h.turns h.text h.unsent (λ is. no_turns size h.stream h.turns (outcome_of h.requests h.between) is heard) h.begins in
@@ -120,7 +117,7 @@ module _ {P : Type 0} (allows : P → Message → SessionFlags → P → Reply �
           ends = ends_with end h said_so.left said_so.all said closed;
         }
 
-    module _ (given : Vec Message) (h : Hearing (begun size) (Consumes input mid) output made (Ok given) new) where
+    module _ (given : Vec Message) (h : Hearing (begun size) (ReadsOn (begun size) input mid) output made (Ok given) new) where
       -- what transmission goes on from
       abbrev pub base : SessionState
       base = record { size = size; flags = h.between.flags; standing = h.between.standing }
@@ -139,6 +136,13 @@ module _ {P : Type 0} (allows : P → Message → SessionFlags → P → Reply �
       pub agreed : new.flags ≡ base.flags
       agreed = elim h.tells.2 [ inl all ↦ ap (λ (s : SessionState). s.flags) all.1 | inr end ↦ end.2 ]
 
+      -- nothing is read behind an end of the handshake
+      timely : (taken : List ℕ) → (taken ≡ []) ⊎ ((h.unheard ≡ []) × IsTimely base taken) → ((h.stream ++ h.unheard) ++ taken ≡ []) ⊎ IsTimely (begun size) ((h.stream ++ h.unheard) ++ taken)
+      timely taken (inl none) = subst (λ (b : List ℕ). (b ≡ []) ⊎ IsTimely (begun size) b) (sym (ap (λ (b : List ℕ). (h.stream ++ h.unheard) ++ b) none ∙ append-nil (h.stream ++ h.unheard))) h.read.1
+      timely taken (inr both) =
+          let all : h.stream ++ h.unheard ≡ h.stream = ap (λ (b : List ℕ). h.stream ++ b) both.0 ∙ append-nil h.stream in
+          timely_on (begun size) base (h.stream ++ h.unheard) taken h.turns h.requests refl (subst (λ (b : List ℕ). HearsOn (begun size) b h.turns h.requests base) (sym all) h.hears) h.read.1 (inr both.1)
+
       -- and what came of it
       pub served_whole : (later : P) (left told : Option (List ℕ)) (end : Result (Unit {0}) End) → IsBehind new.standing → Transmits allows new.flags base h.unheard given.items pass later mid left made told end → IsServed allows size pass later input left output told end
       served_whole later left told end b t =
@@ -156,7 +160,7 @@ module _ {P : Type 0} (allows : P → Message → SessionFlags → P → Reply �
             unanswered = t.unanswered;
             text = h.text ++ t.text;
             unsent = t.unsent;
-            read = subst (Consumes input left) read (consumes_on input mid left (h.stream ++ h.unheard) t.taken h.read t.read);
+            read = subst (ReadsOn (begun size) input left) read (consumes_on input mid left (h.stream ++ h.unheard) t.taken h.read.0 t.read, timely t.taken t.timely);
             owed = record {
               turns = h.turns;
               hears = subst (λ (turns : List Turn). Hears size (h.stream ++ t.stream) turns (outcome_of (h.requests ++ t.more) t.between)) (append-nil h.turns) (t.hears h.stream h.turns h.requests heard);

@@ -1,5 +1,5 @@
 -- How a session goes on behind its handshake.
-use Rattle.std.proofs.Common.{◌≡◌, ℕ, Bool, true, List, [], ◌∷◌, ◌++◌, Option, Some, Result, Ok, Err, inl, inr, refl, sym, ap, subst, ◌∙◌, append_assoc}
+use Rattle.std.proofs.Common.{◌≡◌, ℕ, Bool, true, List, [], ◌∷◌, ◌++◌, ◌⊎◌, Option, Some, Result, Ok, Err, inl, inr, refl, sym, ap, subst, ◌∙◌, append_assoc}
 use Rattle.std.proofs.lemmas.List.{append-nil}
 use Rattle.std.specs.Global.{Vec}
 use Rattle.std.specs.Prelude.{IsErrAnd}
@@ -8,17 +8,17 @@ use Rattle.nbd_wire.specs.Request.{Message}
 use Rattle.nbd_wire.specs.declared.message.Reply.{Reply}
 use Rattle.nbd_wire.specs.declared.message.SessionFlags.{SessionFlags}
 use Rattle.negotiation.specs.Dialog.{Standing, Turn, broken, ended, exhausted, in_discard, in_flags, in_head, in_option, in_requests, replies_text, silent}
-use Rattle.negotiation.specs.Session.{HearsOn, IsBehind, IsSaid, SessionState, end_of}
+use Rattle.negotiation.specs.Session.{HearsOn, IsBehind, IsOpen, IsSaid, SessionState, end_of}
 use Rattle.negotiation.specs.declared.end.End.{End}
 use Rattle.negotiation.specs.declared.end.End.TheVariants.{IoFault, NoMemory, PeerClosed, ProtocolEnd}
 use Rattle.negotiation.specs.laws.Dialogs.{hears_none, hears_then}
-use Rattle.session.specs.Hearing.{Hearing}
+use Rattle.session.specs.Hearing.{Hearing, IsTimely, ReadsOn}
 use Rattle.session.specs.Serving.{Ends, Stands, Transmits}
 use Rattle.session.specs.Streams.{IsEarly}
 use Rattle.session.specs.Talk.{Answers, AreSteps, Exchange, asked, talk_text}
 use Rattle.session.proofs.Answering.{asked-append, steps_on, talk_text-append}
 use Rattle.byte_streams.specs.laws.Bytes.{appends_none, appends_on, consumes_none, consumes_on}
-use Rattle.session.proofs.Hearing.{no_greeting}
+use Rattle.session.proofs.Hearing.{no_greeting, timely_on}
 
 pub early_ends : (end : Result (Unit {0}) End) → IsErrAnd end IsEarly → (standing : Standing) (unheard unsent : List ℕ) (unanswered : List Message) (left : Option (List ℕ)) → Ends standing unheard unsent unanswered left end
 early_ends (Ok done) early standing unheard unsent unanswered left = elim early [ ]
@@ -70,6 +70,8 @@ module _ {P : Type 0} (allows : P → Message → SessionFlags → P → Reply �
     pub between : SessionState
     pub exchanges : List Exchange
     pub read : Consumes input mid taken
+    pub timely : (taken ≡ []) ⊎ ((held ≡ []) × IsTimely base taken)
+    pub clear : (held ≡ []) ⊎ (end_of now.standing ≡ Some NoMemory)
     pub parts : held ++ taken ≡ stream ++ unheard
     pub hears : HearsOn base stream [] more between
     pub agreed : between.flags ≡ base.flags
@@ -89,6 +91,8 @@ module _ {P : Type 0} (allows : P → Message → SessionFlags → P → Reply �
     between = base;
     exchanges = [];
     read = consumes_none input;
+    timely = inl refl;
+    clear = elim stands [ inl all ↦ inl all.0 | inr end ↦ inr end ];
     parts = append-nil held;
     hears = hears_none base;
     agreed = refl;
@@ -113,6 +117,8 @@ module _ {P : Type 0} (allows : P → Message → SessionFlags → P → Reply �
           between = t.between;
           exchanges = t.exchanges ++ answers.exchanges;
           read = t.read;
+          timely = t.timely;
+          clear = t.clear;
           parts = t.parts;
           hears = t.hears;
           agreed = t.agreed;
@@ -139,6 +145,7 @@ module _ {P : Type 0} (allows : P → Message → SessionFlags → P → Reply �
       text = talk_text flags t.exchanges ++ answers.text;
       unsent = answers.unsent;
       read = t.read;
+      timely = t.timely;
       parts = t.parts;
       hears = t.hears;
       agreed = t.agreed;
@@ -163,6 +170,7 @@ module _ {P : Type 0} (allows : P → Message → SessionFlags → P → Reply �
       text = talk_text flags t.exchanges;
       unsent = [];
       read = t.read;
+      timely = t.timely;
       parts = t.parts;
       hears = t.hears;
       agreed = t.agreed;
@@ -178,18 +186,27 @@ module _ {P : Type 0} (allows : P → Message → SessionFlags → P → Reply �
     not_ended standing end is = let ends : end_of ended ≡ Some NoMemory = ap end_of (sym is) ∙ end in cc ends
 
     -- its client ended the session
-    pub over : now.standing ≡ ended → Transmits allows flags base held waiting first pass input mid output made (Ok tt)
-    over is = stopped pass mid made now [] t (Ok tt) (elim t.stands [
+    pub over : (end : Result (Unit {0}) End) → now.standing ≡ ended → end ≡ Ok tt → Transmits allows flags base held waiting first pass input mid output made end
+    over end is fine = subst (Transmits allows flags base held waiting first pass input mid output made) (sym fine) (stopped pass mid made now [] t (Ok tt) (elim t.stands [
       | inl all ↦ (record { heard = all.0; sent = refl; answered = refl }, sym (ap (λ (s : SessionState). s.standing) all.1) ∙ is)
       | inr end ↦ absurd (not_ended now.standing end is)
-    ])
+    ]))
 
-    module _ (new : SessionState) (left later : Option (List ℕ)) (outcome : Result (Vec Message) End) (unheard : t.unheard ≡ []) (size : t.between.size ≡ base.size) (h : Hearing t.between (Consumes mid left) made later outcome new) where
+    module _ (new : SessionState) (left later : Option (List ℕ)) (outcome : Result (Vec Message) End) (unheard : t.unheard ≡ []) (size : t.between.size ≡ base.size) (h : Hearing t.between (ReadsOn t.between mid left) made later outcome new) where
       quiet : (h.turns ≡ []) × (h.between.flags ≡ t.between.flags) × IsBehind h.between.standing
       quiet = h.behind t.behind
 
       read_on : Consumes input left (t.taken ++ (h.stream ++ h.unheard))
-      read_on = consumes_on input mid left t.taken (h.stream ++ h.unheard) t.read h.read
+      read_on = consumes_on input mid left t.taken (h.stream ++ h.unheard) t.read h.read.0
+
+      timely_more : held ≡ [] → (t.taken ++ (h.stream ++ h.unheard) ≡ []) ⊎ ((held ≡ []) × IsTimely base (t.taken ++ (h.stream ++ h.unheard)))
+      timely_more none =
+          let whole : t.taken ≡ t.stream = ap (λ (x : List ℕ). x ++ t.taken) (sym none) ∙ t.parts ∙ ap (λ (x : List ℕ). t.stream ++ x) unheard ∙ append-nil t.stream in
+          let first : (t.taken ≡ []) ⊎ IsTimely base t.taken = elim t.timely [ inl nothing ↦ inl nothing | inr both ↦ inr both.1 ] in
+          elim (timely_on base t.between t.taken (h.stream ++ h.unheard) [] t.more size (subst (λ (x : List ℕ). HearsOn base x [] t.more t.between) (sym whole) t.hears) first h.read.1) [
+            | inl nothing ↦ inl nothing
+            | inr timely ↦ inr (none, timely)
+          ]
 
       parts_on : held ++ (t.taken ++ (h.stream ++ h.unheard)) ≡ (t.stream ++ h.stream) ++ h.unheard
       parts_on =
@@ -206,22 +223,23 @@ module _ {P : Type 0} (allows : P → Message → SessionFlags → P → Reply �
 
       written_on : Appends output later (talk_text flags t.exchanges)
       written_on = subst (Appends output later) (append-nil (talk_text flags t.exchanges))
-          (appends_on output made later (talk_text flags t.exchanges) [] t.written (subst (Appends made later) (quiet_text t.between new (Consumes mid left) made later outcome h t.behind) h.written))
+          (appends_on output made later (talk_text flags t.exchanges) [] t.written (subst (Appends made later) (quiet_text t.between new (ReadsOn t.between mid left) made later outcome h t.behind) h.written))
 
-    heard_by : (new : SessionState) (left later : Option (List ℕ)) (outcome : Result (Vec Message) End) → now ≡ t.between → Hearing now (Consumes mid left) made later outcome new → Hearing t.between (Consumes mid left) made later outcome new
-    heard_by new left later outcome same hearing = subst (λ (s : SessionState). Hearing s (Consumes mid left) made later outcome new) same hearing
+    heard_by : (new : SessionState) (left later : Option (List ℕ)) (outcome : Result (Vec Message) End) → now ≡ t.between → Hearing now (ReadsOn now mid left) made later outcome new → Hearing t.between (ReadsOn t.between mid left) made later outcome new
+    heard_by new left later outcome same hearing = subst (λ (s : SessionState). Hearing s (ReadsOn s mid left) made later outcome new) same hearing
 
     size_by : now ≡ t.between → t.between.size ≡ base.size
     size_by same = sym (ap (λ (s : SessionState). s.size) same) ∙ t.size same
 
     -- more requests came
-    pub heard_more : (given : Vec Message) (new : SessionState) (left later : Option (List ℕ)) → Hearing now (Consumes mid left) made later (Ok given) new → (end_of now.standing ≡ Some NoMemory → ⊥) → Transmitting pass left later new given.items
+    pub heard_more : (given : Vec Message) (new : SessionState) (left later : Option (List ℕ)) → Hearing now (ReadsOn now mid left) made later (Ok given) new → (end_of now.standing ≡ Some NoMemory → ⊥) → Transmitting pass left later new given.items
     heard_more given new left later hearing fed =
         elim t.stands [
           | inr end ↦ absurd (fed end)
           | inl stands ↦
               let size = size_by stands.1 in
               let h = heard_by new left later (Ok given) stands.1 hearing in
+              let none : held ≡ [] = elim t.clear [ inl none ↦ none | inr end ↦ absurd (fed end) ] in
               record {
                 stream = t.stream ++ h.stream;
                 unheard = h.unheard;
@@ -230,6 +248,8 @@ module _ {P : Type 0} (allows : P → Message → SessionFlags → P → Reply �
                 between = h.between;
                 exchanges = t.exchanges;
                 read = read_on new left later (Ok given) stands.0 size h;
+                timely = timely_more new left later (Ok given) stands.0 size h none;
+                clear = inl none;
                 parts = parts_on new left later (Ok given) stands.0 size h;
                 hears = hears_on new left later (Ok given) stands.0 size h;
                 agreed = (quiet new left later (Ok given) stands.0 size h).1 ∙ t.agreed;
@@ -243,66 +263,77 @@ module _ {P : Type 0} (allows : P → Message → SessionFlags → P → Reply �
         ]
 
     module _ (new : SessionState) (left later : Option (List ℕ)) where
-      ends_with : (end : End) (unheard : t.unheard ≡ []) (h : Hearing t.between (Consumes mid left) made later (Err end) new) → (end ≡ PeerClosed → IsAtEnd left) → Ends h.between.standing h.unheard [] h.requests left (Err end)
+      ends_with : (end : End) (unheard : t.unheard ≡ []) (h : Hearing t.between (ReadsOn t.between mid left) made later (Err end) new) → (end ≡ PeerClosed → IsAtEnd left) → Ends h.between.standing h.unheard [] h.requests left (Err end)
       ends_with NoMemory unheard h closed = tt
       ends_with PeerClosed unheard h closed =
           let (none, sent, all, same, going) = h.tells in
-          (record { heard = all; sent = refl; answered = none }, ap (λ (s : SessionState). end_of s.standing) (sym same) ∙ going, closed refl)
+          (record { heard = all; sent = refl; answered = none }, subst (λ (s : SessionState). IsOpen s.standing) same going, closed refl)
       ends_with ProtocolEnd unheard h closed =
           let (none, sent, all, same, bad) = h.tells in
           (record { heard = all; sent = refl; answered = none }, ap (λ (s : SessionState). end_of s.standing) (sym same) ∙ bad)
       ends_with IoFault unheard h closed = tt
 
+      -- memory had run out, and nothing was read
+      starved_end : (end : End) → Hearing now (ReadsOn now mid left) made later (Err end) new → end_of now.standing ≡ Some NoMemory → IsEarly end → left ≡ mid → Transmits allows flags base held waiting first pass input left output later (Err end)
+      starved_end end hearing starves early same =
+          let none = quiet_text now new (ReadsOn now mid left) made later (Err end) hearing (ended_behind now.standing NoMemory starves) in
+          record {
+            stream = t.stream;
+            unheard = t.unheard;
+            taken = t.taken;
+            more = t.more;
+            between = t.between;
+            exchanges = t.exchanges;
+            unanswered = [];
+            text = talk_text flags t.exchanges;
+            unsent = [];
+            read = subst (λ (rest : Option (List ℕ)). Consumes input rest t.taken) (sym same) t.read;
+            timely = t.timely;
+            parts = t.parts;
+            hears = t.hears;
+            agreed = t.agreed;
+            requests = t.all;
+            steps = t.steps;
+            begins = sym (append-nil (talk_text flags t.exchanges));
+            written = subst (Appends output later) (append-nil (talk_text flags t.exchanges))
+                (appends_on output made later (talk_text flags t.exchanges) [] t.written (subst (Appends made later) none hearing.written));
+            ends = early_ends (Err end) early t.between.standing t.unheard [] [] left;
+          }
+
+      heard_on : (end : End) → Hearing now (ReadsOn now mid left) made later (Err end) new → (end ≡ PeerClosed → IsAtEnd left) → held ≡ [] → t.unheard ≡ [] → now ≡ t.between → Transmits allows flags base held waiting first pass input left output later (Err end)
+      heard_on end hearing closed none unheard same =
+          let size = size_by same in
+          let h = heard_by new left later (Err end) same hearing in
+          record {
+            stream = t.stream ++ h.stream;
+            unheard = h.unheard;
+            taken = t.taken ++ (h.stream ++ h.unheard);
+            more = t.more ++ h.requests;
+            between = h.between;
+            exchanges = t.exchanges;
+            unanswered = h.requests;
+            text = talk_text flags t.exchanges;
+            unsent = [];
+            read = read_on new left later (Err end) unheard size h;
+            timely = timely_more new left later (Err end) unheard size h none;
+            parts = parts_on new left later (Err end) unheard size h;
+            hears = hears_on new left later (Err end) unheard size h;
+            agreed = (quiet new left later (Err end) unheard size h).1 ∙ t.agreed;
+            requests = all_on new left later (Err end) unheard size h;
+            steps = t.steps;
+            begins = sym (append-nil (talk_text flags t.exchanges));
+            written = written_on new left later (Err end) unheard size h;
+            ends = ends_with end unheard h closed;
+          }
+
       -- it ended otherwise than its client asked for
-      pub heard_end : (end : End) → Hearing now (Consumes mid left) made later (Err end) new → (end ≡ PeerClosed → IsAtEnd left) → (end_of now.standing ≡ Some NoMemory → IsEarly end) → Transmits allows flags base held waiting first pass input left output later (Err end)
+      pub heard_end : (end : End) → Hearing now (ReadsOn now mid left) made later (Err end) new → (end ≡ PeerClosed → IsAtEnd left) → (end_of now.standing ≡ Some NoMemory → IsEarly end × (left ≡ mid))
+          → Transmits allows flags base held waiting first pass input left output later (Err end)
       heard_end end hearing closed starved =
-          elim t.stands [
-            | inl stands ↦
-                let size = size_by stands.1 in
-                let h = heard_by new left later (Err end) stands.1 hearing in
-                record {
-                  stream = t.stream ++ h.stream;
-                  unheard = h.unheard;
-                  taken = t.taken ++ (h.stream ++ h.unheard);
-                  more = t.more ++ h.requests;
-                  between = h.between;
-                  exchanges = t.exchanges;
-                  unanswered = h.requests;
-                  text = talk_text flags t.exchanges;
-                  unsent = [];
-                  read = read_on new left later (Err end) stands.0 size h;
-                  parts = parts_on new left later (Err end) stands.0 size h;
-                  hears = hears_on new left later (Err end) stands.0 size h;
-                  agreed = (quiet new left later (Err end) stands.0 size h).1 ∙ t.agreed;
-                  requests = all_on new left later (Err end) stands.0 size h;
-                  steps = t.steps;
-                  begins = sym (append-nil (talk_text flags t.exchanges));
-                  written = written_on new left later (Err end) stands.0 size h;
-                  ends = ends_with end stands.0 h closed;
-                }
-            | inr starves ↦
-                let none = quiet_text now new (Consumes mid left) made later (Err end) hearing (ended_behind now.standing NoMemory starves) in
-                record {
-                  stream = t.stream;
-                  unheard = t.unheard ++ (hearing.stream ++ hearing.unheard);
-                  taken = t.taken ++ (hearing.stream ++ hearing.unheard);
-                  more = t.more;
-                  between = t.between;
-                  exchanges = t.exchanges;
-                  unanswered = [];
-                  text = talk_text flags t.exchanges;
-                  unsent = [];
-                  read = consumes_on input mid left t.taken (hearing.stream ++ hearing.unheard) t.read hearing.read;
-                  parts = sym (append_assoc held t.taken (hearing.stream ++ hearing.unheard)) ∙ ap (λ (x : List ℕ). x ++ (hearing.stream ++ hearing.unheard)) t.parts ∙ append_assoc t.stream t.unheard (hearing.stream ++ hearing.unheard);
-                  hears = t.hears;
-                  agreed = t.agreed;
-                  requests = t.all;
-                  steps = t.steps;
-                  begins = sym (append-nil (talk_text flags t.exchanges));
-                  written = subst (Appends output later) (append-nil (talk_text flags t.exchanges))
-                      (appends_on output made later (talk_text flags t.exchanges) [] t.written (subst (Appends made later) none hearing.written));
-                  ends = early_ends (Err end) (starved starves) t.between.standing (t.unheard ++ (hearing.stream ++ hearing.unheard)) [] [] left;
-                }
+          let broken_off = λ (starves : end_of now.standing ≡ Some NoMemory). starved_end end hearing starves (starved starves).0 (starved starves).1 in
+          elim t.clear [
+            | inl none ↦ elim t.stands [ inl stands ↦ heard_on end hearing closed none stands.0 stands.1 | inr starves ↦ broken_off starves ]
+            | inr starves ↦ broken_off starves
           ]
 
 pub as_end : (P : Result (Unit {0}) End → Type 0) (end : End) (outcome : Result (Unit {0}) End) → IsErrAnd outcome (λ e. e ≡ end) → P (Err end) → P outcome

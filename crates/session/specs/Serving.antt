@@ -1,13 +1,14 @@
 -- What a session over streams reads, whom it asks for answers, and what it writes.
-use Rattle.std.specs.Prelude.{ℕ, ◌≡◌, ◌⊎◌, List, [], ◌++◌, Option, Some, None, Result, Ok, Err}
+use Rattle.std.specs.Prelude.{ℕ, ◌≡◌, ◌⊎◌, List, [], ◌++◌, Option, Some, Result, Ok, Err}
 use Rattle.std.specs.Io.KnownBytes.{Appends, Consumes, IsAtEnd}
 use Rattle.nbd_wire.specs.Request.{Message}
 use Rattle.nbd_wire.specs.declared.message.Reply.{Reply}
 use Rattle.nbd_wire.specs.declared.message.SessionFlags.{SessionFlags}
-use Rattle.negotiation.specs.Dialog.{Hears, Outcome, Standing, Turn, ended, handshake_text}
-use Rattle.negotiation.specs.Session.{HearsOn, IsBehind, SessionState, end_of}
+use Rattle.negotiation.specs.Dialog.{Hears, Outcome, Standing, Turn, ended, handshake_text, plain, silent}
+use Rattle.negotiation.specs.Session.{HearsOn, IsBehind, IsOpen, SessionState, end_of}
 use Rattle.negotiation.specs.declared.end.End.{End}
 use Rattle.negotiation.specs.declared.end.End.TheVariants.{IoFault, NoMemory, PeerClosed, ProtocolEnd}
+use Rattle.session.specs.Hearing.{IsTimely, ReadsOn}
 use Rattle.session.specs.Talk.{AreSteps, Exchange, answered, asked, talk_text}
 
 -- The text that a session owes for what it heard: the handshake's, and the reply to each request.
@@ -40,10 +41,14 @@ abbrev pub Ends : Standing → List ℕ → List ℕ → List Message → Option
 Ends standing unheard unsent unanswered left (Ok done) = IsAll unheard unsent unanswered × (standing ≡ ended)
 Ends standing unheard unsent unanswered left (Err NoMemory) = Unit {0}
 Ends standing unheard unsent unanswered left (Err PeerClosed) =
-    IsAll unheard unsent unanswered × (end_of standing ≡ None) × IsAtEnd left
+    IsAll unheard unsent unanswered × IsOpen standing × IsAtEnd left
 Ends standing unheard unsent unanswered left (Err ProtocolEnd) =
     IsAll unheard unsent unanswered × (end_of standing ≡ Some ProtocolEnd)
 Ends standing unheard unsent unanswered left (Err IoFault) = Unit {0}
+
+-- a session in which nothing was said yet
+abbrev pub begun : ℕ → SessionState
+begun size = record { size = size; flags = plain; standing = silent }
 
 -- Of what was read a first part was heard. The first of its requests had their steps, each allowed from where the one before it
 -- left the pass, and what is written is a beginning of the dialog with these replies.
@@ -55,7 +60,7 @@ pub record IsServed {P : Type 0} (allows : P → Message → SessionFlags → P 
   pub unanswered : List Message
   pub text : List ℕ
   pub unsent : List ℕ
-  pub read : Consumes input left (stream ++ unheard)
+  pub read : ReadsOn (begun size) input left (stream ++ unheard)
   pub owed : IsDialog size stream outcome exchanges unanswered (text ++ unsent)
   pub steps : AreSteps allows outcome.flags old exchanges new
   pub written : Appends output made text
@@ -77,6 +82,7 @@ pub record Transmits {P : Type 0} (allows : P → Message → SessionFlags → P
   pub text : List ℕ
   pub unsent : List ℕ
   pub read : Consumes input left taken
+  pub timely : (taken ≡ []) ⊎ ((held ≡ []) × IsTimely old taken)
   pub parts : held ++ taken ≡ stream ++ unheard
   pub hears : HearsOn old stream [] more between
   pub agreed : between.flags ≡ old.flags

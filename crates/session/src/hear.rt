@@ -1,10 +1,11 @@
-ghost use Rattle.std.specs.Prelude.{◌≡◌, ℕ, ◌<◌, List, [], Option, Some, IfErr, IfOk, IsErrAnd, IsErrOf, OnErr, OnOk, vec_len};
+ghost use Rattle.std.specs.Prelude.{◌≡◌, ◌⊎◌, ℕ, ◌<◌, List, [], Option, Some, IfErr, IfOk, IsErrAnd, IsErrOf, OnErr, OnOk, vec_len};
 ghost use Rattle.std.specs.Global.{Vec};
-ghost use Rattle.std.specs.Io.KnownBytes.{Consumes, IsAtEnd, Keeps};
+ghost use Rattle.std.specs.Io.KnownBytes.{IsAtEnd, Keeps};
 ghost use Rattle.nbd_wire.specs.Request.{Message};
-ghost use Rattle.negotiation.specs.Session.{Fills, IsBehind, IsSaid, end_of, room_of};
+ghost use Rattle.negotiation.specs.Dialog.{ended};
+ghost use Rattle.negotiation.specs.Session.{Fills, IsBehind, IsOpen, IsSaid, end_of, room_of};
 ghost use Rattle.negotiation.specs.declared.end.End.{End};
-ghost use Rattle.session.specs.Hearing.{Hearing, as_outcome};
+ghost use Rattle.session.specs.Hearing.{Hearing, ReadsOn, ReadsSome, as_outcome, piece_bytes};
 ghost use Rattle.session.specs.Streams.{IsEarly};
 
 use crate::serve::write_due;
@@ -23,53 +24,31 @@ pub fn negotiate<R: Read, W: Write>(
     due: &mut Vec<u8>,
 ) -> Result<Vec<Request>, End>
     requires none_due { due.old.items ≡ [] }
-    requires some { 0 < vec_len piece.old }
-    ensures hearing { Hearing session.old (Consumes (R.remaining input.old) (R.remaining input.new)) (W.contents output.old) (W.contents output.new) result session.new }
+    requires piece { vec_len piece.old ≡ piece_bytes }
+    ensures hearing { Hearing session.old (ReadsOn session.old (R.remaining input.old) (R.remaining input.new)) (W.contents output.old) (W.contents output.new) result session.new }
     ensures none_due { due.new.items ≡ [] }
-    ensures some { 0 < vec_len piece.new }
+    ensures piece { vec_len piece.new ≡ piece_bytes }
     ensures closed { IsErrOf result End.PeerClosed → IsAtEnd (R.remaining input.new) }
     ensures over { OnOk result (IsBehind session.new.standing) }
+    ensures first { IfOk result (λ requests. (end : End) → end_of session.new.standing ≡ Some end → 0 < vec_len requests) }
     ensures said { IsSaid session.new.standing }
 {
-    let begun = take(session, &[], output, due)?;
-    if !begun.is_empty() {
-        return Ok(begun);
-    }
-    carry_on(input, output, session, piece, due)
-}
-
-// Answers options until the handshake is over.
-fn carry_on<R: Read, W: Write>(
-    input: &mut R,
-    output: &mut W,
-    session: &mut Session,
-    piece: &mut Vec<u8>,
-    due: &mut Vec<u8>,
-) -> Result<Vec<Request>, End>
-    requires said { IsSaid session.old.standing }
-    requires none_due { due.old.items ≡ [] }
-    requires some { 0 < vec_len piece.old }
-    ensures hearing { Hearing session.old (Consumes (R.remaining input.old) (R.remaining input.new)) (W.contents output.old) (W.contents output.new) result session.new }
-    ensures none_due { due.new.items ≡ [] }
-    ensures some { 0 < vec_len piece.new }
-    ensures closed { IsErrOf result End.PeerClosed → IsAtEnd (R.remaining input.new) }
-    ensures over { OnOk result (IsBehind session.new.standing) }
-    ensures said { IsSaid session.new.standing }
-{
+    let mut requests = take(session, &[], output, due)?;
     for _ in 0..u64::MAX {
-        let requests = hear(input, output, session, piece, due)?;
         if !requests.is_empty() {
             return Ok(requests);
         }
         if session.is_behind() {
             return Ok(requests);
         }
+        requests = hear(input, output, session, piece, due)?;
     }
     Err(End::IoFault)
 }
 
-// Reads what there is, writes what is due for it, and hands out the requests in it. An end behind earlier requests is told
-// before more input is waited for.
+// Reads what there is, writes what is due for it, and hands out the requests in it. Behind an end it reads nothing, and an
+// end behind earlier requests is told before more input is waited for. With no request it has read something, or the
+// session is over.
 pub fn hear<R: Read, W: Write>(
     input: &mut R,
     output: &mut W,
@@ -78,18 +57,24 @@ pub fn hear<R: Read, W: Write>(
     due: &mut Vec<u8>,
 ) -> Result<Vec<Request>, End>
     requires said { IsSaid session.old.standing }
+    requires going { session.old.standing ≡ ended → ⊥ }
     requires none_due { due.old.items ≡ [] }
-    requires some { 0 < vec_len piece.old }
-    ensures hearing { Hearing session.old (Consumes (R.remaining input.old) (R.remaining input.new)) (W.contents output.old) (W.contents output.new) result session.new }
+    requires piece { vec_len piece.old ≡ piece_bytes }
+    ensures hearing { Hearing session.old (ReadsOn session.old (R.remaining input.old) (R.remaining input.new)) (W.contents output.old) (W.contents output.new) result session.new }
     ensures none_due { due.new.items ≡ [] }
-    ensures some { 0 < vec_len piece.new }
+    ensures piece { vec_len piece.new ≡ piece_bytes }
     ensures closed { IsErrOf result End.PeerClosed → IsAtEnd (R.remaining input.new) }
-    ensures starved { end_of session.old.standing ≡ Some End.NoMemory → IsErrAnd result IsEarly }
+    ensures reads { IfOk result (λ requests. vec_len requests ≡ 0 → (session.new.standing ≡ ended) ⊎ ReadsSome (R.remaining input.old) (R.remaining input.new)) }
+    ensures starved { end_of session.old.standing ≡ Some End.NoMemory → IsErrAnd result IsEarly × (R.remaining input.new ≡ R.remaining input.old) }
     ensures asks { IfOk result (λ requests. 0 < vec_len requests → IsBehind session.new.standing) }
+    ensures first { IfOk result (λ requests. (end : End) → end_of session.new.standing ≡ Some end → 0 < vec_len requests) }
     ensures said { IsSaid session.new.standing }
 {
     let requests = take(session, &[], output, due)?;
     if !requests.is_empty() {
+        return Ok(requests);
+    }
+    if session.ended() {
         return Ok(requests);
     }
     if session.room() > piece.len() {
@@ -107,8 +92,10 @@ pub fn hear<R: Read, W: Write>(
 fn fill<R: Read>(input: &mut R, session: &mut Session) -> Result<(), End>
     requires { 1 < room_of session.old.standing }
     ensures hearing { (output : Option (List ℕ)) (given : Vec Message) → given.items ≡ []
-        → Hearing session.old (Consumes (R.remaining input.old) (R.remaining input.new)) output output (as_outcome given result) session.new }
+        → Hearing session.old (ReadsOn session.old (R.remaining input.old) (R.remaining input.new)) output output (as_outcome given result) session.new }
     ensures closed { IsErrOf result End.PeerClosed → IsAtEnd (R.remaining input.new) }
+    ensures some { OnOk result (ReadsSome (R.remaining input.old) (R.remaining input.new)) }
+    ensures going { OnOk result (IsOpen session.new.standing) }
     ensures said { IsSaid session.new.standing }
 {
     if fill_some(input, session)? == 0 {

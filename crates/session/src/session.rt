@@ -1,5 +1,6 @@
-ghost use Rattle.std.specs.Prelude.{◌≡◌, ◌*◌, ◌<◌, [], IfOk, vec_len};
+ghost use Rattle.std.specs.Prelude.{◌≡◌, ◌*◌, [], IfOk, vec_len};
 ghost use Rattle.negotiation.specs.Session.{IsBehind};
+ghost use Rattle.session.specs.Hearing.{piece_bytes};
 ghost use Rattle.session.specs.Serving.{IsServed, TransmitsOn};
 
 use crate::hear::{hear, negotiate};
@@ -57,7 +58,7 @@ pub fn transmit<P, S: Serve<P>, R: Read, W: Write>(
 ) -> Result<(), End>
     requires over { IsBehind session.old.standing }
     requires none_due { due.old.items ≡ [] }
-    requires some { 0 < vec_len piece.old }
+    requires piece { vec_len piece.old ≡ piece_bytes }
     ensures { TransmitsOn (S.allows export.now) session.old requests.items pass.old pass.new (R.remaining input.old) (R.remaining input.new) (W.contents output.old) (W.contents output.new) result }
 {
     let flags = session.flags();
@@ -74,7 +75,7 @@ pub fn transmit<P, S: Serve<P>, R: Read, W: Write>(
 
 // Room for what one read takes.
 fn empty_piece(alloc: Global) -> Result<Vec<u8>, AllocError>
-    ensures { IfOk result (λ piece. 0 < vec_len piece) }
+    ensures { IfOk result (λ piece. vec_len piece ≡ piece_bytes) }
 {
     vec![in alloc; 0; PIECE_BYTES]
 }

@@ -76,6 +76,23 @@ fn replies_of_more_than_1_mib_are_written(rt: HostRuntime) -> Result<(), Fail> {
     )
 }
 
+// The reply to the first request can't be written, which is due before the second is served.
+#[test]
+fn nothing_is_served_behind_a_failed_write(rt: HostRuntime) -> Result<(), Fail> {
+    let alloc = rt.alloc();
+    let input = begins(
+        alloc,
+        "25609513 0000 0003 0000000000000003 0000000000000000 00000000
+         25609513 0000 0003 0000000000000004 0000000000000000 00000000",
+    )?;
+    let wanted = bytes_of(alloc, HANDSHAKE)?;
+    let output = FakeWriter::new(alloc, MANY, wanted.len());
+    let served = serve(alloc, FakeReader::new(&input, MANY, true), output)?;
+    assert!(rt; served.end == Err(End::IoFault) && served.answered == 1);
+    assert!(rt; served.output.taken() == wanted.as_slice());
+    Ok(())
+}
+
 // A client that sends a WRITE of 1,052,672 bytes, and then this.
 fn writes_too_much(alloc: Global, then: &str) -> Result<Vec<u8>, AllocError> {
     let mut input = begins(

@@ -1,4 +1,4 @@
-use Rattle.std.proofs.Common.{◌≡◌, List, [], Some, None, sym, subst, ap, ◌∙◌, refl}
+use Rattle.std.proofs.Common.{◌≡◌, List, [], Some, None, take, rules, sym, subst, ap, ◌∙◌, refl}
 use Rattle.std.specs.List.{position}
 use Rattle.nbd_wire.specs.Request.{Message}
 use Rattle.negotiation.specs.Dialog.{ended, in_requests, is_disc}
@@ -14,7 +14,8 @@ pub returns-in-Some-clause-hands : goal.returns-in-Some-clause-hands
 returns-in-Some-clause-hands c =
     let place : position is_disc c.in-Ok.requests.items ≡ Some c.in-Some.place = ap (position is_disc) (sym c.deref.ensures.value) ∙ sym c.disc_place.ensures ∙ c.in-Some.is in
     let found = found_place is_disc c.in-Ok.requests.items c.in-Some.place place in
-    subst (λ (r : List Message). Hands (in_requests c.args.reader) c.args.piece.now r ended) (sym found.1 ∙ sym c.truncate.ensures.items)
+    let before : c.truncate.new.self.items ≡ take c.in-Some.place c.in-Ok.requests.items = search rules in
+    subst (λ (r : List Message). Hands (in_requests c.args.reader) c.args.piece.now r ended) (sym found.1 ∙ sym before)
     (hands_disc c.args.reader c.feed.new.self c.args.piece.now c.in-Ok.requests.items c.in-Ok.ensures.stream found.0)
 
 pub returns-in-Some-clause-again : goal.returns-in-Some-clause-again

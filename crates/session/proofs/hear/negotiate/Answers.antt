@@ -1,36 +1,67 @@
 use Rattle.std.proofs.Common.{◌≡◌, [], Ok, Err, Result, arith, rules, vec_len}
 use Rattle.std.specs.Global.{Vec}
-use Rattle.std.specs.Io.KnownBytes.{Consumes}
 use Rattle.nbd_wire.specs.Request.{Message}
 use Rattle.negotiation.specs.declared.end.End.{End}
-use Rattle.session.specs.Hearing.{Hearing}
-use Rattle.session.proofs.Hearing.{as_error, consumes_nothing, hearing_read, heard_then, items_none, went_on}
+use Rattle.session.specs.Hearing.{Hearing, ReadsOn}
+use Rattle.session.proofs.Hearing.{as_error, hearing_read, heard_then, items_none, reads_nothing, went_on}
 use Rattle.session.proofs.hear.negotiate.Goals as goal
 
-pub returns-in_err-begun-clause-hearing : goal.returns-in_err-begun-clause-hearing
-returns-in_err-begun-clause-hearing g c =
+pub returns-in_err-requests-clause-hearing : goal.returns-in_err-requests-clause-hearing
+returns-in_err-requests-clause-hearing g c =
     let input = g.R.Read.remaining c.args.input.now in
     let output = g.W.Write.contents c.args.output.now in
     let later = g.W.Write.contents c.take.new.output in
-    as_error (λ (r : Result (Vec Message) End). Hearing c.args.session.now (Consumes input input) output later r c.take.new.session) c.in_err-begun.field-0.0 c.from_residual.result c.from_residual.ensures.1
-    (hearing_read c.args.session.now c.take.new.session (λ bytes. bytes ≡ []) (Consumes input input) output later (Err c.in_err-begun.field-0.0) c.in_err-begun.ensures.hearing (consumes_nothing input))
-
-pub returns-then-not-is_empty-clause-hearing : goal.returns-then-not-is_empty-clause-hearing
-returns-then-not-is_empty-clause-hearing g c =
-    let input = g.R.Read.remaining c.args.input.now in
-    hearing_read c.args.session.now c.take.new.session (λ bytes. bytes ≡ []) (Consumes input input) (g.W.Write.contents c.args.output.now) (g.W.Write.contents c.take.new.output) (Ok c.in_ok-begun.begun) c.in_ok-begun.ensures.hearing
-    (consumes_nothing input)
-
-pub returns-clause-hearing : goal.returns-clause-hearing
-returns-clause-hearing g c =
-    let input = g.R.Read.remaining c.args.input.now in
-    let left = g.R.Read.remaining c.carry_on.new.input in
-    let output = g.W.Write.contents c.args.output.now in
-    let made = g.W.Write.contents c.take.new.output in
     let old = c.args.session.now in
-    let now = c.take.new.session in
-    let given = c.in_ok-begun.begun in
-    let zero : vec_len given ≡ 0 = search rules in
-    let none = items_none given zero in
-    let heard = went_on old now (λ bytes. bytes ≡ []) input input output made given c.in_ok-begun.ensures.hearing (consumes_nothing input) none (λ some. omega (arith, zero, some)) c.in_ok-begun.ensures.said in
-    heard_then old now input input output made heard c.carry_on.new.session left (g.W.Write.contents c.carry_on.new.output) (Consumes input left) c.carry_on.result c.carry_on.ensures.hearing (λ bytes read. read)
+    as_error (λ (r : Result (Vec Message) End). Hearing old (ReadsOn old input input) output later r c.take.new.session) c.in_err-requests.field-0.0 c.from_residual.result c.from_residual.ensures.1
+    (hearing_read old c.take.new.session (λ bytes. bytes ≡ []) (ReadsOn old input input) output later (Err c.in_err-requests.field-0.0) c.in_err-requests.ensures.hearing (reads_nothing old input))
+
+pub loop-init : goal.loop-init
+loop-init g c =
+    let input = g.R.Read.remaining c.args.input.now in
+    let old = c.args.session.now in
+    let first = c.in_ok-requests.ensures in
+    record {
+      said = first.said;
+      none_due = first.none_due;
+      piece = c.requires.piece;
+      first = first.first;
+      asks = first.asks;
+      hearing = hearing_read old c.take.new.session (λ bytes. bytes ≡ []) (ReadsOn old input input) (g.W.Write.contents c.args.output.now) (g.W.Write.contents c.take.new.output) (Ok c.in_ok-requests.requests) first.hearing (reads_nothing old input);
+    }
+
+pub returns-in_err-requests-2-clause-hearing : goal.returns-in_err-requests-2-clause-hearing
+returns-in_err-requests-2-clause-hearing g c =
+    let input = g.R.Read.remaining c.args.input.now in
+    let mid = g.R.Read.remaining c.loop.input in
+    let left = g.R.Read.remaining c.hear.new.input in
+    let output = g.W.Write.contents c.args.output.now in
+    let made = g.W.Write.contents c.loop.output in
+    let later = g.W.Write.contents c.hear.new.output in
+    let old = c.args.session.now in
+    let now = c.loop.session in
+    let zero : vec_len c.loop.requests ≡ 0 = search rules in
+    let heard = went_on old now (ReadsOn old input mid) input mid output made c.loop.requests c.loop.invariant.hearing (λ bytes read. read) (items_none c.loop.requests zero) (λ some. omega (arith, zero, some)) c.loop.invariant.said in
+    as_error (λ (r : Result (Vec Message) End). Hearing old (ReadsOn old input left) output later r c.hear.new.session) c.in_err-requests-2.field-0.0 c.from_residual-in_err-requests-2.result c.from_residual-in_err-requests-2.ensures.1
+    (heard_then old now input mid output made heard c.hear.new.session left later (ReadsOn now mid left) (Err c.in_err-requests-2.field-0.0) c.in_err-requests-2.ensures.hearing (λ bytes read. read))
+
+pub loop-preserved : goal.loop-preserved
+loop-preserved g c =
+    let input = g.R.Read.remaining c.args.input.now in
+    let mid = g.R.Read.remaining c.loop.input in
+    let left = g.R.Read.remaining c.hear.new.input in
+    let output = g.W.Write.contents c.args.output.now in
+    let made = g.W.Write.contents c.loop.output in
+    let later = g.W.Write.contents c.hear.new.output in
+    let old = c.args.session.now in
+    let now = c.loop.session in
+    let zero : vec_len c.loop.requests ≡ 0 = search rules in
+    let heard = went_on old now (ReadsOn old input mid) input mid output made c.loop.requests c.loop.invariant.hearing (λ bytes read. read) (items_none c.loop.requests zero) (λ some. omega (arith, zero, some)) c.loop.invariant.said in
+    let next = c.in_ok-requests-2.ensures in
+    record {
+      said = next.said;
+      none_due = next.none_due;
+      piece = next.piece;
+      first = next.first;
+      asks = next.asks;
+      hearing = heard_then old now input mid output made heard c.hear.new.session left later (ReadsOn now mid left) (Ok c.in_ok-requests-2.requests) next.hearing (λ bytes read. read);
+    }

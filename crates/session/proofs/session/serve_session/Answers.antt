@@ -1,11 +1,10 @@
 use Rattle.std.proofs.Common.{◌≡◌, ◌*◌, Ok, Err, Result, ap, subst, ◌∙◌}
-use Rattle.std.specs.Io.KnownBytes.{Consumes}
 use Rattle.image_model.specs.declared.geometry.Geometry.{Geometry}
 use Rattle.negotiation.specs.Session.{SessionState}
 use Rattle.negotiation.specs.declared.end.End.{End}
-use Rattle.session.specs.Hearing.{Hearing}
-use Rattle.session.specs.Serving.{IsServed}
-use Rattle.session.proofs.Serving.{agreed, base, begun, memory_early, over, served_handshake, served_nothing, served_whole, stands}
+use Rattle.session.specs.Hearing.{Hearing, ReadsOn}
+use Rattle.session.specs.Serving.{IsServed, begun}
+use Rattle.session.proofs.Serving.{agreed, base, memory_early, over, served_handshake, served_nothing, served_whole, stands}
 use Rattle.session.proofs.Transmitting.{as_end}
 use Rattle.session.proofs.session.serve_session.Goals as goal
 
@@ -25,7 +24,7 @@ returns-in_err-requests g c =
     let new = c.negotiate.new.session in
     let end = c.in_err-requests.field-0.0 in
     let same : c.new-session.result ≡ begun size = c.new-session.ensures ∙ ap (λ (geometry : Geometry). begun (4096 * geometry.blocks)) c.geometry.ensures in
-    let h = subst (λ (s : SessionState). Hearing s (Consumes input mid) output made (Err end) new) same c.in_err-requests.ensures.hearing in
+    let h = subst (λ (s : SessionState). Hearing s (ReadsOn s input mid) output made (Err end) new) same c.in_err-requests.ensures.hearing in
     as_end (λ (r : Result (Unit {0}) End). IsServed allows size c.args.pass.now c.args.pass.now input mid output made r) end c.from_residual-in_err-requests.result c.from_residual-in_err-requests.ensures.1
     (served_handshake allows size c.args.pass.now input output mid made new end h c.in_err-requests.ensures.said (λ is. c.in_err-requests.ensures.closed (ap Err is)))
 
@@ -40,7 +39,7 @@ returns g c =
     let new = c.negotiate.new.session in
     let given = c.in_ok-requests.requests in
     let same : c.new-session.result ≡ begun size = c.new-session.ensures ∙ ap (λ (geometry : Geometry). begun (4096 * geometry.blocks)) c.geometry.ensures in
-    let h = subst (λ (s : SessionState). Hearing s (Consumes input mid) output made (Ok given) new) same c.in_ok-requests.ensures.hearing in
+    let h = subst (λ (s : SessionState). Hearing s (ReadsOn s input mid) output made (Ok given) new) same c.in_ok-requests.ensures.hearing in
     let b = c.in_ok-requests.ensures.over in
     let pass = c.args.pass.now in
     let t = c.transmit.ensures (base allows size pass input output mid made new given h) h.unheard (stands allows size pass input output mid made new given h) (over allows size pass input output mid made new given h b)

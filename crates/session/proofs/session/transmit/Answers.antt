@@ -11,7 +11,7 @@ pub loop-init : goal.loop-init
 loop-init g c = record {
   said = behind_said c.args.session.now.standing c.requires.over;
   none_due = c.requires.none_due;
-  some = c.requires.some;
+  piece = c.requires.piece;
   going = λ heard held stands b flags.
       transmitting_start (g.S.Serve.allows c.args.export.now) c.args.session.now.flags heard held c.args.requests.items c.args.pass.now (g.R.Read.remaining c.args.input.now) (g.W.Write.contents c.args.output.now) c.args.session.now stands b;
 }
@@ -41,7 +41,7 @@ returns-then-ended g c = λ heard held stands b flags.
     let later = g.W.Write.contents c.answer_all.new.output in
     let answers = subst (λ (f : SessionFlags). Answers allows f c.loop.pass c.loop.requests.items c.answer_all.new.pass made later true) c.flags-flags.ensures c.in_ok-answer_all.ensures.answers in
     let done = answered allows agreed heard held waiting c.args.pass.now input output c.loop.pass mid made c.loop.session c.loop.requests.items (c.loop.invariant.going heard held stands b flags) c.answer_all.new.pass later answers in
-    over allows agreed heard held waiting c.args.pass.now input output c.answer_all.new.pass mid later c.loop.session done (search rules)
+    over allows agreed heard held waiting c.args.pass.now input output c.answer_all.new.pass mid later c.loop.session done _ (search rules) (search rules)
 
 pub returns-in_err-requests : goal.returns-in_err-requests
 returns-in_err-requests g c = λ heard held stands b flags.
@@ -77,10 +77,10 @@ loop-preserved g c =
     record {
       said = c.in_ok-requests.ensures.said;
       none_due = c.in_ok-requests.ensures.none_due;
-      some = c.in_ok-requests.ensures.some;
+      piece = c.in_ok-requests.ensures.piece;
       going = λ heard held stands b flags.
           let done = answered allows agreed heard held waiting c.args.pass.now input output c.loop.pass mid made c.loop.session c.loop.requests.items (c.loop.invariant.going heard held stands b flags) c.answer_all.new.pass later answers in
-          heard_more allows agreed heard held waiting c.args.pass.now input output c.answer_all.new.pass mid later c.loop.session done c.in_ok-requests.requests c.hear.new.session left told c.in_ok-requests.ensures.hearing c.in_ok-requests.ensures.starved;
+          heard_more allows agreed heard held waiting c.args.pass.now input output c.answer_all.new.pass mid later c.loop.session done c.in_ok-requests.requests c.hear.new.session left told c.in_ok-requests.ensures.hearing (λ starves. (c.in_ok-requests.ensures.starved starves).0);
     }
 
 pub returns : goal.returns

@@ -1,5 +1,6 @@
-use Rattle.std.proofs.Common.{◌≡◌, ◌<◌, List, ℕ, [], vec_len}
+use Rattle.std.proofs.Common.{◌≡◌, List, ℕ, [], vec_len}
 use Rattle.negotiation.specs.Session.{IsBehind, IsSaid, SessionState}
+use Rattle.session.specs.Hearing.{piece_bytes}
 use Rattle.session.specs.Serving.{Stands}
 use Rattle.session.proofs.Transmitting.{Transmitting}
 use Rattle.session.proofs.session.transmit.Given as goal
@@ -9,7 +10,7 @@ abbrev pub invariant-loop : goal.invariant-loop
 invariant-loop g l = record {
   said : IsSaid l.session.standing;
   none_due : l.due.items ≡ [];
-  some : 0 < vec_len l.piece;
+  piece : vec_len l.piece ≡ piece_bytes;
   going : (heard : SessionState) (held : List ℕ) → Stands held l.fn.session heard → IsBehind heard.standing → l.fn.session.flags ≡ heard.flags
       → Transmitting (g.S.Serve.allows l.export) l.fn.session.flags heard held l.fn.requests.items l.fn.pass (g.R.Read.remaining l.fn.input) (g.W.Write.contents l.fn.output)
       l.pass (g.R.Read.remaining l.input) (g.W.Write.contents l.output) l.session l.requests.items;

@@ -1,4 +1,4 @@
-use Rattle.std.proofs.Common.{◌≡◌, ℕ, inl, inr, List, Some, sym, subst, ap, ◌∙◌}
+use Rattle.std.proofs.Common.{◌≡◌, ℕ, inl, inr, List, Some, rules, sym, subst, ap, ◌∙◌}
 use Rattle.nbd_wire.specs.Request.{Message}
 use Rattle.nbd_wire.specs.declared.message.SessionFlags.{SessionFlags}
 use Rattle.negotiation.specs.Dialog.{Standing}
@@ -45,6 +45,13 @@ returns-in_err-talk-clause-session c =
     (c.in_err-talk.ensures.still (behind_idle c.in_ok-stage.stage (subst IsBehind (sym kept.0) b))).0)
     new end))
 
+-- That all of the rest is handed over, and nothing else is written, is searched for.
+rest_handed : {old new : Standing} {piece rest : List ℕ} {requests : List Message} → Hands old piece requests new → piece ≡ rest → Hands old rest requests new
+rest_handed {old} {new} {piece} {rest} {requests} hands same = subst (λ (p : List ℕ). Hands old p requests new) same hands
+
+all_written : {old new : SessionState} {piece before after later : List ℕ} {requests : List Message} → Feeds old piece before after requests new → later ≡ after → Feeds old piece before later requests new
+all_written {old} {new} {piece} {before} {after} {later} {requests} feeds same = subst (λ (a : List ℕ). Feeds old piece before a requests new) (sym same) feeds
+
 pub returns-clause-session : goal.returns-clause-session
 returns-clause-session c =
     let size = c.self.inside.size in
@@ -57,18 +64,19 @@ returns-clause-session c =
     let new = standing_of c.hand_out-stage.result.0 in
     let old = session_at size flags (standing_of c.replace-stage.result) in
     let same : old ≡ c.args.self.now = ap (λ (stage : Stage). session_at size flags (standing_of stage)) c.replace-stage.ensures.value ∙ c.self.view_is in
-    subst (λ (s : SessionState). Feeds s piece before after requests (session_at size talk.flags new)) same
+    let hands : Hands (standing_of talk.stage) c.in_ok-talk.rest.now requests new = rest_handed c.hand_out-stage.ensures.hands (search rules) in
+    all_written (subst (λ (s : SessionState). Feeds s piece before after requests (session_at size talk.flags new)) same
     (elim (behind_or (standing_of c.replace-stage.result)) [
       | inl b ↦
           let kept = greets_behind (standing_of c.replace-stage.result) (standing_of c.in_ok-stage.stage) before c.greet.new.out.items c.in_ok-stage.ensures.greets b in
           let idle = c.in_ok-talk.ensures.still (behind_idle c.in_ok-stage.stage (subst IsBehind (sym kept.0) b)) in
           let stands : standing_of talk.stage ≡ standing_of c.replace-stage.result = ap (λ (t : Talk). standing_of t.stage) idle.0.0 ∙ kept.0 in
-          let hands = subst (λ (s : Standing). Hands s piece requests new) stands (subst (λ (p : List ℕ). Hands (standing_of talk.stage) p requests new) idle.0.1 c.hand_out-stage.ensures.hands) in
+          let hands = subst (λ (s : Standing). Hands s piece requests new) stands (subst (λ (p : List ℕ). Hands (standing_of talk.stage) p requests new) idle.0.1 hands) in
           subst (λ (f : SessionFlags). Feeds old piece before after requests (session_at size f new)) (sym (ap (λ (t : Talk). t.flags) idle.0.0))
           (fed_behind size flags (standing_of c.replace-stage.result) new before after piece requests b (idle.1 ∙ kept.1) hands)
       | inr not ↦ fed size flags (standing_of c.replace-stage.result) (standing_of c.in_ok-stage.stage) before c.greet.new.out.items after piece c.in_ok-talk.rest.now talk
-          c.in_ok-stage.ensures.greets c.in_ok-talk.ensures.sound c.in_ok-talk.ensures.runs not new requests c.hand_out-stage.ensures.hands
-    ])
+          c.in_ok-stage.ensures.greets c.in_ok-talk.ensures.sound c.in_ok-talk.ensures.runs not new requests hands
+    ])) (search rules)
 
 pub returns-clause-again : goal.returns-clause-again
 returns-clause-again c = λ end is.
