@@ -6,8 +6,8 @@ use std::io::{self, ErrorKind, Read, Write};
 use std::net::{Ipv4Addr, SocketAddr, TcpStream};
 use std::time::Duration;
 
-// Seconds.
-const PATIENCE: u64 = 5;
+/// Seconds for which something is waited for.
+pub const PATIENCE: u64 = 5;
 
 #[derive(Drop)]
 pub struct Client {

@@ -1,6 +1,6 @@
 //! Clients of one server, each over a connection of its own.
 
-use crate::client::Client;
+use crate::client::{Client, PATIENCE};
 use bitflags::Flags;
 use checkpoint::Keeper;
 use disk_model::{CallKind, SimDisk};
@@ -10,13 +10,13 @@ use nbd_wire::CommandFlags;
 use nbdj_pipe::Refusal;
 use server::{Listener, ServeOptions, serve};
 use std::alloc::{AllocError, Global};
-use std::io;
+use std::io::{self, ErrorKind};
 use std::net::{Ipv4Addr, SocketAddr, TcpListener, TcpStream};
 use std::rt::Clock;
 use std::sync::Wait;
 use std::sync::atomic::{AtomicBool, AtomicU64, Ordering};
 use std::thread::{self, Threads};
-use std::time::Duration;
+use std::time::{Duration, Instant};
 use world::Mode;
 
 // The number of the error EIO on the wire.
@@ -49,7 +49,7 @@ impl Seen {
     }
 }
 
-// Holds the first group that is to be stored until a reply was written, for at most 10,000 turns of a millisecond.
+// Holds the first group that is to be stored until a reply was written, or the clients have given up.
 struct Holding<'a, R: Clock> {
     rt: &'a R,
     seen: &'a Seen,
@@ -87,7 +87,7 @@ impl<'a, R: Clock> Holding<'a, R> {
             return;
         }
         self.seen.is_held.store(true, Ordering::SeqCst);
-        for _ in 0..10_000 {
+        for _ in 0..u64::MAX {
             if self.seen.answers.load(Ordering::SeqCst) != before {
                 self.seen.is_overtaken.store(true, Ordering::SeqCst);
                 break;
@@ -101,21 +101,26 @@ impl<'a, R: Clock> Holding<'a, R> {
     }
 }
 
-// Waits until a flag is up, at most ten seconds.
-fn wait_for(rt: &HostRuntime, flag: &AtomicBool) {
-    for _ in 0..10_000 {
+// Waits until a flag is up, and fails once it has waited as long as a client does.
+fn wait_for(rt: &HostRuntime, flag: &AtomicBool) -> io::Result<()> {
+    let start = Instant::now(rt)?;
+    for _ in 0..u64::MAX {
         if flag.load(Ordering::SeqCst) {
-            return;
+            return Ok(());
+        }
+        if start.elapsed(rt)? > Duration::from_secs(PATIENCE) {
+            break;
         }
         thread::sleep(rt, Duration::from_millis(1));
     }
+    Err(io::Error::from(ErrorKind::TimedOut))
 }
 
 // One client's FUA WRITE is held on its way to the device, and another's WRITE is answered meanwhile.
 fn write_beside_a_held_one(rt: &HostRuntime, port: u16, seen: &Seen) -> io::Result<()> {
     let mut one = Client::connect(rt, port)?;
     one.send_write(1, 0x41, CommandFlags::FUA.bits())?;
-    wait_for(rt, &seen.is_held);
+    wait_for(rt, &seen.is_held)?;
     let mut other = Client::connect(rt, port)?;
     other.send_write(2, 0x42, 0)?;
     other.expect_done(2)?;
