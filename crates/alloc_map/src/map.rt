@@ -52,7 +52,7 @@ fn map_bytes(blocks: u64) -> usize
 }
 
 impl AllocMap {
-    /// The map of an image of so many blocks, which are all holes.
+    /// The map of an image of so many blocks, which are all holes. Refusal 0 (no memory).
     pub fn new(alloc: Global, blocks: u64) -> Result<AllocMap, AllocError>
         requires { blocks ≤ 16777216 }
         ensures { IfOk result (λ map. map ≡ replicate blocks Kind.Hole) }
@@ -64,7 +64,7 @@ impl AllocMap {
     }
 
     /// The map of an image of so many blocks that the bytes of a map slot are; it keeps these very bytes. It looks at
-    /// them by the steps of `runs`.
+    /// them by the steps of `runs`, and takes no memory. Refusal 6 (bad map).
     pub fn from_bytes(blocks: u64, bytes: Vec<u8>) -> Result<AllocMap, BadMap>
         requires few { blocks ≤ 16777216 }
         requires size { length bytes.items ≡ map_bytes_of blocks }
@@ -85,7 +85,7 @@ impl AllocMap {
         &self.bytes
     }
 
-    /// A copy of the bytes of a map slot that holds this map.
+    /// A copy of the bytes of a map slot that holds this map. Refusal 0 (no memory).
     pub fn to_bytes(&self, alloc: Global) -> Result<Vec<u8>, AllocError>
         ensures { IfOk result (λ bytes. IsMapOf bytes.items self.now) }
     {
@@ -93,7 +93,7 @@ impl AllocMap {
         Ok(copied)
     }
 
-    /// Another map of the same states.
+    /// Another map of the same states. Refusal 0 (no memory).
     pub fn copy(&self, alloc: Global) -> Result<AllocMap, AllocError>
         ensures { IfOk result (λ map. map ≡ self.now) }
     {
@@ -132,7 +132,8 @@ impl AllocMap {
     }
 
     /// The longest runs of equal states from one block on up to another, the first `limit` of them. It takes a step
-    /// for the 32 blocks of a word, else for the 4 of a byte, where they are of one state, else for each block.
+    /// for the 32 blocks of a word, else for the 4 of a byte, where they are of one state, else for each block. Refusal 0
+    /// (no memory).
     pub fn runs(
         &self,
         alloc: Global,

@@ -20,8 +20,8 @@ use std::alloc::Global;
 impl<D: Disk> Keeper<D> {
     /// Makes the device an image of holes with an empty journal, and header slot 0 its header.
     ///
-    /// Both header gates are closed and synced first; the header's gate is opened last, when all else is stable. It
-    /// refuses with 0, before its first call of the device, and with 1.
+    /// Both header gates are closed and synced first; the header's gate is opened last, when all else is stable. Refusals 0
+    /// (no memory), before its first call of the device, and 1 (device fault).
     pub fn format(alloc: Global, disk: &mut D, geometry: Geometry) -> Result<(), KeeperFault>
         requires { D.extent disk.old ≡ device_bytes_of geometry.blocks geometry.area }
         ensures extent { D.extent disk.new ≡ D.extent disk.old }

@@ -134,8 +134,9 @@ impl<D: Disk> Keeper<D> {
 impl<D: Disk> Keeper<D> {
     /// Stores the group behind all that is stored, and makes it stable.
     ///
-    /// A group that is refused comes back. After 1 every later group is refused with 16, until the device is opened
-    /// again; 0, 10 and 11 leave everything as it was.
+    /// Refusals 0 (no memory), 1 (device fault), 10 (area full), 11 (out of order) and 16 (failed): the group comes back.
+    /// After 1 every later group is refused with 16, until the device is opened again; 0, 10 and 11 leave everything as it
+    /// was.
     pub fn append(&mut self, group: Group) -> Result<(), (KeeperFault, Group)>
         ensures ok { OnOk result (self.new ≡ grown_by self.old group self.new.disk self.new.memory) }
         ensures err { IfErr result (λ refused. self.new ≡ refused_by refused.0 self.old self.new.disk) }

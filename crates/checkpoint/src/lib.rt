@@ -1,4 +1,5 @@
-//! The keeper of a device: it formats and opens the device, and adds groups to its journal.
+//! The keeper of a device: it formats the device, opens and recovers it, adds groups to its journal, carries a checkpoint
+//! out step by step, and reads blocks and the map. A report says what a device holds that isn't opened.
 #![tactic(auto)]
 
 mod device_steps;

@@ -19,7 +19,8 @@ impl<D: Disk> Keeper<D> {
     /// Reads blocks from the first one on out of the data region, in one call of the device.
     ///
     /// A block that is data at the base, and that no command stored in front of the last area writes, gives its bytes at
-    /// the base; another gives any bytes. It refuses with 1, and with 16 after an earlier 1; `into` then holds any bytes.
+    /// the base; another gives any bytes. Refusals 1 (device fault), and 16 (failed) after an earlier 1; `into` then holds
+    /// any bytes.
     pub fn read_base(&mut self, first: u64, into: &mut [u8]) -> Result<(), KeeperFault>
         requires some { 0 < length into.old }
         requires whole { length into.old % 4096 ≡ 0 }
@@ -53,7 +54,8 @@ impl<D: Disk> Keeper<D> {
         }
     }
 
-    /// A copy of the map: the states of the blocks at the base. After a device fault it is that of before.
+    /// A copy of the map: the states of the blocks at the base. After a device fault it is that of before. Refusal 0 (no
+    /// memory).
     pub fn map(&self, alloc: Global) -> Result<AllocMap, AllocError>
         ensures blocks { IfOk result (λ map. length map ≡ self.now.geometry.blocks) }
         ensures remembered { IfOk result (λ map. map ≡ self.now.memory.map) }

@@ -26,12 +26,13 @@ impl<D: Disk> Keeper<D> {
     /// another one empties it.
     ///
     /// The device is synced first. Where one area is in use and its list is empty nothing is written; else the blocks are
-    /// copied up to 256 at a time, in one read and one write. It takes memory for the map, for what each command of the
-    /// journal touched, and for one copy.
+    /// copied up to 256 at a time, in one read and one write. It takes memory for two maps, as each new one is made beside
+    /// the one in force, for what each command of the journal touched and the last touches of the blocks, for 1 MiB while an
+    /// area is scanned, and for one copy, of at most 1 MiB.
     ///
-    /// A refusal hands the device back: 7 where no header is in force, 8 where it is bad, 6 where its map is, 12 where an
-    /// area in use is damaged, the first of these that applies; 9 where a header of the recovery has no greater generation;
-    /// 0 and 1.
+    /// A refusal hands the device back: 7 (no header), 8 (bad header), 6 (bad map) and 12 (damaged group, in an area in
+    /// use), the first of these that applies; 9 (numbers full), where a header of the recovery has no greater generation;
+    /// 0 (no memory) and 1 (device fault).
     pub fn open(alloc: Global, disk: D) -> Result<Keeper<D>, (KeeperFault, D)>
         ensures extent { D.extent (disk_after result) ≡ D.extent disk }
         ensures faults { D.faults (disk_after result) ≡ faults_after_opening result (D.faults disk) }

@@ -37,8 +37,9 @@ pub struct Report {
 impl<D: Disk> Keeper<D> {
     /// What the device holds, which is read alone: it isn't even synced, and no checkpoint that is under way goes on.
     ///
-    /// It takes memory for two maps and for what each command of the journal touched. The refusals are 7, 8, 6, 12, the
-    /// first of these that applies, 0 and 1.
+    /// It takes memory for two maps, or three where two areas are in use, for what each command of the journal touched and
+    /// the last touches of the blocks, and for 1 MiB while an area is scanned. Refusals 7 (no header), 8 (bad header), 6
+    /// (bad map) and 12 (damaged group), the first of these that applies, 0 (no memory) and 1 (device fault).
     pub fn inspect(alloc: Global, disk: &mut D) -> Result<Report, KeeperFault>
         ensures extent { D.extent disk.new ≡ D.extent disk.old }
         ensures faults_ok { OnOk result (D.faults disk.new ≡ D.faults disk.old) }

@@ -32,7 +32,7 @@ impl<D: Disk> Keeper<D> {
     /// write of the device, and answers how many. Its time is where two areas are in use and a block is left to copy.
     ///
     /// Of the blocks whose last touch in the first area is a put, in ascending order, their bytes go from there to the
-    /// data region. It takes memory for these bytes, and refuses with 0, 1, 15 and 16.
+    /// data region. It takes memory for these bytes. Refusals 0 (no memory), 1 (device fault), 15 (not now) and 16 (failed).
     pub fn copy_some(&mut self, most: u32) -> Result<u32, KeeperFault>
         requires { 1 ≤ most }
         ensures ok { IfOk result (λ blocks. (1 ≤ blocks) × (blocks ≤ most) × (self.new ≡ copied_by self.old blocks self.new.disk self.new.memory)) }
@@ -86,7 +86,8 @@ impl<D: Disk> Keeper<D> {
         }
     }
 
-    /// Copies the next block, as [`Keeper::copy_some`] does.
+    /// Copies the next block, as [`Keeper::copy_some`] does. Refusals 0 (no memory), 1 (device fault), 15 (not now) and 16
+    /// (failed).
     pub fn copy_one(&mut self) -> Result<(), KeeperFault>
         ensures ok { OnOk result (self.new ≡ copied_by self.old 1 self.new.disk self.new.memory) }
         ensures err { IfErr result (λ fault. self.new ≡ refused_by fault self.old self.new.disk) }
@@ -117,7 +118,7 @@ impl<D: Disk> Keeper<D> {
     /// use and its list isn't empty.
     ///
     /// The other area's first gate is closed and synced, and then the header changes. It takes memory for the last touches
-    /// of the blocks, and refuses with 0, 1, 9, 15 and 16.
+    /// of the blocks. Refusals 0 (no memory), 1 (device fault), 9 (numbers full), 15 (not now) and 16 (failed).
     pub fn rotate(&mut self) -> Result<(), KeeperFault>
         ensures ok { OnOk result (self.new ≡ rotated_by self.old self.new.disk self.new.memory) }
         ensures err { IfErr result (λ fault. self.new ≡ refused_by fault self.old self.new.disk) }
@@ -218,7 +219,7 @@ impl<D: Disk> Keeper<D> {
     /// Writes the map after the first area into the map slot that isn't in force, and syncs. Its time is where two areas are
     /// in use, no block is left to copy, and the map isn't written.
     ///
-    /// It takes memory for one map, and refuses with 0, 1, 15 and 16.
+    /// It takes memory for one map. Refusals 0 (no memory), 1 (device fault), 15 (not now) and 16 (failed).
     pub fn write_map(&mut self) -> Result<(), KeeperFault>
         ensures ok { OnOk result (self.new ≡ mapped_by self.old self.new.disk self.new.memory) }
         ensures err { IfErr result (λ fault. self.new ≡ refused_by fault self.old self.new.disk) }
@@ -273,7 +274,7 @@ impl<D: Disk> Keeper<D> {
     /// Lets the first area go: the second is alone in use, and map and data hold what the first did. Its time is where the
     /// map is written.
     ///
-    /// The header changes. It refuses with 1, 9, 15 and 16.
+    /// The header changes. Refusals 1 (device fault), 9 (numbers full), 15 (not now) and 16 (failed).
     pub fn finish(&mut self) -> Result<(), KeeperFault>
         ensures ok { OnOk result (self.new ≡ finished_by self.old self.new.disk self.new.memory) }
         ensures err { IfErr result (λ fault. self.new ≡ refused_by fault self.old self.new.disk) }

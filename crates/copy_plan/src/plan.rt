@@ -34,7 +34,7 @@ impl Model for CopyPlan {
     ghost invariant = { λ plan. IsPlan plan.first plan.touches plan.copied plan.left plan.map };
 }
 
-/// The last touches of the blocks of an area.
+/// The last touches of the blocks of an area. Refusal 0 (no memory).
 pub fn last_touches(alloc: Global, area: &Area, blocks: u32) -> Result<LastTouches, AllocError>
     requires bytes { area.now.bytes ≤ 1073741824 }
     requires blocks { blocks ≡ area.now.blocks }
@@ -55,7 +55,8 @@ fn kind_given(touch: LastTouch) -> Kind
     }
 }
 
-/// The map after an area of an image of so many blocks, where this is the one before.
+/// The map after an area of an image of so many blocks, where this is the one before. It takes memory for one map and for
+/// the last touches. Refusal 0 (no memory).
 pub fn map_behind(
     alloc: Global,
     area: &Area,
@@ -176,7 +177,7 @@ impl CopyPlan {
         map
     }
 
-    /// The map after the area, where this is the one before.
+    /// The map after the area, where this is the one before. It takes memory for one map. Refusal 0 (no memory).
     pub fn map_after(&self, alloc: Global, map: &AllocMap) -> Result<AllocMap, AllocError>
         requires { length map.now ≡ self.now.first.blocks }
         ensures { IfOk result (λ after. AreStatesAfter self.now.first.touched map.now after) }

@@ -158,8 +158,9 @@ impl Disk for SimDisk {
         ensures any_moment { LeavesOnly (state_now self.old) (state_now self.new)
             (MayLeaveTorn (state_now self.old) offset (length from.now)) }
 
-        // It fails where a fault is due, and else only where the record can't grow. A write that fails by plan is
-        // applied; where the record can't grow nothing is.
+        // It fails where a fault is due, and else where the record can't grow, which no contract can say: so the clauses
+        // let it fail at any time. One that fails where a fault is due is applied or leaves nothing, and the body applies
+        // it wherever the record can grow; one that fails where none is due leaves nothing.
         ensures fails { IsTrue (is_due CallKind.Write (plan_of self.old)) → IsErr result }
         ensures applied { OnOk result (IsApplied self.old offset from.now self.new) }
         ensures err { OnErr result (IsUnchanged self.old self.new

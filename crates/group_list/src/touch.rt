@@ -23,7 +23,8 @@ pub struct TouchedRange {
     pub touch: Touch,
 }
 
-/// One more range at the end. The list grows by a quarter, so that it takes at most 40 bytes a range.
+/// One more range at the end. The list grows by a quarter and 64 ranges, so that it takes at most 40 bytes a range and
+/// 2 KiB. Refusal 0 (no memory).
 pub fn note(touched: &mut Vec<TouchedRange>, range: TouchedRange) -> Result<(), AllocError>
     ensures ok { OnOk result (touched.new.items ≡ touched.old.items ++ range ∷ []) }
     ensures err { OnErr result (touched.new.items ≡ touched.old.items) }

@@ -22,7 +22,7 @@ pub struct HeaderChange {
 }
 
 impl Header {
-    /// The next header, with what the change says; none where no generation is greater (refusal 9).
+    /// The next header, with what the change says; none where no generation is greater: refusal 9 (numbers full).
     pub fn next(&self, change: &HeaderChange) -> Option<Header>
         ensures some { IfSome result (λ header. header ≡ renewed self.now change.now) }
         ensures none { (result ≡ None) ↔ (self.now.generation ≡ 18446744073709551615) }
@@ -57,7 +57,7 @@ fn is_open<D: Disk>(disk: &mut D, slot: Side) -> Result<bool, DeviceFault>
 
 /// Closes the gate of the slot that isn't in force, where it is open, and makes that stable.
 ///
-/// A closed gate isn't written, as a crash in the write could open it over a torn header.
+/// A closed gate isn't written, as a crash in the write could open it over a torn header. Refusal 1 (device fault).
 pub fn close_other<D: Disk>(disk: &mut D, other: Side) -> Result<(), DeviceFault>
     requires { 8192 ≤ D.extent disk.old }
     ensures extent { D.extent disk.new ≡ D.extent disk.old }
@@ -75,7 +75,7 @@ pub fn close_other<D: Disk>(disk: &mut D, other: Side) -> Result<(), DeviceFault
     write_synced(disk, slot_from(other), &[CLOSED])
 }
 
-/// Writes a header behind a slot's gate, which isn't written, and makes it stable.
+/// Writes a header behind a slot's gate, which isn't written, and makes it stable. Refusal 1 (device fault).
 pub fn write_body<D: Disk>(disk: &mut D, slot: Side, header: &Header) -> Result<(), DeviceFault>
     requires { 8192 ≤ D.extent disk.old }
     ensures extent { D.extent disk.new ≡ D.extent disk.old }
@@ -90,6 +90,7 @@ pub fn write_body<D: Disk>(disk: &mut D, slot: Side, header: &Header) -> Result<
 }
 
 /// Opens the gate of the slot that isn't in force, and makes that stable; what stands behind it has to be stable.
+/// Refusal 1 (device fault).
 pub fn open_other<D: Disk>(disk: &mut D, other: Side) -> Result<(), DeviceFault>
     requires { 8192 ≤ D.extent disk.old }
     ensures extent { D.extent disk.new ≡ D.extent disk.old }
@@ -107,6 +108,7 @@ pub fn open_other<D: Disk>(disk: &mut D, other: Side) -> Result<(), DeviceFault>
 ///
 /// It goes to the other slot: its gate is closed, the header is written, its gate is opened, each made stable before the
 /// next. Where nothing in the two slots is unsynced, a crash at any moment leaves the old header or the new one in force.
+/// Refusal 1 (device fault).
 pub fn change_header<D: Disk>(disk: &mut D, slot: Side, header: &Header) -> Result<(), DeviceFault>
     requires { 8192 ≤ D.extent disk.old }
     ensures extent { D.extent disk.new ≡ D.extent disk.old }

@@ -27,7 +27,8 @@ pub(crate) fn slot_from(slot: Side) -> u64
     SLOT_BYTES * slot.index() as u64
 }
 
-/// Reads the header in force, of a device as long as it says, and says in which slot it stands.
+/// Reads the header in force, of a device as long as it says, and says in which slot it stands: one read of 4,136 bytes.
+/// Refusals 1 (device fault), 7 (no header) and 8 (bad header).
 pub fn read_current<D: Disk>(disk: &mut D) -> Result<(Header, Side), HeaderFault>
     ensures extent { D.extent disk.new ≡ D.extent disk.old }
     ensures faults { D.faults disk.new ≡ faults_after_reading result (D.faults disk.old) }
@@ -81,7 +82,7 @@ fn in_force(front: &[u8]) -> Result<Side, HeaderFault>
     }
 }
 
-/// Closes a slot's gate, without a sync.
+/// Closes a slot's gate, without a sync. Refusal 1 (device fault).
 pub fn close_gate<D: Disk>(disk: &mut D, slot: Side) -> Result<(), DeviceFault>
     requires { 8192 ≤ D.extent disk.old }
     ensures extent { D.extent disk.new ≡ D.extent disk.old }
@@ -98,7 +99,7 @@ pub fn close_gate<D: Disk>(disk: &mut D, slot: Side) -> Result<(), DeviceFault>
     disk.write_at(slot_from(slot), &[CLOSED])
 }
 
-/// Writes a header behind a slot's gate and zeroes up to the slot's end, without a sync.
+/// Writes a header behind a slot's gate and zeroes up to the slot's end, without a sync. Refusal 1 (device fault).
 pub fn fill_slot<D: Disk>(disk: &mut D, slot: Side, header: &Header) -> Result<(), DeviceFault>
     requires { 8192 ≤ D.extent disk.old }
     ensures extent { D.extent disk.new ≡ D.extent disk.old }
@@ -124,7 +125,7 @@ fn body_of(header: &Header) -> [u8; BODY_BYTES]
     bytes
 }
 
-/// Opens a slot's gate, without a sync; what stands behind it has to be stable.
+/// Opens a slot's gate, without a sync; what stands behind it has to be stable. Refusal 1 (device fault).
 pub fn open_gate<D: Disk>(disk: &mut D, slot: Side) -> Result<(), DeviceFault>
     requires { 8192 ≤ D.extent disk.old }
     ensures extent { D.extent disk.new ≡ D.extent disk.old }

@@ -7,9 +7,10 @@ pub const BLOCK_BYTES: u64 = 4096;
 /// The most blocks of an image.
 pub const MOST_BLOCKS: u64 = 1 << 24;
 
-/// The fewest and the most bytes of a journal area, which are a multiple of 8,192.
+/// The fewest bytes of a journal area; an area has a multiple of 8,192 bytes.
 pub const LEAST_AREA_BYTES: u32 = 2_097_152;
 
+/// The most bytes of a journal area.
 pub const MOST_AREA_BYTES: u32 = 1_073_741_824;
 
 /// The journal areas of a device.

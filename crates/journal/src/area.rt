@@ -114,7 +114,7 @@ impl Area {
 impl Area {
     /// Closes the area's first gate, without a sync: its list is empty, and its next number stays.
     ///
-    /// Before the next `append` the device has to be synced.
+    /// Before the next `append` the device has to be synced. Refusal 1 (device fault).
     pub fn close_first<D: Disk>(&mut self, disk: &mut D) -> Result<(), DeviceFault>
         requires { self.old.from + self.old.bytes ≤ D.extent disk.old }
         ensures closed { OnOk result (self.new ≡ record self.old { gate = 0; touched = [] }) }
@@ -141,8 +141,9 @@ impl Area {
 
     /// Adds the group at the end of the list and makes it stable.
     ///
-    /// Four calls of the device: the group's body and the closed gate behind it, sync, its gate, sync. A group that
-    /// is refused comes back; after `DeviceFault` the area isn't written again before it is scanned anew.
+    /// Four calls of the device: the group's body and the closed gate behind it, sync, its gate, sync. Refusals 0 (no
+    /// memory), 1 (device fault), 10 (area full) and 11 (out of order): the group comes back, and after 1 the area isn't
+    /// written again before it is scanned anew.
     pub fn append<D: Disk>(
         &mut self,
         disk: &mut D,
@@ -227,7 +228,8 @@ impl Area {
     /// Reads the list that the area holds, from its first gate on; the area's next number is the one that its first
     /// group has to begin with.
     ///
-    /// `DamagedGroup` where behind an open gate stands no whole group with the next numbers. A refusal changes nothing.
+    /// It takes memory for what the commands touched, and 1 MiB while it reads. Refusals 0 (no memory), 1 (device fault)
+    /// and 12 (damaged group: behind an open gate stands no whole group with the next numbers), which change nothing.
     pub fn scan<D: Disk>(&mut self, alloc: Global, disk: &mut D) -> Result<(), JournalFault>
         requires { self.old.from + self.old.bytes ≤ D.extent disk.old }
         ensures err { OnErr result (self.new ≡ self.old) }

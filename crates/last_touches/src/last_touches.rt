@@ -37,7 +37,8 @@ impl LastTouches {
     /// The last touches of the blocks before `blocks` by an area that begins at byte `from` of the device, where the
     /// ranges stand in the order of their commands.
     ///
-    /// The time it takes goes with the number n of commands, as n log n, and not with that of blocks.
+    /// The time it takes goes with the number n of commands, as n log n, and not with that of blocks. Refusal 0 (no
+    /// memory).
     pub fn resolve(
         alloc: Global,
         from: u64,

@@ -6,7 +6,8 @@ use byteorder::{BigEndian, ByteOrder};
 
 const NBD_MAGIC: u64 = 0x4e42_444d_4147_4943;
 
-/// What a message of the fixed newstyle handshake begins with, after the first of the server's.
+/// What an option begins with, and behind another number the server's greeting ("Fixed newstyle negotiation" of NBD's
+/// `proto.md`). A reply to an option begins otherwise.
 pub const OPTION_MAGIC: u64 = 0x4948_4156_454f_5054;
 
 /// What the server offers in its greeting ("Handshake flags" of NBD's `proto.md`).

@@ -11,7 +11,7 @@ const REPLY_MAGIC: u64 = 0x0003_e889_0455_65a9;
 // The length of a reply, before its data.
 const REPLY_HEAD_LEN: usize = 20;
 
-// The types of replies; an error's is this number, and its code.
+// The types of replies.
 const ACK: u32 = 1;
 
 const SERVER: u32 = 2;
@@ -20,6 +20,7 @@ const INFO_REPLY: u32 = 3;
 
 const META_CONTEXT: u32 = 4;
 
+// An error's type is this number and the error's own.
 const ERROR: u32 = 0x8000_0000;
 
 /// The size of an export, and its transmission flags.

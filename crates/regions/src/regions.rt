@@ -56,7 +56,8 @@ impl Regions {
             + BLOCK_BYTES * block
     }
 
-    /// Reads the map of a map slot, in one call of the device. It takes memory for one map, and refuses with 0, 1 or 6.
+    /// Reads the map of a map slot, in one call of the device. It takes memory for one map. Refusals 0 (no memory), 1
+    /// (device fault) and 6 (bad map).
     pub fn read_slot<D: Disk>(
         &self,
         alloc: Global,
@@ -79,7 +80,7 @@ impl Regions {
         Ok(AllocMap::from_bytes(self.geometry.blocks, bytes)?)
     }
 
-    /// Writes the map of a map slot, in one call of the device and without a sync.
+    /// Writes the map of a map slot, in one call of the device and without a sync. Refusal 1 (device fault).
     pub fn write_slot<D: Disk>(
         &self,
         disk: &mut D,
@@ -108,7 +109,7 @@ impl Regions {
     }
 
     /// Reads the data of whole blocks from the first one on, as they are stored, whatever their state, in one call of
-    /// the device. After a fault `into` holds any bytes.
+    /// the device. Refusal 1 (device fault); `into` then holds any bytes.
     pub fn read_blocks<D: Disk>(
         &self,
         disk: &mut D,
@@ -131,7 +132,8 @@ impl Regions {
         disk.read(self.block_from(first), into)
     }
 
-    /// Writes the data of whole blocks from the first one on, in one call of the device and without a sync.
+    /// Writes the data of whole blocks from the first one on, in one call of the device and without a sync. Refusal 1
+    /// (device fault).
     pub fn write_blocks<D: Disk>(
         &self,
         disk: &mut D,
