@@ -1,6 +1,12 @@
-use Rattle.std.proofs.Common.{inl, inr, ◌∙◌}
+use Rattle.std.proofs.Common.{◌≡◌, inl, inr, rules, subst, ◌∙◌}
+use Rattle.disk_model.specs.Disk.{State}
 use Rattle.disk_model.specs.laws.Moments.{goes_on, weakens}
+use Rattle.checkpoint.specs.Format.{AreClosed}
 use Rattle.checkpoint.proofs.format.write_device.Goals as goal
+
+-- That the header is opened right behind what was written for it is searched for.
+closed_there : {state other : State} → AreClosed state → state ≡ other → AreClosed other
+closed_there closed same = subst AreClosed same closed
 
 pub returns-in_err-write_parts-clause-any_moment : goal.returns-in_err-write_parts-clause-any_moment
 returns-in_err-write_parts-clause-any_moment g c honest steady =
@@ -14,9 +20,11 @@ returns-clause-any_moment g c honest steady =
     let second = c.in_ok-write_parts.ensures in
     let one_honest = first.honest.1 honest in
     let closed = first.closed honest steady in
+    let two_honest = second.honest.1 one_honest in
+    let size = second.extent ∙ first.extent ∙ c.requires.size in
     goes_on
     (goes_on (weakens (first.any_moment honest) (λ content left. inl left)) (second.any_moment one_honest closed) (λ content left. inr (inl left)))
-    (c.open_header.ensures.any_moment (second.honest.1 one_honest) (second.closed one_honest closed) c.args.geometry (second.extent ∙ first.extent ∙ c.requires.size) (second.fresh one_honest closed))
+    (c.open_header.ensures.any_moment (search (rules, two_honest)) (closed_there (second.closed one_honest closed) (search rules)) c.args.geometry (search (rules, size)) (second.fresh one_honest closed))
     (λ content left. inr left)
 
 pub returns-in_err-write_parts-clause-honest : goal.returns-in_err-write_parts-clause-honest

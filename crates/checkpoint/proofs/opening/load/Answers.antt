@@ -1,4 +1,4 @@
-use Rattle.std.proofs.Common.{◌+◌, ◌%◌, ◌<◌, refl, ap, rules}
+use Rattle.std.proofs.Common.{◌<◌, refl, rules}
 use Rattle.checkpoint.proofs.Opened.{opened_image, opened_keeps, uncopied_begun}
 use Rattle.checkpoint.proofs.opening.load.Goals as goal
 
@@ -9,10 +9,9 @@ returns-in-Ok-clause-found g c honest =
     let read = c.in-Ok.field-0 in
     let state = g.D.Disk.state c.read_device.new.disk in
     let sound = g.met.D.Disk.sound c.read_device.new.disk (call.honest.1 honest) in
-    let counted = ap (λ n. (n + 18446744073709551615) % 18446744073709551616) c.next.ensures in
     let fits : read.header.base < 18446744073709551616 = search rules in (
       opened_image state read.header read.slot read.map read.plan read.area opened fits,
-      opened_keeps state read.header read.slot read.map read.plan read.area opened fits _ sound refl refl refl refl refl refl refl refl refl refl refl counted,
+      opened_keeps state read.header read.slot read.map read.plan read.area opened fits _ sound refl refl refl refl refl refl refl refl refl refl refl (search rules),
     )
 
 pub returns-in-Ok-clause-begun : goal.returns-in-Ok-clause-begun

@@ -1,12 +1,22 @@
-use Rattle.std.proofs.Common.{ℕ, List, length, Err, sym, ◌∙◌, subst}
+use Rattle.std.proofs.Common.{◌≡◌, ℕ, List, length, Err, rules, sym, ◌∙◌, subst}
 use Rattle.disk_model.specs.Disk.{IsSound}
 use Rattle.header_slots.specs.Slots.{HoldsHeader}
-use Rattle.image_model.specs.declared.geometry.Geometry.{Geometry}
+use Rattle.image_model.specs.declared.command.Kind.{Kind}
 use Rattle.group_list.specs.laws.Chained.{one_read, reads_on}
 use Rattle.regions.specs.Layout.{map_at}
 use Rattle.regions.specs.Map.{HoldsMap, IsMapReading}
+use Rattle.regions.specs.declared.fault.RegionFault.{RegionFault}
 use Rattle.checkpoint.proofs.Readings.{at_refusal, groups_refused, header_read, header_refused, header_stays, map_refused, map_stays, seen_same, still_synced}
 use Rattle.checkpoint.proofs.opening.read_parts.Goals as goal
+
+-- That it is the map slot which the header names is searched for.
+map_there : {content : List ℕ} {place other blocks more : ℕ} {states : List Kind} → HoldsMap content place blocks states → place ≡ other → blocks ≡ more → HoldsMap content other more states
+map_there {content} {place} {other} {blocks} {more} {states} held same all =
+    subst (λ (p : ℕ). HoldsMap content p more states) same (subst (λ (n : ℕ). HoldsMap content place n states) all held)
+
+refused_there : (content : List ℕ) (place other blocks more : ℕ) (fault : RegionFault) → IsMapReading content place blocks (Err fault) → place ≡ other → blocks ≡ more → IsMapReading content other more (Err fault)
+refused_there content place other blocks more fault reading same all =
+    subst (λ (p : ℕ). IsMapReading content p more (Err fault)) same (subst (λ (n : ℕ). IsMapReading content place n (Err fault)) all reading)
 
 pub returns-in_err-header-clause-read : goal.returns-in_err-header-clause-read
 returns-in_err-header-clause-read g c honest synced =
@@ -30,7 +40,9 @@ returns-in_err-map-clause-read g c honest synced =
     let same = seen_same sound one_synced (one_read (second.kept one_honest) (second.any_moment one_honest)) in
     let header = header_read _ _ c.in_ok-header.header c.in_ok-header.slot (sym first.extent ∙ sym sound.size) (first.reading honest) in
     let held = subst (λ (content : List ℕ). HoldsHeader content (length content) c.in_ok-header.header c.in_ok-header.slot) same header in
-    let reading = subst (λ (size : Geometry). IsMapReading (g.D.Disk.state c.read_slot.new.disk).seen (map_at size c.in_ok-header.header.map_slot) size.blocks (Err c.in_err-map.field-0.0)) c.of.ensures (second.reading one_honest) in
+    let seen = (g.D.Disk.state c.read_slot.new.disk).seen in
+    let fault = c.in_err-map.field-0.0 in
+    let reading = refused_there seen _ (map_at c.in_ok-header.header.geometry c.in_ok-header.header.map_slot) _ c.in_ok-header.header.geometry.blocks fault (second.reading one_honest) (search (rules, c.of.ensures)) (search (rules, c.of.ensures)) in
     at_refusal _ _ _ _ c.from_residual-in_err-map.ensures.1 (map_refused _ c.in_ok-header.header c.in_ok-header.slot c.in_err-map.field-0.0 held reading)
 
 pub returns-in_err-plan-clause-only_read : goal.returns-in_err-plan-clause-only_read
@@ -59,7 +71,7 @@ returns-in_err-plan-clause-read g c honest synced =
     let held = header_stays one two three sound also one_synced map_read (third.only_read two_honest) header c.in_ok-header.slot c.in_ok-map.map
     (header_read _ _ header c.in_ok-header.slot (sym first.extent ∙ sym sound.size) (first.reading honest)) in
     let map = map_stays one two three sound also one_synced map_read (third.only_read two_honest) header c.in_ok-header.slot c.in_ok-map.map
-    (subst (λ (size : Geometry). HoldsMap two.seen (map_at size header.map_slot) size.blocks c.in_ok-map.map) c.of.ensures (second.reading one_honest)) in
+    (map_there (second.reading one_honest) (search (rules, c.of.ensures)) (search (rules, c.of.ensures))) in
     at_refusal _ _ _ _ c.from_residual-in_err-plan.ensures.1
     (groups_refused three.seen header c.in_ok-header.slot c.in_ok-map.map c.in_err-plan.field-0.0 held map (third.read two_honest (still_synced one_synced map_read)))
 
@@ -89,7 +101,7 @@ returns-clause-read g c honest synced =
     let held = header_stays one two three sound also one_synced map_read (third.only_read two_honest) header c.in_ok-header.slot c.in_ok-map.map
     (header_read _ _ header c.in_ok-header.slot (sym first.extent ∙ sym sound.size) (first.reading honest)) in
     let map = map_stays one two three sound also one_synced map_read (third.only_read two_honest) header c.in_ok-header.slot c.in_ok-map.map
-    (subst (λ (size : Geometry). HoldsMap two.seen (map_at size header.map_slot) size.blocks c.in_ok-map.map) c.of.ensures (second.reading one_honest)) in
+    (map_there (second.reading one_honest) (search (rules, c.of.ensures)) (search (rules, c.of.ensures))) in
     let areas = third.read two_honest (still_synced one_synced map_read) in
     record {
       lists = areas.0;
