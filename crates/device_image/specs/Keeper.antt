@@ -53,7 +53,7 @@ pub record KeeperState (D : Type 0) : Type 0 where
   pub phase : Phase
   -- whether a call of the device has failed
   pub failed : Bool
-  -- what it remembers; no caller needs it, and only `Keeps` says what it is
+  -- what it remembers, which no caller needs: `Keeps`, `Holds` and `Remembers` say what it is
   pub memory : Memory
 
 -- whether the last touch of a block is a put

@@ -4,11 +4,8 @@ use Rattle.std.specs.Prelude.{ℕ, ◌+◌, ◌-◌, ◌&&◌, ◌==◌, Bool, t
 use Rattle.std.specs.FinMap.{len}
 use Rattle.image_model.specs.Change.{Change}
 use Rattle.image_model.specs.Dirty.{dirty_blocks}
+use Rattle.image_model.specs.Geometry.{area_count}
 use Rattle.world.specs.World.{Stage, dirty_behind}
-
--- how many areas a device has
-abbrev pub area_count : ℕ
-area_count = 2
 
 -- how many commands stand in front of the last area in use
 abbrev pub last_turned : ℕ → List ℕ → ℕ

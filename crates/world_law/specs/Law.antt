@@ -2,12 +2,13 @@
 use Rattle.std.specs.Prelude.{ℕ, ◌≡◌, ◌<◌, ◌≤◌, ◌↔◌, true, false, List, [], ◌∷◌, ◌++◌, length}
 use Rattle.disk_model.specs.Faults.{HasRisen}
 use Rattle.image_model.specs.Change.{Change}
+use Rattle.image_model.specs.Geometry.{area_count}
 use Rattle.nbd_wire.specs.declared.error.Errno.TheVariants.{Io}
 use Rattle.world.specs.declared.event.Event.{Event}
 use Rattle.world.specs.declared.event.Event.TheVariants.{Sent, Answered, Numbered, Took, Held, Failed}
 use Rattle.nbd_wire.specs.declared.message.Answer.TheVariants.{Refused}
 use Rattle.world.specs.declared.event.StepFault.TheVariants as fault
-use Rattle.world.specs.Checkpoint.{area_count, is_full, is_turned, last_turned, left_behind}
+use Rattle.world.specs.Checkpoint.{is_full, is_turned, last_turned, left_behind}
 use Rattle.world.specs.Log.{StandsAt}
 use Rattle.world.specs.World.{World, Stage}
 

@@ -3,14 +3,10 @@ use Rattle.std.proofs.Common.{◌≡◌, ⊎_elim, ℕ, ◌+◌, ◌-◌, ◌*�
 use Rattle.std.proofs.lemmas.Bool.{cases_lt}
 use Rattle.disk_model.specs.Disk.{State, InRange, IsAllSynced}
 use Rattle.header_slots.specs.Header.{mode_of}
-use Rattle.header_slots.specs.declared.header.Areas.{Areas}
 use Rattle.header_slots.specs.declared.header.Header.{Header}
 use Rattle.image_model.specs.Image.{Image}
 use Rattle.image_model.specs.Side.{other_of}
 use Rattle.image_model.specs.declared.command.Kind.{Kind}
-use Rattle.image_model.specs.declared.geometry.Geometry.{Geometry}
-use Rattle.image_model.specs.declared.side.Side.{Side}
-use Rattle.group_list.specs.GroupList.{IsList}
 use Rattle.group_list.specs.Spelling.{StoredGroup}
 use Rattle.group_list.specs.Touches.{last_touch}
 use Rattle.group_list.specs.declared.touch.Touch.{Touch}
@@ -20,8 +16,9 @@ use Rattle.device_image.specs.Copied.{IsCopiedOver}
 use Rattle.device_image.specs.Free.{to_be_copied}
 use Rattle.device_image.specs.Keeper.{KeeperState, PlanState, count_puts, earlier_of, is_put, phase_of}
 use Rattle.device_image.specs.Keeps.{AreCopied, IsCopyPlace, IsCopying, IsInPhase, IsMapWritten, Keeps, touched_first}
-use Rattle.device_image.specs.Stands.{HoldLists, area_of, next_number}
+use Rattle.device_image.specs.Stands.{HoldLists, next_number}
 use Rattle.device_image.specs.laws.Frame.{area_high, map_low}
+use Rattle.device_image.specs.laws.Holds.{first_list}
 use Rattle.device_image.specs.laws.Kept.{held}
 use Rattle.device_image.specs.laws.Lists.{KeepsLists}
 use Rattle.device_image.specs.laws.Steps.{keeps_after}
@@ -34,12 +31,6 @@ none_is_some is = cc
 not_put : {b : Bool} → b ≡ false → b ≡ true → ⊥
 not_put is other = cc
 
--- the first list of several
-first_list : (areas : Areas) (first : Side) (content : List ℕ) (geometry : Geometry) (next : ℕ) (groups : List StoredGroup) (front : List (List StoredGroup))
-    → HoldLists (ring (mode_of areas) first) content geometry next (groups ∷ front) → IsList (area_of geometry first) next groups content
-first_list Areas.One first content geometry next groups front holds = absurd holds
-first_list Areas.Two first content geometry next groups front holds = holds.0
-
 -- a block that was put last by the first area: it is one of the image, and its bytes stand in that area
 pub sound_put : (content : List ℕ) (header : Header) (front : List (List StoredGroup)) → HoldLists (ring (mode_of header.areas) header.first_area) content header.geometry (next_number header.base) front
     → (block from : ℕ) → last_touch block (touched_first header front) ≡ Some (Put from)
@@ -48,7 +39,7 @@ sound_put content header [] holds block from is = absurd (none_is_some is)
 sound_put content header (groups ∷ front) holds block from is =
     let geometry = header.geometry in
     let start = area_at geometry header.first_area in
-    let list = first_list header.areas header.first_area content geometry (next_number header.base) groups front holds in
+    let list = first_list header.areas header.first_area geometry content (next_number header.base) groups front holds in
     subst (λ (touch : Option Touch). IsSoundTouch geometry.blocks start (start + geometry.area) block touch) is
     (groups_sound geometry.blocks start (start + geometry.area) block content start (next_number header.base) groups list.stand (omega arith) (omega (arith, list.inside)))
 

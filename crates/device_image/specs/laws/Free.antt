@@ -26,7 +26,7 @@ maps_apart : (geometry : Geometry) (slot : Side) (place : ℕ) → InRange (map_
 maps_apart geometry Zero place here there = omega (arith, here.0, here.1, there.0, there.1)
 maps_apart geometry One place here there = omega (arith, here.0, here.1, there.0, there.1)
 
-two_is_one : Areas.Two ≡ Areas.One → ⊥
+pub two_is_one : Areas.Two ≡ Areas.One → ⊥
 two_is_one is = cc
 
 module _ (header : Header) (front : List (List StoredGroup)) (place : ℕ) where

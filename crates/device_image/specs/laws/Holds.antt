@@ -34,7 +34,7 @@ or_left true b none = none
 or_left false b none = refl
 
 -- the first of several areas in use
-first_list : (areas : Areas) (side : Side) (geometry : Geometry) (content : List ℕ) (next : ℕ) (groups : List StoredGroup) (front : List (List StoredGroup))
+pub first_list : (areas : Areas) (side : Side) (geometry : Geometry) (content : List ℕ) (next : ℕ) (groups : List StoredGroup) (front : List (List StoredGroup))
     → HoldLists (ring (mode_of areas) side) content geometry next (groups ∷ front) → IsList (area_of geometry side) next groups content
 first_list Areas.One side geometry content next groups front held = absurd held
 first_list Areas.Two side geometry content next groups front held = held.0

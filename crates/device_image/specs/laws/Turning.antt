@@ -27,7 +27,7 @@ use Rattle.device_image.specs.Keeps.{AreHeld, IsCopying, IsInPhase, IsMapWritten
 use Rattle.device_image.specs.Stands.{StandsFor, all_changes, area_of, next_number, stored_image}
 use Rattle.device_image.specs.Turn.{begun, ended}
 use Rattle.device_image.specs.laws.Frame.{area_low, apart, image_kept, moved_list, one_kept}
-use Rattle.device_image.specs.laws.Free.{stands_still}
+use Rattle.device_image.specs.laws.Free.{stands_still, two_is_one}
 use Rattle.device_image.specs.laws.Holds.{made_same}
 use Rattle.device_image.specs.laws.Lists.{KeepsLists}
 use Rattle.device_image.specs.laws.Kept.{held}
@@ -40,9 +40,6 @@ front_none Areas.One first geometry next [] earlier state one held = refl
 front_none Areas.One first geometry next (groups ∷ front) [] state one held = absurd held
 front_none Areas.One first geometry next (groups ∷ front) (area ∷ earlier) state one held = absurd held
 front_none Areas.Two first geometry next front earlier state one held = absurd (two_is_one one)
-  where
-    two_is_one : Areas.Two ≡ Areas.One → ⊥
-    two_is_one is = cc
 
 -- where as many puts are before a block as before a later one, there is none between
 copied_all : (touched : List TouchedRange) (copied blocks block : ℕ) → copied ≤ blocks → count_puts copied touched ≡ count_puts blocks touched → block < blocks → is_put (last_touch block touched) ≡ true → block < copied
