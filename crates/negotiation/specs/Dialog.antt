@@ -95,6 +95,10 @@ is_disc request = request.head.kind == 2
 abbrev pub before_disc : List Message → List Message
 before_disc requests = before_first is_disc requests
 
+-- none of these requests is a DISC
+abbrev pub HasNoDisc : List Message → Type 0
+HasNoDisc requests = list_any is_disc requests ≡ false
+
 -- These requests of a stream were handed out: the whole ones before a DISC.
 abbrev pub Asks : List ℕ → List Message → Standing → Type 0
 Asks stream requests silent = ⊥
@@ -102,7 +106,7 @@ Asks stream requests (in_flags bytes) = ⊥
 Asks stream requests (in_head bytes) = ⊥
 Asks stream requests (in_option code size bytes) = ⊥
 Asks stream requests (in_discard code missing) = ⊥
-Asks stream requests (in_requests (reading kept)) = Reads stream requests kept × (list_any is_disc requests ≡ false)
+Asks stream requests (in_requests (reading kept)) = Reads stream requests kept × HasNoDisc requests
 Asks stream requests (in_requests starved) = ⊥
 Asks stream requests ended =
     (all : List Message) × Begins stream all × (list_any is_disc all ≡ true) × (requests ≡ before_disc all)

@@ -1,7 +1,7 @@
 ghost use Rattle.std.specs.Prelude.{◌≡◌, ◌⊎◌, ◌↔◌, ℕ, ◌*◌, ◌+◌, ◌≤◌, ◌<◌, List, [], Some, IsTrue, length, vec_len, IfOk, IfErr, IsOkAnd, OnErr, Err, position};
 ghost use Rattle.std.specs.Io.KnownBytes.{Keeps};
 ghost use Rattle.negotiation.specs.declared.stage.Talk.{Talk};
-ghost use Rattle.negotiation.specs.Dialog.{ended, in_requests, is_disc, plain, silent};
+ghost use Rattle.negotiation.specs.Dialog.{HasNoDisc, ended, in_requests, is_disc, plain, silent};
 ghost use Rattle.negotiation.specs.Session.{Advances, Feeds, Fills, Greets, Hands, HandsNone, IsBehind, IsGreeted, IsSaid, IsStage, Runs, end_of, handed, held_by, room_of, standing_of, state_of, wanted_of};
 
 use crate::end::End;
@@ -67,6 +67,7 @@ impl Session {
         ensures first { (end : End) → end_of self.new.standing ≡ Some end → IfOk result (λ requests. 0 < vec_len requests) }
         ensures said { IsSaid self.new.standing }
         ensures asks { IfOk result (λ requests. 0 < vec_len requests → IsBehind self.new.standing) }
+        ensures no_disc { IfOk result (λ requests. HasNoDisc requests.items) }
 
         // Whatever is announced, no more than this is held.
         ensures held { held_by self.new.standing < 28 + 1048576 }
@@ -220,6 +221,7 @@ fn hand_out(alloc: Global, stage: Stage, rest: &[u8]) -> (Stage, Result<Vec<Requ
     ensures again { (end : End) → end_of (standing_of stage) ≡ Some end → result.1 ≡ Err end }
     ensures first { (end : End) → end_of (standing_of result.0) ≡ Some end → IfOk result.1 (λ requests. 0 < vec_len requests) }
     ensures asks { IfOk result.1 (λ requests. 0 < vec_len requests → IsBehind (standing_of result.0)) }
+    ensures no_disc { IfOk result.1 (λ requests. HasNoDisc requests.items) }
     ensures held { held_by (standing_of result.0) < 28 + 1048576 }
 {
     match stage {
@@ -238,6 +240,7 @@ fn ask(reader: StreamReader, piece: &[u8]) -> (Stage, Result<Vec<Request>, End>)
     ensures again { (end : End) → end_of (in_requests reader) ≡ Some end → result.1 ≡ Err end }
     ensures first { (end : End) → end_of (standing_of result.0) ≡ Some end → IfOk result.1 (λ requests. 0 < vec_len requests) }
     ensures asks { IfOk result.1 (λ requests. 0 < vec_len requests → IsBehind (standing_of result.0)) }
+    ensures no_disc { IfOk result.1 (λ requests. HasNoDisc requests.items) }
     ensures held { held_by (standing_of result.0) < 28 + 1048576 }
 {
     let mut reader = reader;

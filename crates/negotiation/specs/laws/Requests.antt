@@ -56,6 +56,15 @@ found_place p xs place is =
     let both = cond_some (nat_lt (position_or_len p xs) (length xs)) (position_or_len p xs) place is in
     (any_place p xs ∙ both.0, ap (λ (n : ℕ). take n xs) (sym both.1))
 
+-- before the first that passes none does
+pub none_before_first : {X : Type 0} (p : X → Bool) (xs : List X) → list_any p (before_first p xs) ≡ false
+none_before_first p [] = refl
+none_before_first p (x ∷ xs) =
+    elim (p x) as (λ b. p x ≡ b → list_any p (take (cond (not b) (1 + position_or_len p xs) 0) (x ∷ xs)) ≡ false) [
+      | true ↦ λ is. refl
+      | false ↦ λ is. ap (list_any p) (take_step (position_or_len p xs) x xs) ∙ ap (λ (b : Bool). b || list_any p (before_first p xs)) is ∙ none_before_first p xs
+    ] refl
+
 none_where : {X : Type 0} (b : Bool) (x : X) → cond b (Some x) None ≡ None → b ≡ false
 none_where true x e = cc
 none_where false x e = refl

@@ -1,6 +1,6 @@
-use Rattle.std.proofs.Common.{List, [], sym, subst, ap, arith}
+use Rattle.std.proofs.Common.{List, [], refl, sym, subst, ap, arith}
 use Rattle.nbd_wire.specs.Request.{Message}
-use Rattle.negotiation.specs.Dialog.{Standing, broken, exhausted}
+use Rattle.negotiation.specs.Dialog.{HasNoDisc, Standing, broken, exhausted}
 use Rattle.negotiation.specs.Session.{Hands, standing_of}
 use Rattle.negotiation.proofs.Sessions.{goes_on_still, hands_broken, hands_exhausted, hands_still, held_still}
 use Rattle.negotiation.proofs.session.hand_out.Goals as goal
@@ -21,6 +21,7 @@ returns-in_default c = record {
   fault = tt;
   again = λ end is. absurd (goes_on_still c.args.stage end c.in_default.not-Requests c.in_default.not-Broken c.in_default.not-Exhausted is);
   first = λ end is. absurd (goes_on_still c.args.stage end c.in_default.not-Requests c.in_default.not-Broken c.in_default.not-Exhausted is);
+  no_disc = subst HasNoDisc (sym c.new.ensures.items) refl;
   asks = λ some. absurd (omega (arith, some, c.new.ensures.len));
   held = held_still c.args.stage c.requires.sound c.in_default.not-Requests;
 }
