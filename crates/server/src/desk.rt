@@ -1,4 +1,3 @@
-ghost use Rattle.std.specs.Prelude.{◌≡◌, ◌≢◌};
 ghost use Rattle.export.specs.Submits.{IsJudged, IsSubmitted};
 ghost use Rattle.world.specs.Verdict.{verdict};
 
@@ -9,8 +8,7 @@ use export::{Export, ExportName};
 use image_model::Geometry;
 use marks::Pass;
 use nbd_wire::{
-    Answer, BLOCK_STATUS, CommandFlags, DISCONNECT, Errno, FLUSH, READ, Reply, Request,
-    RequestHead, SessionFlags,
+    BLOCK_STATUS, CommandFlags, FLUSH, READ, Reply, Request, RequestHead, SessionFlags,
 };
 use session::Serve;
 use std::cell::Cell;
@@ -28,8 +26,8 @@ pub struct Desk<'a, B: ExportName, D: Disk, R: Wait> {
 }
 
 impl<'a, B: ExportName, D: Disk, R: Wait> Serve<Pass<B>> for Desk<'a, B, D, R> {
-    ghost allows = { λ desk pass request flags next reply. request.head.kind ≢ 2
-        → IsSubmitted request desk.export.now.mode pass next reply.answer × IsJudged (verdict request.head desk.export.now.geometry flags) request reply.answer };
+    ghost allows = { λ desk pass request flags next reply. IsSubmitted request desk.export.now.mode pass next reply.answer
+        × IsJudged (verdict request.head desk.export.now.geometry flags) request reply.answer };
 
     ghost extent = { λ desk. desk.export.now.geometry };
 
@@ -53,14 +51,6 @@ impl<'a, B: ExportName, D: Disk, R: Wait> Serve<Pass<B>> for Desk<'a, B, D, R> {
     }
 
     fn serve(&self, pass: &mut Pass<B>, request: Request, flags: &SessionFlags) -> Reply {
-        let head = request.head();
-        if head.kind == DISCONNECT {
-            // It ends its session, and isn't served.
-            return Reply {
-                cookie: head.cookie,
-                answer: Answer::Refused(Errno::Invalid),
-            };
-        }
         self.export.submit(self.rt, pass, request, flags)
     }
 }

@@ -1,11 +1,14 @@
 -- How requests are answered one after another.
-use Rattle.std.proofs.Common.{◌≡◌, ℕ, Bool, true, List, [], ◌∷◌, ◌++◌, Option, Result, Ok, Err, refl, sym, ap, subst, ◌∙◌, append_assoc}
+use Rattle.std.proofs.Common.{◌≡◌, ℕ, Bool, true, false, List, [], ◌∷◌, ◌++◌, Option, Result, Ok, Err, refl, sym, ap, subst, ◌∙◌, append_assoc}
 use Rattle.std.proofs.lemmas.List.{append-nil, reverse-append, reverse-reverse}
-use Rattle.std.specs.Prelude.{IsErr, is_ok, reverse}
+use Rattle.std.proofs.lemmas.List.Folds.{list_any-append}
+use Rattle.std.specs.List.{list_any}
+use Rattle.std.specs.Prelude.{IsErr, is_ok, reverse, ◌||◌}
 use Rattle.std.specs.Io.KnownBytes.{Appends}
 use Rattle.nbd_wire.specs.Request.{Message}
 use Rattle.nbd_wire.specs.declared.message.Reply.{Reply}
 use Rattle.nbd_wire.specs.declared.message.SessionFlags.{SessionFlags}
+use Rattle.negotiation.specs.Dialog.{HasNoDisc, is_disc}
 use Rattle.negotiation.specs.declared.end.End.{End}
 use Rattle.byte_streams.specs.Streams.{WritesPart}
 use Rattle.byte_streams.specs.declared.streams.StreamFault.{StreamFault}
@@ -25,6 +28,24 @@ writes_part old new before after (Err fault) part none = record { text = part.0;
 pub err_not_ok : (result : Result (Unit {0}) End) → IsErr result → is_ok result ≡ true → ⊥
 err_not_ok (Ok done) is ok = cc
 err_not_ok (Err end) is ok = cc
+
+-- ---- requests that are no DISC
+
+neither : (a b : Bool) → (a || b) ≡ false → (a ≡ false) × (b ≡ false)
+neither true b is = cc
+neither false b is = (refl, is)
+
+pub before_last : (rest : List Message) (request : Message) → HasNoDisc (rest ++ request ∷ []) → HasNoDisc rest × (is_disc request ≡ false)
+before_last rest request none =
+    let both = neither (list_any is_disc rest) (is_disc request || false) (sym (list_any-append is_disc rest (request ∷ [])) ∙ none) in
+    (both.0, (neither (is_disc request) false both.1).0)
+
+pub none_turned : (requests : List Message) → HasNoDisc requests → HasNoDisc (reverse requests)
+none_turned [] none = refl
+none_turned (request ∷ requests) none =
+    let both = neither (is_disc request) (list_any is_disc requests) none in
+    ap (list_any is_disc) (reverse-append (request ∷ []) requests) ∙ list_any-append is_disc (reverse requests) (request ∷ [])
+    ∙ ap (λ (b : Bool). b || (is_disc request || false)) (none_turned requests both.1) ∙ ap (λ (b : Bool). b || false) both.0
 
 -- ---- exchanges
 

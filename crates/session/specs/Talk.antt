@@ -2,7 +2,7 @@
 use Rattle.std.specs.Prelude.{ℕ, ◌≡◌, ◌⊎◌, Bool, true, false, not, ◌&&◌, ◌==◌, nat_lt, bit_and, List, [], ◌∷◌, ◌++◌, Option, map}
 use Rattle.std.specs.Io.KnownBytes.{Appends}
 use Rattle.std.specs.List.{flat_map}
-use Rattle.nbd_reply.specs.Reply.{reply_text}
+use Rattle.nbd_reply.specs.Reply.{IsAnswerTo, reply_text}
 use Rattle.nbd_wire.specs.Request.{Message, payload_limit, write_type}
 use Rattle.nbd_wire.specs.declared.error.Errno.TheVariants as errnos
 use Rattle.nbd_wire.specs.declared.head.RequestHead.{RequestHead}
@@ -39,12 +39,13 @@ is_thrown_away head = (head.kind == write_type) && nat_lt payload_limit head.len
 abbrev pub refusal : RequestHead → Reply
 refusal head = record { cookie = head.cookie; answer = answers.Refused errnos.Invalid }
 
--- A request got its reply: one whose data were thrown away is refused as invalid and not handed over, and any other is
--- answered by a step that the export allows, which takes the pass from one state to another.
+-- A request got its reply, with its own cookie: one whose data were thrown away is refused as invalid and not handed over, and
+-- any other is answered by a step that the export allows, which takes the pass from one state to another.
 abbrev pub IsStep : {P : Type 0} → (P → Message → SessionFlags → P → Reply → Type 0) → SessionFlags → P → Exchange → P → Type 0
 IsStep allows flags old exchange new =
     ((is_thrown_away exchange.request.head ≡ true) × (new ≡ old) × (exchange.reply ≡ refusal exchange.request.head))
-    ⊎ ((is_thrown_away exchange.request.head ≡ false) × allows old exchange.request flags new exchange.reply)
+    ⊎ ((is_thrown_away exchange.request.head ≡ false) × allows old exchange.request flags new exchange.reply
+    × (exchange.reply.cookie ≡ exchange.request.head.cookie) × IsAnswerTo flags exchange.request.head.kind exchange.reply.answer)
 
 -- one step for each of these requests, in their order
 abbrev pub AreSteps : {P : Type 0} → (P → Message → SessionFlags → P → Reply → Type 0) → SessionFlags → P → List Exchange → P → Type 0

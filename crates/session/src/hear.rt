@@ -2,7 +2,7 @@ ghost use Rattle.std.specs.Prelude.{◌≡◌, ◌⊎◌, ℕ, ◌<◌, List, []
 ghost use Rattle.std.specs.Global.{Vec};
 ghost use Rattle.std.specs.Io.KnownBytes.{IsAtEnd, Keeps};
 ghost use Rattle.nbd_wire.specs.Request.{Message};
-ghost use Rattle.negotiation.specs.Dialog.{ended};
+ghost use Rattle.negotiation.specs.Dialog.{HasNoDisc, ended};
 ghost use Rattle.negotiation.specs.Session.{Fills, IsBehind, IsOpen, IsSaid, end_of, room_of};
 ghost use Rattle.negotiation.specs.declared.end.End.{End};
 ghost use Rattle.session.specs.Hearing.{Hearing, ReadsOn, ReadsSome, as_outcome, piece_bytes};
@@ -14,7 +14,9 @@ use nbd_wire::Request;
 use negotiation::{End, Session};
 use std::io::{ErrorKind, Read, Write};
 
-/// Says the greeting and answers options until the handshake of a session is over, and hands out the requests that came with its last piece.
+/// Says the greeting and answers options until the handshake of a session is over, and hands out the requests that came
+/// with its last piece.
+///
 /// Refusals 0 (no memory), 19 (peer closed), 20 (protocol end) and 21 (stream fault).
 pub fn negotiate<R: Read, W: Write>(
     input: &mut R,
@@ -31,6 +33,7 @@ pub fn negotiate<R: Read, W: Write>(
     ensures closed { IsErrOf result End.PeerClosed → IsAtEnd (R.remaining input.new) }
     ensures over { OnOk result (IsBehind session.new.standing) }
     ensures first { IfOk result (λ requests. (end : End) → end_of session.new.standing ≡ Some end → 0 < vec_len requests) }
+    ensures no_disc { IfOk result (λ requests. HasNoDisc requests.items) }
     ensures said { IsSaid session.new.standing }
 {
     let mut requests = take(session, &[], output, due)?;
@@ -68,6 +71,7 @@ pub fn hear<R: Read, W: Write>(
     ensures starved { end_of session.old.standing ≡ Some End.NoMemory → IsErrAnd result IsEarly × (R.remaining input.new ≡ R.remaining input.old) }
     ensures asks { IfOk result (λ requests. 0 < vec_len requests → IsBehind session.new.standing) }
     ensures first { IfOk result (λ requests. (end : End) → end_of session.new.standing ≡ Some end → 0 < vec_len requests) }
+    ensures no_disc { IfOk result (λ requests. HasNoDisc requests.items) }
     ensures said { IsSaid session.new.standing }
 {
     let requests = take(session, &[], output, due)?;
@@ -134,6 +138,7 @@ fn take<W: Write>(
     ensures first { (end : End) → end_of session.new.standing ≡ Some end → IfOk result (λ requests. 0 < vec_len requests) }
     ensures asks { IfOk result (λ requests. 0 < vec_len requests → IsBehind session.new.standing) }
     ensures going { IsErrOf result End.PeerClosed → ⊥ }
+    ensures no_disc { IfOk result (λ requests. HasNoDisc requests.items) }
     ensures said { IsSaid session.new.standing }
 {
     let fed = session.feed(piece, due);

@@ -1,6 +1,7 @@
 ghost use Rattle.std.specs.Prelude.{◌≡◌, ◌≤◌, [], false, is_ok, vec_len, IfErr, IsTrue, OnOk};
 ghost use Rattle.nbd_reply.specs.Reply.{IsAnswerTo};
 ghost use Rattle.nbd_wire.specs.Request.{Message};
+ghost use Rattle.negotiation.specs.Dialog.{HasNoDisc, is_disc};
 ghost use Rattle.nbd_wire.specs.declared.message.Reply.{Reply};
 ghost use Rattle.nbd_wire.specs.declared.message.SessionFlags.{SessionFlags};
 ghost use Rattle.image_model.specs.declared.geometry.Geometry.{Geometry};
@@ -36,12 +37,13 @@ pub trait Serve<P> {
     /// nothing else.
     fn may_wait(&self, head: &RequestHead) -> bool;
 
-    /// It is told that the handshake is over, and the requests come.
+    /// It is told that the handshake is over: requests come, or the client has ended the session.
     fn handshake_is_over(&self) {}
 
     /// Answers a request, which isn't a DISC, and whose data were kept.
     fn serve(&self, pass: &mut P, request: Request, flags: &SessionFlags) -> Reply
         requires kept { is_thrown_away request.head ≡ false }
+        requires no_disc { is_disc request ≡ false }
         ensures allowed { allows self.now pass.old request flags.now pass.new result }
         ensures cookie { result.cookie ≡ request.head.cookie }
         ensures kind { IsAnswerTo flags.now request.head.kind result.answer };
@@ -57,7 +59,8 @@ pub fn answer_all<P, S: Serve<P>, W: Write>(
     output: &mut W,
     due: &mut Vec<u8>,
 ) -> Result<(), End>
-    requires { due.old.items ≡ [] }
+    requires none_due { due.old.items ≡ [] }
+    requires no_disc { HasNoDisc requests.items }
     ensures answers { Answers (S.allows export.now) flags.now pass.old requests.items pass.new (W.contents output.old) (W.contents output.new) (is_ok result) }
     ensures none_due { OnOk result (due.new.items ≡ []) }
     ensures early { IfErr result IsEarly }
@@ -109,6 +112,7 @@ fn answer<P, S: Serve<P>>(
     request: Request,
     due: &mut Vec<u8>,
 ) -> Result<(), AllocError>
+    requires { is_disc request ≡ false }
     ensures { Serves (S.allows export.now) flags.now pass.old request pass.new due.old.items due.new.items (is_ok result) }
 {
     let head = request.head();
@@ -123,6 +127,7 @@ fn reply_to<P, S: Serve<P>>(
     flags: &SessionFlags,
     request: Request,
 ) -> Reply
+    requires { is_disc request ≡ false }
     ensures step { IsStep (S.allows export.now) flags.now pass.old (record { request = request; reply = result }) pass.new }
     ensures kind { IsAnswerTo flags.now request.head.kind result.answer }
 {

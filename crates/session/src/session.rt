@@ -1,4 +1,5 @@
 ghost use Rattle.std.specs.Prelude.{◌≡◌, ◌*◌, [], IfOk, vec_len};
+ghost use Rattle.negotiation.specs.Dialog.{HasNoDisc};
 ghost use Rattle.negotiation.specs.Session.{IsBehind};
 ghost use Rattle.session.specs.Hearing.{piece_bytes};
 ghost use Rattle.session.specs.Serving.{IsServed, TransmitsOn};
@@ -57,6 +58,7 @@ pub fn transmit<P, S: Serve<P>, R: Read, W: Write>(
     due: &mut Vec<u8>,
 ) -> Result<(), End>
     requires over { IsBehind session.old.standing }
+    requires no_disc { HasNoDisc requests.items }
     requires none_due { due.old.items ≡ [] }
     requires piece { vec_len piece.old ≡ piece_bytes }
     ensures { TransmitsOn (S.allows export.now) session.old requests.items pass.old pass.new (R.remaining input.old) (R.remaining input.new) (W.contents output.old) (W.contents output.new) result }

@@ -26,6 +26,7 @@ loop-init g c =
       piece = c.requires.piece;
       first = first.first;
       asks = first.asks;
+      no_disc = first.no_disc;
       hearing = hearing_read old c.take.new.session (λ bytes. bytes ≡ []) (ReadsOn old input input) (g.W.Write.contents c.args.output.now) (g.W.Write.contents c.take.new.output) (Ok c.in_ok-requests.requests) first.hearing (reads_nothing old input);
     }
 
@@ -63,5 +64,6 @@ loop-preserved g c =
       piece = next.piece;
       first = next.first;
       asks = next.asks;
+      no_disc = next.no_disc;
       hearing = heard_then old now input mid output made heard c.hear.new.session left later (ReadsOn now mid left) (Ok c.in_ok-requests-2.requests) next.hearing (λ bytes read. read);
     }

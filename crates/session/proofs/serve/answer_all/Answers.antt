@@ -1,16 +1,18 @@
-use Rattle.std.proofs.Common.{◌≡◌, true, false, List, [], ◌∷◌, ◌++◌, ap, refl, rules, sym, ◌∙◌}
+use Rattle.std.proofs.Common.{◌≡◌, true, false, List, [], ◌∷◌, ◌++◌, ap, refl, rules, subst, sym, ◌∙◌}
 use Rattle.std.proofs.lemmas.List.{reverse-reverse}
 use Rattle.std.specs.Prelude.{is_ok, reverse}
 use Rattle.nbd_wire.specs.Request.{Message}
 use Rattle.session.specs.Talk.{asked}
-use Rattle.session.proofs.Answering.{all_left, answering_next, answering_none, answering_write, answers_unwritten, answers_written, asked_next, err_not_ok, next_served}
+use Rattle.negotiation.specs.Dialog.{HasNoDisc}
+use Rattle.session.proofs.Answering.{all_left, before_last, none_turned, answering_next, answering_none, answering_write, answers_unwritten, answers_written, asked_next, err_not_ok, next_served}
 use Rattle.session.proofs.serve.answer_all.Goals as goal
 
 pub loop-request-init : goal.loop-request-init
 loop-request-init g c = record {
   exchanges = [];
-  going = answering_none (g.S.Serve.allows c.args.export.now) c.args.flags.now c.args.pass.now c.args.pass.now (g.W.Write.contents c.args.output.now) (g.W.Write.contents c.args.output.now) c.args.due.now.items refl refl c.requires;
+  going = answering_none (g.S.Serve.allows c.args.export.now) c.args.flags.now c.args.pass.now c.args.pass.now (g.W.Write.contents c.args.output.now) (g.W.Write.contents c.args.output.now) c.args.due.now.items refl refl c.requires.none_due;
   whole = refl;
+  no_disc = subst HasNoDisc (sym c.reverse.ensures.items) (none_turned c.args.requests.items c.requires.no_disc);
 }
 
 pub returns-in_err-write_before-clause-answers : goal.returns-in_err-write_before-clause-answers
@@ -38,6 +40,7 @@ loop-request-preserved g c =
       whole = next_served c.args.requests.items c.reverse.new.self.items c.loop-request.requests.items (asked i.exchanges) c.reverse.ensures.items i.whole c.pop.new.self.items request c.in-Some.ensures.items
           ∙ ap (λ (r : List Message). r ++ reverse c.pop.new.self.items)
           (sym (asked_next allows c.args.flags.now c.args.pass.now c.loop-request.pass output made due i.exchanges going request c.answer.new.pass c.answer.new.due.items true c.in_ok-answer.ensures));
+      no_disc = (before_last c.pop.new.self.items request (subst HasNoDisc c.in-Some.ensures.items i.no_disc)).0;
     }
 
 pub returns-in_err-answer-clause-answers : goal.returns-in_err-answer-clause-answers

@@ -1,5 +1,6 @@
 use Rattle.std.proofs.Common.{◌≡◌, ◌++◌, List, length}
 use Rattle.std.specs.Prelude.{reverse}
+use Rattle.negotiation.specs.Dialog.{HasNoDisc}
 use Rattle.session.specs.Talk.{Exchange, asked}
 use Rattle.session.proofs.Answering.{Answering}
 use Rattle.session.proofs.serve.answer_all.Given as goal
@@ -10,6 +11,7 @@ invariant-loop-request g l = record {
   exchanges : List Exchange;
   going : Answering (g.S.Serve.allows l.export) l.flags l.fn.pass exchanges l.pass (g.W.Write.contents l.fn.output) (g.W.Write.contents l.output) l.due.items;
   whole : reverse l.initial.requests.items ≡ asked exchanges ++ reverse l.requests.items;
+  no_disc : HasNoDisc l.requests.items;
 }
 
 abbrev pub decreases-loop-request : goal.decreases-loop-request

@@ -12,6 +12,7 @@ loop-init g c = record {
   said = behind_said c.args.session.now.standing c.requires.over;
   none_due = c.requires.none_due;
   piece = c.requires.piece;
+  no_disc = c.requires.no_disc;
   going = λ heard held stands b flags.
       transmitting_start (g.S.Serve.allows c.args.export.now) c.args.session.now.flags heard held c.args.requests.items c.args.pass.now (g.R.Read.remaining c.args.input.now) (g.W.Write.contents c.args.output.now) c.args.session.now stands b;
 }
@@ -78,6 +79,7 @@ loop-preserved g c =
       said = c.in_ok-requests.ensures.said;
       none_due = c.in_ok-requests.ensures.none_due;
       piece = c.in_ok-requests.ensures.piece;
+      no_disc = c.in_ok-requests.ensures.no_disc;
       going = λ heard held stands b flags.
           let done = answered allows agreed heard held waiting c.args.pass.now input output c.loop.pass mid made c.loop.session c.loop.requests.items (c.loop.invariant.going heard held stands b flags) c.answer_all.new.pass later answers in
           heard_more allows agreed heard held waiting c.args.pass.now input output c.answer_all.new.pass mid later c.loop.session done c.in_ok-requests.requests c.hear.new.session left told c.in_ok-requests.ensures.hearing (λ starves. (c.in_ok-requests.ensures.starved starves).0);
