@@ -11,8 +11,8 @@ use std::io::{Read, Write};
 use std::test::Fail;
 use stream_fakes::{FakeReader, FakeWriter};
 
-/// An export of 16 blocks, which answers a READ with bytes 41, BLOCK_STATUS with EINVAL and all else with success. Requests with even
-/// cookies may keep their caller waiting. Of a connection it keeps how many requests it answered.
+/// An export of 16 blocks, which answers a READ with bytes 41, BLOCK_STATUS with EINVAL and all else with success. Requests
+/// with even cookies may keep their caller waiting. Of a connection it keeps how many requests it answered.
 #[derive(Drop)]
 pub struct Counted {
     alloc: Global,

@@ -1,11 +1,13 @@
-//! Tests of whole sessions over streams, against bytes written by hand. They stand beside their crate, since a crate with tests is proved
-//! twice.
+//! Tests of whole sessions over streams, against bytes written by hand. They stand beside their crate, since a crate with
+//! tests is proved twice.
 #![tactic(auto)]
 
 #[cfg(test)]
 mod block_tests;
 #[cfg(test)]
 mod export;
+#[cfg(test)]
+mod failing;
 #[cfg(test)]
 mod interrupted;
 #[cfg(test)]

@@ -1,4 +1,5 @@
 use crate::export::{serve, serve_over};
+use crate::failing::FailsOnce;
 use crate::interrupted::Interrupted;
 use negotiation::End;
 use std::alloc::{AllocError, Global};
@@ -148,6 +149,65 @@ fn a_write_that_fails_ends_a_session(rt: HostRuntime) -> Result<(), Fail> {
     for room in 0..240 {
         is_narrow(&rt, rt.alloc(), room)?;
     }
+    Ok(())
+}
+
+// The read behind so many of 7 bytes fails, and those behind it would work: what was due by then is written, and no more,
+// and nothing more is read.
+fn is_over_at_read(rt: &impl Abort, alloc: Global, reads: usize) -> Result<(), Fail> {
+    let input = input(alloc)?;
+    let mut reader = FailsOnce::new(FakeReader::new(&input, 7, true), reads);
+    let mut writer = FakeWriter::new(alloc, MANY, MANY);
+    let (end, _) = serve_over(alloc, &mut reader, &mut writer)?;
+    let taken = writer.taken();
+    assert!(rt; end == Err(End::IoFault) && reader.behind() == 0, "{reads}");
+    assert!(rt;
+        taken.len() == due_at(reads.saturating_mul(7)) && output(alloc)?.starts_with(taken),
+        "{reads}"
+    );
+    Ok(())
+}
+
+#[test]
+fn a_read_that_fails_once_ends_a_session(rt: HostRuntime) -> Result<(), Fail> {
+    // 178 bytes are 26 reads.
+    for reads in 0..26 {
+        is_over_at_read(&rt, rt.alloc(), reads)?;
+    }
+    Ok(())
+}
+
+// The write behind so many of 7 bytes at most fails, if there are so many, and those behind it would work: nothing more is
+// written. Whether it was met.
+fn is_over_at_write(rt: &impl Abort, alloc: Global, writes: usize) -> Result<bool, Fail> {
+    let input = input(alloc)?;
+    let mut reader = FakeReader::new(&input, MANY, true);
+    let mut writer = FailsOnce::new(FakeWriter::new(alloc, 7, MANY), writes);
+    let (end, _) = serve_over(alloc, &mut reader, &mut writer)?;
+    let wanted = if writer.failed() {
+        Err(End::IoFault)
+    } else {
+        Ok(())
+    };
+    assert!(rt; end == wanted && writer.behind() == 0, "{writes}");
+    assert!(rt;
+        output(alloc)?.starts_with(writer.stream.taken()),
+        "{writes}"
+    );
+    Ok(writer.failed())
+}
+
+#[test]
+fn a_write_that_fails_once_ends_a_session(rt: HostRuntime) -> Result<(), Fail> {
+    let alloc = rt.alloc();
+    let mut met = 0usize;
+    for writes in 0..60 {
+        if is_over_at_write(&rt, alloc, writes)? {
+            met = met.saturating_add(1);
+        }
+    }
+    // 240 bytes are 35 writes at least, and some end with a reply.
+    assert!(rt; met >= 35 && met < 60, "{met}");
     Ok(())
 }
 

@@ -1,0 +1,66 @@
+use std::io::{self, ErrorKind, Read, Write};
+use stream_fakes::{FakeReader, FakeWriter};
+
+/// A stream of which one call fails, and those behind it work again.
+#[derive(Drop)]
+pub struct FailsOnce<S> {
+    pub stream: S,
+    before: usize,
+    failed: bool,
+    behind: usize,
+}
+
+impl<S> FailsOnce<S> {
+    /// The same stream, whose next call fails behind so many that work.
+    pub fn new(stream: S, before: usize) -> FailsOnce<S> {
+        FailsOnce {
+            stream,
+            before,
+            failed: false,
+            behind: 0,
+        }
+    }
+
+    /// Whether the call that fails was made.
+    pub fn failed(&self) -> bool {
+        self.failed
+    }
+
+    /// How many calls came behind it.
+    pub fn behind(&self) -> usize {
+        self.behind
+    }
+
+    // Whether this call fails.
+    fn is_now(&mut self) -> bool {
+        if self.failed {
+            self.behind = self.behind.saturating_add(1);
+            return false;
+        }
+        self.failed = self.before == 0;
+        self.before = self.before.saturating_sub(1);
+        self.failed
+    }
+}
+
+impl Read for FailsOnce<FakeReader<'_>> {
+    fn read(&mut self, buf: &mut [u8]) -> io::Result<usize> {
+        if self.is_now() {
+            return Err(io::Error::from(ErrorKind::Other));
+        }
+        self.stream.read(buf)
+    }
+}
+
+impl Write for FailsOnce<FakeWriter> {
+    fn write(&mut self, buf: &[u8]) -> io::Result<usize> {
+        if self.is_now() {
+            return Err(io::Error::from(ErrorKind::Other));
+        }
+        self.stream.write(buf)
+    }
+
+    fn flush(&mut self) -> io::Result<()> {
+        self.stream.flush()
+    }
+}
