@@ -74,7 +74,8 @@ impl Write for Drain {
     }
 }
 
-// The handshake of a client that asks for structured replies: its flags, STRUCTURED_REPLY, and a GO that asks for the sizes of blocks.
+// The handshake of a client that asks for structured replies: its flags, STRUCTURED_REPLY, and a GO that asks for the sizes
+// of blocks.
 const HANDSHAKE: [u8; 44] = [
     0, 0, 0, 3, 0x49, 0x48, 0x41, 0x56, 0x45, 0x4f, 0x50, 0x54, 0, 0, 0, 8, 0, 0, 0, 0, 0x49, 0x48,
     0x41, 0x56, 0x45, 0x4f, 0x50, 0x54, 0, 0, 0, 7, 0, 0, 0, 8, 0, 0, 0, 0, 0, 1, 0, 3,
