@@ -112,6 +112,23 @@ impl SimDisk {
         self.history.clear();
         self.plan.restart();
     }
+
+    /// Makes it a device that was found with the bytes of `from`: all of them are synced, nothing is armed, and no call
+    /// has failed. It takes no memory.
+    pub fn restore(&mut self, from: &SimDisk)
+        requires { ⟦<SimDisk as Disk>⟧.extent from.now ≡ ⟦<SimDisk as Disk>⟧.extent self.old }
+        ensures extent { ⟦<SimDisk as Disk>⟧.extent self.new ≡ ⟦<SimDisk as Disk>⟧.extent self.old }
+        ensures faults { ⟦<SimDisk as Disk>⟧.faults self.new ≡ 0 }
+        ensures seen { seen_bytes self.new ≡ seen_bytes from.now }
+        ensures found { IsFound (seen_bytes from.now) (state_now self.new) }
+        ensures history { history_of self.new ≡ [] }
+        ensures plan { plan_of self.new ≡ no_faults }
+    {
+        self.bytes.copy_from_slice(&from.bytes);
+        self.history.clear();
+        self.plan = FaultPlan::new();
+        self.failures = 0;
+    }
 }
 
 impl Disk for SimDisk {
