@@ -1,6 +1,7 @@
 ghost use Rattle.std.specs.Prelude.{◌≡◌, IfOk};
 
 use crate::fresh::FreshFile;
+use crate::streams::goes_into;
 use std::fs::{self, File, OpenFile, OpenOptions, TryLockError};
 use std::io;
 use std::path::Path;
@@ -14,6 +15,10 @@ pub enum FileFault {
     InUse,
     /// It can't be locked.
     Unlocked,
+    /// What is printed would be written into it.
+    IsOutput,
+    /// What is told of faults would be written into it.
+    IsErrors,
 }
 
 impl From<io::Error> for FileFault {
@@ -35,7 +40,7 @@ impl From<TryLockError> for FileFault {
 pub fn open(rt: &HostRuntime, path: &str) -> Result<(File, u64), FileFault> {
     let file = OpenOptions::new().read(true).write(true).open(rt, path)?;
     file.try_lock()?;
-    let size = OpenFile::metadata(&file)?.len();
+    let size = length(rt, &file)?;
     Ok((file, size))
 }
 
@@ -43,7 +48,7 @@ pub fn open(rt: &HostRuntime, path: &str) -> Result<(File, u64), FileFault> {
 pub fn open_for_reading(rt: &HostRuntime, path: &str) -> Result<(File, u64), FileFault> {
     let file = fs::open(rt, path)?;
     file.try_lock_shared()?;
-    let size = OpenFile::metadata(&file)?.len();
+    let size = length(rt, &file)?;
     Ok((file, size))
 }
 
@@ -58,7 +63,7 @@ pub fn open_fresh(rt: &HostRuntime, path: &str, size: u64) -> Result<(FreshFile,
         .create(true)
         .open(rt, path)?;
     file.try_lock()?;
-    let length = OpenFile::metadata(&file)?.len();
+    let length = length(rt, &file)?;
     if length < size {
         // Whether the system takes the length shows before anything is lost.
         OpenFile::set_len(&file, size)?;
@@ -66,6 +71,18 @@ pub fn open_fresh(rt: &HostRuntime, path: &str, size: u64) -> Result<(FreshFile,
     }
     sync_folder(rt, path);
     Ok((FreshFile::new(file, size), size))
+}
+
+// The length of a file into which no text of this process goes.
+fn length(rt: &HostRuntime, file: &File) -> Result<u64, FileFault> {
+    let metadata = OpenFile::metadata(file)?;
+    if goes_into(rt, "/dev/stderr", &metadata) {
+        return Err(FileFault::IsErrors);
+    }
+    if goes_into(rt, "/dev/stdout", &metadata) {
+        return Err(FileFault::IsOutput);
+    }
+    Ok(metadata.len())
 }
 
 fn sync_folder(rt: &HostRuntime, path: &str) {

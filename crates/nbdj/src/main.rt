@@ -6,9 +6,11 @@ ghost use Rattle.nbdj_run.specs.Plan.{Suits};
 mod files;
 mod fresh;
 mod serving;
+mod streams;
 
 use crate::files::{FileFault, open, open_for_reading, open_fresh};
 use crate::serving::serve_at;
+use crate::streams::ClosedStreams;
 use clap::error::ErrorKind;
 use disk_model::{Disk, FileDisk};
 use nbdj_line::line;
@@ -21,6 +23,11 @@ use std::thread::Threads;
 use std::{env, io};
 
 fn main(rt: HostRuntime) -> ExitCode {
+    // Before anything else is opened, and kept to the end.
+    let Ok(_streams) = ClosedStreams::fill(&rt) else {
+        let _ = eprintln!(rt; "nbdj: cannot open /dev/null");
+        return ExitCode::from(1);
+    };
     let status = start(&rt, &rt).unwrap_or_else(|_| no_memory(&rt));
     ExitCode::from(status)
 }
@@ -92,6 +99,8 @@ fn no_file(rt: &HostRuntime, path: &str, fault: FileFault) -> u8 {
         FileFault::Unopened => eprintln!(rt; "nbdj: cannot open {path}"),
         FileFault::InUse => eprintln!(rt; "nbdj: {path} is in use"),
         FileFault::Unlocked => eprintln!(rt; "nbdj: cannot lock {path}"),
+        FileFault::IsOutput => eprintln!(rt; "nbdj: {path} is standard output"),
+        FileFault::IsErrors => Ok(()),
     };
     1
 }
