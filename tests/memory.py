@@ -1,0 +1,534 @@
+#!/usr/bin/env python3
+"""Runs the built program NBDJ again and again, and refuses it another call for memory each time, up to the last one that it makes: over each
+script of tests/scripts, over format, pipe, recover and check on a file, over a server with clients, and so the built tests of each crate
+that has some.
+
+usage: tests/memory.py [--long]
+
+A run of a script that was refused its call has to be that of the same script with one choice made otherwise, which is replayed with memory
+there: by the program itself, or by ORACLE, a command that reads a script and prints what `nbdj rehearse` does. The calls of long tests are
+refused in samples, with --long each. Prints a line for each run that does anything but what a refusal may do, how many runs there were, and
+last 'N passed, M failed': a script, a command and a test are one check each, however many runs that takes.
+"""
+import contextlib
+import glob
+import itertools
+import os
+import re
+import shlex
+import shutil
+import socket
+import struct
+import subprocess
+import sys
+import tempfile
+import threading
+import time
+from concurrent.futures import ThreadPoolExecutor
+
+TOP = os.path.dirname(os.path.dirname(os.path.abspath(__file__)))
+NBDJ = os.environ["NBDJ"]
+ORACLE = shlex.split(os.environ.get("ORACLE", "")) or [NBDJ, "rehearse"]
+LONG = "--long" in sys.argv[1:]
+# How many calls of a built test are refused in turn before they are taken in samples, and how many samples there are then.
+IN_TURN, SAMPLES = (10**9, 0) if LONG else (60, 60)
+BLOCK, BLOCKS = 4096, 16
+READ, WRITE, DISC, FLUSH = 0, 1, 2, 3
+passed, failed, refused = 0, 0, 0
+counting = threading.Lock()
+
+
+def check(name, wanted, got):
+    global passed, failed
+    if wanted == got:
+        passed += 1
+    else:
+        failed += 1
+        print(f"FAILED {name}\n  wanted: {wanted}\n  got:    {got}", flush=True)
+
+
+class Run:
+    """What came of a command: its status, below 0 where a signal or the clock ended it, and what it printed."""
+
+    numbers = itertools.count()
+
+    def __init__(self, words, given=b"", call=None, seconds=20):
+        """With `call` the call for memory of that number is refused; `met` says whether it was made."""
+        met = f"met-{next(Run.numbers)}"
+        environment = dict(os.environ)
+        if call is not None:
+            environment |= {"REFUSE_AT": str(call), "REFUSE_MET": met, "LD_PRELOAD": "./refuse.so"}
+        with subprocess.Popen(words, stdin=subprocess.PIPE, stdout=subprocess.PIPE, stderr=subprocess.PIPE, env=environment) as process:
+            try:
+                self.output, errors = process.communicate(given, timeout=seconds)
+            except subprocess.TimeoutExpired:
+                process.kill()
+                self.output, errors = process.communicate()
+            self.status = process.returncode
+        self.errors = errors.decode(errors="replace").strip()
+        self.met = os.path.exists(met)
+        if self.met:
+            os.unlink(met)
+        tell_documents(errors)
+
+    def ended_for_memory(self):
+        """It says that there is no memory, or that a file can't be opened, which may be for want of it."""
+        return self.status == 1 and re.fullmatch(r"nbdj: (no memory \(0\)|cannot open .*)", self.errors) is not None
+
+
+def tell_documents(errors):
+    """Keeps what the program told, for the check of the documents."""
+    if os.environ.get("NBDJ_TOLD") and errors:
+        with counting, open(os.environ["NBDJ_TOLD"], "ab") as told:
+            told.write(errors)
+
+
+def refuse_each(name, words, given, amiss, whole=lambda run: ""):
+    """Refuses each call of a command in turn, up to the first run that meets none, which has to be as `whole` says. `amiss` says what is
+    wrong with a run that was refused its call; both answer nothing where all is well."""
+    wrong, calls = [], 0
+    for first in itertools.count(1, 32):
+        runs = list(pool.map(lambda call: Run(words, given, call), range(first, first + 32)))
+        for call, run in enumerate(runs, first):
+            if not run.met:
+                wrong += [f"with no call refused: {it}" for it in [whole(run)] if it]
+                break
+            calls = call
+            wrong += [f"call {call}: {it}" for it in [amiss(run)] if it]
+        if not runs[-1].met:
+            break
+    conclude(name, calls, wrong)
+
+
+def conclude(name, calls, wrong):
+    """Counts a check: so many runs were refused a call."""
+    global refused
+    refused += calls
+    for it in wrong[:5]:
+        print(f"{name}: {it}", flush=True)
+    check(name, "calls were met, 0 runs were wrong", f"{'calls' if calls else 'no calls'} were met, {len(wrong)} runs were wrong")
+
+
+# Scripts.
+
+
+class Script:
+    """A script with what it prints when memory is there, and its replays with another choice. A STEP is a line of the script, and AT the
+    first line that it prints, both counted from 1."""
+
+    def __init__(self, path):
+        self.name = os.path.basename(path)[: -len(".in")]
+        with open(path, encoding="ascii") as file:
+            self.lines = file.read().splitlines()
+        with open(f"{path[: -len('.in')]}.out", encoding="ascii") as file:
+            self.wanted = file.read().splitlines()
+        self.replays = {}
+
+    def replay(self, lines):
+        """What is printed for these lines with memory there, and the status."""
+        text = "".join(f"{it}\n" for it in lines)
+        if text not in self.replays:
+            run = Run(ORACLE, text.encode())
+            self.replays[text] = run.output.decode().splitlines(), run.status
+        printed, status = self.replays[text]
+        return list(printed), status
+
+    def without(self, step, at):
+        """The script without that step, which prints that it was refused."""
+        printed, status = self.replay(self.lines[: step - 1] + self.lines[step:])
+        return printed[: at - 1] + ["failed 0"] + printed[at - 1:], status
+
+    def faulty(self, step, at, kind, k):
+        """The script with the k-th call of this kind from that step on failing."""
+        printed, status = self.replay(self.lines[: step - 1] + [f"fault {kind} {k}"] + self.lines[step - 1:])
+        return printed[: at - 1] + printed[at:], status
+
+    def unsent(self, step, at):
+        """The script where the request that this step answers is one that the image doesn't take; the answer is ENOMEM."""
+        connection = self.lines[step - 1].split()[1]
+        sent = max(i for i, line in enumerate(self.lines[: step - 1]) if line.split()[:2] == ["send", connection])
+        printed, status = self.replay(self.lines[:sent] + [f"send {connection} put 0 0 41"] + self.lines[sent + 1:])
+        printed[at - 1: at] = [it.replace("error 22", "error 12") for it in printed[at - 1: at]]
+        return printed, status
+
+    def unmarked(self):
+        """The script with armed crashes that leave what the last good sync left."""
+        return self.replay([re.sub(r"^(crash at \d+) .*", r"\1 old", it) for it in self.lines])
+
+    def step_of(self, at):
+        """Which line of the script printed this line of the wanted output: a crash prints several."""
+        steps, last = 0, ""
+        for line in self.wanted[:at]:
+            if not line.startswith("run") and not (line.startswith("opened") and last == "stopped"):
+                steps += 1
+            last = line
+        return steps
+
+    def candidates(self, printed, at):
+        """What may be printed where the line `at` is the first that differs: by which step didn't get its memory."""
+        step, got = self.step_of(at), printed[at - 1] if at <= len(printed) else ""
+        late = next((i for i, it in enumerate(printed[at:], at + 1) if re.match("answer .* error 12$", it)), None)
+        if got == "failed 0":
+            yield self.without(step, at)
+        elif re.match("answer .*error 12$", got):
+            yield self.unsent(step, at)
+        elif got.startswith("opened"):
+            # A write that was stopped and isn't in the device's record leaves what was there.
+            yield self.unmarked()
+        elif late:
+            # A READ that got no memory met no device fault, which shows before its answer does.
+            yield self.unsent(self.step_of(late), late)
+        # A call that isn't in the device's record has failed.
+        for kind in ("write", "sync"):
+            for k in range(1, 5):
+                yield self.faulty(step, at, kind, k)
+
+    def amiss(self, run):
+        """Why a run that met a refusal isn't one that may be."""
+        if run.status < 0:
+            return f"it ended with {run.status}"
+        printed = run.output.decode().splitlines()
+        if printed == self.wanted and run.status == 0:
+            return ""
+        at = next((i for i, (one, other) in enumerate(zip(printed, self.wanted), 1) if one != other), min(len(printed), len(self.wanted)) + 1)
+        # The program tells that there is no memory.
+        if run.status == 1 and len(printed) < at and run.errors == "nbdj: no memory (0)":
+            return ""
+        # A format or an opening is refused, for want of memory, or since the device's record of its call can't grow; so is an opening into
+        # whose calls a crash would have fallen.
+        if run.status == 1 and len(printed) == at and printed[-1] in ("failed 0", "failed 1") and not run.errors:
+            if at == 1 or self.wanted[at - 1: at] == ["stopped"] or "opened" in "".join(self.wanted[at - 1: at]):
+                return ""
+        if (printed, run.status) in self.candidates(printed, at):
+            return ""
+        return f"line {at} is {printed[at - 1: at]}, status {run.status}"
+
+
+def refuse_scripts():
+    for path in sorted(glob.glob(f"{TOP}/tests/scripts/*.in")):
+        script = Script(path)
+        text = "".join(f"{it}\n" for it in script.lines).encode()
+        refuse_each(
+            f"script {script.name}",
+            [NBDJ, "rehearse"],
+            text,
+            script.amiss,
+            lambda run, script=script: "" if run.output.decode().splitlines() == script.wanted else "it prints something else",
+        )
+
+
+# Commands on a file. An end for want of memory leaves an image that opens with a beginning of what was sent, or, while it is formatted, none.
+
+
+def request(kind, cookie, offset, data=b"", flags=0, length=None):
+    return struct.pack(">IHHQQI", 0x25609513, flags, kind, cookie, offset, len(data) if length is None else length) + data
+
+
+def filled(letter):
+    return letter * BLOCK
+
+
+def image_of(image):
+    """A copy of an image for a run of its own."""
+    copy = f"image-{next(Run.numbers)}"
+    shutil.copyfile(image, copy)
+    return copy
+
+
+class FileCommand:
+    """A command on a copy of an image, which is refused one call."""
+
+    def __init__(self, words, image, given, call):
+        self.image = image_of(image)
+        self.run = Run([NBDJ, *(self.image if it == "IMAGE" else it for it in words)], given, call)
+
+    def content(self):
+        with open(self.image, "rb") as file:
+            return file.read()
+
+    def close(self):
+        os.unlink(self.image)
+
+
+def refuse_on_file(name, words, image, amiss, whole, given=b""):
+    """As `refuse_each`, each run on an image of its own; `amiss` and `whole` look at the file too."""
+    wrong, calls = [], 0
+    for call in itertools.count(1):
+        with contextlib.closing(FileCommand(words, image, given, call)) as tried:
+            if not tried.run.met:
+                wrong += [f"with no call refused: {it}" for it in [whole(tried)] if it]
+                break
+            calls = call
+            wrong += [f"call {call}: {it}" for it in [amiss(tried)] if it]
+    conclude(name, calls, wrong)
+
+
+def recovered(image):
+    """What the program says of the last command when it recovers an image."""
+    run = Run([NBDJ, "recover", image])
+    return run.output.decode().strip() or run.errors
+
+
+def refuse_format():
+    with open("old.img", "wb") as file:
+        file.write(b"".join(struct.pack(">I", it) for it in range(1_250_000)))
+    with open("old.img", "rb") as file:
+        old = file.read()
+
+    def amiss(tried):
+        if tried.run.status == 0 or (tried.run.ended_for_memory() and tried.content() == old):
+            return ""
+        return f"status {tried.run.status}, {tried.run.errors}, and the file has {'not ' if tried.content() == old else ''}changed"
+
+    words = ["format", "IMAGE", "--size", "64K", "--area", "2M"]
+    refuse_on_file("format over an old file", words, "old.img", amiss, lambda tried: "" if tried.run.output == b"formatted 4276224\n" else "not formatted")
+
+
+PIPED = [
+    request(WRITE, 1, 0, filled(b"A")),
+    request(FLUSH, 2, 0),
+    request(WRITE, 3, BLOCK, filled(b"B"), flags=1),
+    request(WRITE, 4, 2 * BLOCK, filled(b"C")),
+    request(DISC, 5, 0),
+]
+
+
+def refuse_pipe():
+    wanted = b"".join(struct.pack(">IIQ", 0x67446698, 0, it) for it in range(1, 5))
+
+    def amiss(tried):
+        run = tried.run
+        if run.status != 0 and not run.ended_for_memory():
+            return f"status {run.status}, {run.errors}"
+        # Each reply is that of the whole run, or says ENOMEM. What the FLUSH and the FUA write say is stored: one write, and two.
+        stored = 0
+        for at in range(0, len(run.output), 16):
+            reply = run.output[at: at + 16]
+            if reply == wanted[at: at + 16]:
+                stored = {16: 1, 32: 2}.get(at, stored)
+            elif reply != struct.pack(">IIQ", 0x67446698, 12, at // 16 + 1):
+                return f"a reply {reply.hex()}"
+        found = re.fullmatch(r"commands ([0-3])", recovered(tried.image))
+        if not found or (int(found[1]) < stored and run.status != 0):
+            return f"found {found and found[0]}, stored {stored}"
+        return ""
+
+    refuse_on_file("pipe", ["pipe", "IMAGE"], "fresh.img", amiss, lambda tried: "" if tried.run.output == wanted else "other replies", b"".join(PIPED))
+
+
+def refuse_recover():
+    shutil.copyfile("fresh.img", "stored.img")
+    Run([NBDJ, "pipe", "stored.img"], b"".join(PIPED))
+
+    def amiss(tried):
+        if tried.run.status != 0 and not tried.run.ended_for_memory():
+            return f"status {tried.run.status}, {tried.run.errors}"
+        # A recovery that ends for want of memory is carried on by the next one.
+        found = recovered(tried.image)
+        return "" if found == "commands 3" else f"found {found}"
+
+    refuse_on_file("recover", ["recover", "IMAGE"], "stored.img", amiss, lambda tried: "" if tried.run.output == b"commands 3\n" else "another number")
+
+
+def refuse_check():
+    with open("stored.img", "rb") as file:
+        stored = file.read()
+    wanted = Run([NBDJ, "check", "stored.img"]).output
+
+    def amiss(tried):
+        if tried.content() != stored:
+            return "the image has changed"
+        if tried.run.output == wanted and tried.run.status == 0 or not tried.run.output and tried.run.ended_for_memory():
+            return ""
+        return f"status {tried.run.status}, {tried.run.errors}"
+
+    refuse_on_file("check", ["check", "IMAGE"], "stored.img", amiss, lambda tried: "" if tried.run.output == wanted else "other lines")
+
+
+# A server with clients.
+
+
+class Gone(Exception):
+    """The connection has ended."""
+
+
+class Client:
+    """A client of a server at a Unix socket, with simple replies. It notes which answers were ENOMEM."""
+
+    def __init__(self, path):
+        self.socket = socket.socket(socket.AF_UNIX)
+        self.socket.settimeout(20)
+        self.refused = 0
+        self.path = path
+
+    def take(self, count):
+        found = b""
+        while len(found) < count:
+            piece = self.socket.recv(count - len(found))
+            if not piece:
+                raise Gone
+            found += piece
+        return found
+
+    def shake(self):
+        self.socket.connect(self.path)
+        go = struct.pack(">IHH", 0, 1, 3)
+        self.socket.sendall(struct.pack(">I", 3) + b"IHAVEOPT" + struct.pack(">II", 7, len(go)) + go)
+        self.take(18)
+        kind = 3
+        while kind == 3:
+            _, _, kind, length = struct.unpack(">QIII", self.take(20))
+            self.take(length)
+        if kind != 1:
+            raise ValueError(f"the handshake is answered {kind:x}")
+
+    def ask(self, kind, cookie, offset, data=b"", length=0):
+        """The bytes of a READ, or whether another request is answered Ok."""
+        self.socket.sendall(request(kind, cookie, offset, data, length=length or len(data)))
+        magic, error, echoed = struct.unpack(">IIQ", self.take(16))
+        if (magic, echoed) != (0x67446698, cookie) or error not in (0, 12):
+            raise ValueError(f"a reply {magic:x}, {error}, {echoed}")
+        if error:
+            self.refused += 1
+            return None
+        return self.take(length) if kind == READ else True
+
+    def close(self):
+        self.socket.close()
+
+
+def converse(path, block):
+    """Writes a block, reads it, and flushes. How many answers were ENOMEM, 9 where the connection was lost, and whether the block is known to
+    be stored."""
+    written = flushed = False
+    with contextlib.closing(Client(path)) as client:
+        try:
+            client.shake()
+            written = client.ask(WRITE, 1, block * BLOCK, filled(b"ABC"[block: block + 1]))
+            seen = client.ask(READ, 2, block * BLOCK, length=BLOCK)
+            if written and seen is not None and seen != filled(b"ABC"[block: block + 1]):
+                raise ValueError("a READ shows other bytes")
+            flushed = client.ask(FLUSH, 3, 0)
+            client.socket.sendall(request(DISC, 4, 0))
+        except (Gone, OSError):
+            return 9, bool(written and flushed)
+        return client.refused, bool(written and flushed)
+
+
+def serve_refused(call):
+    """A server that is refused one call, with three clients one after another: what is amiss, and whether the call was met."""
+    name = f"served-{next(Run.numbers)}"
+    image, path, met = f"{name}.img", f"{name}.sock", f"{name}.met"
+    shutil.copyfile("fresh.img", image)
+    environment = dict(os.environ) | {"REFUSE_AT": str(call), "REFUSE_MET": met, "LD_PRELOAD": "./refuse.so"}
+    words = [NBDJ, "serve", image, "--unix", path, "--sessions", "3", "--workers", "1", "--frames", "512"]
+    with subprocess.Popen(words, stdin=subprocess.DEVNULL, stdout=subprocess.PIPE, stderr=subprocess.PIPE, env=environment) as server:
+        # A server that hangs is ended by a signal, which its status tells.
+        limit = threading.Timer(30, server.kill)
+        limit.start()
+        try:
+            listening = server.stdout.readline().startswith(b"listening")
+            talks = [converse(path, block) for block in range(3)] if listening else []
+            errors = server.communicate()[1].decode().strip()
+        except ValueError as error:
+            server.kill()
+            return f"{error}", os.path.exists(met)
+        finally:
+            limit.cancel()
+    tell_documents(errors.encode())
+    amiss = judge_served(server.returncode, errors, talks, image)
+    was_met = os.path.exists(met)
+    for it in (image, path, met):
+        with contextlib.suppress(FileNotFoundError):
+            os.unlink(it)
+    return amiss, was_met
+
+
+def judge_served(status, errors, talks, image):
+    """One client at most is refused something; the server goes on, or ends for want of memory; what was flushed is there."""
+    harmed = [it for it in talks if it[0]]
+    if status == 1 and errors == "nbdj: no memory (0)":
+        pass
+    elif status != 0 or errors or len(harmed) > 1 or any(1 < it[0] < 9 for it in harmed):
+        return f"status {status}, {errors}, clients {talks}"
+    stored = Run([NBDJ, "pipe", image], b"".join(request(READ, it, it * BLOCK, length=BLOCK) for it in range(3)) + request(DISC, 3, 0)).output
+    for block, (_, flushed) in enumerate(talks):
+        found = stored[block * (16 + BLOCK) + 16: (block + 1) * (16 + BLOCK)]
+        if flushed and found != filled(b"ABC"[block: block + 1]):
+            return f"block {block} was flushed and isn't there"
+    return ""
+
+
+def refuse_serve():
+    wrong, calls = [], 0
+    for first in itertools.count(1, 16):
+        for call, (amiss, met) in enumerate(pool.map(serve_refused, range(first, first + 16)), first):
+            wrong += [f"call {call}: {amiss}"] if amiss else []
+            calls = call if met else calls
+        if calls < first + 15:
+            break
+    conclude("serve", calls, wrong)
+
+
+# Built tests.
+
+
+def calls_to_refuse():
+    """Each of the first calls, and then ever fewer of the later ones."""
+    yield from range(1, IN_TURN + 1)
+    step, call = 1.0, float(IN_TURN)
+    for _ in range(SAMPLES):
+        step *= 1.12
+        call += step
+        yield int(call)
+
+
+def refuse_test(built, test):
+    """A test that memory is refused ends by itself: it passes, or it says where it stopped, but one that is about refused memory stops at none
+    of what it asserts. Some need no memory."""
+    began = time.monotonic()
+    whole = Run([built, test])
+    name = f"{os.path.basename(built)}, {test}"
+    if whole.status != 0:
+        return conclude(name, 1, [f"status {whole.status} with all memory"])
+    if time.monotonic() - began > 1 and not LONG:
+        return print(f"with --long alone: {name}, since it takes more than a second", flush=True)
+    ends = "^test result: ok|^the test failed" if "refused_memory" in test else "^test result: ok|^the test failed|^test stopped at"
+    wrong, calls = [], 0
+    wanted = calls_to_refuse()
+    while batch := list(itertools.islice(wanted, 32)):
+        runs = list(pool.map(lambda call: Run([built, test], b"", call), batch))
+        for call, run in zip(batch, runs):
+            calls += run.met
+            if run.met and (run.status < 0 or not re.search(ends, (run.output + run.errors.encode()).decode(errors="replace"), re.MULTILINE)):
+                wrong.append(f"call {call}: status {run.status}")
+        if not runs[-1].met:
+            break
+    if calls:
+        conclude(name, calls, wrong)
+
+
+def refuse_tests():
+    found = 0
+    for built in sorted(glob.glob(f"{TOP}/crates/*/out/*_tests")):
+        for test in re.findall(r"^(.*): test$", Run([built, "--list"]).output.decode(), re.MULTILINE):
+            found += 1
+            refuse_test(built, test)
+    check("there are tests", True, found > 0)
+
+
+with tempfile.TemporaryDirectory() as folder, ThreadPoolExecutor(len(os.sched_getaffinity(0))) as pool:
+    os.chdir(folder)
+    source = f"{TOP}/tools/refuse_memory.c"
+    subprocess.run([os.environ.get("CC", "cc"), "-Wall", "-Werror", "-shared", "-fPIC", "-O2", "-o", "refuse.so", source, "-ldl"], check=True)
+    subprocess.run([NBDJ, "format", "fresh.img", "--blocks", str(BLOCKS), "--area", "2097152"], check=True, stdout=subprocess.DEVNULL)
+    refuse_scripts()
+    refuse_format()
+    refuse_pipe()
+    refuse_recover()
+    refuse_check()
+    refuse_serve()
+    refuse_tests()
+    print(f"{refused} runs with memory refused")
+    print(f"{passed} passed, {failed} failed")
+    sys.exit(failed > 0)
