@@ -3,10 +3,12 @@
 
 ghost use Rattle.nbdj_run.specs.Plan.{Suits};
 
+mod beside;
 mod files;
 mod fresh;
 mod serving;
 
+use crate::beside::SecondHandle;
 use crate::files::{FileFault, open, open_for_reading, open_fresh};
 use crate::serving::serve_at;
 use clap::error::ErrorKind;
@@ -59,7 +61,11 @@ fn run<R: Threads + Wait + Clock + Sync>(rt: &HostRuntime, threads: &R, plan: &P
             address,
             options,
         } => match open(rt, path) {
-            Ok((file, size)) => serve_at(rt, threads, FileDisk::new(file, size), address, options),
+            Ok((file, size)) => {
+                let beside = SecondHandle::of(&file);
+                let disk = FileDisk::new(file, size);
+                serve_at(rt, threads, disk, beside, address, options)
+            }
             Err(fault) => no_file(rt, path, fault),
         },
         Plan::Pipe { path, .. } | Plan::Recover { path } => match open(rt, path) {
