@@ -2,6 +2,8 @@
 # Measures `nbdj serve`, by the program NBDJ, beside nbdkit's file plugin, the same behind nbdkit's cache filter, and qemu-nbd: one run on
 # one machine, over Unix sockets, each server with an image of 512 MiB of its own that is filled before. Prints a table in Markdown, with
 # nbdj's ratio to the best of the others. It is part of no gate.
+# A second table has nbdj and nbdkit's file plugin with syncs that take SLOW_SYNCS microseconds more (0 1000 5000), by a preload that sleeps
+# in them: READs alone and beside 4 connections that write and flush, and such connections.
 # It needs cc and Debian's libnbd-dev, nbdkit and qemu-utils. ROUNDS (1) says how often each is measured, the servers in turn; the median
 # counts. BENCH_SECONDS (4) is the time of each measurement, BENCH_FOLDER where the images are, TMPDIR otherwise. After the time each
 # client waits for the answers that are due.
@@ -13,7 +15,7 @@ for tool in cc nbdkit qemu-nbd awk; do
     command -v $tool >/dev/null || { echo "bench: there is no $tool" >&2; exit 1; }
 done
 folder=$(mktemp -d "${BENCH_FOLDER:-${TMPDIR:-/tmp}}/bench.XXXXXX")
-server=''
+server='' slowly=''
 # stop: ends the server; the signal goes on from `timeout` to it
 stop() {
     if [ -n "$server" ]; then
@@ -28,6 +30,7 @@ trap 'stop; rm -rf "$folder"' EXIT
 trap 'exit 1' HUP INT TERM
 cd "$folder"
 cc -O2 -Wall -Werror -o client "$here/tools/bench_client.c" -lnbd -lpthread
+cc -shared -fPIC -O2 -Wall -Werror -o slow_sync.so "$here/tools/slow_sync.c"
 
 servers='nbdj nbdkit cache qemu'
 "$NBDJ" format nbdj.img --blocks $blocks --area 64M >/dev/null
@@ -46,7 +49,7 @@ command_of() {
 # serve NAME: starts it, and waits until it takes clients
 serve() {
     rm -f "$1.sock"
-    TMPDIR=$folder timeout 120 $(command_of "$1") >"$1.out" 2>"$1.err" &
+    TMPDIR=$folder timeout 120 env $slowly $(command_of "$1") >"$1.out" 2>"$1.err" &
     limited=$!
     tries=0
     while ! nbdinfo --size "nbd+unix:///?socket=$folder/$1.sock" >/dev/null 2>&1; do
@@ -117,3 +120,44 @@ echo "| start until the greeting | ms | $(cat nbdj.ms) | $(cat nbdkit.ms) | $(ca
 # The map of the image has two bits a block.
 most=$((frames * 4096 + blocks / 4 + 8388608))
 echo "| resident after the start | bytes | $(cat nbdj.bytes) | $(cat nbdkit.bytes) | $(cat cache.bytes) | $(cat qemu.bytes) | | $most at most |"
+
+# Syncs that take long. Each server has its life for each time of a sync, in each round.
+slow_syncs=${SLOW_SYNCS:-0 1000 5000}
+round=0
+while [ $round -lt "$rounds" ]; do
+    for us in $slow_syncs; do
+        slowly="SLOW_SYNC_US=$us LD_PRELOAD=$folder/slow_sync.so"
+        for it in nbdj nbdkit; do
+            serve $it
+            for length in 4096 65536; do
+                for flushers in 0 4; do
+                    timeout 100 ./client beside "nbd+unix:///?socket=$folder/$it.sock" $length $flushers "$seconds" $blocks >>"$it.$us.$length.$flushers"
+                done
+            done
+            for connections in 1 2 4 8 15; do measure $it flushed $connections $blocks >>"$it.$us.flushed.$connections"; done
+            stop
+        done
+    done
+    round=$((round + 1))
+done
+
+# part NAME FIELD: the median of a field of what was measured
+part() { cut -d ' ' -f "$2" <"$1" | median; }
+echo
+echo '| Syncs take more | Workload | nbdj, 1/s | p50, p99, longest, us | nbdkit file, 1/s | p50, p99, longest, us | Ratio |'
+echo '|---|---|---|---|---|---|---|'
+for us in $slow_syncs; do
+    for length in 4096 65536; do
+        for flushers in 0 4; do
+            for it in nbdj nbdkit; do
+                name="$it.$us.$length.$flushers"
+                echo "$(part "$name" 1)|$(part "$name" 2), $(part "$name" 3), $(part "$name" 4)"
+            done | paste -s -d '|' | awk -F '|' -v what="$us us | READ $((length / 1024)) KiB beside $flushers that flush" \
+                '{ printf "| %s | %s | %s | %s | %s | %.2f |\n", what, $1, $2, $3, $4, $1 / $3 }'
+        done
+    done
+    for connections in 1 2 4 8 15; do
+        echo "$(median <"nbdj.$us.flushed.$connections")|$(median <"nbdkit.$us.flushed.$connections")" |
+            awk -F '|' -v what="$us us | WRITE 4 KiB and FLUSH, $connections connections" '{ printf "| %s | %s | | %s | | %.2f |\n", what, $1, $2, $1 / $2 }'
+    done
+done

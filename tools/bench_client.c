@@ -11,6 +11,10 @@
  *         read-long  1 MiB one behind the other, 4 on their way
  * bench_client fill URI BLOCKS
  *     Writes all those blocks, and a FLUSH.
+ * bench_client beside URI LENGTH FLUSHERS SECONDS BLOCKS
+ *     Sends READs of so many bytes, at random places in the first so many blocks, one after another, while as many connections as
+ *     FLUSHERS says write and flush as `flushed` does. Prints how many READs were answered a second, the median of their times, the
+ *     99th of a hundred and the longest, in microseconds, and how many FLUSHes were answered a second.
  * bench_client start SOCKET COMMAND...
  *     Runs the server of a Unix socket, and prints after how many milliseconds it greeted a client, and how many bytes were resident
  *     then; kills it.
@@ -219,6 +223,51 @@ static void fill(const char *uri, uint64_t blocks) {
     finish(&it);
 }
 
+static int longer(const void *one, const void *other) {
+    double left = *(const double *)one, right = *(const double *)other;
+    return (left > right) - (left < right);
+}
+
+#define MOST_TIMES 4000000
+
+static void beside(const char *uri, unsigned length, unsigned flushers, double seconds, uint64_t blocks) {
+    static struct connection connections[MOST_CONNECTIONS], reader;
+    double *times = malloc(MOST_TIMES * sizeof *times);
+    char *data = malloc(length);
+    size_t answered = 0;
+    uint64_t flushed = 0;
+    if (!times || !data || flushers > MOST_CONNECTIONS || length == 0 || length % BLOCK || length / BLOCK > blocks) {
+        fprintf(stderr, "bench_client: no such run\n");
+        exit(2);
+    }
+    for (unsigned k = 0; k < flushers; k++) prepare(&connections[k], uri, &kinds[1], k, blocks);
+    prepare(&reader, uri, &kinds[4], MOST_CONNECTIONS, blocks);
+    double begun = now();
+    for (unsigned k = 0; k < flushers; k++) {
+        connections[k].end = begun + seconds;
+        if (pthread_create(&connections[k].thread, NULL, serve_thread, &connections[k])) fail("a thread");
+    }
+    for (double from = now(); from < begun + seconds && answered < MOST_TIMES; answered++) {
+        uint64_t offset = any(&reader) % (blocks - length / BLOCK + 1) * BLOCK;
+        if (nbd_pread(reader.nbd, data, length, offset, 0) == -1) fail("a read");
+        double to = now();
+        times[answered] = to - from;
+        from = to;
+    }
+    double took = now() - begun;
+    for (unsigned k = 0; k < flushers; k++) {
+        pthread_join(connections[k].thread, NULL);
+        flushed += connections[k].answered;
+        finish(&connections[k]);
+    }
+    finish(&reader);
+    qsort(times, answered, sizeof *times, longer);
+    printf("%.0f %.0f %.0f %.0f %.0f\n", answered / took, times[answered / 2] * 1e6, times[answered * 99 / 100] * 1e6,
+           times[answered - 1] * 1e6, flushed / took);
+    free(times);
+    free(data);
+}
+
 static long resident(pid_t pid) {
     char path[64], line[256];
     long found = 0;
@@ -271,6 +320,8 @@ int main(int argc, char **argv) {
         run(argv[2], argv[3], (unsigned)atoi(argv[4]), atof(argv[5]), strtoull(argv[6], NULL, 10));
     } else if (argc == 4 && strcmp(argv[1], "fill") == 0) {
         fill(argv[2], strtoull(argv[3], NULL, 10));
+    } else if (argc == 7 && strcmp(argv[1], "beside") == 0) {
+        beside(argv[2], (unsigned)atoi(argv[3]), (unsigned)atoi(argv[4]), atof(argv[5]), strtoull(argv[6], NULL, 10));
     } else if (argc > 3 && strcmp(argv[1], "start") == 0) {
         start(argv[2], argv + 3);
     } else {

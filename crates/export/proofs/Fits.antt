@@ -19,7 +19,8 @@ use Rattle.nbd_wire.specs.declared.message.Run.{Run}
 use Rattle.nbd_wire.specs.declared.message.SessionFlags.{SessionFlags}
 use Rattle.order_book.specs.Order.{OrderState}
 use Rattle.request_core.specs.Outcomes.{IsPassed, IsServedBy, IsServedHere}
-use Rattle.request_core.specs.Reading.{IsStatusServed}
+use Rattle.order_book.specs.declared.span.Span.{Span}
+use Rattle.request_core.specs.Reading.{IsReadOverServed, IsStatusServed}
 use Rattle.request_core.specs.Serving.{IsWriteServed, ready_for, served_after}
 use Rattle.request_core.specs.declared.serving.Served.{Served}
 use Rattle.world.specs.Log.{is_flush, is_write, is_write_type, waits_for_store}
@@ -180,3 +181,16 @@ pub if_fits : {E : Type 0} (request : Message) (geometry : Geometry) (flags : Se
     → IfOk result (λ s. IsServedHere (verdict request.head geometry flags) request geometry kept old new s) → IfOk result (λ s. FitsServed geometry flags request s)
 if_fits request geometry flags kept old new (Ok s) here = here_fits request geometry flags kept old new s (verdict request.head geometry flags) refl here
 if_fits request geometry flags kept old new (Err back) here = tt
+
+-- the same of a READ that was served with bytes read before
+over_fits : (request : Message) (geometry : Geometry) (flags : SessionFlags) (span : Span) (bytes : List ℕ) (old new : OrderState) (result : Served)
+    → verdict request.head geometry flags ≡ Ok Serve → request.head.kind ≡ 0 → IsReadOverServed request.head span bytes old new result → FitsServed geometry flags request result
+over_fits request geometry flags span bytes old new result passes kind (inl none) =
+    lacked request geometry flags passes request.head.cookie result (shows_three request.head.kind (inl kind)) none.1
+over_fits request geometry flags span bytes old new result passes kind (inr read) = shown request geometry flags passes read.image request.head.cookie result (inl kind) read.answer
+
+pub if_over_fits : {E : Type 0} (request : Message) (geometry : Geometry) (flags : SessionFlags) (span : Span) (bytes : List ℕ) (old new : OrderState) (result : Result Served E)
+    → verdict request.head geometry flags ≡ Ok Serve → request.head.kind ≡ 0
+    → IfOk result (λ s. IsReadOverServed request.head span bytes old new s) → IfOk result (λ s. FitsServed geometry flags request s)
+if_over_fits request geometry flags span bytes old new (Ok s) passes kind over = over_fits request geometry flags span bytes old new s passes kind over
+if_over_fits request geometry flags span bytes old new (Err back) passes kind over = tt

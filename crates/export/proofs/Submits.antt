@@ -19,7 +19,8 @@ use Rattle.nbd_wire.specs.declared.message.Answer.TheVariants.{Bytes, Done, Refu
 use Rattle.nbd_wire.specs.declared.message.Run.{Run}
 use Rattle.order_book.specs.Order.{OrderState}
 use Rattle.request_core.specs.Outcomes.{IsPassed, IsServedBy, IsServedHere}
-use Rattle.request_core.specs.Reading.{IsStatusServed}
+use Rattle.order_book.specs.declared.span.Span.{Span}
+use Rattle.request_core.specs.Reading.{IsReadOverServed, IsStatusServed}
 use Rattle.request_core.specs.Serving.{IsPassServed, IsWriteServed, accepted_for, ready_for, served_after}
 use Rattle.request_core.specs.declared.serving.Served.{Served}
 use Rattle.request_core.specs.declared.serving.Served.TheVariants as served
@@ -50,6 +51,12 @@ less_next : (number : ℕ) → nat_lt number (number + 1) ≡ true
 less_next number = grind (arith, nat_tests)
 
 module _ (request : Message) (kept : Mode) (pass next : PassState) where
+  -- what is answered and isn't Done, of a pass that is as it was
+  unanswered : (cookie : ℕ) (answer : Answer) (result : Served) → answer ≢ Done → next ≡ pass → result ≡ ready_for cookie answer → IsServedFor request kept pass next result
+  unanswered cookie answer result undone left is =
+      subst (λ (r : Served). IsServedFor request kept pass next r) (sym is)
+      (record { written = λ done. absurd (undone done); flushed = λ done. absurd (undone done); refused = λ errno is_errno other. left; own = inl (ap (λ (p : PassState). p.own) left) })
+
   -- what is answered without a number leaves the pass as it was
   quiet : (before after cookie : ℕ) (answer : Answer) (result : Served) → answer ≢ Done → after ≡ before → result ≡ ready_for cookie answer
       → IsPassServed request before after result pass next → IsServedFor request kept pass next result
@@ -57,8 +64,7 @@ module _ (request : Message) (kept : Mode) (pass next : PassState) where
       let at : IsPassServed request before after (ready_for cookie answer) pass next = subst (λ (r : Served). IsPassServed request before after r pass next) is passed in
       let none : nat_lt before after ≡ false = ap (nat_lt before) same ∙ no_less before in
       let left : next ≡ pass = subst (λ (b : Bool). MatchBool b ((known pass < after) × (next ≡ accepted_for request after pass)) (next ≡ pass)) none at in
-      subst (λ (r : Served). IsServedFor request kept pass next r) (sym is)
-      (record { written = λ done. absurd (undone done); flushed = λ done. absurd (undone done); refused = λ errno is_errno other. left; own = inl (ap (λ (p : PassState). p.own) left) })
+      unanswered cookie answer result undone left is
 
   -- the same where the order is as it was
   as_it_was : (old new : OrderState) (cookie : ℕ) (answer : Answer) (result : Served) → answer ≢ Done → new ≡ old → result ≡ ready_for cookie answer
@@ -144,6 +150,17 @@ pub if_served_for : {E : Type 0} (request : Message) (kept : Mode) (pass next : 
     → IfOk result (λ s. IsServedFor request kept pass next s)
 if_served_for request kept pass next geometry old new given (Ok s) writes here passed = served_for request kept pass next geometry old new s passed given writes here
 if_served_for request kept pass next geometry old new given (Err back) writes here passed = tt
+
+-- a READ that was served with bytes read before
+over_served_for : (request : Message) (kept : Mode) (pass : PassState) (span : Span) (bytes : List ℕ) (old new : OrderState) (result : Served)
+    → IsReadOverServed request.head span bytes old new result → IsServedFor request kept pass pass result
+over_served_for request kept pass span bytes old new result (inl none) = unanswered request kept pass pass request.head.cookie _ result (refused_undone NoMemory) refl none.1
+over_served_for request kept pass span bytes old new result (inr read) = unanswered request kept pass pass request.head.cookie _ result (shown_undone read.image request.head) refl read.answer
+
+pub if_over_served_for : {E : Type 0} (request : Message) (kept : Mode) (pass : PassState) (span : Span) (bytes : List ℕ) (old new : OrderState) (result : Result Served E)
+    → IfOk result (λ s. IsReadOverServed request.head span bytes old new s) → IfOk result (λ s. IsServedFor request kept pass pass s)
+if_over_served_for request kept pass span bytes old new (Ok s) over = over_served_for request kept pass span bytes old new s over
+if_over_served_for request kept pass span bytes old new (Err back) over = tt
 
 -- what a request is answered that has waited for its number
 module _ (request : Message) (kept : Mode) (old mid new : PassState) (number : ℕ) (answer : Answer)

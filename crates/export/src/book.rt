@@ -1,6 +1,8 @@
 //! What lies under the order's lock.
-ghost use Rattle.std.specs.Prelude.{◌≡◌, ◌≢◌, IfErr, IfOk, OnErr, length};
+ghost use Rattle.std.specs.Prelude.{◌≡◌, ◌≢◌, IfErr, IfOk, IfSome, IsErr, OnErr, length, vec_len};
 ghost use Rattle.export.specs.Submits.{FitsServed, IsServedFor};
+ghost use Rattle.marks.specs.Known.{PassState};
+ghost use Rattle.request_core.specs.Reading.{IsPlanned};
 
 use crate::name::ExportName;
 use crate::store::Store;
@@ -9,16 +11,29 @@ use disk_model::Disk;
 use journal::Group;
 use marks::{Board, Pass};
 use nbd_wire::Request;
-use order_book::{Order, OrderFault};
-use request_core::{NeedsKeeper, Served, Terms, serve_held, serve_with_keeper};
+use order_book::{Order, OrderFault, Span};
+use request_core::{
+    NeedsKeeper, Served, Terms, plan_read, serve_held, serve_read_over, serve_with_keeper,
+};
 use std::alloc::Global;
 
 /// Pending commands of more than so many bytes are stored though nobody waits for them.
 const MOST_PENDING_BYTES: u64 = 4_194_304;
 
+/// What of the device is read with no lock held.
+#[derive(Clone, Copy, Debug, PartialEq, Eq)]
+pub(crate) struct Planned {
+    /// The blocks.
+    pub span: Span,
+    /// The base of the last clean, as it was when they were found missing.
+    pub settled: u64,
+}
+
 /// The order of an export, and what its threads ask of one another.
 pub(crate) struct Book<B: ExportName> {
     order: Order<B>,
+    // The base of the last clean: the number up to which the frames of written blocks were let go.
+    pub(crate) settled: u64,
     // The frames for blocks.
     frames: u32,
     // The passes that haven't left.
@@ -40,6 +55,7 @@ impl<B: ExportName> Drop for Book<B> {
     fn drop(self) {
         let Book {
             order: _,
+            settled: _,
             frames: _,
             passes: _,
             wanted: _,
@@ -52,11 +68,12 @@ impl<B: ExportName> Drop for Book<B> {
 }
 
 impl<B: ExportName> Book<B> {
-    pub(crate) fn new(order: Order<B>, frames: u32, passes: usize) -> Book<B>
+    pub(crate) fn new(order: Order<B>, frames: u32, passes: usize, settled: u64) -> Book<B>
         requires { length order.cache.states ≡ B.geometry.blocks }
     {
         Book {
             order,
+            settled,
             frames,
             passes,
             wanted: 0,
@@ -84,6 +101,58 @@ impl<B: ExportName> Book<B> {
         ensures unchanged { OnErr result (pass.new ≡ pass.old) }
     {
         serve_held(alloc, request, &mut self.order, board, pass, terms)
+    }
+
+    /// What of the device is to be read for a READ before it is served; None for another request.
+    pub(crate) fn plan(&self, request: &Request, terms: &Terms) -> Option<Planned>
+        requires { terms.now.geometry ≡ B.geometry }
+        ensures planned { IfSome result (λ planned. IsPlanned request.now.head terms.now.geometry terms.now.flags planned.span) }
+        ensures settled { IfSome result (λ planned. planned.settled ≡ self.now.settled) }
+    {
+        let span = plan_read(&request.head(), &self.order, terms)?;
+        Some(Planned {
+            span,
+            settled: self.settled,
+        })
+    }
+
+    /// Serves a READ with bytes that were read of the device with no lock held. They come back where they may be others than
+    /// those that the blocks have now, or where another block is needed.
+    ///
+    /// They may be others only where frames were let go meanwhile. For while the base of the last clean is the same, no command
+    /// above it has touched a block that isn't in memory now: had the last one cleared it, it would be no data, and had the last
+    /// one written it, its frame would be dirty until a clean. So the block is as at that base; and a checkpoint writes the
+    /// places of such blocks alone as a command above it touches.
+    pub(crate) fn serve_over(
+        &mut self,
+        alloc: Global,
+        request: &Request,
+        planned: Planned,
+        bytes: Vec<u8>,
+        terms: &Terms,
+    ) -> Result<Served, Vec<u8>>
+        requires planned { IsPlanned request.now.head terms.now.geometry terms.now.flags planned.span }
+        requires geometry { terms.now.geometry ≡ B.geometry }
+        requires size { vec_len bytes ≡ request.now.head.length }
+        ensures served { (pass : PassState) → IfOk result (λ served. IsServedFor request.now terms.now.mode pass pass served) }
+        ensures fits { IfOk result (λ served. FitsServed terms.now.geometry terms.now.flags request.now served) }
+        ensures size { IfErr result (λ back. vec_len back ≡ request.now.head.length) }
+        ensures settled { self.new.settled ≡ self.old.settled }
+
+        // Nothing is served of bytes that were read before frames were let go.
+        ensures let_go { planned.settled ≢ self.old.settled → IsErr result }
+    {
+        if planned.settled != self.settled {
+            return Err(bytes);
+        }
+        serve_read_over(
+            alloc,
+            &request.head(),
+            &mut self.order,
+            planned.span,
+            bytes,
+            terms,
+        )
     }
 
     /// Serves a request that isn't a DISC, with the keeper.
@@ -128,7 +197,9 @@ impl<B: ExportName> Book<B> {
     }
 
     /// Somebody waits for a number.
-    pub(crate) fn want(&mut self, number: u64) {
+    pub(crate) fn want(&mut self, number: u64)
+        ensures { self.new.settled ≡ self.old.settled }
+    {
         self.wanted = self.wanted.max(number);
     }
 
@@ -139,7 +210,9 @@ impl<B: ExportName> Book<B> {
     }
 
     /// Wants a checkpoint, which frees what is accepted by now.
-    pub(crate) fn wish_checkpoint(&mut self) {
+    pub(crate) fn wish_checkpoint(&mut self)
+        ensures { self.new.settled ≡ self.old.settled }
+    {
         if self.wish.is_none() {
             let through = self.order.mark();
             self.wish = Some(through);
@@ -238,13 +311,18 @@ impl<B: ExportName> Book<B> {
 
     /// Lets the frames go whose blocks the image holds. A checkpoint that was wanted is done, and is wanted again where the area
     /// is full.
-    pub(crate) fn clean<D: Disk>(&mut self, keeper: &Keeper<D>) {
+    pub(crate) fn clean<D: Disk>(&mut self, keeper: &Keeper<D>)
+        ensures { self.new.settled ≡ keeper.now.base }
+    {
         self.order.clean(keeper);
+        self.settled = keeper.base();
         self.forget_wish();
     }
 
     /// The checkpoint that was wanted is done.
-    pub(crate) fn forget_wish(&mut self) {
+    pub(crate) fn forget_wish(&mut self)
+        ensures { self.new.settled ≡ self.old.settled }
+    {
         self.lacks_room = false;
         self.wish = None;
         if self.is_full {

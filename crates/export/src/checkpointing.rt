@@ -1,3 +1,4 @@
+use crate::beside::ReadBeside;
 use crate::export::Export;
 use crate::gate::{Gate, Point};
 use crate::name::ExportName;
@@ -17,7 +18,7 @@ enum Turn {
     Ended,
 }
 
-impl<B: ExportName, D: Disk> Export<B, D> {
+impl<B: ExportName, D: Disk, H: ReadBeside> Export<B, D, H> {
     /// Copies the journal into the image, step by step, before it is full or no frame is left. Each step is one hold of the
     /// keeper's lock, and groups are stored between two.
     ///
@@ -64,7 +65,9 @@ impl<B: ExportName, D: Disk> Export<B, D> {
         unreachable!()
     }
 
-    // Carries out a step in one hold of the keeper's lock.
+    // Carries out a step in one hold of the keeper's lock, and the clean behind the last one too. So no other checkpoint begins,
+    // which would write the data of blocks, before the order knows the base that the last one has left: who reads beside the
+    // locks rests on it.
     fn take_step<R: Wait>(&self, rt: &R, stage: Stage) -> Turn {
         let mut store = self.store.lock(rt);
         match store.take(stage) {

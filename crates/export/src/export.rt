@@ -6,6 +6,7 @@ ghost use Rattle.checkpoint.specs.declared.fault.KeeperFault.TheVariants as faul
 ghost use Rattle.device_image.specs.Keeper.{KeeperState};
 ghost use Rattle.marks.specs.Known.{new_pass};
 
+use crate::beside::ReadBeside;
 use crate::book::Book;
 use crate::name::ExportName;
 use crate::store::Store;
@@ -20,15 +21,22 @@ use std::sync::{Condvar, Mutex, Wait};
 
 /// A device that was opened, and a board for it that has no name yet.
 #[derive(Drop)]
-pub struct OpenDevice<D: Disk> {
+pub struct OpenDevice<D: Disk, H: ReadBeside> {
     pub blank: BlankBoard,
     pub keeper: Keeper<D>,
+    /// By which it is read with no lock held, where there is one.
+    pub beside: Option<H>,
     pub ghost opening: { blank.opening ≡ keeper.count },
 }
 
-impl<D: Disk> OpenDevice<D> {
-    /// Opens a device, which recovers it. It refuses as `Keeper::open` does, and hands the device back.
-    pub fn open(alloc: Global, disk: D) -> Result<OpenDevice<D>, (KeeperFault, D)>
+impl<D: Disk, H: ReadBeside> OpenDevice<D, H> {
+    /// Opens a device, which recovers it. It refuses as `Keeper::open` does, and hands the device back. A second handle has to
+    /// be one of the same device.
+    pub fn open(
+        alloc: Global,
+        disk: D,
+        beside: Option<H>,
+    ) -> Result<OpenDevice<D, H>, (KeeperFault, D)>
         ensures recovered { IfOk result (λ opened. IsRecovered opened.keeper) }
 
         // The keeper was opened, and this is what that came to, or memory was refused behind it.
@@ -41,7 +49,11 @@ impl<D: Disk> OpenDevice<D> {
             Err(refused) => return Err(refused),
         };
         match BlankBoard::new(alloc, keeper.count()) {
-            Ok(blank) => Ok(OpenDevice { blank, keeper }),
+            Ok(blank) => Ok(OpenDevice {
+                blank,
+                keeper,
+                beside,
+            }),
             Err(_) => Err((KeeperFault::NoMemory, keeper.into_disk())),
         }
     }
@@ -50,7 +62,7 @@ impl<D: Disk> OpenDevice<D> {
 /// One image that threads serve together. Each has a pass of its own.
 ///
 /// Two locks: that of the order and, taken before it, that of the keeper.
-pub struct Export<B: ExportName, D: Disk> {
+pub struct Export<B: ExportName, D: Disk, H: ReadBeside> {
     pub(crate) alloc: Global,
     pub(crate) board: Board<B>,
     pub geometry: Geometry,
@@ -58,6 +70,8 @@ pub struct Export<B: ExportName, D: Disk> {
     pub mode: Mode,
     pub(crate) store: Mutex<Store<B, D>>,
     pub(crate) book: Mutex<Book<B>>,
+    // By which the device is read with neither lock held.
+    pub(crate) beside: Option<H>,
     // Told after each publish, after each clean and after the stop.
     pub(crate) settled: Condvar,
     // Told where the flusher has work, and the checkpointer.
@@ -67,7 +81,7 @@ pub struct Export<B: ExportName, D: Disk> {
 }
 
 // Written out, it is proved once, and not again in each function that lets an export go.
-impl<B: ExportName, D: Disk + Drop> Drop for Export<B, D> {
+impl<B: ExportName, D: Disk + Drop, H: ReadBeside> Drop for Export<B, D, H> {
     fn drop(self) {
         let Export {
             alloc: _,
@@ -76,6 +90,7 @@ impl<B: ExportName, D: Disk + Drop> Drop for Export<B, D> {
             mode: _,
             store: _,
             book: _,
+            beside: _,
             settled: _,
             work: _,
             turn: _,
@@ -83,16 +98,16 @@ impl<B: ExportName, D: Disk + Drop> Drop for Export<B, D> {
     }
 }
 
-impl<B: ExportName, D: Disk> Export<B, D> {
+impl<B: ExportName, D: Disk, H: ReadBeside> Export<B, D, H> {
     /// An export over a device that was opened, under its name, which is picked where this is called, with so many frames for
     /// blocks, and a pass for each of so many workers. A refusal for memory hands the device back.
     pub fn open(
         alloc: Global,
-        device: OpenDevice<D>,
+        device: OpenDevice<D, H>,
         frames: u32,
         mode: Mode,
         workers: usize,
-    ) -> Result<(Export<B, D>, Vec<Pass<B>>), D>
+    ) -> Result<(Export<B, D, H>, Vec<Pass<B>>), D>
         requires board { device.blank.board ≡ B.board }
         requires geometry { device.keeper.geometry ≡ B.geometry }
         requires frames { frames ≤ 65536 }
@@ -100,16 +115,22 @@ impl<B: ExportName, D: Disk> Export<B, D> {
         ensures passes { IfOk result (λ made. vec_len made.1 ≡ workers) }
         ensures known { IfOk result (λ made. made.1.items ≡ replicate workers (new_pass device.keeper.count)) }
     {
-        let OpenDevice { blank, keeper } = device;
+        let OpenDevice {
+            blank,
+            keeper,
+            beside,
+        } = device;
         match open_parts::<B, D>(alloc, blank, &keeper, frames, workers) {
             Ok((board, seat, order, passes)) => {
+                let settled = keeper.base();
                 let made = Export {
                     alloc,
                     board,
                     geometry: keeper.geometry(),
                     mode,
                     store: Mutex::new(Store::new(keeper, seat)),
-                    book: Mutex::new(Book::new(order, frames, workers)),
+                    book: Mutex::new(Book::new(order, frames, workers, settled)),
+                    beside,
                     settled: Condvar::new(),
                     work: Condvar::new(),
                     turn: Condvar::new(),
@@ -134,6 +155,7 @@ impl<B: ExportName, D: Disk> Export<B, D> {
             mode: _,
             store,
             book: _,
+            beside: _,
             settled: _,
             work: _,
             turn: _,

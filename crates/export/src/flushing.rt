@@ -1,3 +1,4 @@
+use crate::beside::ReadBeside;
 use crate::export::Export;
 use crate::gate::{Gate, Point};
 use crate::name::ExportName;
@@ -8,7 +9,7 @@ use journal::Group;
 use std::sync::Wait;
 use std::thread;
 
-impl<B: ExportName, D: Disk> Export<B, D> {
+impl<B: ExportName, D: Disk, H: ReadBeside> Export<B, D, H> {
     /// Stores groups of commands where somebody waits for one, where more than 4 MiB are pending, where a command had no room,
     /// and once all passes have left. It ends when all have left and nothing is pending, or when a call of the device has
     /// failed.

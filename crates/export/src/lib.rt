@@ -2,6 +2,7 @@
 //! copies the journal into the image.
 #![tactic(auto)]
 
+mod beside;
 mod book;
 mod checkpointing;
 mod export;
@@ -11,6 +12,7 @@ mod name;
 mod store;
 mod submitting;
 
+pub use beside::ReadBeside;
 pub use export::{Export, OpenDevice};
 pub use gate::{Gate, Point};
 pub use name::ExportName;

@@ -1,20 +1,30 @@
-ghost use Rattle.std.specs.Prelude.{◌≡◌, ◌≢◌, ◌≤◌, ◌<◌, max, IfNone, IfSome};
+ghost use Rattle.std.specs.Prelude.{◌≡◌, ◌≢◌, ◌≤◌, ◌<◌, ◌+◌, ◌-◌, ◌*◌, max, IfNone, IfSome, OnOk, length, slice_range};
 ghost use Rattle.export.specs.Submits.{FitsServed, IsJudged, IsServedFor, IsSubmitted, IsWaitedFor};
 ghost use Rattle.export.specs.Outcomes.{FitsOutcome, IsOutcomeFor};
-ghost use Rattle.marks.specs.Known.{known};
+ghost use Rattle.marks.specs.Known.{PassState, known};
 ghost use Rattle.nbd_reply.specs.Reply.{IsAnswerTo};
 ghost use Rattle.nbd_wire.specs.declared.message.Answer.TheVariants as Answer;
+ghost use Rattle.regions.specs.Layout.{block_at};
+ghost use Rattle.request_core.specs.Reading.{IsPlanned};
 ghost use Rattle.world.specs.Verdict.{verdict};
 
+use crate::beside::ReadBeside;
+use crate::book::Planned;
 use crate::export::Export;
 use crate::name::ExportName;
-use disk_model::Disk;
+use disk_model::{DeviceFault, Disk};
+use image_model::BLOCK_BYTES;
 use marks::{Pass, Told};
 use nbd_wire::{Answer, Errno, Reply, Request, SessionFlags};
+use order_book::Span;
+use regions::Regions;
 use request_core::{NeedsKeeper, Served, Terms};
 use std::sync::Wait;
 
-impl<B: ExportName, D: Disk> Export<B, D> {
+/// So often a READ tries to be read beside the locks, before it waits for the keeper.
+const MOST_TRIES: u32 = 2;
+
+impl<B: ExportName, D: Disk, H: ReadBeside> Export<B, D, H> {
     /// What all that was accepted by now is answered with a FLUSH: Done where it is durable, and else nothing. It waits for
     /// nobody and takes no lock.
     pub fn flush_now(&self, pass: &mut Pass<B>) -> Option<Answer>
@@ -46,7 +56,7 @@ impl<B: ExportName, D: Disk> Export<B, D> {
     }
 }
 
-impl<B: ExportName, D: Disk> Export<B, D> {
+impl<B: ExportName, D: Disk, H: ReadBeside> Export<B, D, H> {
     /// Serves a request that isn't a DISC, for a pass, to its reply. It may wait: for room, and until what it says is durable.
     ///
     /// A request that is refused by the rules on requests is answered with their error, and any other one with EIO after a
@@ -104,8 +114,9 @@ impl<B: ExportName, D: Disk> Export<B, D> {
                     let _woken = self.settled.wait(rt, book);
                 }
                 Err(NeedsKeeper(back)) => {
+                    let planned = book.plan(&back, &terms);
                     drop(book);
-                    match self.serve_missing(rt, pass, back, terms) {
+                    match self.serve_missing(rt, pass, back, planned, terms) {
                         Served::Ready(reply) => return Outcome::Answered(reply.answer),
                         Served::Wait(number) => return Outcome::Waits(number),
                         // There was no room for it; so it is no READ, and is served anew.
@@ -134,8 +145,86 @@ impl<B: ExportName, D: Disk> Export<B, D> {
         self.turn.notify_all();
     }
 
-    // Serves a request for which the keeper is needed, the order's lock inside the keeper's.
+    // Serves a request for which the device is needed: a planned one beside the locks, where that can be, else with the keeper.
     fn serve_missing<R: Wait>(
+        &self,
+        rt: &R,
+        pass: &mut Pass<B>,
+        request: Request,
+        planned: Option<Planned>,
+        terms: Terms,
+    ) -> Served
+        requires kind { request.head.kind ≢ 2 }
+        requires geometry { terms.geometry ≡ B.geometry }
+        requires planned { IfSome planned (λ planned. IsPlanned request.head terms.geometry terms.flags planned.span) }
+        ensures served { IsServedFor request terms.mode pass.old pass.new result }
+        ensures fits { FitsServed terms.geometry terms.flags request result }
+    {
+        let Some(planned) = planned else {
+            return self.serve_locked(rt, pass, request, terms);
+        };
+        match self.serve_beside(rt, &request, planned, &terms) {
+            Some(served) => served,
+            None => self.serve_locked(rt, pass, request, terms),
+        }
+    }
+
+    // Serves a READ whose missing blocks are read with no lock held; not where there is no second handle or no memory, a read
+    // fails, or what was read isn't enough each time. The device's fault is then met with the keeper, or isn't there any more.
+    fn serve_beside<R: Wait>(
+        &self,
+        rt: &R,
+        request: &Request,
+        planned: Planned,
+        terms: &Terms,
+    ) -> Option<Served>
+        requires geometry { terms.now.geometry ≡ B.geometry }
+        requires planned { IsPlanned request.now.head terms.now.geometry terms.now.flags planned.span }
+        ensures served { (pass : PassState) → IfSome result (λ served. IsServedFor request.now terms.now.mode pass pass served) }
+        ensures fits { IfSome result (λ served. FitsServed terms.now.geometry terms.now.flags request.now served) }
+    {
+        let handle = self.beside.as_ref()?;
+        let head = request.head();
+        let mut bytes = vec![in self.alloc; 0; head.length as usize].ok()?;
+        let mut planned = planned;
+        for _ in 0..MOST_TRIES {
+            self.read_span(handle, head.offset / BLOCK_BYTES, planned.span, &mut bytes)
+                .ok()?;
+            let mut book = self.book.lock(rt);
+            match book.serve_over(self.alloc, request, planned, bytes, terms) {
+                Ok(served) => return Some(served),
+                Err(back) => bytes = back,
+            }
+            planned = book.plan(request, terms)?;
+        }
+        None
+    }
+
+    // Reads the blocks of a span, in one call and with no lock held, to their places behind the first block.
+    fn read_span(
+        &self,
+        handle: &H,
+        first: u64,
+        span: Span,
+        into: &mut [u8],
+    ) -> Result<(), DeviceFault>
+        requires from { first ≤ span.first }
+        requires order { span.first ≤ span.end }
+        requires inside { 4096 * (span.end - first) ≤ length into.old }
+        requires there { span.first < self.now.geometry.blocks }
+        ensures size { length into.new ≡ length into.old }
+        ensures place { OnOk result (H.gives handle.now (block_at self.now.geometry span.first) (slice_range into.new (4096 * (span.first - first)) (4096 * (span.end - first)))) }
+    {
+        let from = (BLOCK_BYTES * (span.first - first)) as usize;
+        let end = (BLOCK_BYTES * (span.end - first)) as usize;
+        handle.read_beside(
+            Regions::of(&self.geometry).block_from(span.first),
+            &mut into[from..end],
+        )
+    }
+
+    // Serves a request with the keeper, the order's lock inside the keeper's.
+    fn serve_locked<R: Wait>(
         &self,
         rt: &R,
         pass: &mut Pass<B>,

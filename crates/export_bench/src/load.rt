@@ -63,7 +63,7 @@ fn is_done(answer: &Answer) -> bool {
 pub fn write<B: ExportName, D: Disk, R: Wait>(
     rt: &R,
     alloc: Global,
-    export: &Export<B, D>,
+    export: &Export<B, D, ()>,
     pass: &mut Pass<B>,
     block: u64,
 ) -> Result<bool, AllocError>
@@ -78,7 +78,7 @@ pub fn write<B: ExportName, D: Disk, R: Wait>(
 pub fn flush<B: ExportName, D: Disk, R: Wait>(
     rt: &R,
     alloc: Global,
-    export: &Export<B, D>,
+    export: &Export<B, D, ()>,
     pass: &mut Pass<B>,
 ) -> bool {
     let request = Request::new(head(FLUSH, 0, 0), Vec::new(alloc));
@@ -89,7 +89,7 @@ pub fn flush<B: ExportName, D: Disk, R: Wait>(
 fn read<B: ExportName, D: Disk, R: Wait>(
     rt: &R,
     alloc: Global,
-    export: &Export<B, D>,
+    export: &Export<B, D, ()>,
     pass: &mut Pass<B>,
     block: u64,
 ) -> bool
@@ -115,7 +115,7 @@ fn next(seed: u64) -> u64 {
 pub fn carry_out<B: ExportName, D: Disk, R: Wait>(
     rt: &R,
     alloc: Global,
-    export: &Export<B, D>,
+    export: &Export<B, D, ()>,
     pass: &mut Pass<B>,
     task: Task,
     seed: u64,

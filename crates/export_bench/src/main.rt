@@ -45,7 +45,7 @@ struct Measured {
 fn measure_over<B, D, R>(
     rt: &R,
     alloc: Global,
-    device: OpenDevice<D>,
+    device: OpenDevice<D, ()>,
     what: Measure,
 ) -> Result<Measured>
 where
@@ -62,8 +62,13 @@ where
         prepared,
     } = what;
     let passes = threads as usize + 1;
-    let Ok((export, passes)) = Export::<B, D>::open(alloc, device, frames, Mode::Writeback, passes)
-    else {
+    let Ok((export, passes)) = Export::<B, D, ()>::open(
+        alloc,
+        device,
+        frames,
+        Mode::Writeback,
+        passes,
+    ) else {
         return Err(anyhow!("no memory"));
     };
     let jobs = Jobs::new(alloc, task, passes);
@@ -94,7 +99,7 @@ where
     requires { D.extent disk ≡ device_bytes_of geometry.blocks geometry.area }
 {
     Keeper::format(alloc, &mut disk, geometry)?;
-    match OpenDevice::open(alloc, disk) {
+    match OpenDevice::open(alloc, disk, None) {
         Ok(device) => measure_over::<Brand, D, R>(rt, alloc, device, what),
         Err((fault, _disk)) => Err(fault.into()),
     }

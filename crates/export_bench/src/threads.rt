@@ -53,7 +53,11 @@ impl<B: ExportName> Jobs<B> {
 }
 
 // Carries out the task for a pass, and notes how long it took.
-fn work<B: ExportName, D: Disk, R: Wait + Clock>(rt: &R, export: &Export<B, D>, jobs: &Jobs<B>) {
+fn work<B: ExportName, D: Disk, R: Wait + Clock>(
+    rt: &R,
+    export: &Export<B, D, ()>,
+    jobs: &Jobs<B>,
+) {
     let Some(mut pass) = jobs.take_pass(rt) else {
         return;
     };
@@ -83,7 +87,7 @@ fn work<B: ExportName, D: Disk, R: Wait + Clock>(rt: &R, export: &Export<B, D>, 
 fn prepare<B: ExportName, D: Disk, R: Wait>(
     rt: &R,
     alloc: Global,
-    export: &Export<B, D>,
+    export: &Export<B, D, ()>,
     mut pass: Pass<B>,
     blocks: u32,
 ) -> Result<bool, AllocError> {
@@ -99,7 +103,7 @@ fn prepare<B: ExportName, D: Disk, R: Wait>(
 /// Writes the first so many blocks by one pass, and then has each of so many threads carry out its task.
 pub fn run<B: ExportName + Send + Sync, D: Disk + Send, R: Threads + Wait + Clock + Sync>(
     rt: &R,
-    export: &Export<B, D>,
+    export: &Export<B, D, ()>,
     jobs: &Jobs<B>,
     threads: u32,
     prepared: u32,

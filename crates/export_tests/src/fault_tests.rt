@@ -22,7 +22,7 @@ const ROUNDS: u64 = 20;
 fn write_rounds<B: ExportName, R: Wait>(
     rt: &R,
     alloc: Global,
-    export: &Export<B, SimDisk>,
+    export: &Export<B, SimDisk, ()>,
     mut pass: Pass<B>,
     places: &AtomicU64,
     confirmed: &Mutex<[u64; 8]>,
@@ -40,7 +40,7 @@ fn write_rounds<B: ExportName, R: Wait>(
 fn write_round<B: ExportName, R: Wait>(
     rt: &R,
     alloc: Global,
-    export: &Export<B, SimDisk>,
+    export: &Export<B, SimDisk, ()>,
     pass: &mut Pass<B>,
     first: u64,
     round: u64,
@@ -60,7 +60,7 @@ fn write_round<B: ExportName, R: Wait>(
 fn serve_eight<B: ExportName + Send + Sync, R: Threads + Wait + Sync>(
     rt: &R,
     alloc: Global,
-    export: &Export<B, SimDisk>,
+    export: &Export<B, SimDisk, ()>,
     passes: Vec<Pass<B>>,
 ) -> Option<[u64; 8]> {
     let next = AtomicU64::new(0);
@@ -105,13 +105,19 @@ struct Ran {
 fn run<B: ExportName + Send + Sync, R: Threads + Wait + Sync>(
     rt: &R,
     alloc: Global,
-    device: OpenDevice<SimDisk>,
+    device: OpenDevice<SimDisk, ()>,
     choice: CrashChoice,
 ) -> Option<Ran>
     requires board { device.blank.board ≡ B.board }
     requires geometry { device.keeper.geometry ≡ B.geometry }
 {
-    let (export, passes) = Export::<B, SimDisk>::open(alloc, device, 512, Mode::Writeback, 8).ok()?;
+    let (export, passes) = Export::<B, SimDisk, ()>::open(
+        alloc,
+        device,
+        512,
+        Mode::Writeback,
+        8,
+    ).ok()?;
     let rounds = serve_eight(rt, alloc, &export, passes)?;
     let mut disk = export.into_disk();
     let stopped = disk.stopped();

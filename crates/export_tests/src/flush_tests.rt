@@ -31,7 +31,7 @@ struct Done {
 fn write_all<B: ExportName, R: Wait>(
     rt: &R,
     alloc: Global,
-    export: &Export<B, SimDisk>,
+    export: &Export<B, SimDisk, ()>,
     pass: &mut Pass<B>,
     first: u64,
     count: u64,
@@ -49,7 +49,7 @@ fn write_all<B: ExportName, R: Wait>(
 fn read_all<B: ExportName, R: Wait>(
     rt: &R,
     alloc: Global,
-    export: &Export<B, SimDisk>,
+    export: &Export<B, SimDisk, ()>,
     pass: &mut Pass<B>,
     count: u64,
 ) -> bool
@@ -66,7 +66,7 @@ fn read_all<B: ExportName, R: Wait>(
 fn two_passes<B: ExportName, R: Wait>(
     rt: &R,
     alloc: Global,
-    export: &Export<B, SimDisk>,
+    export: &Export<B, SimDisk, ()>,
     mut one: Pass<B>,
     mut other: Pass<B>,
 ) -> Done {
@@ -94,7 +94,7 @@ fn two_passes<B: ExportName, R: Wait>(
 fn one_pass_alone<B: ExportName, R: Wait>(
     rt: &R,
     alloc: Global,
-    export: &Export<B, SimDisk>,
+    export: &Export<B, SimDisk, ()>,
     mut one: Pass<B>,
     other: Pass<B>,
 ) -> Done {
@@ -143,13 +143,13 @@ struct Ran {
 fn run<B: ExportName + Send + Sync, R: Threads + Wait + Sync>(
     rt: &R,
     alloc: Global,
-    device: OpenDevice<SimDisk>,
+    device: OpenDevice<SimDisk, ()>,
     count: u64,
 ) -> Option<Ran>
     requires board { device.blank.board ≡ B.board }
     requires geometry { device.keeper.geometry ≡ B.geometry }
 {
-    let (export, mut passes) = Export::<B, SimDisk>::open(
+    let (export, mut passes) = Export::<B, SimDisk, ()>::open(
         alloc,
         device,
         FRAMES,
@@ -171,7 +171,7 @@ fn run<B: ExportName + Send + Sync, R: Threads + Wait + Sync>(
 fn with_threads<B: ExportName + Send + Sync, R: Threads + Wait + Sync>(
     rt: &R,
     alloc: Global,
-    export: &Export<B, SimDisk>,
+    export: &Export<B, SimDisk, ()>,
     one: Pass<B>,
     other: Pass<B>,
     alone: bool,

@@ -2,11 +2,15 @@
 #![tactic(auto)]
 
 #[cfg(test)]
+mod beside_tests;
+#[cfg(test)]
 mod fault_tests;
 #[cfg(test)]
 mod flush_tests;
 #[cfg(test)]
 mod load_tests;
+#[cfg(test)]
+mod memory_file;
 #[cfg(test)]
 mod pass_tests;
 #[cfg(test)]

@@ -24,7 +24,7 @@ const ROUNDS: u64 = 4;
 fn write_and_read<B: ExportName, R: Wait>(
     rt: &R,
     alloc: Global,
-    export: &Export<B, SimDisk>,
+    export: &Export<B, SimDisk, ()>,
     mut pass: Pass<B>,
     first: u64,
 ) -> bool
@@ -41,7 +41,7 @@ fn write_and_read<B: ExportName, R: Wait>(
 fn one_round<B: ExportName, R: Wait>(
     rt: &R,
     alloc: Global,
-    export: &Export<B, SimDisk>,
+    export: &Export<B, SimDisk, ()>,
     pass: &mut Pass<B>,
     first: u64,
     round: u64,
@@ -64,7 +64,7 @@ fn one_round<B: ExportName, R: Wait>(
 fn serve_eight<B: ExportName + Send + Sync, R: Threads + Wait + Sync>(
     rt: &R,
     alloc: Global,
-    export: &Export<B, SimDisk>,
+    export: &Export<B, SimDisk, ()>,
     passes: Vec<Pass<B>>,
 ) -> Option<bool> {
     let next = AtomicU64::new(0);
@@ -101,7 +101,7 @@ fn serve_eight<B: ExportName + Send + Sync, R: Threads + Wait + Sync>(
 fn serve_one<B: ExportName, R: Wait>(
     rt: &R,
     alloc: Global,
-    export: &Export<B, SimDisk>,
+    export: &Export<B, SimDisk, ()>,
     pass: Pass<B>,
     places: &AtomicU64,
     failed: &AtomicBool,
@@ -122,12 +122,18 @@ struct Ran {
 fn run<B: ExportName + Send + Sync, R: Threads + Wait + Sync>(
     rt: &R,
     alloc: Global,
-    device: OpenDevice<SimDisk>,
+    device: OpenDevice<SimDisk, ()>,
 ) -> Option<Ran>
     requires board { device.blank.board ≡ B.board }
     requires geometry { device.keeper.geometry ≡ B.geometry }
 {
-    let (export, passes) = Export::<B, SimDisk>::open(alloc, device, 512, Mode::Writeback, 8).ok()?;
+    let (export, passes) = Export::<B, SimDisk, ()>::open(
+        alloc,
+        device,
+        512,
+        Mode::Writeback,
+        8,
+    ).ok()?;
     let good = serve_eight(rt, alloc, &export, passes)?;
     let keeper = Keeper::open(alloc, export.into_disk()).ok()?;
     Some(Ran {
@@ -185,7 +191,7 @@ fn wait_for<R: Clock>(rt: &R, flag: &AtomicBool) -> bool {
 fn flush_while_held<B: ExportName, R: Wait + Clock>(
     rt: &R,
     alloc: Global,
-    export: &Export<B, SimDisk>,
+    export: &Export<B, SimDisk, ()>,
     mut pass: Pass<B>,
     held: &AtomicBool,
     answered: &AtomicBool,
@@ -207,7 +213,7 @@ fn flush_while_held<B: ExportName, R: Wait + Clock>(
 fn hold_steps<B: ExportName + Send + Sync, R: Threads + Wait + Clock + Sync>(
     rt: &R,
     alloc: Global,
-    export: &Export<B, SimDisk>,
+    export: &Export<B, SimDisk, ()>,
     pass: Pass<B>,
     held: &AtomicBool,
     answered: &AtomicBool,
@@ -229,7 +235,7 @@ fn hold_steps<B: ExportName + Send + Sync, R: Threads + Wait + Clock + Sync>(
 // The checkpointer, which is held between two copies.
 fn check_held<B: ExportName, R: Wait + Clock>(
     rt: &R,
-    export: &Export<B, SimDisk>,
+    export: &Export<B, SimDisk, ()>,
     held: &AtomicBool,
     answered: &AtomicBool,
 ) {
@@ -245,12 +251,12 @@ fn check_held<B: ExportName, R: Wait + Clock>(
 fn run_held<B: ExportName + Send + Sync, R: Threads + Wait + Clock + Sync>(
     rt: &R,
     alloc: Global,
-    device: OpenDevice<SimDisk>,
+    device: OpenDevice<SimDisk, ()>,
 ) -> Option<Ran>
     requires board { device.blank.board ≡ B.board }
     requires geometry { device.keeper.geometry ≡ B.geometry }
 {
-    let (export, mut passes) = Export::<B, SimDisk>::open(
+    let (export, mut passes) = Export::<B, SimDisk, ()>::open(
         alloc,
         device,
         512,

@@ -17,12 +17,12 @@ use std::thread::{self, Threads};
 fn tell_and_read<B: ExportName, R: Wait>(
     rt: &R,
     alloc: Global,
-    device: OpenDevice<SimDisk>,
+    device: OpenDevice<SimDisk, ()>,
 ) -> Option<(bool, u64)>
     requires board { device.blank.board ≡ B.board }
     requires geometry { device.keeper.geometry ≡ B.geometry }
 {
-    let (export, mut passes) = Export::<B, SimDisk>::open(
+    let (export, mut passes) = Export::<B, SimDisk, ()>::open(
         alloc,
         device,
         512,
@@ -69,7 +69,7 @@ struct Said {
 fn ask<B: ExportName, R: Wait>(
     rt: &R,
     alloc: Global,
-    export: &Export<B, SimDisk>,
+    export: &Export<B, SimDisk, ()>,
     mut one: Pass<B>,
     mut other: Pass<B>,
 ) -> Option<Said> {
@@ -97,7 +97,7 @@ fn ask<B: ExportName, R: Wait>(
 fn with_flusher<B: ExportName + Send + Sync, R: Threads + Wait + Sync>(
     rt: &R,
     alloc: Global,
-    export: &Export<B, SimDisk>,
+    export: &Export<B, SimDisk, ()>,
     one: Pass<B>,
     other: Pass<B>,
 ) -> Option<Said> {
@@ -112,12 +112,12 @@ fn with_flusher<B: ExportName + Send + Sync, R: Threads + Wait + Sync>(
 fn ask_beside_a_flusher<B: ExportName + Send + Sync, R: Threads + Wait + Sync>(
     rt: &R,
     alloc: Global,
-    device: OpenDevice<SimDisk>,
+    device: OpenDevice<SimDisk, ()>,
 ) -> Option<Said>
     requires board { device.blank.board ≡ B.board }
     requires geometry { device.keeper.geometry ≡ B.geometry }
 {
-    let (export, mut passes) = Export::<B, SimDisk>::open(
+    let (export, mut passes) = Export::<B, SimDisk, ()>::open(
         alloc,
         device,
         512,
@@ -143,7 +143,7 @@ fn flush_now_is_ok_after_publish(rt: HostRuntime) {
 fn write_its_own<B: ExportName, R: Wait>(
     rt: &R,
     alloc: Global,
-    export: &Export<B, SimDisk>,
+    export: &Export<B, SimDisk, ()>,
     mut pass: Pass<B>,
     places: &AtomicU64,
     written: &AtomicU64,
@@ -161,7 +161,7 @@ fn write_its_own<B: ExportName, R: Wait>(
 fn write_by_threads<B: ExportName + Send + Sync, R: Threads + Wait + Sync>(
     rt: &R,
     alloc: Global,
-    export: &Export<B, SimDisk>,
+    export: &Export<B, SimDisk, ()>,
     passes: Vec<Pass<B>>,
 ) -> u64 {
     let next = AtomicU64::new(0);
@@ -184,12 +184,18 @@ fn write_by_threads<B: ExportName + Send + Sync, R: Threads + Wait + Sync>(
 fn share<B: ExportName + Send + Sync, R: Threads + Wait + Sync>(
     rt: &R,
     alloc: Global,
-    device: OpenDevice<SimDisk>,
+    device: OpenDevice<SimDisk, ()>,
 ) -> Option<(u64, u64, bool)>
     requires board { device.blank.board ≡ B.board }
     requires geometry { device.keeper.geometry ≡ B.geometry }
 {
-    let (export, passes) = Export::<B, SimDisk>::open(alloc, device, 512, Mode::Writeback, 2).ok()?;
+    let (export, passes) = Export::<B, SimDisk, ()>::open(
+        alloc,
+        device,
+        512,
+        Mode::Writeback,
+        2,
+    ).ok()?;
     let written = write_by_threads(rt, alloc, &export, passes);
     // Once all have left, all is stored, with nobody waiting for it.
     export.flusher(rt, &mut ());

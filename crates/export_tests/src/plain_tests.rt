@@ -46,7 +46,7 @@ fn next(seed: u64) -> u64 {
 fn take_turn<B: ExportName, R: Wait>(
     rt: &R,
     alloc: Global,
-    export: &Export<B, SimDisk>,
+    export: &Export<B, SimDisk, ()>,
     pass: &mut Pass<B>,
     plain: &mut Plain,
     first: u64,
@@ -80,7 +80,7 @@ fn take_turn<B: ExportName, R: Wait>(
 fn serve_one<B: ExportName, R: Wait>(
     rt: &R,
     alloc: Global,
-    export: &Export<B, SimDisk>,
+    export: &Export<B, SimDisk, ()>,
     mut pass: Pass<B>,
     places: &AtomicU64,
     images: &Mutex<[Plain; 8]>,
@@ -108,7 +108,7 @@ fn serve_one<B: ExportName, R: Wait>(
 fn serve_eight<B: ExportName + Send + Sync, R: Threads + Wait + Sync>(
     rt: &R,
     alloc: Global,
-    export: &Export<B, SimDisk>,
+    export: &Export<B, SimDisk, ()>,
     passes: Vec<Pass<B>>,
 ) -> Option<[Plain; 8]> {
     let next_place = AtomicU64::new(0);
@@ -144,12 +144,18 @@ fn serve_eight<B: ExportName + Send + Sync, R: Threads + Wait + Sync>(
 fn run<B: ExportName + Send + Sync, R: Threads + Wait + Sync>(
     rt: &R,
     alloc: Global,
-    device: OpenDevice<SimDisk>,
+    device: OpenDevice<SimDisk, ()>,
 ) -> Option<([Plain; 8], SimDisk)>
     requires board { device.blank.board ≡ B.board }
     requires geometry { device.keeper.geometry ≡ B.geometry }
 {
-    let (export, passes) = Export::<B, SimDisk>::open(alloc, device, 512, Mode::Writeback, 8).ok()?;
+    let (export, passes) = Export::<B, SimDisk, ()>::open(
+        alloc,
+        device,
+        512,
+        Mode::Writeback,
+        8,
+    ).ok()?;
     let images = serve_eight(rt, alloc, &export, passes)?;
     Some((images, export.into_disk()))
 }
@@ -158,13 +164,13 @@ fn run<B: ExportName + Send + Sync, R: Threads + Wait + Sync>(
 fn reads_as<B: ExportName, R: Wait>(
     rt: &R,
     alloc: Global,
-    device: OpenDevice<SimDisk>,
+    device: OpenDevice<SimDisk, ()>,
     images: &[Plain; 8],
 ) -> Option<bool>
     requires board { device.blank.board ≡ B.board }
     requires geometry { device.keeper.geometry ≡ B.geometry }
 {
-    let (export, mut passes) = Export::<B, SimDisk>::open(
+    let (export, mut passes) = Export::<B, SimDisk, ()>::open(
         alloc,
         device,
         512,
@@ -200,7 +206,7 @@ fn eight_threads_match_plain_images(rt: HostRuntime) {
         commands = commands.saturating_add(images[place].commands);
     }
     assert!(rt; commands > 8 * TURNS / 2);
-    let again = OpenDevice::open(rt.alloc(), disk)
+    let again = OpenDevice::open(rt.alloc(), disk, None::<()>)
         .ok()
         .expect(&rt, "the device again");
     assert_eq!(rt; again.keeper.count(), commands);

@@ -2,8 +2,8 @@
 ghost use Rattle.std.specs.Prelude.{◌≡◌, ◌≢◌, ◌*◌, ◌<◌, ◌^◌, IfOk, IfSome, vec_len};
 
 use checkpoint::Keeper;
-use disk_model::SimDisk;
-use export::{Export, ExportName, OpenDevice};
+use disk_model::{Disk, SimDisk};
+use export::{Export, ExportName, OpenDevice, ReadBeside};
 use image_model::Geometry;
 use marks::Pass;
 use nbd_wire::{Answer, FLUSH, READ, Request, RequestHead, SessionFlags, TRIM, WRITE};
@@ -24,8 +24,8 @@ fn formatted(alloc: Global, blocks: u64, area: u32) -> Option<SimDisk> {
 }
 
 // A device over holes that was opened.
-pub fn fresh(alloc: Global, blocks: u64, area: u32) -> Option<OpenDevice<SimDisk>> {
-    OpenDevice::open(alloc, formatted(alloc, blocks, area)?).ok()
+pub fn fresh(alloc: Global, blocks: u64, area: u32) -> Option<OpenDevice<SimDisk, ()>> {
+    OpenDevice::open(alloc, formatted(alloc, blocks, area)?, None).ok()
 }
 
 // The like of a device that stops at its k-th call, those of the opening counted.
@@ -34,10 +34,10 @@ pub fn fresh_that_stops(
     blocks: u64,
     area: u32,
     k: u64,
-) -> Option<OpenDevice<SimDisk>> {
+) -> Option<OpenDevice<SimDisk, ()>> {
     let mut disk = formatted(alloc, blocks, area)?;
     disk.stop_at(k);
-    OpenDevice::open(alloc, disk).ok()
+    OpenDevice::open(alloc, disk, None).ok()
 }
 
 // A byte of a block in a round, which differs from place to place, from block to block and from round to round. In round 0
@@ -141,10 +141,10 @@ fn is_done(answer: &Answer) -> bool {
 }
 
 // Writes a block; whether it was answered Ok.
-pub fn write_block<B: ExportName, R: Wait>(
+pub fn write_block<B: ExportName, D: Disk, H: ReadBeside, R: Wait>(
     rt: &R,
     alloc: Global,
-    export: &Export<B, SimDisk>,
+    export: &Export<B, D, H>,
     pass: &mut Pass<B>,
     block: u64,
     round: u64,
@@ -158,10 +158,10 @@ pub fn write_block<B: ExportName, R: Wait>(
 }
 
 // Trims a block; whether it was answered Ok.
-pub fn trim_block<B: ExportName, R: Wait>(
+pub fn trim_block<B: ExportName, D: Disk, H: ReadBeside, R: Wait>(
     rt: &R,
     alloc: Global,
-    export: &Export<B, SimDisk>,
+    export: &Export<B, D, H>,
     pass: &mut Pass<B>,
     block: u64,
 ) -> bool
@@ -175,10 +175,10 @@ pub fn trim_block<B: ExportName, R: Wait>(
 }
 
 // Flushes; whether it was answered Ok.
-pub fn flush<B: ExportName, R: Wait>(
+pub fn flush<B: ExportName, D: Disk, H: ReadBeside, R: Wait>(
     rt: &R,
     alloc: Global,
-    export: &Export<B, SimDisk>,
+    export: &Export<B, D, H>,
     pass: &mut Pass<B>,
 ) -> bool {
     is_done(&export.submit(rt, pass, flush_of(alloc), &PLAIN).answer)
@@ -195,10 +195,10 @@ fn are_bytes(block: u64, round: u64, bytes: &[u8]) -> bool {
 }
 
 // Whether a READ of a block gives its bytes of a round.
-pub fn reads_back<B: ExportName, R: Wait>(
+pub fn reads_back<B: ExportName, D: Disk, H: ReadBeside, R: Wait>(
     rt: &R,
     alloc: Global,
-    export: &Export<B, SimDisk>,
+    export: &Export<B, D, H>,
     pass: &mut Pass<B>,
     block: u64,
     round: u64,

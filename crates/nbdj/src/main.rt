@@ -3,11 +3,13 @@
 
 ghost use Rattle.nbdj_run.specs.Plan.{Suits};
 
+mod beside;
 mod files;
 mod fresh;
 mod serving;
 mod streams;
 
+use crate::beside::SecondHandle;
 use crate::files::{FileFault, open, open_for_reading, open_fresh};
 use crate::serving::serve_at;
 use crate::streams::ClosedStreams;
@@ -66,7 +68,11 @@ fn run<R: Threads + Wait + Clock + Sync>(rt: &HostRuntime, threads: &R, plan: &P
             address,
             options,
         } => match open(rt, path) {
-            Ok((file, size)) => serve_at(rt, threads, FileDisk::new(file, size), address, options),
+            Ok((file, size)) => {
+                let beside = SecondHandle::of(&file);
+                let disk = FileDisk::new(file, size);
+                serve_at(rt, threads, disk, beside, address, options)
+            }
             Err(fault) => no_file(rt, path, fault),
         },
         Plan::Pipe { path, .. } | Plan::Recover { path } => match open(rt, path) {

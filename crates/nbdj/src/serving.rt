@@ -1,5 +1,6 @@
 //! The sockets of a server.
 
+use crate::beside::SecondHandle;
 use disk_model::FileDisk;
 use export::OpenDevice;
 use nbdj_pipe::Refusal;
@@ -20,10 +21,11 @@ pub fn serve_at<R: Threads + Wait + Clock + Sync>(
     rt: &HostRuntime,
     threads: &R,
     disk: FileDisk<File>,
+    beside: Option<SecondHandle>,
     address: Address<'_>,
     options: ServeOptions,
 ) -> u8 {
-    let outcome = match OpenDevice::open(rt.alloc(), disk) {
+    let outcome = match OpenDevice::open(rt.alloc(), disk, beside) {
         Ok(device) => listen(rt, threads, device, address, options),
         Err((fault, _disk)) => Err(Refusal::from(fault)),
     };
@@ -34,7 +36,7 @@ pub fn serve_at<R: Threads + Wait + Clock + Sync>(
 fn listen<R: Threads + Wait + Clock + Sync>(
     rt: &HostRuntime,
     threads: &R,
-    device: OpenDevice<FileDisk<File>>,
+    device: OpenDevice<FileDisk<File>, SecondHandle>,
     address: Address<'_>,
     options: ServeOptions,
 ) -> Result<(), Refusal> {
@@ -90,7 +92,7 @@ fn is_abandoned(rt: &HostRuntime, path: &str) -> bool {
 fn serve_clients<T: Display + Drop, R: Threads + Wait + Clock + Sync>(
     rt: &HostRuntime,
     threads: &R,
-    device: OpenDevice<FileDisk<File>>,
+    device: OpenDevice<FileDisk<File>, SecondHandle>,
     listener: Listener,
     label: T,
     options: ServeOptions,

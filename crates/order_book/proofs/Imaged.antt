@@ -1,5 +1,5 @@
 -- what is read is what the image has, and the image is shown still
-use Rattle.std.proofs.Common.{◌≡◌, inl, inr, ◌<◌, ◌+◌, ◌*◌, ◌∙◌, ap, sym, refl, ℕ, Bool, true, false, ◌||◌, List, length, get_or, Option, Some, None, rules}
+use Rattle.std.proofs.Common.{◌≡◌, inl, inr, ◌<◌, ◌+◌, ◌*◌, ◌∙◌, ap, sym, refl, ℕ, Bool, true, false, ◌||◌, List, length, get_or, Option, Some, None, arith, rules}
 use Rattle.std.specs.Option.{unwrap_or}
 use Rattle.std.proofs.lemmas.Bool.{true≢false}
 use Rattle.std.proofs.lemmas.List.{places}
@@ -13,7 +13,7 @@ use Rattle.shared_cache.specs.Blocks.{BlocksState, is_clean, is_dirty, is_held}
 use Rattle.shared_cache.specs.Cache.{CacheState, bytes_seen}
 use Rattle.shared_cache.specs.laws.Views.{missing_seen}
 use Rattle.order_book.specs.Cached.{dirty_of}
-use Rattle.order_book.specs.Reading.{IsCleanAt, ShowsRead, block_of}
+use Rattle.order_book.specs.Reading.{GivesBase, IsCleanAt, ShowsRead, block_of}
 use Rattle.order_book.specs.Shown.{ShowsImage}
 use Rattle.order_book.proofs.Frames.{not_dirty_get}
 
@@ -39,6 +39,17 @@ bytes_read base image front cache block k byte shows clean inside held read = by
         let is_data = sym (shows.states block) ∙ missing.0 in
         let no = not_dirty_get block cache.blocks (not_dirty block cache.blocks missing.1) in
         read is (clean.kinds block is_data no) (clean.unwritten block is_data no) ∙ clean.bytes block is_data no k inside
+
+-- bytes that were handed in, over which what is in memory was put
+pub bytes_over : (base image : Image) (front : List Change) (cache : CacheState) (first : ℕ) (given into : List ℕ) → length into ≡ length given
+    → GivesBase first given cache base front → ShowsImage image cache → IsCleanAt base front image (dirty_of cache)
+    → ((j k : ℕ) (bytes : List ℕ) → 4096 * j < length into → k < 4096 → bytes_seen cache (first + j) ≡ Some bytes → get_or into (4096 * j + k) 0 ≡ get_or bytes k 0)
+    → ((j k : ℕ) → 4096 * j < length into → k < 4096 → bytes_seen cache (first + j) ≡ None → get_or into (4096 * j + k) 0 ≡ get_or given (4096 * j + k) 0)
+    → (j k : ℕ) → 4096 * j < length into → k < 4096 → get_or into (4096 * j + k) 0 ≡ image.byte (4096 * (first + j) + k)
+bytes_over base image front cache first given into size gives shows clean held handed j k below inside =
+    bytes_read base image front cache (first + j) k _ shows clean inside
+    (λ bytes seen. held j k bytes below inside seen)
+    (λ none is_data unwritten. handed j k below inside none ∙ gives j k (omega (arith, below, size)) inside none is_data unwritten)
 
 some_same : (seen : Option (List ℕ)) (one other : List ℕ) → seen ≡ Some one → seen ≡ Some other → one ≡ other
 some_same seen one other is also = ap (λ (o : Option (List ℕ)). unwrap_or o one) (sym is ∙ also)

@@ -4,3 +4,4 @@ mod Imaged
 mod Maps
 mod Missing
 mod Shown
+mod Written

@@ -1,5 +1,5 @@
 -- what a read that goes to the device makes of what is in memory of an image
-use Rattle.std.specs.Prelude.{ℕ, ◌≡◌, ◌+◌, ◌*◌, ◌<◌, ◌⊎◌, false, List, length, take, drop, Some, None}
+use Rattle.std.specs.Prelude.{ℕ, ◌≡◌, ◌+◌, ◌*◌, ◌<◌, ◌≤◌, ◌⊎◌, false, List, length, slice_index, take, drop, Some, None}
 use Rattle.std.specs.FinMap.{get}
 use Rattle.device_image.specs.Holds.{is_written}
 use Rattle.image_model.specs.Change.{Change}
@@ -7,6 +7,7 @@ use Rattle.image_model.specs.Dirty.{Dirty}
 use Rattle.image_model.specs.Image.{Image}
 use Rattle.image_model.specs.declared.command.Kind.TheVariants.{Data}
 use Rattle.order_book.specs.Cached.{frames_of}
+use Rattle.order_book.specs.declared.span.Span.{Span}
 use Rattle.shared_cache.specs.Blocks.{is_dirty}
 use Rattle.shared_cache.specs.Cache.{CacheState, bytes_seen}
 
@@ -40,3 +41,16 @@ pub record IsCleanAt (base : Image) (front : List Change) (image : Image) (dirty
   pub unwritten : (block : ℕ) → image.kind block ≡ Data → get dirty block ≡ None → is_written block front ≡ false
   pub bytes : (block : ℕ) → image.kind block ≡ Data → get dirty block ≡ None
       → (k : ℕ) → k < 4096 → base.byte (4096 * block + k) ≡ image.byte (4096 * block + k)
+
+-- the block is one of the span's
+abbrev pub LiesIn : ℕ → Span → Type 0
+LiesIn block span = (span.first ≤ block) × (block < span.end)
+
+-- Bytes that were handed in for blocks from the first one on are those of the base, for each that isn't in memory, is data at the
+-- base, and that no command in front of the last area writes. Of bytes that a second handle of the device has read while nobody
+-- wrote such a block this is what is trusted, and all.
+abbrev pub GivesBase : ℕ → List ℕ → CacheState → Image → List Change → Type 0
+GivesBase first bytes cache base front =
+    (j k : ℕ) → 4096 * j < length bytes → k < 4096 → bytes_seen cache (first + j) ≡ None
+    → base.kind (first + j) ≡ Data → is_written (first + j) front ≡ false
+    → slice_index bytes (4096 * j + k) ≡ base.byte (4096 * (first + j) + k)

@@ -13,7 +13,7 @@ ghost use Rattle.marks.specs.Known.{known};
 ghost use Rattle.image_model.specs.Command.{IsCommand};
 ghost use Rattle.image_model.specs.Image.{Image, apply as image_after};
 ghost use Rattle.order_book.specs.Cached.{ShowsCommand};
-ghost use Rattle.order_book.specs.Reading.{IsCleanAt, ShowsRead};
+ghost use Rattle.order_book.specs.Reading.{GivesBase, IsCleanAt, LiesIn, ShowsRead};
 ghost use Rattle.order_book.specs.Shown.{ShowsImage, IsZeroOutsideData};
 ghost use Rattle.order_book.specs.Order.{OrderState, new_order, IsNumbered, has_room, refusal_of, with_command, with_clean, Seals, IsInHand, with_group, with_durable, PublishesTo};
 ghost use Rattle.shared_cache.specs.Cache.{LacksBytes, bytes_seen};
@@ -23,7 +23,8 @@ use crate::backlog::Backlog;
 use crate::commands::{apply, clean_through, has_frames};
 use crate::fault::OrderFault;
 use crate::pending::{PendingCommands, have_small_bodies};
-use crate::reading::{holds, keep_blocks, read_all_held, read_blocks};
+use crate::reading::{holds, keep_blocks, missing_span, put_held, read_all_held, read_blocks};
+use crate::span::Span;
 use alloc_map::{AllocMap, Run};
 use checkpoint::{Keeper, KeeperFault};
 use disk_model::Disk;
@@ -40,6 +41,9 @@ const MOST_BACKLOG_BYTES: u64 = 67_108_864;
 
 /// The bytes of an area round a group's body: what stands before it, and the gate behind it.
 const BYTES_ROUND_BODY: u64 = 18;
+
+/// A span of more blocks that was read with no lock held isn't kept in memory: it would push out as many.
+const MOST_KEPT: u64 = 32;
 
 /// The order in which write commands count, under the name of the board that shows its last number.
 pub struct Order<B: BoardName> {
@@ -474,6 +478,60 @@ impl<B: BoardName> Order<B> {
         let held = read_blocks(&self.cache, keeper, first, into)?;
         keep_blocks(&mut self.cache, first, held, into);
         Ok(())
+    }
+
+    /// The span from the first block that isn't in memory to the last, of so many: what a read of them needs of the device.
+    /// Where all are in memory it is empty.
+    pub fn missing(&self, first: u64, count: u64) -> Span
+        requires range { first + count ≤ length self.now.cache.states }
+        requires some { 0 < count }
+        ensures bounds { (first ≤ result.first) × (result.first < first + count) × (result.first ≤ result.end) × (result.end ≤ first + count) }
+        ensures all { (block : ℕ) → first ≤ block → block < first + count → bytes_seen self.now.cache block ≡ None → LiesIn block result }
+    {
+        let _blocks = self.blocks();
+        missing_span(&self.cache, first, count)
+    }
+
+    /// Reads blocks from the first one on, as all that was accepted left them, over bytes that were read of a span of them
+    /// before: what is in memory is put over those, and the others of a short span are kept in memory, as far as there are
+    /// frames that aren't dirty.
+    ///
+    /// It isn't done where a block that isn't in memory lies outside the span: then nothing has changed, and `into` holds
+    /// any bytes.
+    pub fn read_over(&mut self, first: u64, span: Span, into: &mut [u8]) -> bool
+        requires whole { length into.old % 4096 ≡ 0 }
+        requires range { first + length into.old / 4096 ≤ length self.old.cache.states }
+        requires from { first ≤ span.first }
+        requires some { span.first ≤ span.end }
+        requires end { span.end ≤ first + length into.old / 4096 }
+        ensures new { self.new ≡ record self.old { cache = self.new.cache } }
+        ensures size { length into.new ≡ length into.old }
+        ensures done { IsTrue result → (j : ℕ) → 4096 * j < length into.old → bytes_seen self.old.cache (first + j) ≡ None → LiesIn (first + j) span }
+        ensures undone { result ≡ false → (self.new ≡ self.old)
+            × (j : ℕ) × (4096 * j < length into.old) × (bytes_seen self.old.cache (first + j) ≡ None) × (LiesIn (first + j) span → ⊥) }
+
+        // The bytes of a block are those in memory, where it has some, and else those handed in.
+        ensures in_memory { IsTrue result → (j k : ℕ) (bytes : List ℕ) → 4096 * j < length into.new → k < 4096
+            → bytes_seen self.old.cache (first + j) ≡ Some bytes → slice_index into.new (4096 * j + k) ≡ slice_index bytes k }
+        ensures handed { IsTrue result → (j k : ℕ) → 4096 * j < length into.new → k < 4096 → bytes_seen self.old.cache (first + j) ≡ None
+            → slice_index into.new (4096 * j + k) ≡ slice_index into.old (4096 * j + k) }
+        ensures view { IsTrue result → ShowsRead first into.new self.old.cache self.new.cache }
+
+        // So they are those of the image, where those handed in are the base's, and the image is shown still.
+        ensures image { (base image : Image) (front : List Change) → GivesBase first into.old self.old.cache base front
+            → ShowsImage image self.old.cache → IsCleanAt base front image self.old.dirty
+            → IsTrue result → (j k : ℕ) → 4096 * j < length into.new → k < 4096 → slice_index into.new (4096 * j + k) ≡ image.byte (4096 * (first + j) + k) }
+        ensures shown { (base image : Image) (front : List Change) → GivesBase first into.old self.old.cache base front
+            → ShowsImage image self.old.cache → IsCleanAt base front image self.old.dirty → IsTrue result → ShowsImage image self.new.cache }
+    {
+        let _blocks = self.blocks();
+        if !put_held(&self.cache, first, span, into) {
+            return false;
+        }
+        if span.end - span.first <= MOST_KEPT {
+            keep_blocks(&mut self.cache, first, (span.first - first) as usize, into);
+        }
+        true
     }
 
     /// The longest runs of blocks in one state, from one block on up to another, the first `limit` of them, as all that

@@ -1,4 +1,4 @@
-ghost use Rattle.std.specs.Prelude.{◌≡◌, ◌≢◌, ◌⊎◌, ◌+◌, ◌*◌, ◌/◌, ◌%◌, ◌<◌, ◌≤◌, ◌^◌, ◌↔◌, ℕ, List, length, slice_index, Some, None, false, IfErr, IfOk, IsTrue, OnOk, OnErr};
+ghost use Rattle.std.specs.Prelude.{◌≡◌, ◌≢◌, ◌⊎◌, ◌+◌, ◌*◌, ◌/◌, ◌%◌, ◌<◌, ◌≤◌, ◌^◌, ◌↔◌, ◌-◌, ℕ, List, length, slice_index, Some, None, false, IfErr, IfOk, IsTrue, OnOk, OnErr};
 ghost use Rattle.checkpoint.specs.Keeper.{faults_by, refused_by};
 ghost use Rattle.checkpoint.specs.declared.fault.KeeperFault.TheVariants as KeeperFault;
 ghost use Rattle.device_image.specs.Holds.{Holds, is_written};
@@ -7,10 +7,11 @@ ghost use Rattle.image_model.specs.Image.{Image};
 ghost use Rattle.image_model.specs.declared.command.Kind.TheVariants.{Data};
 ghost use Rattle.group_list.specs.Reading.{IsOnlyRead};
 ghost use Rattle.order_book.specs.Cached.{frames_of};
-ghost use Rattle.order_book.specs.Reading.{ShowsRead};
+ghost use Rattle.order_book.specs.Reading.{LiesIn, ShowsRead};
 ghost use Rattle.shared_cache.specs.Cache.{LacksBytes, bytes_seen};
 ghost use Rattle.shared_cache.specs.View.{ShowsFill};
 
+use crate::span::Span;
 use checkpoint::{Keeper, KeeperFault};
 use disk_model::Disk;
 use image_model::Kind;
@@ -193,4 +194,51 @@ pub(crate) fn keep_blocks(cache: &mut Cache, first: u64, from: usize, bytes: &[u
     for offset in from..blocks.len() {
         keep_block(cache, first + offset as u64, &blocks[offset]);
     }
+}
+
+// The span from the first block that isn't in memory to the last, of so many; where all are it is empty.
+pub(crate) fn missing_span(cache: &Cache, first: u64, count: u64) -> Span
+    requires range { first + count ≤ length cache.now.states }
+    requires some { 0 < count }
+    requires fits { first + count < 2 ^ 64 }
+    ensures bounds { (first ≤ result.first) × (result.first < first + count) × (result.first ≤ result.end) × (result.end ≤ first + count) }
+    ensures all { (block : ℕ) → first ≤ block → block < first + count → bytes_seen cache.now block ≡ None → LiesIn block result }
+{
+    let mut from = first;
+    let mut end = first;
+    for block in first..first + count {
+        if cache.read(block).is_none() {
+            if end == first {
+                from = block;
+            }
+            end = block + 1;
+        }
+    }
+    Span { first: from, end }
+}
+
+// Puts what is in memory over bytes that were read of blocks. It isn't done where one that isn't in memory lies outside the
+// span; the slice then holds any bytes.
+pub(crate) fn put_held(cache: &Cache, first: u64, span: Span, into: &mut [u8]) -> bool
+    requires whole { length into.old % 4096 ≡ 0 }
+    requires range { first + length into.old / 4096 ≤ length cache.now.states }
+    requires fits { first + length into.old / 4096 < 2 ^ 64 }
+    ensures size { length into.new ≡ length into.old }
+    ensures done { IsTrue result → (j : ℕ) → 4096 * j < length into.old → bytes_seen cache.now (first + j) ≡ None → LiesIn (first + j) span }
+    ensures undone { result ≡ false → (j : ℕ) × (4096 * j < length into.old) × (bytes_seen cache.now (first + j) ≡ None) × (LiesIn (first + j) span → ⊥) }
+    ensures in_memory { IsTrue result → (j k : ℕ) (bytes : List ℕ) → 4096 * j < length into.new → k < 4096
+        → bytes_seen cache.now (first + j) ≡ Some bytes → slice_index into.new (4096 * j + k) ≡ slice_index bytes k }
+    ensures handed { IsTrue result → (j k : ℕ) → 4096 * j < length into.new → k < 4096 → bytes_seen cache.now (first + j) ≡ None
+        → slice_index into.new (4096 * j + k) ≡ slice_index into.old (4096 * j + k) }
+{
+    let blocks = into.len() / BLOCK;
+    for block in 0..blocks {
+        let at = first + block as u64;
+        if let Some(bytes) = cache.read(at) {
+            into[BLOCK * block..BLOCK * block + BLOCK].copy_from_slice(bytes);
+        } else if at < span.first || span.end <= at {
+            return false;
+        }
+    }
+    true
 }

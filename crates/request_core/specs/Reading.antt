@@ -1,5 +1,5 @@
 -- what serving a READ and a BLOCK_STATUS does
-use Rattle.std.specs.Prelude.{ℕ, ◌≡◌, ◌≢◌, ◌+◌, ◌*◌, ◌/◌, ◌%◌, ◌<◌, ◌⊎◌, true, false, IsTrue, List, Some, None, slice_index}
+use Rattle.std.specs.Prelude.{ℕ, ◌≡◌, ◌≢◌, ◌+◌, ◌*◌, ◌/◌, ◌%◌, ◌<◌, ◌≤◌, ◌⊎◌, true, false, IsTrue, List, Ok, Some, None, slice_index}
 use Rattle.alloc_map.specs.Codes.{state_at}
 use Rattle.checkpoint.specs.Keeper.{faults_by, refused_by}
 use Rattle.checkpoint.specs.declared.fault.KeeperFault.{KeeperFault}
@@ -9,18 +9,23 @@ use Rattle.device_image.specs.Keeper.{KeeperState}
 use Rattle.disk_model.specs.Disk.{State}
 use Rattle.image_model.specs.Change.{Change}
 use Rattle.image_model.specs.Image.{Image}
+use Rattle.image_model.specs.declared.geometry.Geometry.{Geometry}
 use Rattle.image_model.specs.declared.command.Kind.TheVariants.{Data}
 use Rattle.group_list.specs.Reading.{IsOnlyRead}
 use Rattle.nbd_wire.specs.declared.error.Errno.TheVariants.{Io, NoMemory}
 use Rattle.nbd_wire.specs.declared.head.RequestHead.{RequestHead}
 use Rattle.nbd_wire.specs.declared.message.Answer.TheVariants.{Refused}
+use Rattle.nbd_wire.specs.declared.message.SessionFlags.{SessionFlags}
 use Rattle.order_book.specs.Order.{OrderState}
-use Rattle.order_book.specs.Reading.{IsCleanAt}
+use Rattle.order_book.specs.Reading.{GivesBase, IsCleanAt, LiesIn}
 use Rattle.order_book.specs.Shown.{ShowsImage}
+use Rattle.order_book.specs.declared.span.Span.{Span}
 use Rattle.request_core.specs.Serving.{ready_for}
 use Rattle.request_core.specs.declared.serving.Served.{Served}
 use Rattle.shared_cache.specs.Cache.{bytes_seen}
 use Rattle.world.specs.Shown.{shown_by}
+use Rattle.world.specs.Verdict.{IsServedRange, verdict}
+use Rattle.world.specs.declared.action.Action.TheVariants.{Serve}
 
 -- A READ is answered with what an image shows: its states are those of the order, and the bytes of a block those in memory, where
 -- it has some, and else those of the data region. Where the keeper holds what the order has clean, it is the order's own image.
@@ -86,3 +91,41 @@ abbrev pub IsStatusServed : RequestHead → OrderState → Served → Type 0
 IsStatusServed head order result =
     (result ≡ ready_for head.cookie (Refused NoMemory))
     ⊎ ((image : Image) → ((block : ℕ) → image.kind block ≡ state_at order.cache.states block) → result ≡ ready_for head.cookie (shown_by image head))
+
+-- The request is a READ that passes judgement, and the span lies among its blocks.
+pub record IsPlanned (head : RequestHead) (geometry : Geometry) (flags : SessionFlags) (span : Span) : Type 0 where
+  pub passes : verdict head geometry flags ≡ Ok Serve
+  pub reads : head.kind ≡ 0
+  pub range : IsServedRange head geometry
+  pub from : head.offset / 4096 ≤ span.first
+  pub some : span.first < head.offset / 4096 + head.length / 4096
+  pub order : span.first ≤ span.end
+  pub end : span.end ≤ head.offset / 4096 + head.length / 4096
+
+-- A READ for which bytes of a span were read before is answered with what an image shows: its states are those of the order, and the
+-- bytes of a block those in memory, where it has some, and else those handed in; each of these lies in the span. Where those are the
+-- base's, and the order has clean what the base has, it is the order's own image.
+pub record IsReadOver (head : RequestHead) (span : Span) (bytes : List ℕ) (old new : OrderState) (result : Served) : Type 0 where
+  pub aligned : head.offset % 4096 ≡ 0
+  pub works : old.stopped ≡ false
+  pub inside : (j : ℕ) → 4096 * j < head.length → bytes_seen old.cache (head.offset / 4096 + j) ≡ None → LiesIn (head.offset / 4096 + j) span
+  pub image : Image
+  pub kinds : (block : ℕ) → image.kind block ≡ state_at old.cache.states block
+  pub in_memory : (j k : ℕ) (bytes : List ℕ) → 4096 * j < head.length → k < 4096 → bytes_seen old.cache (head.offset / 4096 + j) ≡ Some bytes
+      → image.byte (head.offset + (4096 * j + k)) ≡ slice_index bytes k
+  pub handed : (j k : ℕ) → 4096 * j < head.length → k < 4096 → bytes_seen old.cache (head.offset / 4096 + j) ≡ None
+      → image.byte (head.offset + (4096 * j + k)) ≡ slice_index bytes (4096 * j + k)
+  pub own : (base given : Image) (front : List Change) → GivesBase (head.offset / 4096) bytes old.cache base front
+      → ShowsImage given old.cache → IsCleanAt base front given old.dirty
+      → (j k : ℕ) → 4096 * j < head.length → k < 4096 → image.byte (head.offset + (4096 * j + k)) ≡ given.byte (4096 * (head.offset / 4096 + j) + k)
+  pub shows : (base given : Image) (front : List Change) → GivesBase (head.offset / 4096) bytes old.cache base front
+      → ShowsImage given old.cache → IsCleanAt base front given old.dirty → ShowsImage given new.cache
+  pub answer : result ≡ ready_for head.cookie (shown_by image head)
+  -- only what is in memory has changed
+  pub order : new ≡ record old { cache = new.cache }
+  pub states : new.cache.states ≡ old.cache.states
+
+-- what serving such a READ comes to: memory is refused and nothing has changed, or it is answered
+abbrev pub IsReadOverServed : RequestHead → Span → List ℕ → OrderState → OrderState → Served → Type 0
+IsReadOverServed head span bytes old new result =
+    ((new ≡ old) × (result ≡ ready_for head.cookie (Refused NoMemory))) ⊎ IsReadOver head span bytes old new result

@@ -1,18 +1,21 @@
 //! Serving of READ and BLOCK_STATUS.
 
-ghost use Rattle.std.specs.Prelude.{◌≡◌, ◌≢◌, ◌↔◌, ◌+◌, ◌*◌, ◌/◌, ◌%◌, ◌<◌, ◌≤◌, length};
-ghost use Rattle.request_core.specs.Reading.{IsHeldReadServed, IsReadServed, IsStatusServed};
-ghost use Rattle.shared_cache.specs.Cache.{LacksBytes};
+ghost use Rattle.std.specs.Prelude.{◌≡◌, ◌≢◌, ◌↔◌, ◌+◌, ◌*◌, ◌/◌, ◌%◌, ◌<◌, ◌≤◌, ℕ, None, true, IfErr, IfOk, IfSome, IsErr, OnErr, length, vec_len};
+ghost use Rattle.order_book.specs.Reading.{LiesIn};
+ghost use Rattle.request_core.specs.Reading.{IsHeldReadServed, IsPlanned, IsReadOverServed, IsReadServed, IsStatusServed};
+ghost use Rattle.shared_cache.specs.Cache.{LacksBytes, bytes_seen};
 
-use crate::serving::{Served, refused};
+use crate::judgement::judge;
+use crate::serving::{Served, Terms, refused};
 use checkpoint::Keeper;
 use disk_model::Disk;
 use image_answers::{bytes_answer, read_runs, status_answer};
 use image_model::BLOCK_BYTES;
 use marks::BoardName;
-use nbd_wire::{Errno, Reply, RequestHead};
-use order_book::Order;
+use nbd_wire::{Errno, READ, Reply, RequestHead};
+use order_book::{Order, Span};
 use std::alloc::Global;
+use world::Action;
 
 // Serves a READ that passes judgement, of blocks that are all in memory, over an order that isn't stopped.
 pub(crate) fn serve_held_read<B: BoardName>(
@@ -103,4 +106,62 @@ pub(crate) fn serve_status<B: BoardName>(
         }),
         Err(_) => refused(head.cookie, Errno::NoMemory),
     }
+}
+
+/// What a READ that passes judgement needs of the device: the span from its first block that isn't in memory to the last,
+/// which may be read with no lock held. None for any other request.
+pub fn plan_read<B: BoardName>(head: &RequestHead, order: &Order<B>, terms: &Terms) -> Option<Span>
+    requires { length order.now.cache.states ≡ terms.now.geometry.blocks }
+    ensures planned { IfSome result (IsPlanned head.now terms.now.geometry terms.now.flags) }
+    ensures all { IfSome result (λ span. (block : ℕ) → head.now.offset / 4096 ≤ block → block < head.now.offset / 4096 + head.now.length / 4096
+        → bytes_seen order.now.cache block ≡ None → LiesIn block span) }
+{
+    if head.kind != READ {
+        return None;
+    }
+    match judge(head, &terms.geometry, &terms.flags) {
+        Ok(Action::Serve) => Some(order.missing(
+            head.offset / BLOCK_BYTES,
+            head.length as u64 / BLOCK_BYTES,
+        )),
+        Ok(Action::End) | Err(_) => None,
+    }
+}
+
+/// Serves a READ for which a span of its blocks was read before, with no lock held: what is in memory by now is put over
+/// these bytes. They come back where that isn't enough, as the order is stopped, or another block has left memory.
+///
+/// That nobody has written what was read, the caller has to know: each block that isn't in memory is as at the base.
+pub fn serve_read_over<B: BoardName>(
+    alloc: Global,
+    head: &RequestHead,
+    order: &mut Order<B>,
+    span: Span,
+    bytes: Vec<u8>,
+    terms: &Terms,
+) -> Result<Served, Vec<u8>>
+    requires planned { IsPlanned head.now terms.now.geometry terms.now.flags span }
+    requires blocks { length order.old.cache.states ≡ terms.now.geometry.blocks }
+    requires size { vec_len bytes ≡ head.now.length }
+    ensures read { IfOk result (λ served. IsReadOverServed head.now span bytes.items order.old order.new served) }
+    ensures blocks { length order.new.cache.states ≡ length order.old.cache.states }
+    ensures stopped { order.old.stopped ≡ true → IsErr result }
+    ensures size { IfErr result (λ back. vec_len back ≡ head.now.length) }
+    ensures unchanged { OnErr result (order.new ≡ order.old) }
+{
+    if order.stopped() {
+        return Err(bytes);
+    }
+    let first = head.offset / BLOCK_BYTES;
+    let Ok(runs) = read_runs(alloc, order, first, head.length as u64 / BLOCK_BYTES) else {
+        return Ok(refused(head.cookie, Errno::NoMemory));
+    };
+    let mut bytes = bytes;
+    if !order.read_over(first, span, &mut bytes) {
+        return Err(bytes);
+    }
+    Ok(Served::Ready(Reply {
+        cookie: head.cookie,
+        answer: bytes_answer(head, order, bytes, runs),
+    }))
 }

@@ -4,7 +4,7 @@ ghost use Rattle.world.specs.Verdict.{verdict};
 use crate::client::Client;
 use bitflags::Flags;
 use disk_model::Disk;
-use export::{Export, ExportName};
+use export::{Export, ExportName, ReadBeside};
 use image_model::Geometry;
 use marks::Pass;
 use nbd_wire::{
@@ -17,15 +17,15 @@ use world::Mode;
 
 /// Where a client's requests are submitted to an export.
 #[derive(Drop)]
-pub struct Desk<'a, B: ExportName, D: Disk, R: Wait> {
+pub struct Desk<'a, B: ExportName, D: Disk, H: ReadBeside, R: Wait> {
     pub rt: &'a R,
-    pub export: &'a Export<B, D>,
+    pub export: &'a Export<B, D, H>,
     pub client: &'a Client,
     // Whether what is written to the client is replies.
     pub is_replying: &'a Cell<bool>,
 }
 
-impl<'a, B: ExportName, D: Disk, R: Wait> Serve<Pass<B>> for Desk<'a, B, D, R> {
+impl<'a, B: ExportName, D: Disk, H: ReadBeside, R: Wait> Serve<Pass<B>> for Desk<'a, B, D, H, R> {
     ghost allows = { λ desk pass request flags next reply. IsSubmitted request desk.export.now.mode pass next reply.answer
         × IsJudged (verdict request.head desk.export.now.geometry flags) request reply.answer };
 

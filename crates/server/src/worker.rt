@@ -6,7 +6,7 @@ use crate::desk::Desk;
 use crate::listener::Listener;
 use crate::options::ServeOptions;
 use disk_model::Disk;
-use export::{Export, ExportName, Gate};
+use export::{Export, ExportName, Gate, ReadBeside};
 use marks::Pass;
 use negotiation::End;
 use session::serve_session;
@@ -90,10 +90,10 @@ impl<B: ExportName> Reception<B> {
 
 /// Serves one client after another, until no session may begin any more. A session that ends by a refusal, and a client that
 /// couldn't be accepted, count, and are no end.
-pub(crate) fn worker<B: ExportName, D: Disk, R: Wait + Clock, G: Gate + Copy>(
+pub(crate) fn worker<B: ExportName, D: Disk, H: ReadBeside, R: Wait + Clock, G: Gate + Copy>(
     rt: &R,
     reception: &Reception<B>,
-    export: &Export<B, D>,
+    export: &Export<B, D, H>,
     mut gate: G,
 ) {
     let Some(mut pass) = reception.take_pass(rt) else {
@@ -115,10 +115,10 @@ pub(crate) fn worker<B: ExportName, D: Disk, R: Wait + Clock, G: Gate + Copy>(
 }
 
 // Serves a client from the first byte to the last.
-fn serve_client<B: ExportName, D: Disk, R: Wait, G: Gate>(
+fn serve_client<B: ExportName, D: Disk, H: ReadBeside, R: Wait, G: Gate>(
     rt: &R,
     reception: &Reception<B>,
-    export: &Export<B, D>,
+    export: &Export<B, D, H>,
     pass: &mut Pass<B>,
     client: &Client,
     gate: &mut G,

@@ -166,14 +166,14 @@ fn write_to_a_failing_device(rt: &HostRuntime, port: u16) -> io::Result<()> {
 }
 
 // A device over holes that was opened. Where it fails, the first sync behind the opening does, which has one.
-fn fresh(alloc: Global, fails: bool) -> Option<OpenDevice<SimDisk>> {
+fn fresh(alloc: Global, fails: bool) -> Option<OpenDevice<SimDisk, ()>> {
     let geometry = Geometry::new(64, 2_097_152)?;
     let mut disk = SimDisk::new(alloc, geometry.device_bytes()).ok()?;
     Keeper::format(alloc, &mut disk, geometry).ok()?;
     if fails {
         disk.fail(CallKind::Sync, 2);
     }
-    OpenDevice::open(alloc, disk).ok()
+    OpenDevice::open(alloc, disk, None).ok()
 }
 
 // What the clients do, of two at a time.
@@ -220,7 +220,7 @@ fn beside_a_server<R: Threads + Wait + Clock + Sync>(
     rt: &HostRuntime,
     threads: &R,
     alloc: Global,
-    device: OpenDevice<SimDisk>,
+    device: OpenDevice<SimDisk, ()>,
     listener: Listener,
     port: u16,
     options: ServeOptions,

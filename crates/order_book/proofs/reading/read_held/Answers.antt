@@ -1,25 +1,10 @@
 use Rattle.std.proofs.Common.{◌≡◌, inl, inr, ◌≤◌, ◌<◌, ◌+◌, ◌*◌, ◌-◌, ◌∙◌, ap, sym, ℕ, List, Option, Some, None, length, get_or, arith, rules}
-use Rattle.std.specs.Option.{unwrap_or}
 use Rattle.std.proofs.lemmas.Bool.{cases_lt}
 use Rattle.std.proofs.lemmas.List.{places}
 use borrow.Rule.Slice.PartMut.{put_mid}
+use Rattle.order_book.proofs.Written.{below, size_kept, some_same, some_there, within}
 use Rattle.shared_cache.specs.Cache.{bytes_seen}
 use Rattle.order_book.proofs.reading.read_held.Goals as goal
-
-below : (xs ys : List ℕ) (a e p : ℕ) → p < a → a ≤ length xs → get_or (put_mid a (e - a) xs ys) p 0 ≡ get_or xs p 0
-below xs ys a e p less inside = search (rules, places)
-
-within : (xs ys : List ℕ) (a e k : ℕ) → a ≤ length xs → k < length ys → get_or (put_mid a (e - a) xs ys) (a + k) 0 ≡ get_or ys k 0
-within xs ys a e k inside less = search (rules, places)
-
-size_kept : (xs ys : List ℕ) (a e : ℕ) → a ≤ e → e ≤ length xs → length ys ≡ e - a → length (put_mid a (e - a) xs ys) ≡ length xs
-size_kept xs ys a e order inside long = search (rules, places)
-
-some_same : (seen : Option (List ℕ)) (one other : List ℕ) → Some one ≡ seen → seen ≡ Some other → one ≡ other
-some_same seen one other is also = ap (λ (o : Option (List ℕ)). unwrap_or o one) (is ∙ also)
-
-some_there : (seen : Option (List ℕ)) (one : List ℕ) → Some one ≡ seen → seen ≡ None → ⊥
-some_there seen one is also = cc
 
 pub loop-block-preserved : goal.loop-block-preserved
 loop-block-preserved c =

@@ -1,0 +1,40 @@
+/* A preload that makes each sync of a file slow, as a drive's is: `fdatasync` and `fsync` sleep for SLOW_SYNC_US microseconds (0 where it
+ * isn't set) and then do their work. The sleep holds nothing, so syncs of several threads take their time beside one another.
+ *
+ * cc -shared -fPIC -O2 -o slow_sync.so slow_sync.c
+ * SLOW_SYNC_US=5000 LD_PRELOAD=$PWD/slow_sync.so nbdj serve ...
+ */
+#define _GNU_SOURCE
+#include <dlfcn.h>
+#include <stdlib.h>
+#include <time.h>
+
+static void wait_for_the_drive(void)
+{
+    const char *text = getenv("SLOW_SYNC_US");
+    long micros = text ? atol(text) : 0;
+    struct timespec time = {.tv_sec = micros / 1000000, .tv_nsec = micros % 1000000 * 1000};
+    if (micros > 0)
+        while (nanosleep(&time, &time) != 0)
+            ;
+}
+
+typedef int sync_call(int);
+
+int fdatasync(int file)
+{
+    static sync_call *next;
+    if (!next)
+        next = (sync_call *)dlsym(RTLD_NEXT, "fdatasync");
+    wait_for_the_drive();
+    return next(file);
+}
+
+int fsync(int file)
+{
+    static sync_call *next;
+    if (!next)
+        next = (sync_call *)dlsym(RTLD_NEXT, "fsync");
+    wait_for_the_drive();
+    return next(file);
+}
