@@ -251,6 +251,58 @@ checks 'check of the recovered group' 16 0 1 1 0 0 16
 cp stored.img d.img
 patch d.img 8205 00000000
 unchanged 'a group of no commands' 'nbdj: damaged group (12)'
+# (the length of its body is at 8193, its first number at 8197, the count at 8205, and its command from 8209 on)
+for row in 'a body longer than the area|8193|00800000' 'a body longer than a group may be|8193|00800001' \
+    'a body one byte below its command|8193|0000000c' 'a body one byte above its command|8193|0000000e' \
+    'a body that ends within the head of a command|8193|00000005' 'an empty body|8193|00000000' \
+    'another first number|8197|0000000000000002' 'one command more than there are|8205|00000002' \
+    'a command of kind 0|8209|00' 'a command of kind 4|8209|04' 'a first block of 2^64 - 1|8210|ffffffffffffffff' \
+    'a command of no blocks|8218|00000000' 'one block past the image|8218|00000011'; do
+    cp stored.img d.img
+    patch d.img "$(printf '%s' "$row" | cut -d '|' -f 2)" "${row##*|}"
+    unchanged "${row%%|*}" 'nbdj: damaged group (12)'
+done
+# A put of the most blocks that a command may have, and of one more, inside the image.
+fresh 300 2097152
+patch d.img 8192 '01 0010000d 0000000000000001 00000001 01 0000000000000000 00000100'
+checks 'check of a put of 256 blocks' 300 0 0 1 256 0 44
+patch d.img 8192 '01 0010100d 0000000000000001 00000001 01 0000000000000000 00000101'
+unchanged 'a put of 257 blocks' 'nbdj: damaged group (12)'
+# The last number, and one past it.
+fresh 16 2097152
+patch d.img 32 fffffffffffffffe
+patch d.img 8192 '01 0000000d ffffffffffffffff 00000001 02 0000000000000000 00000004 00'
+checks 'check of the last number' 16 0 18446744073709551614 18446744073709551615 0 0 16
+patch d.img 8192 '01 0000001a ffffffffffffffff 00000002 02 0000000000000000 00000004 02 0000000000000000 00000004 00'
+unchanged 'a number past the last one' 'nbdj: damaged group (12)'
+# The second group of an area, and the second area in use. What an area that isn't in use holds counts for nothing.
+cp stored.img d.img
+patch d.img 8222 '01 0000000d 0000000000000002 00000001 03 0000000000000004 00000004 00'
+checks 'check of two groups' 16 0 0 2 0 4 12
+patch d.img 8235 00000000
+unchanged 'a second group of no commands' 'nbdj: damaged group (12)'
+cp stored.img d.img
+patch d.img 2105344 '01 ffffffff ffffffffffffffff ffffffff'
+checks 'check beside an area that is not in use' 16 0 0 1 0 0 16
+patch d.img 29 01
+unchanged 'a damaged second area' 'nbdj: damaged group (12)'
+patch d.img 2105344 '01 0000000d 0000000000000002 00000001 03 0000000000000004 00000004 00'
+checks 'check of two areas' 16 1 0 2 0 4 12
+# Sizes: an area below the least one, in a file of the size that follows from it, and a file one byte shorter.
+fresh 16 2097152
+patch d.img 25 001fe000
+head -c 4259840 d.img >shorter && mv shorter d.img
+unchanged 'an area below the least' 'nbdj: bad header (8)'
+fresh 16 2097152
+head -c 4276223 d.img >shorter && mv shorter d.img
+unchanged 'one byte shorter' 'nbdj: bad header (8)'
+# What is told first: a bad header before a bad map, and a bad map before a damaged group.
+cp stored.img d.img
+patch d.img 8205 00000000
+patch d.img 4202496 03
+unchanged 'a bad map over a damaged group' 'nbdj: bad map (6)'
+printf x >>d.img
+unchanged 'a bad header over a bad map' 'nbdj: bad header (8)'
 
 # Streams that end early: nothing is written and nothing accepted.
 fresh 16 2097152

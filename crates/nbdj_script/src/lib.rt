@@ -2,8 +2,16 @@
 #![tactic(auto)]
 
 mod answer_line;
+mod ending;
 mod life;
+mod lines;
+mod playing;
 mod rehearsing;
 mod script_line;
+mod stepping;
 
+pub use ending::{End, exit_status, failed, print};
+pub use lines::Schedule;
+pub use playing::{Played, Trouble};
 pub use rehearsing::script;
+pub use script_line::{BlockRange, BlockWrite, Cleared, Setup, StepLine};

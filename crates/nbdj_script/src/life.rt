@@ -175,9 +175,10 @@ impl<B: BoardName, D: Disk> Life<B, D> {
         }
     }
 
-    /// Ends it, and gives the device as it is.
-    pub fn end(self) -> D
-        ensures { result ≡ self.keeper.disk }
+    /// Ends it, and gives the device as it is and what each step did.
+    pub fn end(self) -> (D, Vec<Event>)
+        ensures disk { result.0 ≡ self.keeper.disk }
+        ensures log { result.1.items ≡ self.bench.log }
     {
         let Life {
             board: _,
@@ -186,8 +187,8 @@ impl<B: BoardName, D: Disk> Life<B, D> {
             mut order,
             bench,
         } = self;
-        let _log = bench.close(&mut order);
-        keeper.into_disk()
+        let log = bench.close(&mut order);
+        (keeper.into_disk(), log)
     }
 
     /// The number of the last command stored.
@@ -197,9 +198,16 @@ impl<B: BoardName, D: Disk> Life<B, D> {
         self.keeper.count()
     }
 
+    /// What each step did, the first of them first.
+    pub fn log(&self) -> &[Event]
+        ensures { result.now ≡ self.now.bench.log }
+    {
+        self.bench.log()
+    }
+
     /// The answer that was given last; none where the last step gave none.
     pub fn last_answer(&self) -> Option<&Answer> {
-        match self.bench.log().last() {
+        match self.log().last() {
             Some(Event::Answered(_, answer)) => Some(answer),
             _ => None,
         }
@@ -207,6 +215,7 @@ impl<B: BoardName, D: Disk> Life<B, D> {
 
     /// Carries out one step, which is one of the world.
     pub fn step(&mut self, step: Step) -> Told
+        ensures extent { D.extent self.new.keeper.disk ≡ D.extent self.old.keeper.disk }
         ensures honest { D.honest self.new.keeper.disk ↔ D.honest self.old.keeper.disk }
         ensures world { D.honest self.old.keeper.disk → (world : World) → IsLifeOf D.state D.faults D.honest world self.old.order self.old.keeper self.old.bench → (next : World) × (done : ℕ)
             × IsRehearsed world next (take done (step ∷ [])) self.new.order self.new.keeper (D.faults self.new.keeper.disk) self.new.bench
@@ -235,12 +244,16 @@ impl<B: BoardName> Life<B, SimDisk> {
     }
 
     /// The `k`-th call of this kind from now on fails.
-    pub fn fail(&mut self, kind: CallKind, k: u64) {
+    pub fn fail(&mut self, kind: CallKind, k: u64)
+        ensures { ⟦<SimDisk as Disk>⟧.extent self.new.keeper.disk ≡ ⟦<SimDisk as Disk>⟧.extent self.old.keeper.disk }
+    {
         self.keeper.fail(kind, k);
     }
 
     /// The device stops at the `k`-th call from now on.
-    pub fn stop_at(&mut self, k: u64) {
+    pub fn stop_at(&mut self, k: u64)
+        ensures { ⟦<SimDisk as Disk>⟧.extent self.new.keeper.disk ≡ ⟦<SimDisk as Disk>⟧.extent self.old.keeper.disk }
+    {
         self.keeper.stop_at(k);
     }
 }

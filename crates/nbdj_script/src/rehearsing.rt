@@ -7,40 +7,21 @@ ghost use Rattle.request_core.specs.Life.{IsNextLife};
 ghost use Rattle.world.specs.World.{World};
 
 use crate::answer_line::AnswerLine;
-use crate::life::{BlockRun, Life, Told, clear, flush, open, read, status, write};
-use crate::script_line::{Line, Setup, StepLine, parse};
+use crate::ending::{End, exit_status, failed, print};
+use crate::life::{BlockRun, Life, Told, open};
+use crate::lines::Lines;
+use crate::script_line::{Line, Setup, StepLine};
+use crate::stepping::carry_out;
 use checkpoint::{Keeper, KeeperFault};
 use disk_model::{CrashChoice, Disk, SimDisk};
 use image_model::Kind;
 use marks::{BlankBoard, BoardName};
 use nbdj_pipe::Refusal;
-use request_core::{Step, StepFault, next_life_law};
-use std::alloc::{AllocError, Global};
+use request_core::{StepFault, next_life_law};
+use std::alloc::Global;
 use std::fmt::Display;
-use std::io::{BufRead, BufReader, ErrorKind, Read, Write};
+use std::io::{Read, Write};
 use std::marker::Brand;
-
-// How a script ends before its last line.
-enum End {
-    // A line, counted from 1, is no step.
-    NotAStep(u64),
-    // An opening was refused, and that is printed.
-    Printed,
-    // The script can't go on.
-    Refused(Refusal),
-}
-
-impl From<Refusal> for End {
-    fn from(refusal: Refusal) -> End {
-        End::Refused(refusal)
-    }
-}
-
-impl From<AllocError> for End {
-    fn from(error: AllocError) -> End {
-        End::Refused(Refusal::from(error))
-    }
-}
 
 /// Runs a script from `input` on a simulated device, by `docs/SCRIPTS.md`, and answers the exit status: 0 where it is
 /// done, 2 where a line is no step, 1 where an opening or something else is refused.
@@ -52,30 +33,12 @@ pub fn script<R: Read, W: Write, E: Write>(
     output: &mut W,
     errors: &mut E,
 ) -> u8 {
-    match run(alloc, input, output) {
-        Ok(()) => 0,
-        // Where not even that can be written, the status alone tells.
-        Err(End::NotAStep(line)) => {
-            let _ = writeln!(errors, "nbdj: line {line}: not a step");
-            2
-        }
-        Err(End::Printed) => 1,
-        Err(End::Refused(refusal)) => {
-            let _ = writeln!(errors, "nbdj: {refusal} ({})", refusal.number());
-            1
-        }
-    }
+    exit_status(run(alloc, input, output), errors)
 }
 
 fn run<R: Read, W: Write>(alloc: Global, input: &mut R, output: &mut W) -> Result<(), End> {
-    let mut lines = Lines {
-        reader: BufReader::new(alloc, input).map_err(stream_refusal)?,
-        text: Vec::new(alloc),
-        count: 0,
-    };
-    let Some(Line::Format(setup)) = lines.next(alloc)? else {
-        return Err(End::NotAStep(1));
-    };
+    let mut lines = Lines::new(alloc, input)?;
+    let setup = lines.setup(alloc)?;
     let keeper = match begin(alloc, setup) {
         Ok(keeper) => keeper,
         Err(fault) => return Err(failed(fault, output)),
@@ -124,47 +87,13 @@ fn live<B: BoardName, R: Read, W: Write>(
             rehearsal.end();
             return Ok(None);
         };
-        rehearsal = match rehearsal.carry_out(alloc, line, lines.count, output)? {
+        rehearsal = match rehearsal.carry_out(alloc, line, lines.count(), output)? {
             Went::On(rehearsal) => rehearsal,
             Went::Crashed(course) => return Ok(Some(course)),
         };
     }
     rehearsal.end();
     Err(End::Refused(Refusal::StreamFault))
-}
-
-// The lines of a script.
-#[derive(Drop)]
-struct Lines<R: Read + Drop> {
-    reader: BufReader<R>,
-    text: Vec<u8>,
-    // How many were read.
-    count: u64,
-}
-
-impl<R: Read + Drop> Lines<R> {
-    // The next line; none at the end of the input. The last may lack its line feed.
-    fn next(&mut self, alloc: Global) -> Result<Option<Line>, End> {
-        self.text.clear();
-        let read = self.reader.read_until(b'\n', &mut self.text);
-        if read.map_err(stream_refusal)? == 0 {
-            return Ok(None);
-        }
-        self.count = self.count.saturating_add(1);
-        let text = self.text.strip_suffix(b"\n").unwrap_or(&self.text);
-        match parse(alloc, text)? {
-            Some(line) => Ok(Some(line)),
-            None => Err(End::NotAStep(self.count)),
-        }
-    }
-}
-
-// Why a stream can't be read.
-fn stream_refusal(error: std::io::Error) -> Refusal {
-    match error.kind() {
-        ErrorKind::OutOfMemory => Refusal::NoMemory,
-        _ => Refusal::StreamFault,
-    }
 }
 
 // A script between two lives of its device.
@@ -267,13 +196,7 @@ impl<B: BoardName> Rehearsal<B> {
         output: &mut W,
     ) -> Result<Went<B>, End> {
         self.cookie = self.cookie.wrapping_add(1);
-        let told = match line {
-            StepLine::Copy(most) => copy(&mut self.life, most),
-            _ => match step_of(alloc, line, self.cookie) {
-                Ok(step) => self.life.step(step),
-                Err(_) => Told::Failed(StepFault::NoMemory),
-            },
-        };
+        let told = carry_out(alloc, &mut self.life, line, self.cookie);
         if self.life.stopped() {
             let armed = self.armed;
             let stopped = self.print(output, "stopped")?;
@@ -332,7 +255,7 @@ impl<B: BoardName> Rehearsal<B> {
             armed,
             cookie,
         } = self;
-        let mut disk = life.end();
+        let (mut disk, _log) = life.end();
         disk.crash(choice);
         let (keeper, runs) = open_again(alloc, disk, armed, output)?;
         Ok(Course {
@@ -352,7 +275,7 @@ impl<B: BoardName> Rehearsal<B> {
             armed: _,
             cookie: _,
         } = self;
-        let _disk = life.end();
+        let _ended = life.end();
     }
 
     fn print<W: Write, T: Display + Drop>(
@@ -385,15 +308,6 @@ fn begin(alloc: Global, setup: Setup) -> Result<Keeper<SimDisk>, KeeperFault>
     match Keeper::open(alloc, disk) {
         Ok(keeper) => Ok(keeper),
         Err((fault, _disk)) => Err(fault),
-    }
-}
-
-// Prints that an opening or a format is refused.
-fn failed<W: Write>(fault: KeeperFault, output: &mut W) -> End {
-    let number = Refusal::from(fault).number();
-    match print(output, format_args!("failed {number}")) {
-        Ok(()) => End::Printed,
-        Err(refusal) => End::Refused(refusal),
     }
 }
 
@@ -440,44 +354,6 @@ fn print_opened<W: Write>(count: u64, runs: &[BlockRun], output: &mut W) -> Resu
     Ok(())
 }
 
-// The step of a line.
-fn step_of(alloc: Global, line: StepLine, cookie: u64) -> Result<Step, AllocError> {
-    Ok(match line {
-        StepLine::Put(connection, put) => Step::Send(connection, write(alloc, cookie, put)?),
-        StepLine::Clear(connection, cleared, range) => {
-            Step::Send(connection, clear(alloc, cookie, cleared, range))
-        }
-        StepLine::Read(connection, range) => Step::Send(connection, read(alloc, cookie, range)),
-        StepLine::Status(connection, range) => {
-            Step::Send(connection, status(alloc, cookie, range))
-        }
-        StepLine::Flush(connection) => Step::Send(connection, flush(alloc, cookie)),
-        StepLine::Serve(connection) => Step::Serve(connection),
-        StepLine::Answer(connection) => Step::Answer(connection),
-        StepLine::Seal => Step::Seal,
-        StepLine::Append => Step::Append,
-        StepLine::Publish => Step::Publish,
-        StepLine::Rotate => Step::Rotate,
-        StepLine::Copy(_) => Step::Copy,
-        StepLine::Map => Step::Map,
-        StepLine::Finish => Step::Finish,
-        StepLine::Clean => Step::Clean,
-    })
-}
-
-// Copies up to so many blocks. It is held where there is none to copy.
-fn copy<B: BoardName>(life: &mut Life<B, SimDisk>, most: u64) -> Told {
-    let mut told = Told::Held;
-    for _ in 0..most {
-        match life.step(Step::Copy) {
-            Told::Done => told = Told::Done,
-            Told::Held => return told,
-            failed => return failed,
-        }
-    }
-    told
-}
-
 // How a script names a connection: from 1 on.
 fn name_of(connection: usize) -> usize {
     connection.saturating_add(1)
@@ -491,11 +367,4 @@ fn number_of(fault: StepFault) -> u8 {
         StepFault::NumbersFull => 9,
         StepFault::FailedBefore => 16,
     }
-}
-
-// Prints one line, at once.
-fn print<W: Write, T: Display + Drop>(output: &mut W, line: T) -> Result<(), Refusal> {
-    writeln!(output, "{line}")
-        .and_then(|()| output.flush())
-        .map_err(|_| Refusal::StreamFault)
 }

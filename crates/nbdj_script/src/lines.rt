@@ -1,0 +1,90 @@
+use crate::ending::End;
+use crate::script_line::{Line, Setup, StepLine, parse};
+use nbdj_pipe::Refusal;
+use std::alloc::{AllocError, Global};
+use std::io::{BufRead, BufReader, ErrorKind, Read};
+
+/// The lines of a script, one after the other.
+#[derive(Drop)]
+pub struct Lines<R: Read + Drop> {
+    reader: BufReader<R>,
+    text: Vec<u8>,
+    // How many were read.
+    count: u64,
+}
+
+impl<R: Read + Drop> Lines<R> {
+    pub fn new(alloc: Global, input: R) -> Result<Lines<R>, Refusal> {
+        Ok(Lines {
+            reader: BufReader::new(alloc, input).map_err(stream_refusal)?,
+            text: Vec::new(alloc),
+            count: 0,
+        })
+    }
+
+    /// How many were read.
+    pub fn count(&self) -> u64 {
+        self.count
+    }
+
+    /// The first line, which makes the device.
+    pub fn setup(&mut self, alloc: Global) -> Result<Setup, End> {
+        match self.next(alloc)? {
+            Some(Line::Format(setup)) => Ok(setup),
+            _ => Err(End::NotAStep(1)),
+        }
+    }
+
+    /// The next line; none at the end of the input. The last may lack its line feed.
+    pub fn next(&mut self, alloc: Global) -> Result<Option<Line>, End> {
+        self.text.clear();
+        let read = self.reader.read_until(b'\n', &mut self.text);
+        if read.map_err(stream_refusal)? == 0 {
+            return Ok(None);
+        }
+        self.count = self.count.saturating_add(1);
+        let text = self.text.strip_suffix(b"\n").unwrap_or(&self.text);
+        match parse(alloc, text)? {
+            Some(line) => Ok(Some(line)),
+            None => Err(End::NotAStep(self.count)),
+        }
+    }
+}
+
+// Why a stream can't be read.
+fn stream_refusal(error: std::io::Error) -> Refusal {
+    match error.kind() {
+        ErrorKind::OutOfMemory => Refusal::NoMemory,
+        _ => Refusal::StreamFault,
+    }
+}
+
+/// A script that was read whole, and in which nothing goes wrong by itself.
+#[derive(Drop)]
+pub struct Schedule {
+    pub setup: Setup,
+    pub steps: Vec<StepLine>,
+}
+
+impl Schedule {
+    /// Reads a script to its end. A line that crashes the device or lets a call of it fail is refused here, as one that is
+    /// no step is.
+    pub fn read<R: Read>(alloc: Global, input: &mut R) -> Result<Schedule, End> {
+        let mut lines = Lines::new(alloc, input)?;
+        let setup = lines.setup(alloc)?;
+        let mut steps = Vec::new(alloc);
+        for _ in 0..u64::MAX {
+            match lines.next(alloc)? {
+                Some(Line::Step(step)) => keep(&mut steps, step)?,
+                Some(_) => return Err(End::NotAStep(lines.count())),
+                None => return Ok(Schedule { setup, steps }),
+            }
+        }
+        Err(End::Refused(Refusal::StreamFault))
+    }
+}
+
+fn keep(steps: &mut Vec<StepLine>, step: StepLine) -> Result<(), AllocError> {
+    steps.push(step)?;
+    Ok(())
+}

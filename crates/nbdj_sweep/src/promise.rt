@@ -1,0 +1,170 @@
+use bitflags::Flags;
+use image_model::{BLOCK_BYTES, Command, Kind, PlainImage};
+use nbd_wire::{Answer, CommandFlags, FLUSH, Request, RequestHead, TRIM, WRITE, WRITE_ZEROES};
+use std::alloc::{AllocError, Global};
+use world::{Event, Mode};
+
+/// The most connections of a script.
+const CONNECTIONS: usize = 16;
+
+/// What a log promises of every later opening.
+#[derive(Drop)]
+pub struct Promise {
+    /// The write commands, in the order of their numbers.
+    pub commands: Vec<Command>,
+    /// So many of the first of them are there: all that were answered before a FLUSH was sent that is answered Ok, and all
+    /// that wait until they are stored and are answered Ok.
+    pub covered: u64,
+}
+
+impl Promise {
+    /// What this log promises.
+    pub fn of(alloc: Global, log: &[Event], mode: Mode) -> Result<Promise, AllocError> {
+        let mut reading = Reading {
+            mode,
+            open: vec![in alloc; None; CONNECTIONS]?,
+            commands: Vec::new(alloc),
+            answered: 0,
+            covered: 0,
+        };
+        for (place, event) in log.iter().enumerate() {
+            match event {
+                Event::Sent(connection, request) => reading.sent(
+                    *connection,
+                    place,
+                    request.head(),
+                ),
+                Event::Numbered(connection, _) => reading.numbered(alloc, *connection, log)?,
+                Event::Answered(connection, Answer::Done) => reading.done(*connection),
+                _ => {}
+            }
+        }
+        Ok(Promise {
+            commands: reading.commands,
+            covered: reading.covered,
+        })
+    }
+
+    /// The image of so many blocks after the first `count` commands; none where there are fewer, or one of them has no
+    /// place in it.
+    pub fn image(
+        &self,
+        alloc: Global,
+        blocks: u32,
+        count: u64,
+    ) -> Result<Option<PlainImage>, AllocError> {
+        let mut image = PlainImage::new(alloc, blocks)?;
+        if count > self.commands.len() as u64 {
+            return Ok(None);
+        }
+        for command in &self.commands[..count as usize] {
+            if image.apply(command).is_err() {
+                return Ok(None);
+            }
+        }
+        Ok(Some(image))
+    }
+}
+
+// A number that no command has: what waits for it is covered by no prefix.
+const NO_NUMBER: u64 = u64::MAX;
+
+// A request that a connection has open.
+#[derive(Clone, Copy, Debug)]
+struct Open {
+    head: RequestHead,
+    // Where the log says that it was sent.
+    place: usize,
+    // The number of its command.
+    number: u64,
+    // The greatest number that had been answered when it was sent.
+    before: u64,
+}
+
+// A log that is read from its beginning.
+#[derive(Drop)]
+struct Reading {
+    mode: Mode,
+    open: Vec<Option<Open>>,
+    commands: Vec<Command>,
+    // The greatest number of a write that was answered Ok.
+    answered: u64,
+    covered: u64,
+}
+
+impl Reading {
+    // A connection sent a request.
+    fn sent(&mut self, connection: usize, place: usize, head: RequestHead) {
+        let before = self.answered;
+        if let Some(open) = self.open.get_mut(connection) {
+            *open = Some(Open {
+                head,
+                place,
+                number: NO_NUMBER,
+                before,
+            });
+        }
+    }
+
+    // The command of a connection's request got its place in the order.
+    fn numbered(
+        &mut self,
+        alloc: Global,
+        connection: usize,
+        log: &[Event],
+    ) -> Result<(), AllocError> {
+        let Some(Some(open)) = self.open.get_mut(connection) else {
+            return Ok(());
+        };
+        if let Some(Event::Sent(_, request)) = log.get(open.place) {
+            if let Some(command) = command_of(alloc, request)? {
+                self.commands.push(command)?;
+                open.number = self.commands.len() as u64;
+            }
+        }
+        Ok(())
+    }
+
+    // A connection was answered Ok, without bytes or states.
+    fn done(&mut self, connection: usize) {
+        let Some(Some(open)) = self.open.get(connection) else {
+            return;
+        };
+        match open.head.kind {
+            FLUSH => self.covered = self.covered.max(open.before),
+            WRITE | TRIM | WRITE_ZEROES => {
+                self.answered = self.answered.max(open.number);
+                if is_durable(self.mode, open.head) {
+                    self.covered = self.covered.max(open.number);
+                }
+            }
+            _ => {}
+        }
+    }
+}
+
+// Whether a write command is answered once it is stored.
+fn is_durable(mode: Mode, head: RequestHead) -> bool {
+    mode == Mode::Writethrough || head.flags & CommandFlags::FUA.bits() != 0
+}
+
+// The write command that a request is.
+fn command_of(alloc: Global, request: &Request) -> Result<Option<Command>, AllocError> {
+    let head = request.head();
+    let first = head.offset / BLOCK_BYTES;
+    let blocks = head.length / BLOCK_BYTES as u32;
+    let kind = match head.kind {
+        WRITE => {
+            let bytes = Vec::from_slice(alloc, request.bytes())?;
+            return Ok(Some(Command::Put { first, bytes }));
+        }
+        WRITE_ZEROES if head.flags & CommandFlags::NO_HOLE.bits() != 0 => Kind::Zero,
+        WRITE_ZEROES | TRIM => Kind::Hole,
+        _ => return Ok(None),
+    };
+    Ok(Some(Command::Clear {
+        first,
+        blocks,
+        kind,
+    }))
+}

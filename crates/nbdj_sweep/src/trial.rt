@@ -1,0 +1,117 @@
+ghost use Rattle.std.specs.Prelude.{◌≡◌, IfOk};
+
+use crate::opening::{Judged, judge, restored};
+use crate::promise::Promise;
+use checkpoint::{Keeper, KeeperFault};
+use disk_model::{CrashChoice, Disk, SimDisk};
+use nbd_wire::{Answer, Errno};
+use nbdj_script::{Played, Schedule, Setup, Trouble};
+use std::alloc::Global;
+use world::{Event, StepFault};
+
+/// A script that is run over and over, each time from its first line on.
+#[derive(Drop)]
+pub struct Trial {
+    alloc: Global,
+    schedule: Schedule,
+    // A device that was formatted.
+    fresh: SimDisk,
+    // What the last crash left.
+    found: SimDisk,
+    ghost same_size: { ⟦<SimDisk as Disk>⟧.extent found ≡ ⟦<SimDisk as Disk>⟧.extent fresh },
+}
+
+/// What came of a run.
+#[derive(Drop)]
+pub struct Outcome {
+    /// The device on which it ran.
+    pub disk: SimDisk,
+    /// Whether what was to go wrong did.
+    pub met: bool,
+    pub right: bool,
+}
+
+impl Trial {
+    /// Makes the device of a script, and one on which it can be run.
+    pub fn begin(alloc: Global, schedule: Schedule) -> Result<(Trial, SimDisk), KeeperFault>
+        ensures { IfOk result (λ begun. ⟦<SimDisk as Disk>⟧.extent begun.1 ≡ ⟦<SimDisk as Disk>⟧.extent begun.0.fresh) }
+    {
+        let geometry = schedule.setup.geometry;
+        let size = geometry.device_bytes();
+        let mut fresh = SimDisk::new(alloc, size)?;
+        Keeper::format(alloc, &mut fresh, geometry)?;
+        let found = SimDisk::new(alloc, size)?;
+        let work = SimDisk::new(alloc, size)?;
+        let trial = Trial {
+            alloc,
+            schedule,
+            fresh,
+            found,
+        };
+        Ok((trial, work))
+    }
+
+    /// Runs the script with this trouble, lets the device crash, and judges what it left.
+    pub fn run(
+        &mut self,
+        work: SimDisk,
+        trouble: Trouble,
+        choice: CrashChoice,
+    ) -> Result<Outcome, KeeperFault>
+        requires { ⟦<SimDisk as Disk>⟧.extent work ≡ ⟦<SimDisk as Disk>⟧.extent self.old.fresh }
+        ensures fresh { self.new.fresh ≡ self.old.fresh }
+        ensures size { IfOk result (λ outcome. ⟦<SimDisk as Disk>⟧.extent outcome.disk ≡ ⟦<SimDisk as Disk>⟧.extent self.old.fresh) }
+    {
+        let Played { mut disk, log } = self.play(work, trouble, usize::MAX)?;
+        let met = is_met(trouble, &disk);
+        let promise = Promise::of(self.alloc, &log, self.schedule.setup.mode)?;
+        disk.crash(choice);
+        self.found.restore(&disk);
+        let Judged { disk, right } = judge(self.alloc, disk, &self.found, choice, &promise)?;
+        Ok(Outcome { disk, met, right })
+    }
+
+    /// Runs the script with this trouble, and looks whether it tells a fault of the device before there was one.
+    pub fn watch(&self, work: SimDisk, trouble: Trouble) -> Result<Outcome, KeeperFault>
+        requires { ⟦<SimDisk as Disk>⟧.extent work ≡ ⟦<SimDisk as Disk>⟧.extent self.now.fresh }
+        ensures { IfOk result (λ outcome. ⟦<SimDisk as Disk>⟧.extent outcome.disk ≡ ⟦<SimDisk as Disk>⟧.extent self.now.fresh) }
+    {
+        let Played { disk, log } = self.play(work, trouble, usize::MAX)?;
+        let met = is_met(trouble, &disk);
+        let Some(place) = log.iter().position(tells_fault) else {
+            return Ok(Outcome {
+                disk,
+                met,
+                right: true,
+            });
+        };
+        let Played { disk, log: _ } = self.play(disk, trouble, place + 1)?;
+        let right = disk.failures() > 0;
+        Ok(Outcome { disk, met, right })
+    }
+
+    // Runs the script, or so many steps of it, from its first line on.
+    fn play(&self, work: SimDisk, trouble: Trouble, most: usize) -> Result<Played, KeeperFault>
+        requires { ⟦<SimDisk as Disk>⟧.extent work ≡ ⟦<SimDisk as Disk>⟧.extent self.now.fresh }
+        ensures { IfOk result (λ played. ⟦<SimDisk as Disk>⟧.extent played.disk ≡ ⟦<SimDisk as Disk>⟧.extent self.now.fresh) }
+    {
+        let work = restored(work, &self.fresh);
+        self.schedule.play(self.alloc, work, trouble, most)
+    }
+}
+
+// Whether this trouble was met on a device that nothing else was to fail on.
+fn is_met(trouble: Trouble, disk: &SimDisk) -> bool {
+    match trouble {
+        Trouble::Stop(_) => disk.stopped(),
+        Trouble::Fault(..) => disk.failures() > 0,
+    }
+}
+
+// Whether a step says that the device failed.
+fn tells_fault(event: &Event) -> bool {
+    matches!(
+        event,
+        Event::Answered(_, Answer::Refused(Errno::Io)) | Event::Failed(StepFault::DeviceFault)
+    )
+}
