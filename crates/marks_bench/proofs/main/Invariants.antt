@@ -1,8 +1,0 @@
-use Rattle.marks_bench.proofs.main.Given as goal
-
--- the boards that were just made
-abbrev pub ghosts-show : goal.ghosts-show
-ghosts-show g a = record { board = a.blank.board }
-
-abbrev pub ghosts-numbers : goal.ghosts-numbers
-ghosts-numbers g a = record { board = a.blank.board }

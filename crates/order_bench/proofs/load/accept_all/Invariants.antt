@@ -1,5 +1,0 @@
-use Rattle.std.proofs.Common.{vec_len}
-use Rattle.order_bench.proofs.load.accept_all.Given as goal
-
-abbrev pub decreases-loop-command : goal.decreases-loop-command
-decreases-loop-command g l = vec_len l.commands

@@ -1,5 +1,0 @@
-use Rattle.order_bench.proofs.measure_accepts.Given as goal
-
--- the boards that were just made
-abbrev pub ghosts-accepts : goal.ghosts-accepts
-ghosts-accepts a = record { board = a.blank.board }

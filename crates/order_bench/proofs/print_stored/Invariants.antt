@@ -1,5 +1,0 @@
-use Rattle.order_bench.proofs.print_stored.Given as goal
-
--- the boards that were just made
-abbrev pub ghosts-stored : goal.ghosts-stored
-ghosts-stored g a = record { board = a.blank.board }
