@@ -551,4 +551,38 @@ wait $!
 is 'the end of the script' 0 $?
 exec 4<&-
 
+# Installed into a folder, and as a package; and what the unit for systemd runs, in a shell.
+"$here/tools/install" --prefix "$folder/installed"
+is 'the installed program' "nbdj $version" "$(installed/bin/nbdj --version)"
+is 'the installed completion' yes "$([ -s installed/share/bash-completion/completions/nbdj ] && echo yes)"
+if command -v dpkg-deb >/dev/null; then
+    package=$("$here/tools/package-deb" "$folder/package" 2>errors)
+    dpkg-deb -x "$package" unpacked
+    is 'the program of the package' "nbdj $version" "$(unpacked/usr/bin/nbdj --version)"
+    if command -v man >/dev/null; then
+        is 'the man page of the package' 0 "$(man -l unpacked/usr/share/man/man1/nbdj.1.gz >printed 2>&1 </dev/null; echo $?)"
+    else
+        skipped 'the man page of the package' 'man is not installed'
+    fi
+else
+    skipped 'the package' 'dpkg-deb is not installed'
+fi
+unit=installed/lib/systemd/system/nbdj@.service
+placed() { sed -n "s/^$1=\/bin\/sh -c '\(.*\)'\$/\1/p" "$unit" | sed "s|/run/nbdj-%i|$folder/run|g; s|/var/lib/nbdj/%i.img|$folder/d.img|g"; }
+fresh 16 2097152
+mkdir run
+: >printed
+timeout 20 sh -c "$(placed ExecStart)" >printed 2>errors &
+serving=$!
+tries=0
+until [ -s printed ] || [ "$tries" -eq 200 ]; do
+    sleep 0.05
+    tries=$((tries + 1))
+done
+is 'the unit: it listens' "listening $folder/run/socket" "$(cat printed)"
+MAINPID=$serving timeout 20 sh -c "$(placed ExecStop)"
+is 'the unit: its stop' 0 $?
+wait "$serving"
+is 'the unit: the end' "0|nbdj: recovered 0 commands|no" "$?|$(sed 's/ in .*//' errors)|$([ -e run/socket ] && echo yes || echo no)"
+
 the_end
