@@ -88,7 +88,7 @@ def intervals(folder):
     with Server(folder, "writing", 2, "--flush-interval", "1") as server, server.shaken() as client:
         count = goes_on_writing(client, 4)
         found = int(killed(server).split()[1])
-        check("writes of the last second and a half may be lost", True, found >= count * 5 // 8 or (found, count))
+        check("at least a third of four seconds of writes is stored", True, found >= count // 3 or (found, count))
 
 
 def asked_to_end(folder):
