@@ -18,6 +18,7 @@ release() {
     [ -z "$loop" ] || losetup -d "$loop" 2>/dev/null
     [ -z "$fuse" ] || umount -l "$fuse" 2>/dev/null
     [ -z "$server" ] || kill -9 "$(cat server_pid)" 2>/dev/null
+    [ ! -d "$folder/small" ] || umount "$folder/small" 2>/dev/null
     mounted='' loop='' fuse='' server=''
 }
 trap 'release; rm -rf "$folder"' EXIT
@@ -271,6 +272,86 @@ if has nbdcopy; then
     same 'writethrough: the image after the kill' source_a found
 fi
 
+# What no client has flushed is stored once its session is over, whatever signal comes then.
+if has nbdcopy; then
+    head -c 3145728 bytes_a >three
+    for signal in TERM KILL; do
+        image
+        serves tcp
+        is "$signal: nbdcopy of 3 MiB, without a flush" 0 "$(quiet nbdcopy three "$uri")"
+        sleep 6
+        kill -$signal "$(cat server_pid)"
+        wait "$server" 2>wait
+        server=''
+        recovered "$signal behind a copy"
+        is "$signal: there are commands" yes "$([ "$(cut -d ' ' -f 2 output)" -gt 0 ] && echo yes)"
+        held "$signal behind a copy"
+        head -c 3145728 found >found_three
+        same "$signal: the 3 MiB" three found_three
+    done
+fi
+
+# A disk that is full: the server tells why, ends its sessions and itself, and goes on where it is started anew with room.
+full_disk() {
+    small=$folder/small
+    mkdir "$small"
+    if ! mount -t tmpfs -o size=12m tmpfs "$small" 2>/dev/null; then
+        skipped 'a full disk' 'this system lets nobody mount'
+        return
+    fi
+    "$NBDJ" format "$small/d.img" --size 64M --area 2M >/dev/null
+    rm -f d.img
+    ln -s "$small/d.img" d.img
+    serves tcp
+    head -c 1048576 bytes_b >one
+    is 'a full disk: a copy that has room' 0 "$(quiet nbdcopy --flush one "$uri")"
+    is 'a full disk: a copy that has none' 1 "$(quiet nbdcopy --flush half_a "$uri" | head -n 1)"
+    wait "$server" 2>wait
+    is 'a full disk: the end' '1|nbdj: d.img: write of N bytes at K: No space left on device (os error 28)|nbdj: device fault (1)' \
+        "$?|$(sed 's/of [0-9]* bytes at [0-9]*/of N bytes at K/' serve_errors | paste -sd '|')"
+    server=''
+    "$NBDJ" recover d.img >output 2>errors
+    is 'a full disk: a recovery without room' '1|nbdj: device fault (1)' "$?|$(cat errors)"
+    mount -o remount,size=96m tmpfs "$small"
+    recovered 'a full disk with room'
+    serves tcp
+    is 'a full disk with room: the copy' 0 "$(quiet nbdcopy --flush half_a "$uri")"
+    is 'a full disk with room: the copy back' 0 "$(quiet nbdcopy "$uri" found)"
+    head -c "$HALF" found >found_half
+    same 'a full disk with room: what was copied' half_a found_half
+    killed 'a full disk with room'
+    umount "$small"
+    rm -f d.img
+}
+if has nbdcopy; then full_disk; fi
+
+# A block device, as a loop device is one.
+block_device() {
+    truncate -s 160M disk
+    loop=$(losetup -f --show disk 2>/dev/null)
+    if [ -z "$loop" ]; then
+        skipped 'a block device' 'there is no loop device here'
+        return
+    fi
+    "$NBDJ" format "$loop" --size 1G >output 2>errors
+    is 'a block device that is too short' "1||nbdj: cannot open $loop" "$?|$(cat output)|$(cat errors)"
+    differing 8388608 9 | dd of="$loop" bs=1M conv=notrunc 2>/dev/null
+    is 'a block device is formatted' 'formatted 83902464' "$("$NBDJ" format "$loop" --size 64M --area 8M 2>&1)"
+    is 'a block device is checked' 'blocks 16384' "$("$NBDJ" check "$loop" 2>&1 | head -n 1)"
+    rm -f d.img
+    ln -s "$loop" d.img
+    serves unix
+    is 'a block device: nbdcopy in' 0 "$(quiet nbdcopy --flush source_a "$uri")"
+    killed 'a block device'
+    held 'a block device'
+    same 'what a block device holds' source_a found
+    is 'the length of a block device' 167772160 "$(wc -c <disk | tr -d ' ')"
+    losetup -d "$loop"
+    loop=''
+    rm -f d.img disk
+}
+if has nbdcopy && has losetup; then block_device; fi
+
 # The end by itself: behind the last session all is stored, and the status is 0.
 if has qemu-io; then
     image
@@ -309,7 +390,7 @@ refused() {
 }
 serves tcp
 refused 'a port in use' 'nbdj: stream fault (21)' other.img --listen "127.0.0.1:${uri##*:}"
-refused 'no address' 'nbdj: stream fault (21)' other.img --listen 127.0.0.1
+refused 'no port' 'nbdj: stream fault (21)' other.img --listen 127.0.0.1:
 refused 'an image in use' 'nbdj: d.img is in use' d.img --listen 127.0.0.1:0
 killed 'behind a port in use'
 serves unix

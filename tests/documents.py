@@ -114,7 +114,7 @@ def help_of(program, command):
     about, _, rest = done.stdout.partition("\n\nUsage: ")
     usage = [line.strip() for line in rest.partition("\n\n")[0].splitlines()]
     rows = {}
-    for tag, text in re.findall(r"^ +((?:--[a-z-]+ )?<\w+>)(?: {2,}|\n +)(.*)$", rest, re.M):
+    for tag, text in re.findall(r"^ +(?:-v, )?(--[a-z-]+(?: <\w+>)?|<\w+>)(?: {2,}|\n +)(.*)$", rest, re.M):
         text, _, values = text.partition(" [possible values: ")
         text, _, default = text.partition(" [default: ")
         rows[tag] = {"text": text, "default": default.rstrip("]"), "values": values.rstrip("]")}
@@ -132,6 +132,7 @@ def man_of(page, command):
     for item in tagged:
         head, text, *more = item.splitlines()
         tag = re.sub(r'^\.BI (--[a-z-]+) " (\w+)"$', r"\1 <\2>", re.sub(r"^\.I (\w+)$", r"<\1>", head))
+        tag = re.sub(r'^\.BR? (?:-v ", " )?(--[a-z-]+)$', r"\1", tag)
         told = dict(re.findall(r"^(Default|Values): (.*)\.$", "\n".join(more), re.M))
         rows[tag] = {"text": text.removesuffix("."), "default": told.get("Default", ""), "values": told.get("Values", "")}
     return {"usage": usage, "about": about.strip().removesuffix("."), "note": " ".join(note.split()), "rows": rows}
@@ -153,7 +154,7 @@ def check_man_page(program):
         for part in ("usage", "about", "note"):
             check(f"the man page of {command}: {part}", wanted[part], got[part])
     version = subprocess.run([program, "--version"], capture_output=True, text=True, timeout=60).stdout.strip()
-    check("the version of the man page", [version], re.findall(r'^\.TH NBDJ 1 "" "(.*?)"', page, re.M))
+    check("the version of the man page", [version], re.findall(r'^\.TH NBDJ 1 "\d{4}-\d\d-\d\d" "(.*?)"', page, re.M))
 
 
 def check_design():

@@ -88,12 +88,13 @@ def take(client, count):
 class Server:
     """A server of an image of its own, by TCP."""
 
-    def __init__(self, folder, name, workers, *words):
+    def __init__(self, folder, name, workers, *words, **settings):
         self.name, self.workers = name, workers
-        image = os.path.join(folder, f"{name}.img")
+        image = self.image = os.path.join(folder, f"{name}.img")
         subprocess.run([NBDJ, "format", image, "--blocks", str(BLOCKS), "--area", "2097152"], check=True, stdout=subprocess.DEVNULL, timeout=60)
         words = ["serve", image, "--listen", "127.0.0.1:0", "--frames", str(FRAMES), "--workers", str(workers), *words]
-        self.process = subprocess.Popen([NBDJ, *words], stdin=subprocess.DEVNULL, stdout=subprocess.PIPE, stderr=subprocess.PIPE, text=True)
+        settings = {"stdin": subprocess.DEVNULL, **settings}
+        self.process = subprocess.Popen([NBDJ, *words], stdout=subprocess.PIPE, stderr=subprocess.PIPE, text=True, **settings)
         told = self.process.stdout.readline().split()
         check(f"{name}: it listens", ["listening"], told[:1])
         self.port = int(told[1])

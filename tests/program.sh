@@ -76,6 +76,17 @@ done
 for seconds in 0 86401; do
     refused "a handshake of '$seconds' seconds" serve new.img --listen 127.0.0.1:0 --handshake-timeout="$seconds"
 done
+for seconds in -1 86401 many ''; do
+    refused "an idle timeout of '$seconds' seconds" serve new.img --listen 127.0.0.1:0 --idle-timeout="$seconds"
+    refused "a flush interval of '$seconds' seconds" serve new.img --listen 127.0.0.1:0 --flush-interval="$seconds"
+done
+for way in '' Exit leave; do
+    refused "'$way' on a fault" serve new.img --listen 127.0.0.1:0 --on-fault="$way"
+done
+refused 'a value of until-eof' serve new.img --listen 127.0.0.1:0 --until-eof=yes
+refused 'an empty path of a socket' serve new.img --unix ''
+run serve new.img
+is 'what is said where no address is' "2|error: one of --listen <ADDR> and --unix <SOCKET> is wanted" "$status|$(head -n 1 errors)"
 refused 'sessions past 64 bits' serve new.img --listen 127.0.0.1:0 --sessions 18446744073709551616
 refused 'unknown cache mode of a server' serve new.img --listen 127.0.0.1:0 --cache unsafe
 refused 'a word too many' recover new.img more
@@ -125,6 +136,14 @@ serves() {
 }
 example=$("$NBDJ" serve --help | sed -n 's/^Example: nbdj serve //p')
 serves 'the example of serve' 143 "listening ${example##*:}" '' $example
+serves 'an address without a port' 143 'listening 10809' '' d.img --listen 127.0.0.1
+if [ -s /proc/net/if_inet6 ]; then
+    for address in ::1 '[::1]' '[::1]:10809'; do
+        serves "the address $address" 143 'listening 10809' '' d.img --listen "$address"
+    done
+else
+    skipped 'addresses of version 6' 'there are none'
+fi
 serves 'a Unix socket' 143 'listening d.sock' '' d.img --unix d.sock
 is 'the socket of a killed server' yes "$([ -S d.sock ] && echo yes)"
 serves 'a Unix socket that nobody listens on' 143 'listening d.sock' '' d.img --unix d.sock
@@ -132,14 +151,57 @@ serves 'a Unix socket that nobody listens on' 143 'listening d.sock' '' d.img --
 serves 'a file in the place of a socket' 1 '' 'nbdj: stream fault (21)' d.img --unix d.file
 is 'the file in the place of a socket' yes "$([ -f d.file ] && echo yes)"
 serves 'a socket in a folder that is missing' 1 '' 'nbdj: stream fault (21)' d.img --unix none/d.sock
-for address in 127.0.0.1 127.0.0.1:65536 192.0.2.1:0 :; do
+for address in 127.0.0.1:65536 192.0.2.1:0 192.0.2.1 : '' '[::1' ::1:0; do
     serves "the address '$address'" 1 '' 'nbdj: stream fault (21)' d.img --listen "$address"
 done
 serves 'a missing image' 1 '' 'nbdj: cannot open none.img' none.img --listen 127.0.0.1
 is 'a server that was killed at once' 'commands 0' "$("$NBDJ" recover d.img)"
 printf 'no image' >d.img
 serves 'an image without a header' 1 '' "$("$NBDJ" recover d.img 2>&1)" d.img --listen 127.0.0.1
-rm -f d.img d.sock d.file requests replies script
+rm -f d.img d.file requests replies script
+
+# What is neither a file nor a block device is refused at once, and stays.
+mkfifo d.fifo
+for path in d.fifo d.sock . /dev/null /dev/zero; do
+    for command in recover check pipe 'serve --listen 127.0.0.1:0' 'format --size 64K --area 2M'; do
+        timeout 10 "$NBDJ" $command "$path" <input >printed 2>errors
+        is "$command of $path" "1||nbdj: cannot open $path" "$?|$(cat printed)|$(cat errors)"
+        told
+    done
+done
+is 'the fifo and the socket' yes "$([ -p d.fifo ] && [ -S d.sock ] && echo yes)"
+rm -f d.fifo d.sock
+
+# Reasons, which come in front of the text that is always there, where -v asks for them.
+reason() {
+    name=$1
+    wanted=$(printf '%s\n%s' "$3" "$4")
+    code=$2
+    shift 4
+    timeout 10 "$NBDJ" "$@" <input >printed 2>errors
+    is "the reason of $name" "$code|$wanted" "$?|$(grep -v '^nbdj: recovered ' errors)"
+}
+reason 'a missing file' 1 'nbdj: none.img: No such file or directory' 'nbdj: cannot open none.img' recover none.img -v
+reason 'a missing folder' 1 'nbdj: none/d.img: No such file or directory' 'nbdj: cannot open none/d.img' format none/d.img --size 64K --verbose
+reason 'a folder' 1 'nbdj: .: neither a file nor a block device' 'nbdj: cannot open .' pipe -v .
+: >d.img
+reason 'an empty file' 3 'nbdj: d.img: not an image of nbdj; see nbdj format' 'nbdj: no header (7)' check d.img -v
+filled 8192 '\001' >d.img
+reason 'a file of ones' 1 "nbdj: d.img: its header isn't one that nbdj has written" 'nbdj: bad header (8)' recover d.img -v
+fresh 16 2097152
+truncate -s -4096 d.img
+reason 'a file that was cut' 3 'nbdj: d.img: 4,096 bytes shorter than its header says' 'nbdj: bad header (8)' check d.img -v
+reason 'a served file that was cut' 1 'nbdj: d.img: 4,096 bytes shorter than its header says' 'nbdj: bad header (8)' serve d.img -v --unix d.sock
+truncate -s +1238663 d.img
+reason 'a file that has grown' 1 'nbdj: d.img: 1,234,567 bytes longer than its header says' 'nbdj: bad header (8)' recover d.img -v
+fresh 16 2097152
+reason 'an address of another machine' 1 'nbdj: 192.0.2.1:0: Cannot assign requested address' 'nbdj: stream fault (21)' serve d.img -v --listen 192.0.2.1:0
+reason 'a socket in a folder that is missing' 1 'nbdj: none/d.sock: No such file or directory' 'nbdj: stream fault (21)' serve d.img -v --unix none/d.sock
+if command -v flock >/dev/null; then
+    flock -x d.img "$NBDJ" check d.img -v >printed 2>errors
+    is 'the reason of a file in use' "1|$(printf 'nbdj: d.img: another process has locked it\nnbdj: d.img is in use')" "$?|$(cat errors)"
+fi
+rm -f d.img
 
 # Files.
 ends 'a missing file' 1 '' 'nbdj: cannot open none.img' recover none.img
@@ -540,5 +602,39 @@ exec 3>&-
 wait $!
 is 'the end of the script' 0 $?
 exec 4<&-
+
+# Installed into a folder, and as a package; and what the unit for systemd runs, in a shell.
+"$here/tools/install" --prefix "$folder/installed"
+is 'the installed program' "nbdj $version" "$(installed/bin/nbdj --version)"
+is 'the installed completion' yes "$([ -s installed/share/bash-completion/completions/nbdj ] && echo yes)"
+if command -v dpkg-deb >/dev/null; then
+    package=$("$here/tools/package-deb" "$folder/package" 2>errors)
+    dpkg-deb -x "$package" unpacked
+    is 'the program of the package' "nbdj $version" "$(unpacked/usr/bin/nbdj --version)"
+    if command -v man >/dev/null; then
+        is 'the man page of the package' 0 "$(man -l unpacked/usr/share/man/man1/nbdj.1.gz >printed 2>&1 </dev/null; echo $?)"
+    else
+        skipped 'the man page of the package' 'man is not installed'
+    fi
+else
+    skipped 'the package' 'dpkg-deb is not installed'
+fi
+unit=installed/lib/systemd/system/nbdj@.service
+placed() { sed -n "s/^$1=\/bin\/sh -c '\(.*\)'\$/\1/p" "$unit" | sed "s|/run/nbdj-%i|$folder/run|g; s|/var/lib/nbdj/%i.img|$folder/d.img|g"; }
+fresh 16 2097152
+mkdir run
+: >printed
+timeout 20 sh -c "$(placed ExecStart)" >printed 2>errors &
+serving=$!
+tries=0
+until [ -s printed ] || [ "$tries" -eq 200 ]; do
+    sleep 0.05
+    tries=$((tries + 1))
+done
+is 'the unit: it listens' "listening $folder/run/socket" "$(cat printed)"
+MAINPID=$serving timeout 20 sh -c "$(placed ExecStop)"
+is 'the unit: its stop' 0 $?
+wait "$serving"
+is 'the unit: the end' "0|nbdj: recovered 0 commands|no" "$?|$(sed 's/ in .*//' errors)|$([ -e run/socket ] && echo yes || echo no)"
 
 the_end

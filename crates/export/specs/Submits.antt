@@ -69,3 +69,9 @@ pub record IsWaitedFor (number : ℕ) (old new : PassState) (answer : Answer) : 
   pub answered : (answer ≡ Done) ⊎ (answer ≡ Refused Io)
   pub done : answer ≡ Done → number ≤ new.durable
   pub own : new.own ≡ old.own
+
+-- Who has waited for all that was accepted is answered Ok once all that its pass knew before is durable, or EIO.
+pub record IsSettled (old new : PassState) (answer : Answer) : Type 0 where
+  pub answered : (answer ≡ Done) ⊎ (answer ≡ Refused Io)
+  pub done : answer ≡ Done → known old ≤ new.durable
+  pub own : new.own ≡ old.own

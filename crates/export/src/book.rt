@@ -5,6 +5,7 @@ ghost use Rattle.marks.specs.Known.{PassState};
 ghost use Rattle.request_core.specs.Reading.{IsPlanned};
 
 use crate::name::ExportName;
+use crate::settling::Patience;
 use crate::store::Store;
 use checkpoint::{Keeper, KeeperFault};
 use disk_model::Disk;
@@ -48,6 +49,8 @@ pub(crate) struct Book<B: ExportName> {
     wish: Option<u64>,
     // Whether no group will be stored any more.
     is_flushed: bool,
+    // How long what is pending may wait.
+    patience: Patience,
     ghost blocks: { length order.cache.states ≡ B.geometry.blocks },
 }
 
@@ -63,6 +66,7 @@ impl<B: ExportName> Drop for Book<B> {
             lacks_room: _,
             wish: _,
             is_flushed: _,
+            patience: _,
         } = self;
     }
 }
@@ -81,6 +85,7 @@ impl<B: ExportName> Book<B> {
             lacks_room: false,
             wish: None,
             is_flushed: false,
+            patience: Patience::endless(),
         }
     }
 
@@ -239,11 +244,28 @@ impl<B: ExportName> Book<B> {
         self.order.backlog_bytes() > MOST_PENDING_BYTES
     }
 
-    /// What there is to do once a request was served: for the flusher, where much is pending, and for the checkpointer, where a
-    /// checkpoint is wanted since now.
+    /// What there is to do once a request was served: for the flusher, where much is pending or it counts the time
+    /// from now on, and for the checkpointer, where a checkpoint is wanted since now.
     pub(crate) fn next_work(&mut self) -> (bool, bool) {
         let turn = self.look_at_frames();
-        (turn || self.has_much_pending(), turn)
+        let first = self.is_pending() && self.patience.tell_first();
+        (turn || first || self.has_much_pending(), turn)
+    }
+
+    /// Whether a command is pending.
+    pub(crate) fn is_pending(&self) -> bool {
+        self.order.durable() != self.order.mark()
+    }
+
+    /// Has what is pending by now stored.
+    pub(crate) fn want_pending(&mut self) {
+        let mark = self.order.mark();
+        self.want(mark);
+    }
+
+    /// How long what is pending may wait.
+    pub(crate) fn patience(&mut self) -> &mut Patience {
+        &mut self.patience
     }
 
     /// Whether the next group is to be stored. There is none in hand.

@@ -6,14 +6,15 @@ use crate::store::Store;
 use checkpoint::KeeperFault;
 use disk_model::Disk;
 use journal::Group;
+use std::rt::Clock;
 use std::sync::Wait;
 use std::thread;
 
 impl<B: ExportName, D: Disk, H: ReadBeside> Export<B, D, H> {
     /// Stores groups of commands where somebody waits for one, where more than 4 MiB are pending, where a command had no room,
-    /// and once all passes have left. It ends when all have left and nothing is pending, or when a call of the device has
-    /// failed.
-    pub fn flusher<R: Wait, G: Gate>(&self, rt: &R, gate: &mut G) {
+    /// where one was pending for as long as `store_within` says, and once all passes have left. It ends when all have left and
+    /// nothing is pending, or when a call of the device has failed.
+    pub fn flusher<R: Wait + Clock, G: Gate>(&self, rt: &R, gate: &mut G) {
         for _ in rt.forever() {
             let Some(group) = self.next_group(rt) else {
                 break;
@@ -25,14 +26,14 @@ impl<B: ExportName, D: Disk, H: ReadBeside> Export<B, D, H> {
     }
 
     // The next group that is to be stored, once there is one.
-    fn next_group<R: Wait>(&self, rt: &R) -> Option<Group> {
+    fn next_group<R: Wait + Clock>(&self, rt: &R) -> Option<Group> {
         for _ in rt.forever() {
             let mut book = self.book.lock(rt);
             if book.stopped() || book.is_done() {
                 return None;
             }
             if !book.is_group_due() {
-                let _woken = self.work.wait(rt, book);
+                self.wait_for_work(rt, book);
             } else if let Ok(Some(group)) = book.seal() {
                 return Some(group);
             } else {

@@ -9,6 +9,7 @@ mod export;
 mod flushing;
 mod gate;
 mod name;
+mod settling;
 mod store;
 mod submitting;
 

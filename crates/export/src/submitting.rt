@@ -246,7 +246,7 @@ impl<B: ExportName, D: Disk, H: ReadBeside> Export<B, D, H> {
     }
 
     // Waits until a number is durable, or will never be.
-    fn wait_for<R: Wait>(&self, rt: &R, pass: &mut Pass<B>, number: u64) -> Answer
+    pub(crate) fn wait_for<R: Wait>(&self, rt: &R, pass: &mut Pass<B>, number: u64) -> Answer
         ensures { IsWaitedFor number pass.old pass.new result }
     {
         if self.board.look_durable(pass) >= number {

@@ -9,6 +9,7 @@ use marks::Pass;
 use request_core::Mode;
 use std::alloc::Global;
 use std::marker::Brand;
+use std::rt::Clock;
 use std::sync::atomic::{AtomicU64, Ordering};
 use std::sync::{Mutex, Wait};
 use std::thread::{self, Threads};
@@ -57,7 +58,7 @@ fn write_round<B: ExportName, R: Wait>(
 
 // Eight threads beside a flusher and a checkpointer; how many rounds of each were confirmed, and none where a thread can't be
 // started.
-fn serve_eight<B: ExportName + Send + Sync, R: Threads + Wait + Sync>(
+fn serve_eight<B: ExportName + Send + Sync, R: Threads + Wait + Clock + Sync>(
     rt: &R,
     alloc: Global,
     export: &Export<B, SimDisk, ()>,
@@ -102,7 +103,7 @@ struct Ran {
     kept: bool,
 }
 
-fn run<B: ExportName + Send + Sync, R: Threads + Wait + Sync>(
+fn run<B: ExportName + Send + Sync, R: Threads + Wait + Clock + Sync>(
     rt: &R,
     alloc: Global,
     device: OpenDevice<SimDisk, ()>,
@@ -141,7 +142,7 @@ fn run<B: ExportName + Send + Sync, R: Threads + Wait + Sync>(
 }
 
 // Runs over a device that stops at its k-th call.
-fn run_to_a_stop<R: Threads + Wait + Sync>(
+fn run_to_a_stop<R: Threads + Wait + Clock + Sync>(
     rt: &R,
     alloc: Global,
     k: u64,

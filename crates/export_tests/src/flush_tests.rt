@@ -9,6 +9,7 @@ use marks::Pass;
 use request_core::Mode;
 use std::alloc::Global;
 use std::marker::Brand;
+use std::rt::Clock;
 use std::sync::Wait;
 use std::thread::{self, Threads};
 
@@ -140,7 +141,7 @@ struct Ran {
 }
 
 // Has 40 blocks written by two passes, or more by one.
-fn run<B: ExportName + Send + Sync, R: Threads + Wait + Sync>(
+fn run<B: ExportName + Send + Sync, R: Threads + Wait + Clock + Sync>(
     rt: &R,
     alloc: Global,
     device: OpenDevice<SimDisk, ()>,
@@ -168,7 +169,7 @@ fn run<B: ExportName + Send + Sync, R: Threads + Wait + Sync>(
 }
 
 // Has the passes served while a flusher and a checkpointer run; none where these can't be started.
-fn with_threads<B: ExportName + Send + Sync, R: Threads + Wait + Sync>(
+fn with_threads<B: ExportName + Send + Sync, R: Threads + Wait + Clock + Sync>(
     rt: &R,
     alloc: Global,
     export: &Export<B, SimDisk, ()>,

@@ -61,7 +61,7 @@ fn one_round<B: ExportName, R: Wait>(
 
 // Eight threads that serve beside a flusher and a checkpointer; whether each was answered as it had to be, and none where a
 // thread can't be started.
-fn serve_eight<B: ExportName + Send + Sync, R: Threads + Wait + Sync>(
+fn serve_eight<B: ExportName + Send + Sync, R: Threads + Wait + Clock + Sync>(
     rt: &R,
     alloc: Global,
     export: &Export<B, SimDisk, ()>,
@@ -119,7 +119,7 @@ struct Ran {
     number: u64,
 }
 
-fn run<B: ExportName + Send + Sync, R: Threads + Wait + Sync>(
+fn run<B: ExportName + Send + Sync, R: Threads + Wait + Clock + Sync>(
     rt: &R,
     alloc: Global,
     device: OpenDevice<SimDisk, ()>,

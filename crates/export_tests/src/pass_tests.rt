@@ -9,6 +9,7 @@ use marks::Pass;
 use request_core::Mode;
 use std::alloc::Global;
 use std::marker::Brand;
+use std::rt::Clock;
 use std::sync::Wait;
 use std::sync::atomic::{AtomicU64, Ordering};
 use std::thread::{self, Threads};
@@ -94,7 +95,7 @@ fn ask<B: ExportName, R: Wait>(
 }
 
 // None where the flusher can't be started.
-fn with_flusher<B: ExportName + Send + Sync, R: Threads + Wait + Sync>(
+fn with_flusher<B: ExportName + Send + Sync, R: Threads + Wait + Clock + Sync>(
     rt: &R,
     alloc: Global,
     export: &Export<B, SimDisk, ()>,
@@ -109,7 +110,7 @@ fn with_flusher<B: ExportName + Send + Sync, R: Threads + Wait + Sync>(
     })
 }
 
-fn ask_beside_a_flusher<B: ExportName + Send + Sync, R: Threads + Wait + Sync>(
+fn ask_beside_a_flusher<B: ExportName + Send + Sync, R: Threads + Wait + Clock + Sync>(
     rt: &R,
     alloc: Global,
     device: OpenDevice<SimDisk, ()>,
@@ -158,7 +159,7 @@ fn write_its_own<B: ExportName, R: Wait>(
 }
 
 // A thread for each pass; how many writes were answered Ok.
-fn write_by_threads<B: ExportName + Send + Sync, R: Threads + Wait + Sync>(
+fn write_by_threads<B: ExportName + Send + Sync, R: Threads + Wait + Clock + Sync>(
     rt: &R,
     alloc: Global,
     export: &Export<B, SimDisk, ()>,
@@ -181,7 +182,7 @@ fn write_by_threads<B: ExportName + Send + Sync, R: Threads + Wait + Sync>(
 }
 
 // What two threads wrote, the number that the device opens with again, and whether it has all their bytes.
-fn share<B: ExportName + Send + Sync, R: Threads + Wait + Sync>(
+fn share<B: ExportName + Send + Sync, R: Threads + Wait + Clock + Sync>(
     rt: &R,
     alloc: Global,
     device: OpenDevice<SimDisk, ()>,

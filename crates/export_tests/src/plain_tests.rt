@@ -9,6 +9,7 @@ use marks::Pass;
 use request_core::Mode;
 use std::alloc::Global;
 use std::marker::Brand;
+use std::rt::Clock;
 use std::sync::atomic::{AtomicU64, Ordering};
 use std::sync::{Mutex, Wait};
 use std::thread::{self, Threads};
@@ -105,7 +106,7 @@ fn serve_one<B: ExportName, R: Wait>(
     export.leave(rt, pass);
 }
 
-fn serve_eight<B: ExportName + Send + Sync, R: Threads + Wait + Sync>(
+fn serve_eight<B: ExportName + Send + Sync, R: Threads + Wait + Clock + Sync>(
     rt: &R,
     alloc: Global,
     export: &Export<B, SimDisk, ()>,
@@ -141,7 +142,7 @@ fn serve_eight<B: ExportName + Send + Sync, R: Threads + Wait + Sync>(
 }
 
 // What the threads wrote, and the device that is left.
-fn run<B: ExportName + Send + Sync, R: Threads + Wait + Sync>(
+fn run<B: ExportName + Send + Sync, R: Threads + Wait + Clock + Sync>(
     rt: &R,
     alloc: Global,
     device: OpenDevice<SimDisk, ()>,

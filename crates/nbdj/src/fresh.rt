@@ -1,10 +1,11 @@
+use crate::files::Place;
 use std::cell::Cell;
 use std::fs::{File, Metadata, OpenFile};
 use std::io;
 use std::os::unix::fs::FileExt;
 
 /// A file that is emptied and gets its full length, both stable, before the first byte of it is written. So whoever gives
-/// up before that has lost nothing of what it held.
+/// up before that has lost nothing of what it held. A block device is written as it is.
 #[derive(Drop)]
 pub struct FreshFile {
     file: File,
@@ -13,11 +14,11 @@ pub struct FreshFile {
 }
 
 impl FreshFile {
-    pub fn new(file: File, size: u64) -> FreshFile {
+    pub fn new(file: File, size: u64, place: Place) -> FreshFile {
         FreshFile {
             file,
             size,
-            is_ready: Cell::new(false),
+            is_ready: Cell::new(place == Place::BlockDevice),
         }
     }
 

@@ -5,19 +5,27 @@ ghost use Rattle.nbdj_run.specs.Plan.{Suits};
 
 mod beside;
 mod files;
+mod filling;
 mod fresh;
 mod serving;
 mod streams;
+mod teller;
+mod told;
 
 use crate::beside::SecondHandle;
-use crate::files::{FileFault, open, open_for_reading, open_fresh};
+use crate::files::{FileFault, Opened, open, open_for_reading, open_fresh};
+use crate::filling::fill;
 use crate::serving::serve_at;
 use crate::streams::ClosedStreams;
+use crate::teller::Teller;
+use crate::told::ToldFile;
 use clap::error::ErrorKind;
 use disk_model::{Disk, FileDisk};
 use nbdj_line::line;
-use nbdj_run::{Plan, perform};
+use nbdj_pipe::Refusal;
+use nbdj_run::{Errand, Plan, exit_status, perform};
 use nbdj_script::script;
+use std::fs::File;
 use std::process::ExitCode;
 use std::rt::Clock;
 use std::sync::Wait;
@@ -36,12 +44,15 @@ fn main(rt: HostRuntime) -> ExitCode {
 
 // Reads the command line and carries out its plan; the exit status. The runtime may start threads in `main` alone, which
 // therefore hands it out a second time for what may.
-fn start<R: Threads + Wait + Clock + Sync>(rt: &HostRuntime, threads: &R) -> anyhow::Result<u8> {
+fn start<R>(rt: &HostRuntime, threads: &R) -> anyhow::Result<u8>
+where
+    R: Threads + Wait + Clock + Copy + Send + Sync + Drop + 'static,
+{
     let alloc = rt.alloc();
     let arguments: Vec<String> = env::args(rt)?.collect(alloc)?;
     let words: Vec<&str> = arguments.iter().map(|word| word.as_str()).collect(alloc)?;
     match line(alloc, &words) {
-        Ok(plan) => Ok(run(rt, threads, &plan)),
+        Ok(errand) => Ok(run(rt, threads, errand)),
         Err(fault) if fault.kind() == ErrorKind::OutOfMemory => Ok(no_memory(rt)),
         Err(fault) => {
             // Where not even that can be written, the status alone tells.
@@ -57,34 +68,70 @@ fn no_memory(rt: &HostRuntime) -> u8 {
 }
 
 // Carries out the plan, and gives the exit status. The lock on a device's file is held as long as the file is open.
-fn run<R: Threads + Wait + Clock + Sync>(rt: &HostRuntime, threads: &R, plan: &Plan<'_>) -> u8 {
-    match *plan {
-        Plan::Format { path, geometry } => match open_fresh(rt, path, geometry.device_bytes()) {
-            Ok((file, size)) => run_on(rt, plan, FileDisk::new(file, size)),
-            Err(fault) => no_file(rt, path, fault),
+fn run<R>(rt: &HostRuntime, threads: &R, errand: Errand<'_>) -> u8
+where
+    R: Threads + Wait + Clock + Copy + Send + Sync + Drop + 'static,
+{
+    let teller = Teller::new(rt, errand.is_verbose);
+    match errand.plan {
+        Plan::Format {
+            path,
+            geometry,
+            preallocates,
+        } => match open_fresh(rt, path, geometry.device_bytes()) {
+            Ok((file, size)) => {
+                let file = ToldFile::new(rt, file, path, errand.is_verbose);
+                if preallocates && fill(rt, &file, size).is_err() {
+                    return exit_status(Err(Refusal::DeviceFault), &mut rt.stderr());
+                }
+                run_on(rt, &errand.plan, FileDisk::new(file, size))
+            }
+            Err(fault) => no_file(rt, teller, path, fault),
         },
         Plan::Serve {
             path,
             address,
             options,
         } => match open(rt, path) {
-            Ok((file, size)) => {
-                let beside = SecondHandle::of(&file);
-                let disk = FileDisk::new(file, size);
-                serve_at(rt, threads, disk, beside, address, options)
+            Ok(opened) => {
+                let beside = SecondHandle::of(&opened.file);
+                let disk = disk_of(rt, teller, opened, path, true);
+                serve_at(rt, threads, teller, disk, beside, address, options)
             }
-            Err(fault) => no_file(rt, path, fault),
+            Err(fault) => no_file(rt, teller, path, fault),
         },
         Plan::Pipe { path, .. } | Plan::Recover { path } => match open(rt, path) {
-            Ok((file, size)) => run_on(rt, plan, FileDisk::new(file, size)),
-            Err(fault) => no_file(rt, path, fault),
+            Ok(opened) => {
+                let disk = disk_of(rt, teller, opened, path, errand.is_verbose);
+                run_on(rt, &errand.plan, disk)
+            }
+            Err(fault) => no_file(rt, teller, path, fault),
         },
         Plan::Check { path } => match open_for_reading(rt, path) {
-            Ok((file, size)) => run_on(rt, plan, FileDisk::new(file, size)),
-            Err(fault) => no_file(rt, path, fault),
+            Ok(opened) => {
+                let disk = disk_of(rt, teller, opened, path, errand.is_verbose);
+                run_on(rt, &errand.plan, disk)
+            }
+            Err(fault) => no_file(rt, teller, path, fault),
         },
         Plan::Rehearse => run_script(rt),
     }
+}
+
+// The device of a file that was opened. Where `tells`, the first call that fails is told.
+fn disk_of<'a>(
+    rt: &HostRuntime,
+    teller: Teller,
+    opened: Opened,
+    path: &'a str,
+    tells: bool,
+) -> FileDisk<ToldFile<'a, File>> {
+    let Opened { file, size, length } = opened;
+    let mut disk = FileDisk::new(file, size);
+    if teller.is_verbose() {
+        disk = teller.tell_header(path, length, disk);
+    }
+    FileDisk::new(ToldFile::new(rt, disk.into_file(), path, tells), size)
 }
 
 // Carries out the plan on its device.
@@ -99,12 +146,15 @@ fn run_on<D: Disk + Drop>(rt: &HostRuntime, plan: &Plan<'_>, disk: D) -> u8
 }
 
 // Tells why there is no file to work on, and gives the exit status.
-fn no_file(rt: &HostRuntime, path: &str, fault: FileFault) -> u8 {
+fn no_file(rt: &HostRuntime, teller: Teller, path: &str, fault: FileFault) -> u8 {
+    teller.tell_fault(path, &fault);
     // Where not even that can be written, the status alone tells.
     let _ = match fault {
-        FileFault::Unopened => eprintln!(rt; "nbdj: cannot open {path}"),
+        FileFault::Unopened(_) | FileFault::Unfit | FileFault::Short => eprintln!(rt;
+            "nbdj: cannot open {path}"
+        ),
         FileFault::InUse => eprintln!(rt; "nbdj: {path} is in use"),
-        FileFault::Unlocked => eprintln!(rt; "nbdj: cannot lock {path}"),
+        FileFault::Unlocked(_) => eprintln!(rt; "nbdj: cannot lock {path}"),
         FileFault::IsOutput => eprintln!(rt; "nbdj: {path} is standard output"),
         FileFault::IsErrors => Ok(()),
     };

@@ -1,8 +1,11 @@
 //! The sockets of a server.
 
 use crate::beside::SecondHandle;
-use disk_model::FileDisk;
+use crate::teller::Teller;
+use crate::told::ToldFile;
+use disk_model::{Disk, FileDisk};
 use export::OpenDevice;
+use header_slots::read_current;
 use nbdj_pipe::Refusal;
 use nbdj_run::{Address, exit_status};
 use server::{Listener, ServeOptions, serve};
@@ -15,39 +18,80 @@ use std::os::unix::net::{UnixListener, UnixStream};
 use std::rt::Clock;
 use std::sync::Wait;
 use std::thread::Threads;
+use std::time::{Duration, Instant};
 
 // Opens a device, serves it at an address, and gives the exit status.
-pub fn serve_at<R: Threads + Wait + Clock + Sync>(
+pub fn serve_at<R: Threads + Wait + Clock + Copy + Send + Sync + Drop + 'static>(
     rt: &HostRuntime,
     threads: &R,
-    disk: FileDisk<File>,
+    teller: Teller,
+    disk: FileDisk<ToldFile<'_, File>>,
     beside: Option<SecondHandle>,
     address: Address<'_>,
     options: ServeOptions,
 ) -> u8 {
-    let outcome = match OpenDevice::open(rt.alloc(), disk, beside) {
-        Ok(device) => listen(rt, threads, device, address, options),
-        Err((fault, _disk)) => Err(Refusal::from(fault)),
+    let outcome = match open_device(rt, teller, disk, beside) {
+        Ok(device) => listen(rt, threads, teller, device, address, options),
+        Err(refusal) => Err(refusal),
     };
     exit_status(outcome, &mut rt.stderr())
 }
 
+// Opens a device, and tells how many commands that has recovered.
+fn open_device<'a>(
+    rt: &HostRuntime,
+    teller: Teller,
+    disk: FileDisk<ToldFile<'a, File>>,
+    beside: Option<SecondHandle>,
+) -> Result<OpenDevice<FileDisk<ToldFile<'a, File>>, SecondHandle>, Refusal> {
+    let mut disk = disk;
+    let base = if teller.is_verbose() {
+        base_of(&mut disk)
+    } else {
+        None
+    };
+    let start = Instant::now(rt);
+    match OpenDevice::open(rt.alloc(), disk, beside) {
+        Ok(device) => {
+            if let (Some(base), Ok(start)) = (base, start) {
+                let commands = device.keeper.count().saturating_sub(base);
+                teller.tell_recovery(commands, start.elapsed(rt).unwrap_or(Duration::ZERO));
+            }
+            Ok(device)
+        }
+        Err((fault, _disk)) => Err(Refusal::from(fault)),
+    }
+}
+
+// The number of the last command that the image holds without its journal.
+fn base_of<D: Disk>(disk: &mut D) -> Option<u64> {
+    let (header, _) = read_current(disk).ok()?;
+    Some(header.base)
+}
+
 // Listens at an address, and serves the clients that arrive there.
-fn listen<R: Threads + Wait + Clock + Sync>(
+fn listen<R: Threads + Wait + Clock + Copy + Send + Sync + Drop + 'static>(
     rt: &HostRuntime,
     threads: &R,
-    device: OpenDevice<FileDisk<File>, SecondHandle>,
+    teller: Teller,
+    device: OpenDevice<FileDisk<ToldFile<'_, File>>, SecondHandle>,
     address: Address<'_>,
     options: ServeOptions,
 ) -> Result<(), Refusal> {
     match address {
         Address::Tcp(address) => {
-            let (listener, port) = bind_tcp(rt, address).map_err(|_| Refusal::StreamFault)?;
-            serve_clients(rt, threads, device, listener, port, options)
+            let (listener, port) = match bind_tcp(rt, address) {
+                Ok(bound) => bound,
+                Err(error) => return Err(no_socket(teller, address, &error)),
+            };
+            serve_clients(rt, threads, teller, device, listener, port, options)
         }
         Address::Unix(path) => {
-            let listener = bind_unix(rt, path).map_err(|_| Refusal::StreamFault)?;
-            let outcome = serve_clients(rt, threads, device, listener, path, options);
+            let listener = match bind_unix(rt, path) {
+                Ok(listener) => listener,
+                Err(error) => return Err(no_socket(teller, path, &error)),
+            };
+            let outcome = serve_clients(rt, threads, teller, device, listener, path, options);
             // Where it can't be removed, the next server replaces it.
             let _ = fs::remove_file(rt, path);
             outcome
@@ -55,11 +99,35 @@ fn listen<R: Threads + Wait + Clock + Sync>(
     }
 }
 
+// Why nobody can arrive at an address.
+fn no_socket(teller: Teller, address: &str, error: &io::Error) -> Refusal {
+    teller.tell_error(address, error);
+    Refusal::StreamFault
+}
+
+// The port of an address that says none: the one that is registered for the protocol.
+const USUAL_PORT: u16 = 10809;
+
 // A socket at an address, and the port that it has.
 fn bind_tcp(rt: &HostRuntime, address: &str) -> io::Result<(Listener, u16)> {
-    let listener = TcpListener::bind(rt, address)?;
+    let listener = match host_alone(address) {
+        Some(host) => TcpListener::bind(rt, (host, USUAL_PORT))?,
+        None => TcpListener::bind(rt, address)?,
+    };
     let port = listener.local_addr()?.port();
     Ok((Listener::Tcp(listener), port))
+}
+
+// The host of an address that says no port: it has no colon, or more than one outside brackets.
+fn host_alone(address: &str) -> Option<&str> {
+    if let Some(inside) = address.strip_prefix('[') {
+        return inside.strip_suffix(']');
+    }
+    let colon = address.find(':');
+    if address.is_empty() || (colon.is_some() && colon == address.rfind(':')) {
+        return None;
+    }
+    Some(address)
 }
 
 // A socket with a file, which takes the place of one that nobody listens on.
@@ -89,16 +157,29 @@ fn is_abandoned(rt: &HostRuntime, path: &str) -> bool {
 }
 
 // Says where it listens, and serves the clients that arrive there.
-fn serve_clients<T: Display + Drop, R: Threads + Wait + Clock + Sync>(
+fn serve_clients<
+    T: Display + Drop,
+    R: Threads + Wait + Clock + Copy + Send + Sync + Drop + 'static,
+>(
     rt: &HostRuntime,
     threads: &R,
-    device: OpenDevice<FileDisk<File>, SecondHandle>,
+    teller: Teller,
+    device: OpenDevice<FileDisk<ToldFile<'_, File>>, SecondHandle>,
     listener: Listener,
     label: T,
     options: ServeOptions,
 ) -> Result<(), Refusal> {
     tell(rt, &label).map_err(|_| Refusal::StreamFault)?;
-    let (outcome, _disk) = serve(threads, rt.alloc(), device, listener, options, ());
+    let input = rt.stdin();
+    let (outcome, _disk) = serve(
+        threads,
+        rt.alloc(),
+        device,
+        listener,
+        input,
+        options,
+        teller,
+    );
     outcome
 }
 

@@ -2,6 +2,7 @@
 use Rattle.std.specs.Prelude.{true, false, Some, [], ◌∷◌, codes}
 use Rattle.clap.specs.Words.{App, Rule, Text, new_app, new_rule, with_rule, with_subcommand}
 use Rattle.clap.specs.Simple.{on_top}
+use Rattle.clap.specs.declared.builder.action.ArgAction.TheVariants.{SetTrue}
 use Rattle.clap.specs.declared.builder.value_parser.ValueParser.{ValueParser}
 use Rattle.clap.specs.declared.builder.value_parser.ValueParser.TheVariants as parser
 
@@ -12,6 +13,14 @@ path_rule = record (new_rule (codes "path")) { value_names = 1; required = true 
 -- an option `--NAME VALUE`, which takes any value
 abbrev pub option_rule : Text → Rule
 option_rule name = record (new_rule name) { long = Some name; value_names = 1 }
+
+-- an option `--NAME` without a value
+abbrev pub flag_rule : Text → Rule
+flag_rule name = record (new_rule name) { long = Some name; action = Some SetTrue }
+
+-- the option `-v` or `--verbose`, which each subcommand but that for scripts takes
+abbrev pub verbose_rule : Rule
+verbose_rule = record (flag_rule (codes "verbose")) { short = Some 118 }
 
 -- options whose value says so many bytes; one that isn't free has a say in which others are given
 abbrev pub size_rule : Rule
@@ -35,12 +44,14 @@ abbrev pub cache_rule : ValueParser → Rule
 cache_rule modes = record (option_rule (codes "cache")) { parser = Some modes; defaults = codes "writeback" ∷ [] }
 
 abbrev pub format_app : App
-format_app = with_rule (with_rule (with_rule (with_rule (new_app (codes "format")) path_rule) size_rule) blocks_rule) area_rule
+format_app =
+    with_rule (with_rule (with_rule (with_rule (with_rule (with_rule (new_app (codes "format")) path_rule) size_rule) blocks_rule) area_rule)
+    (flag_rule (codes "preallocate"))) verbose_rule
 
 abbrev pub pipe_app : ValueParser → App
-pipe_app modes = with_rule (with_rule (with_rule (new_app (codes "pipe")) path_rule) frames_rule) (cache_rule modes)
+pipe_app modes = with_rule (with_rule (with_rule (with_rule (new_app (codes "pipe")) path_rule) frames_rule) (cache_rule modes)) verbose_rule
 
--- where clients arrive; the one that isn't free has a say in whether the other is given
+-- where clients arrive; the one that isn't free has a say in whether the other may be given
 abbrev pub listen_rule : Rule
 listen_rule = record (option_rule (codes "listen")) { is_free = false }
 
@@ -59,14 +70,29 @@ handshake_rule = record (option_rule (codes "handshake-timeout")) { parser = Som
 abbrev pub served_app : App
 served_app = with_rule (with_rule (with_rule (new_app (codes "serve")) path_rule) listen_rule) unix_rule
 
+-- an option whose value is a number of seconds up to a day, 0 for no end
+abbrev pub interval_rule : Text → Text → Rule
+interval_rule name usual = record (option_rule name) { parser = Some (parser.Unsigned 0 86400); defaults = usual ∷ [] }
+
+abbrev pub on_fault_rule : Rule
+on_fault_rule = record (option_rule (codes "on-fault")) { defaults = codes "exit" ∷ [] }
+
+abbrev pub loaded_app : ValueParser → App
+loaded_app modes = with_rule (with_rule (with_rule served_app workers_rule) frames_rule) (cache_rule modes)
+
+abbrev pub timed_app : ValueParser → App
+timed_app modes =
+    with_rule (with_rule (with_rule (with_rule (loaded_app modes) sessions_rule) handshake_rule) (interval_rule (codes "idle-timeout") (codes "0")))
+    (interval_rule (codes "flush-interval") (codes "5"))
+
 abbrev pub serve_app : ValueParser → App
-serve_app modes = with_rule (with_rule (with_rule (with_rule (with_rule served_app workers_rule) frames_rule) (cache_rule modes)) sessions_rule) handshake_rule
+serve_app modes = with_rule (with_rule (with_rule (timed_app modes) on_fault_rule) (flag_rule (codes "until-eof"))) verbose_rule
 
 abbrev pub recover_app : App
-recover_app = with_rule (new_app (codes "recover")) path_rule
+recover_app = with_rule (with_rule (new_app (codes "recover")) path_rule) verbose_rule
 
 abbrev pub check_app : App
-check_app = with_rule (new_app (codes "check")) path_rule
+check_app = with_rule (with_rule (new_app (codes "check")) path_rule) verbose_rule
 
 abbrev pub rehearse_app : App
 rehearse_app = new_app (codes "rehearse")

@@ -1,9 +1,9 @@
-ghost use Rattle.std.specs.Prelude.{◌≡◌, false, true, IfOk, IsOkAnd};
+ghost use Rattle.std.specs.Prelude.{◌≡◌, codes, false, true, IfOk, IsOkAnd};
 ghost use Rattle.clap.specs.Words.{app_of, new_app, rule_of, with_rule, with_subcommand};
-ghost use Rattle.nbdj_line.specs.Commands.{area_rule, bare_app, block_count_rule, blocks_rule, cache_rule, check_app, format_app, frames_rule, handshake_rule, listen_rule, nbdj_app, option_rule, path_rule, pipe_app, recover_app, rehearse_app, serve_app, served_app, sessions_rule, size_rule, unix_rule, workers_rule};
+ghost use Rattle.nbdj_line.specs.Commands.{area_rule, bare_app, block_count_rule, blocks_rule, cache_rule, check_app, flag_rule, format_app, frames_rule, handshake_rule, interval_rule, listen_rule, loaded_app, nbdj_app, on_fault_rule, option_rule, path_rule, pipe_app, recover_app, rehearse_app, serve_app, served_app, sessions_rule, size_rule, timed_app, unix_rule, verbose_rule, workers_rule};
 
 use clap::builder::ValueParser;
-use clap::{Arg, Command, value_parser};
+use clap::{Arg, ArgAction, Command, value_parser};
 use nbdj_pipe::{LEAST_FRAMES, MOST_FRAMES};
 use server::MOST_WORKERS;
 use std::alloc::{AllocError, Global};
@@ -90,7 +90,9 @@ pub fn format<'a>(alloc: Global) -> Result<Command<'a>, AllocError>
     let command = command.override_usage(FORMAT_USAGE).arg(path(alloc))?;
     let command = with_argument(command, size(alloc))?;
     let command = with_argument(command, blocks(alloc))?;
-    command.arg(area(alloc))
+    let command = command.arg(area(alloc))?;
+    let command = command.arg(preallocate(alloc))?;
+    command.arg(verbose(alloc))
 }
 
 fn size<'a>(alloc: Global) -> Result<Arg<'a>, AllocError>
@@ -128,19 +130,47 @@ fn area<'a>(alloc: Global) -> Arg<'a>
     )
 }
 
+fn preallocate<'a>(alloc: Global) -> Arg<'a>
+    ensures local { result.global ≡ false }
+    ensures rule { rule_of result ≡ flag_rule (codes "preallocate") }
+{
+    flag(alloc, "preallocate").help(
+        "Writes zeroes over the whole file, so that no block of it is missing later on a full disk",
+    )
+}
+
 // The two ways to say where clients arrive.
 const SERVE_USAGE: &str =
     "nbdj serve [OPTIONS] --listen <ADDR> <PATH>\n       nbdj serve [OPTIONS] --unix <SOCKET> <PATH>";
 
-fn serve<'a>(alloc: Global, modes: ValueParser<'a>) -> Result<Command<'a>, AllocError>
+pub fn serve<'a>(alloc: Global, modes: ValueParser<'a>) -> Result<Command<'a>, AllocError>
     ensures { IfOk result (λ command. app_of command ≡ serve_app modes.entry) }
+{
+    let command = timed(alloc, modes)?;
+    let command = command.arg(on_fault(alloc))?;
+    let command = command.arg(until_eof(alloc))?;
+    command.arg(verbose(alloc))
+}
+
+// The subcommand without what ends it.
+fn timed<'a>(alloc: Global, modes: ValueParser<'a>) -> Result<Command<'a>, AllocError>
+    ensures { IfOk result (λ command. app_of command ≡ timed_app modes.entry) }
+{
+    let command = loaded(alloc, modes)?;
+    let command = command.arg(sessions(alloc))?;
+    let command = command.arg(handshake_timeout(alloc))?;
+    let command = command.arg(idle_timeout(alloc))?;
+    command.arg(flush_interval(alloc))
+}
+
+// The subcommand without its times.
+fn loaded<'a>(alloc: Global, modes: ValueParser<'a>) -> Result<Command<'a>, AllocError>
+    ensures { IfOk result (λ command. app_of command ≡ loaded_app modes.entry) }
 {
     let command = served(alloc)?;
     let command = command.arg(workers(alloc))?;
     let command = command.arg(frames(alloc))?;
-    let command = command.arg(cache(alloc, modes))?;
-    let command = command.arg(sessions(alloc))?;
-    command.arg(handshake_timeout(alloc))
+    command.arg(cache(alloc, modes))
 }
 
 // The subcommand with the image and the address alone.
@@ -162,9 +192,10 @@ fn listen<'a>(alloc: Global) -> Result<Arg<'a>, AllocError>
     ensures { IfOk result (λ arg. (arg.global ≡ false) × (rule_of arg ≡ listen_rule)) }
 {
     option(alloc, "listen", "ADDR")
-        .help("The address and port to listen on, as 127.0.0.1:10809; the system picks port 0")
-        .conflicts_with("unix")?
-        .required_unless_present("unix")
+        .help(
+            "The address to listen on, as 127.0.0.1, ::1 or 127.0.0.1:10810; without a port 10809, and the system picks port 0",
+        )
+        .conflicts_with("unix")
 }
 
 fn unix<'a>(alloc: Global) -> Arg<'a>
@@ -206,6 +237,69 @@ fn handshake_timeout<'a>(alloc: Global) -> Arg<'a>
         .help("For so long a client may say nothing before its handshake is over: 1 to 86400")
 }
 
+fn idle_timeout<'a>(alloc: Global) -> Arg<'a>
+    ensures local { result.global ≡ false }
+    ensures rule { rule_of result ≡ interval_rule (codes "idle-timeout") (codes "0") }
+{
+    interval(alloc, "idle-timeout", "0").help(
+        "For so long a client may say nothing once its handshake is over: 1 to 86400, or 0 for no end",
+    )
+}
+
+fn flush_interval<'a>(alloc: Global) -> Arg<'a>
+    ensures local { result.global ≡ false }
+    ensures rule { rule_of result ≡ interval_rule (codes "flush-interval") (codes "5") }
+{
+    interval(alloc, "flush-interval", "5").help(
+        "After so long a write is stored though no client flushes: 1 to 86400, or 0 for never",
+    )
+}
+
+// An option whose value is a number of seconds, or 0 for no end.
+fn interval<'a>(alloc: Global, name: &'a str, usual: &'a str) -> Arg<'a>
+    ensures local { result.global ≡ false }
+    ensures rule { rule_of result ≡ interval_rule name.now usual.now }
+{
+    option(alloc, name, "SECONDS")
+        .default_value(usual)
+        .value_parser(value_parser!(u64).range(0..=86_400))
+}
+
+fn on_fault<'a>(alloc: Global) -> Arg<'a>
+    ensures local { result.global ≡ false }
+    ensures rule { rule_of result ≡ on_fault_rule }
+{
+    option(alloc, "on-fault", "WAY").default_value("exit").help(
+        "Once the device has failed: `exit` ends the server with status 1, `stay` answers each request with EIO",
+    )
+}
+
+fn until_eof<'a>(alloc: Global) -> Arg<'a>
+    ensures local { result.global ≡ false }
+    ensures rule { rule_of result ≡ flag_rule (codes "until-eof") }
+{
+    flag(alloc, "until-eof").help(
+        "Ends the sessions and the server, with all stored, once standard input ends",
+    )
+}
+
+fn verbose<'a>(alloc: Global) -> Arg<'a>
+    ensures local { result.global ≡ false }
+    ensures rule { rule_of result ≡ verbose_rule }
+{
+    flag(alloc, "verbose").short('v').help(
+        "Tells on standard error what happens, and why something can't be done",
+    )
+}
+
+// An option without a value.
+fn flag<'a>(alloc: Global, name: &'a str) -> Arg<'a>
+    ensures local { result.global ≡ false }
+    ensures rule { rule_of result ≡ flag_rule name.now }
+{
+    Arg::new(alloc, name).long(name).action(ArgAction::SetTrue)
+}
+
 fn pipe<'a>(alloc: Global, modes: ValueParser<'a>) -> Result<Command<'a>, AllocError>
     ensures { IfOk result (λ command. app_of command ≡ pipe_app modes.entry) }
 {
@@ -217,7 +311,8 @@ fn pipe<'a>(alloc: Global, modes: ValueParser<'a>) -> Result<Command<'a>, AllocE
     )
     .arg(path(alloc))?
     .arg(frames(alloc))?
-    .arg(cache(alloc, modes))
+    .arg(cache(alloc, modes))?
+    .arg(verbose(alloc))
 }
 
 fn frames<'a>(alloc: Global) -> Arg<'a>
@@ -257,7 +352,8 @@ fn recover<'a>(alloc: Global) -> Result<Command<'a>, AllocError>
         "Recovers the device and prints the number of its last command",
         "Example: nbdj recover d.img\n\nThe journal is copied into the image and is empty then. A kill or a power cut loses nothing.",
     )
-    .arg(path(alloc))
+    .arg(path(alloc))?
+    .arg(verbose(alloc))
 }
 
 fn check<'a>(alloc: Global) -> Result<Command<'a>, AllocError>
@@ -269,7 +365,8 @@ fn check<'a>(alloc: Global) -> Result<Command<'a>, AllocError>
         "Prints what the device holds, and writes nothing",
         "Example: nbdj check d.img\n\nThe exit status is 3 where the device is bad. A kill or a power cut changes nothing.",
     )
-    .arg(path(alloc))
+    .arg(path(alloc))?
+    .arg(verbose(alloc))
 }
 
 fn rehearse<'a>(alloc: Global) -> Command<'a>

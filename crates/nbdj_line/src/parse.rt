@@ -2,7 +2,7 @@ ghost use Rattle.std.specs.Prelude.{◌≡◌, ◌≤◌, ◌*◌, Some, IfOk, c
 ghost use Rattle.clap.specs.Words.{first_of, found_of, rows_of, subcommand_of};
 ghost use Rattle.clap.specs.declared.builder.value_parser.ValueParser.{ValueParser};
 ghost use Rattle.nbdj_line.specs.Commands.{nbdj_app};
-ghost use Rattle.nbdj_line.specs.Line.{mode_name, HasPath, IsAsked, IsGiven, SaysAddress, SaysArea, SaysBlocks};
+ghost use Rattle.nbdj_line.specs.Line.{fault_name, mode_name, HasPath, IsAsked, IsErrand, IsGiven, SaysAddress, SaysArea, SaysBlocks, SaysFlag, SaysLimits};
 ghost use Rattle.nbdj_line.specs.Size.{IsSize};
 
 use crate::commands::{self, modes, program};
@@ -11,22 +11,30 @@ use clap::error::ErrorKind;
 use clap::{ArgMatches, Command, Error};
 use image_model::{BLOCK_BYTES, Geometry, LEAST_AREA_BYTES, MOST_AREA_BYTES, MOST_BLOCKS};
 use nbdj_pipe::PipeOptions;
-use nbdj_run::{Address, Plan};
-use server::ServeOptions;
+use nbdj_run::{Address, Errand, Plan};
+use server::{Limits, OnFault, ServeOptions};
 use std::alloc::{AllocError, Global};
 use world::Mode;
 
 /// Reads a command line, the program's name first. Texts of help and version come as errors too.
 ///
 /// An error's text says which word is at fault and why.
-pub fn line<'a>(alloc: Global, words: &'a [&'a str]) -> Result<Plan<'a>, Error>
-    ensures { IfOk result (λ plan. (modes : ValueParser) × (others : ValueParser) × IsAsked (subcommand_of (nbdj_app modes others) (map (λ word. word.now) words.now)) plan) }
+pub fn line<'a>(alloc: Global, words: &'a [&'a str]) -> Result<Errand<'a>, Error>
+    ensures { IfOk result (λ errand. (modes : ValueParser) × (others : ValueParser) × IsErrand (subcommand_of (nbdj_app modes others) (map (λ word. word.now) words.now)) errand) }
 {
     let matches = program(alloc, modes(), modes())?.try_get_matches_from(words)?;
     match matches.subcommand() {
-        Some((name, matches)) => asked(alloc, name, matches),
+        Some((name, matches)) => errand(alloc, name, matches),
         None => Err(fault(alloc, "no command")),
     }
+}
+
+fn errand<'a>(alloc: Global, name: &str, matches: &ArgMatches<'a>) -> Result<Errand<'a>, Error>
+    ensures { IfOk result (IsErrand (Some (name.now, rows_of (found_of matches.now)))) }
+{
+    let plan = asked(alloc, name, matches)?;
+    let is_verbose = flag(matches, "verbose");
+    Ok(Errand { plan, is_verbose })
 }
 
 // The plan that a subcommand with these values asks for.
@@ -54,8 +62,13 @@ fn format<'a>(alloc: Global, matches: &ArgMatches<'a>) -> Result<Plan<'a>, Error
     let path = path(alloc, matches)?;
     let blocks = blocks(alloc, matches)?;
     let area = area(alloc, matches)?;
+    let preallocates = flag(matches, "preallocate");
     match Geometry::new(blocks, area) {
-        Some(geometry) => Ok(Plan::Format { path, geometry }),
+        Some(geometry) => Ok(Plan::Format {
+            path,
+            geometry,
+            preallocates,
+        }),
         None => Err(format_fault(alloc, "--area: the bytes of an area are a multiple of 8192")),
     }
 }
@@ -177,19 +190,36 @@ fn serve<'a>(alloc: Global, matches: &ArgMatches<'a>) -> Result<Plan<'a>, Error>
     let workers = number(alloc, matches, "workers")?;
     let frames = number(alloc, matches, "frames")?;
     let mode = mode(alloc, matches)?;
-    let sessions = number(alloc, matches, "sessions")?;
-    let seconds = number(alloc, matches, "handshake-timeout")?;
-    match ServeOptions::new(frames, mode, workers, sessions, seconds) {
+    let limits = limits(alloc, matches)?;
+    let on_fault = on_fault(alloc, matches)?;
+    let until_eof = flag(matches, "until-eof");
+    match ServeOptions::new(frames, mode, workers, limits, on_fault, until_eof) {
         Some(options) => Ok(Plan::Serve {
             path,
             address,
             options,
         }),
-        None => Err(fault(
+        None => Err(serve_fault(
             alloc,
             "--frames: the frames are 512 to 65536, the workers 1 to 16, and the handshake takes 1 second or more",
         )),
     }
+}
+
+// How many sessions there are, and how long each waits.
+fn limits(alloc: Global, matches: &ArgMatches<'_>) -> Result<Limits, Error>
+    ensures { IfOk result (SaysLimits (rows_of (found_of matches.now))) }
+{
+    let sessions = number(alloc, matches, "sessions")?;
+    let handshake_seconds = number(alloc, matches, "handshake-timeout")?;
+    let idle_seconds = number(alloc, matches, "idle-timeout")?;
+    let flush_seconds = number(alloc, matches, "flush-interval")?;
+    Ok(Limits {
+        sessions,
+        handshake_seconds,
+        idle_seconds,
+        flush_seconds,
+    })
 }
 
 // Where clients arrive, as one of two options says.
@@ -198,8 +228,28 @@ fn address<'a>(alloc: Global, matches: &ArgMatches<'a>) -> Result<Address<'a>, E
 {
     match (text(matches, "listen"), text(matches, "unix")) {
         (Some(address), None) => Ok(Address::Tcp(address)),
+        (None, Some("")) => Err(serve_fault(
+            alloc,
+            "invalid value '' for '--unix <SOCKET>': the path of a socket isn't empty",
+        )),
         (None, Some(path)) => Ok(Address::Unix(path)),
-        _ => Err(fault(alloc, "one of --listen and --unix is wanted")),
+        _ => Err(serve_fault(
+            alloc,
+            "one of --listen <ADDR> and --unix <SOCKET> is wanted",
+        )),
+    }
+}
+
+fn on_fault(alloc: Global, matches: &ArgMatches<'_>) -> Result<OnFault, Error>
+    ensures { IfOk result (λ way. first_of (codes "on-fault") (rows_of (found_of matches.now)) ≡ Some (fault_name way)) }
+{
+    match text(matches, "on-fault") {
+        Some("exit") => Ok(OnFault::Exit),
+        Some("stay") => Ok(OnFault::Stay),
+        _ => Err(serve_fault(
+            alloc,
+            "invalid value for '--on-fault <WAY>': it is exit or stay",
+        )),
     }
 }
 
@@ -239,9 +289,21 @@ fn number(alloc: Global, matches: &ArgMatches<'_>, name: &str) -> Result<u64, Er
     }
 }
 
+// Whether an option without a value was given.
+fn flag(matches: &ArgMatches<'_>, name: &str) -> bool
+    ensures { SaysFlag (rows_of (found_of matches.now)) name.now result }
+{
+    matches.get_flag(name)
+}
+
 // A fault of what the words of `format` mean, told as one of the words themselves.
 fn format_fault(alloc: Global, message: &str) -> Error {
     fault_of(commands::format(alloc), message)
+}
+
+// The like of `serve`.
+fn serve_fault(alloc: Global, message: &str) -> Error {
+    fault_of(commands::serve(alloc, modes()), message)
 }
 
 // The like of another subcommand's words.

@@ -11,13 +11,21 @@ pub enum Address<'a> {
     Unix(&'a str),
 }
 
-/// What a command line asks for. A path names a device's file, which the caller opens or makes.
+/// What a command line asks for, and whether what happens is told on standard error.
+#[derive(Clone, Copy, Debug)]
+pub struct Errand<'a> {
+    pub plan: Plan<'a>,
+    pub is_verbose: bool,
+}
+
+/// What is to be done. A path names a device's file, which the caller opens or makes.
 #[derive(Clone, Copy, Debug)]
 pub enum Plan<'a> {
-    /// Makes the device an image of holes.
+    /// Makes the device an image of holes; where it preallocates, all of its file was written before.
     Format {
         path: &'a str,
         geometry: Geometry,
+        preallocates: bool,
     },
     /// Serves one connection over standard input and output.
     Pipe {

@@ -45,7 +45,7 @@ pub fn perform<D: Disk + Drop, R: Read, W: Write, E: Write>(
         return check(alloc, disk, output, errors);
     }
     let (outcome, disk) = match *plan {
-        Plan::Format { path: _, geometry } => format(alloc, disk, geometry, output),
+        Plan::Format { geometry, .. } => format(alloc, disk, geometry, output),
         Plan::Pipe { path: _, options } => pipe(alloc, disk, options, input, output),
         Plan::Recover { path: _ } => recover(alloc, disk, output),
         Plan::Serve { .. } | Plan::Check { path: _ } | Plan::Rehearse => unreachable!(),

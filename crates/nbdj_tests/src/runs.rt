@@ -66,7 +66,11 @@ pub fn formatted(rt: &impl Abort, alloc: Global, blocks: u64, area: u32) -> Resu
     let disk = SimDisk::new(alloc, geometry.device_bytes())?;
     let ran = run(
         alloc,
-        &Plan::Format { path: "", geometry },
+        &Plan::Format {
+            path: "",
+            geometry,
+            preallocates: false,
+        },
         disk,
         &mut [].as_slice(),
     );

@@ -1,7 +1,9 @@
+use crate::house::House;
 use export::{Gate, Point};
 use std::cell::Cell;
+use std::fmt::{self, Display, Formatter};
 use std::io::{self, Read, Write};
-use std::net::TcpStream;
+use std::net::{Shutdown, TcpStream};
 use std::os::unix::net::UnixStream;
 use std::time::Duration;
 
@@ -12,23 +14,65 @@ pub enum Client {
     Unix(UnixStream),
 }
 
-impl Client {
-    /// How long a read waits for a first byte; None for no end.
-    pub(crate) fn limit_wait(&self, limit: Option<Duration>) -> io::Result<()> {
+impl Display for Client {
+    fn fmt<W: fmt::Write>(&self, f: &mut Formatter<W>) -> fmt::Result {
         match self {
-            Client::Tcp(stream) => stream.set_read_timeout(limit),
-            Client::Unix(stream) => stream.set_read_timeout(limit),
+            Client::Tcp(stream) => match stream.peer_addr() {
+                Ok(address) => write!(f, "{address}"),
+                Err(_) => f.write_str("an address that can't be told"),
+            },
+            Client::Unix(_) => f.write_str("the Unix socket"),
         }
     }
 }
 
-/// What a client sends.
+impl Client {
+    /// How long a read waits for a first byte, and a write until one is taken; None for no end.
+    pub(crate) fn limit_wait(&self, limit: Option<Duration>) -> io::Result<()> {
+        match self {
+            Client::Tcp(stream) => {
+                stream.set_read_timeout(limit)?;
+                stream.set_write_timeout(limit)
+            }
+            Client::Unix(stream) => {
+                stream.set_read_timeout(limit)?;
+                stream.set_write_timeout(limit)
+            }
+        }
+    }
+
+    /// Ends its input: a read that waits finds the end.
+    pub(crate) fn end_input(&self) {
+        self.shut_down(Shutdown::Read);
+    }
+
+    /// Ends its input and its output, and wakes who waits at it.
+    pub(crate) fn shut(&self) {
+        self.shut_down(Shutdown::Both);
+    }
+
+    fn shut_down(&self, how: Shutdown) {
+        // Where it fails the client has gone.
+        let _ = match self {
+            Client::Tcp(stream) => stream.shutdown(how),
+            Client::Unix(stream) => stream.shutdown(how),
+        };
+    }
+}
+
+/// What a client sends, until its session is ended.
 #[derive(Drop)]
-pub(crate) struct Input<'a>(pub &'a Client);
+pub(crate) struct Input<'a> {
+    pub client: &'a Client,
+    pub house: &'a House,
+}
 
 impl<'a> Read for Input<'a> {
     fn read(&mut self, buf: &mut [u8]) -> io::Result<usize> {
-        match self.0 {
+        if self.house.is_closed() {
+            return Ok(0);
+        }
+        match self.client {
             Client::Tcp(stream) => {
                 let mut stream = stream;
                 stream.read(buf)

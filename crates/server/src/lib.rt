@@ -3,7 +3,9 @@
 
 mod client;
 mod desk;
+mod house;
 mod listener;
+mod log;
 mod options;
 mod serving;
 mod worker;
@@ -11,5 +13,6 @@ mod worker;
 pub use client::Client;
 pub use desk::Desk;
 pub use listener::Listener;
-pub use options::{MOST_WORKERS, ServeOptions};
+pub use log::{Event, Log, Traffic};
+pub use options::{Limits, MOST_WORKERS, OnFault, ServeOptions};
 pub use serving::serve;

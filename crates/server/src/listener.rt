@@ -1,7 +1,8 @@
 use crate::client::Client;
 use std::io;
-use std::net::TcpListener;
-use std::os::unix::net::UnixListener;
+use std::net::{TcpListener, TcpStream};
+use std::os::fd::OwnedFd;
+use std::os::unix::net::{UnixListener, UnixStream};
 
 /// A socket at which clients arrive.
 #[derive(Drop)]
@@ -23,6 +24,20 @@ impl Listener {
             Listener::Unix(listener) => {
                 let (stream, _) = listener.accept()?;
                 Ok(Client::Unix(stream))
+            }
+        }
+    }
+
+    /// The same socket, as one that can be shut.
+    pub(crate) fn door(&self) -> io::Result<Client> {
+        match self {
+            Listener::Tcp(listener) => {
+                let socket = OwnedFd::from(listener.try_clone()?);
+                Ok(Client::Tcp(TcpStream::from(socket)))
+            }
+            Listener::Unix(listener) => {
+                let socket = OwnedFd::from(listener.try_clone()?);
+                Ok(Client::Unix(UnixStream::from(socket)))
             }
         }
     }

@@ -1,10 +1,55 @@
 ghost use Rattle.std.specs.Prelude.{◌≡◌, ◌<◌, ◌≤◌, MatchOption};
 
 use nbdj_pipe::{LEAST_FRAMES, MOST_FRAMES};
+use std::time::Duration;
 use world::Mode;
 
 /// The most clients that are served at a time.
 pub const MOST_WORKERS: u64 = 16;
+
+/// What a server does once a call of the device has failed: what was waited for is answered EIO either way.
+#[derive(Clone, Copy, Debug, PartialEq, Eq)]
+pub enum OnFault {
+    /// It ends its sessions and itself.
+    Exit,
+    /// It stays, and answers each request with EIO.
+    Stay,
+}
+
+/// How many sessions a server has, and how long it waits in them.
+#[derive(Clone, Copy, Debug, PartialEq, Eq)]
+pub struct Limits {
+    /// After so many sessions the server ends; 0 for no end.
+    pub sessions: u64,
+    /// For so many seconds a client may say nothing before its handshake is over: at least 1.
+    pub handshake_seconds: u64,
+    /// For so many seconds it may say nothing afterwards; 0 for no end.
+    pub idle_seconds: u64,
+    /// After so many seconds what is pending is stored, though nobody waits for it; 0 for no end.
+    pub flush_seconds: u64,
+}
+
+impl Limits {
+    pub(crate) fn handshake(&self) -> Option<Duration> {
+        seconds(self.handshake_seconds)
+    }
+
+    pub(crate) fn idle(&self) -> Option<Duration> {
+        seconds(self.idle_seconds)
+    }
+
+    pub(crate) fn pending(&self) -> Option<Duration> {
+        seconds(self.flush_seconds)
+    }
+}
+
+// So many seconds, and none for 0.
+fn seconds(count: u64) -> Option<Duration> {
+    if count == 0 {
+        return None;
+    }
+    Some(Duration::from_secs(count))
+}
 
 /// How an image is served.
 #[derive(Clone, Copy, Debug, PartialEq, Eq)]
@@ -15,10 +60,10 @@ pub struct ServeOptions {
     pub mode: Mode,
     /// How many clients are served at a time: 1 to 16.
     pub workers: u32,
-    /// After so many sessions the server ends; 0 for no end.
-    pub sessions: u64,
-    /// For so many seconds a client may say nothing before its handshake is over: at least 1.
-    pub handshake_seconds: u64,
+    pub limits: Limits,
+    pub on_fault: OnFault,
+    /// Whether the server ends once its standard input does.
+    pub until_eof: bool,
     ghost frames_few: { frames ≤ 65536 },
     ghost some_workers: { 0 < workers },
     ghost workers_few: { workers ≤ 16 },
@@ -31,26 +76,28 @@ impl ServeOptions {
         frames: u64,
         mode: Mode,
         workers: u64,
-        sessions: u64,
-        handshake_seconds: u64,
+        limits: Limits,
+        on_fault: OnFault,
+        until_eof: bool,
     ) -> Option<ServeOptions>
         ensures { MatchOption result
-            ((512 ≤ frames) × (frames ≤ 65536) × (0 < workers) × (workers ≤ 16) × (0 < handshake_seconds) → ⊥)
-            (λ options. (512 ≤ frames) × (0 < handshake_seconds) × (options.frames ≡ frames) × (options.mode ≡ mode) × (options.workers ≡ workers)
-            × (options.sessions ≡ sessions) × (options.handshake_seconds ≡ handshake_seconds)) }
+            ((512 ≤ frames) × (frames ≤ 65536) × (0 < workers) × (workers ≤ 16) × (0 < limits.handshake_seconds) → ⊥)
+            (λ options. (512 ≤ frames) × (0 < limits.handshake_seconds) × (options.frames ≡ frames) × (options.mode ≡ mode) × (options.workers ≡ workers)
+            × (options.limits ≡ limits) × (options.on_fault ≡ on_fault) × (options.until_eof ≡ until_eof)) }
     {
         if !(LEAST_FRAMES..=MOST_FRAMES).contains(&frames) {
             return None;
         }
-        if !(1..=MOST_WORKERS).contains(&workers) || handshake_seconds == 0 {
+        if !(1..=MOST_WORKERS).contains(&workers) || limits.handshake_seconds == 0 {
             return None;
         }
         Some(ServeOptions {
             frames: frames as u32,
             mode,
             workers: workers as u32,
-            sessions,
-            handshake_seconds,
+            limits,
+            on_fault,
+            until_eof,
         })
     }
 }

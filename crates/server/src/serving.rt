@@ -1,61 +1,114 @@
 ghost use Rattle.std.specs.Prelude.{◌≡◌, IfOk, vec_len};
-ghost use Rattle.std.specs.Thread.{IsSend};
 
+use crate::house::House;
 use crate::listener::Listener;
-use crate::options::ServeOptions;
+use crate::log::Log;
+use crate::options::{OnFault, ServeOptions};
 use crate::worker::{Reception, worker};
 use disk_model::Disk;
 use export::{Export, ExportName, Gate, OpenDevice, ReadBeside};
 use marks::Pass;
 use nbdj_pipe::Refusal;
 use std::alloc::Global;
+use std::io::{ErrorKind, Read};
 use std::marker::Brand;
 use std::rt::Clock;
-use std::sync::Wait;
-use std::thread::{self, Threads};
+use std::sync::{Arc, Wait};
+use std::thread::{self, Scope, Threads};
 
-/// Serves the clients that arrive at a socket from a device that was opened, and gives the device back once as many
-/// sessions have ended as the options say and all is stored. Refusals 0 (no memory, and nobody was served) and 1 (device
-/// fault).
-pub fn serve<D, H, R, G>(
+/// Serves the clients that arrive at a socket from a device that was opened, and gives the device back once the server has come
+/// to its end and all is stored: as many sessions have ended as the options say, `input` has ended where they say so, or a call
+/// of the device has failed. `watch` is told what happens, and may hold the threads. Refusals 0 (no memory, and nobody was served), 1 (device fault) and 21 (the socket).
+pub fn serve<D, H, R, I, G>(
     rt: &R,
     alloc: Global,
     device: OpenDevice<D, H>,
     listener: Listener,
+    input: I,
     options: ServeOptions,
-    gate: G,
+    watch: G,
 ) -> (Result<(), Refusal>, D)
 where
     D: Disk + Send + Drop,
     H: ReadBeside + Send + Sync,
-    R: Threads + Wait + Clock + Sync,
-    G: Gate + Copy + Send + Sync,
+    R: Threads + Wait + Clock + Copy + Send + Sync + Drop + 'static,
+    I: Read + Send + Drop + 'static,
+    G: Gate + Log + Copy + Send + Sync,
 {
-    serve_over::<Brand, D, H, R, G>(rt, alloc, device, listener, options, gate)
+    let house = match open_house(alloc, listener, options.workers) {
+        Ok(house) => house,
+        Err(refusal) => return (Err(refusal), device.keeper.into_disk()),
+    };
+    if options.until_eof && !close_at_end(rt, &house, input) {
+        return (Err(Refusal::NoMemory), device.keeper.into_disk());
+    }
+    serve_over::<Brand, D, H, R, G>(rt, alloc, device, &house, options, watch)
+}
+
+fn open_house(
+    alloc: Global,
+    listener: Listener,
+    rooms: u32,
+) -> Result<Arc<House, Global>, Refusal> {
+    match House::new(alloc, listener, rooms) {
+        Ok(house) => Arc::new(alloc, house).map_err(|_| Refusal::NoMemory),
+        Err(error) if error.kind() == ErrorKind::OutOfMemory => Err(Refusal::NoMemory),
+        Err(_) => Err(Refusal::StreamFault),
+    }
+}
+
+// Starts a thread that closes the house once the input has ended; whether there is one. Nobody waits for it, since it may wait
+// for an input that never ends.
+fn close_at_end<R, I>(rt: &R, house: &Arc<House, Global>, input: I) -> bool
+where
+    R: Threads + Wait + Clock + Copy + Send + Drop + 'static,
+    I: Read + Send + Drop + 'static,
+{
+    let own = *rt;
+    let Ok(house) = Arc::try_clone(house) else {
+        return false;
+    };
+    thread::spawn(rt, move || close_behind(&own, &house, input)).is_ok()
+}
+
+fn close_behind<R: Wait + Clock, I: Read + Drop>(rt: &R, house: &House, input: I) {
+    let mut input = input;
+    let mut passed = [0; 512];
+    for _ in rt.forever() {
+        match input.read(&mut passed) {
+            Ok(0) => break,
+            Ok(_) => {}
+            Err(error) if error.kind() == ErrorKind::Interrupted => {}
+            Err(_) => break,
+        }
+    }
+    house.close(rt);
 }
 
 fn serve_over<B, D, H, R, G>(
     rt: &R,
     alloc: Global,
     device: OpenDevice<D, H>,
-    listener: Listener,
+    house: &House,
     options: ServeOptions,
-    gate: G,
+    watch: G,
 ) -> (Result<(), Refusal>, D)
 where
     B: ExportName + Send + Sync,
     D: Disk + Send + Drop,
     H: ReadBeside + Send + Sync,
     R: Threads + Wait + Clock + Sync,
-    G: Gate + Copy + Send + Sync,
+    G: Gate + Log + Copy + Send + Sync,
     requires board { device.blank.board ≡ B.board }
     requires geometry { device.keeper.geometry ≡ B.geometry }
 {
-    let workers = options.workers;
     match open_export::<B, D, H>(alloc, device, &options) {
         Ok((export, passes)) => {
-            let reception = Reception::new(alloc, listener, passes, &options);
-            let outcome = if !run_threads(rt, &reception, &export, workers, gate) {
+            if let Some(limit) = options.limits.pending() {
+                export.store_within(rt, limit);
+            }
+            let reception = Reception::new(alloc, house, passes, &options);
+            let outcome = if !run_threads(rt, &reception, &export, options, watch) {
                 Err(Refusal::NoMemory)
             } else if export.stopped(rt) {
                 Err(Refusal::DeviceFault)
@@ -97,96 +150,122 @@ where
 // served at a time; whether there was a worker at all.
 fn run_threads<B, D, H, R, G>(
     rt: &R,
-    reception: &Reception<B>,
+    reception: &Reception<'_, B>,
     export: &Export<B, D, H>,
-    workers: u32,
-    gate: G,
+    options: ServeOptions,
+    watch: G,
 ) -> bool
 where
     B: ExportName + Send + Sync,
     D: Disk + Send,
     H: ReadBeside + Send + Sync,
     R: Threads + Wait + Clock + Sync,
-    G: Gate + Copy + Send + Sync,
-{
-    thread::scope(
-        thread::scope_env(),
-        rt,
-        move |scope| -> bool
-            requires { IsSend B.row × IsSend D.row }
-        {
-            if scope.spawn(move || flush(rt, export, gate)).is_err() {
-                // The checkpointer waits for the end of a flusher.
-                return false;
-            }
-            if scope.spawn(move || checkpoint(rt, export, gate)).is_err() {
-                for _ in 0..workers {
-                    let_go(rt, reception, export);
-                }
-                return false;
-            }
-            run_workers(rt, reception, export, workers, gate)
-        },
-    )
-}
-
-// So many workers, until all have ended; whether there was one at all.
-fn run_workers<B, D, H, R, G>(
-    rt: &R,
-    reception: &Reception<B>,
-    export: &Export<B, D, H>,
-    workers: u32,
-    gate: G,
-) -> bool
-where
-    B: ExportName + Send + Sync,
-    D: Disk + Send,
-    H: ReadBeside + Sync,
-    R: Threads + Wait + Clock + Sync,
-    G: Gate + Copy + Send + Sync,
+    G: Gate + Log + Copy + Send + Sync,
 {
     thread::scope(thread::scope_env(), rt, move |scope| {
-        let mut started = 0;
-        for at in 0..workers {
-            if scope
-                .spawn(move || worker(rt, reception, export, gate))
-                .is_err()
-            {
-                break;
-            }
-            started = at + 1;
-        }
+        let Some(started) = start_threads(scope, rt, reception, export, options, watch) else {
+            return false;
+        };
         // The flusher ends once all passes have left.
-        for _ in started..workers {
-            let_go(rt, reception, export);
+        for _ in started..options.workers {
+            if let Some((_room, pass)) = reception.take_pass(rt) {
+                export.leave(rt, pass);
+            }
         }
         started > 0
     })
 }
 
-// Lets a pass go for which there is no worker.
-fn let_go<B: ExportName, D: Disk, H: ReadBeside, R: Wait>(
-    rt: &R,
-    reception: &Reception<B>,
-    export: &Export<B, D, H>,
-) {
-    if let Some(pass) = reception.take_pass(rt) {
-        export.leave(rt, pass);
+// Starts the threads; how many of them are workers, and none where there isn't even a flusher, for whose end the checkpointer
+// waits.
+fn start_threads<'s, E, B, D, H, R, G>(
+    scope: &Scope<'s, E>,
+    rt: &'s R,
+    reception: &'s Reception<'s, B>,
+    export: &'s Export<B, D, H>,
+    options: ServeOptions,
+    watch: G,
+) -> Option<u32>
+where
+    B: ExportName + Send + Sync + 's,
+    D: Disk + Send + 's,
+    H: ReadBeside + Send + Sync + 's,
+    R: Wait + Clock + Sync + 's,
+    G: Gate + Log + Copy + Send + 's,
+{
+    let on_fault = options.on_fault;
+    if scope
+        .spawn(move || flush(rt, reception, export, on_fault, watch))
+        .is_err()
+    {
+        return None;
     }
+    if !start_checkpointer(scope, rt, export, watch) {
+        return Some(0);
+    }
+    for at in 0..options.workers {
+        if !start_worker(scope, rt, reception, export, watch) {
+            return Some(at);
+        }
+    }
+    Some(options.workers)
 }
 
-fn flush<B: ExportName, D: Disk, H: ReadBeside, R: Wait, G: Gate + Copy>(
+// Starts the checkpointer; whether there is a thread for it.
+fn start_checkpointer<'s, E, B, D, H, R, G>(
+    scope: &Scope<'s, E>,
+    rt: &'s R,
+    export: &'s Export<B, D, H>,
+    watch: G,
+) -> bool
+where
+    B: ExportName + Send + Sync + 's,
+    D: Disk + Send + 's,
+    H: ReadBeside + Send + Sync + 's,
+    R: Wait + Clock + Sync + 's,
+    G: Gate + Copy + Send + 's,
+{
+    scope.spawn(move || checkpoint(rt, export, watch)).is_ok()
+}
+
+// Starts a worker; whether there is a thread for it.
+fn start_worker<'s, E, B, D, H, R, G>(
+    scope: &Scope<'s, E>,
+    rt: &'s R,
+    reception: &'s Reception<'s, B>,
+    export: &'s Export<B, D, H>,
+    watch: G,
+) -> bool
+where
+    B: ExportName + Send + Sync + 's,
+    D: Disk + Send + 's,
+    H: ReadBeside + Send + Sync + 's,
+    R: Wait + Clock + Sync + 's,
+    G: Gate + Log + Copy + Send + 's,
+{
+    scope
+        .spawn(move || worker(rt, reception, export, watch))
+        .is_ok()
+}
+
+// Once a call of the device has failed, the sessions are ended where the server isn't to stay.
+fn flush<B: ExportName, D: Disk, H: ReadBeside, R: Wait + Clock, G: Gate + Copy>(
     rt: &R,
+    reception: &Reception<'_, B>,
     export: &Export<B, D, H>,
-    mut gate: G,
+    on_fault: OnFault,
+    mut watch: G,
 ) {
-    export.flusher(rt, &mut gate);
+    export.flusher(rt, &mut watch);
+    if on_fault == OnFault::Exit && export.stopped(rt) {
+        reception.house().close(rt);
+    }
 }
 
 fn checkpoint<B: ExportName, D: Disk, H: ReadBeside, R: Wait, G: Gate + Copy>(
     rt: &R,
     export: &Export<B, D, H>,
-    mut gate: G,
+    mut watch: G,
 ) {
-    export.checkpointer(rt, &mut gate);
+    export.checkpointer(rt, &mut watch);
 }

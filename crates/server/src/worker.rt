@@ -3,8 +3,9 @@ ghost use Rattle.server.specs.declared.worker.Sessions.TheVariants as Sessions;
 
 use crate::client::{Client, Gated, Input, Output};
 use crate::desk::Desk;
-use crate::listener::Listener;
-use crate::options::ServeOptions;
+use crate::house::House;
+use crate::log::{Event, Log, Traffic};
+use crate::options::{Limits, ServeOptions};
 use disk_model::Disk;
 use export::{Export, ExportName, Gate, ReadBeside};
 use marks::Pass;
@@ -13,7 +14,7 @@ use session::serve_session;
 use std::alloc::Global;
 use std::cell::Cell;
 use std::rt::Clock;
-use std::sync::{Mutex, Wait};
+use std::sync::{Arc, Mutex, Wait};
 use std::thread;
 use std::time::Duration;
 
@@ -48,38 +49,48 @@ impl Sessions {
 
 /// Where the workers of a server get their passes and their clients.
 #[derive(Drop)]
-pub(crate) struct Reception<B: ExportName> {
+pub(crate) struct Reception<'a, B: ExportName> {
     alloc: Global,
-    listener: Listener,
+    house: &'a House,
     passes: Mutex<Vec<Pass<B>>>,
     sessions: Mutex<Sessions>,
-    handshake_limit: Duration,
+    limits: Limits,
+    workers: u32,
 }
 
-impl<B: ExportName> Reception<B> {
+impl<'a, B: ExportName> Reception<'a, B> {
     pub(crate) fn new(
         alloc: Global,
-        listener: Listener,
+        house: &'a House,
         passes: Vec<Pass<B>>,
         options: &ServeOptions,
-    ) -> Reception<B> {
-        let sessions = if options.sessions == 0 {
+    ) -> Reception<'a, B> {
+        let limits = options.limits;
+        let sessions = if limits.sessions == 0 {
             Sessions::Endless
         } else {
-            Sessions::Left(options.sessions)
+            Sessions::Left(limits.sessions)
         };
         Reception {
             alloc,
-            listener,
+            house,
             passes: Mutex::new(passes),
             sessions: Mutex::new(sessions),
-            handshake_limit: Duration::from_secs(options.handshake_seconds),
+            limits,
+            workers: options.workers,
         }
     }
 
-    /// A pass that no worker has yet.
-    pub(crate) fn take_pass<R: Wait>(&self, rt: &R) -> Option<Pass<B>> {
-        self.passes.lock(rt).pop()
+    /// Where the clients are.
+    pub(crate) fn house(&self) -> &House {
+        self.house
+    }
+
+    /// A pass that no worker has yet, and the room for its clients.
+    pub(crate) fn take_pass<R: Wait>(&self, rt: &R) -> Option<(usize, Pass<B>)> {
+        let mut passes = self.passes.lock(rt);
+        let pass = passes.pop()?;
+        Some((passes.len(), pass))
     }
 
     // Whether another session may begin, which does.
@@ -88,42 +99,86 @@ impl<B: ExportName> Reception<B> {
     }
 }
 
-/// Serves one client after another, until no session may begin any more. A session that ends by a refusal, and a client that
-/// couldn't be accepted, count, and are no end.
-pub(crate) fn worker<B: ExportName, D: Disk, H: ReadBeside, R: Wait + Clock, G: Gate + Copy>(
+/// Serves one client after another in a room of the house, until that is closed or no session may begin any more. A session that
+/// ends by a refusal, and a client that couldn't be accepted, count, and are no end.
+pub(crate) fn worker<B: ExportName, D: Disk, H: ReadBeside, R: Wait + Clock, G: Gate + Log + Copy>(
     rt: &R,
-    reception: &Reception<B>,
+    reception: &Reception<'_, B>,
     export: &Export<B, D, H>,
-    mut gate: G,
+    watch: G,
 ) {
-    let Some(mut pass) = reception.take_pass(rt) else {
+    let Some((room, mut pass)) = reception.take_pass(rt) else {
         return;
     };
+    let house = reception.house;
     for _ in rt.forever() {
-        if !reception.begin(rt) {
+        if house.is_closed() || !reception.begin(rt) {
             break;
         }
-        match reception.listener.accept() {
-            Ok(client) => {
-                let _end = serve_client(rt, reception, export, &mut pass, &client, &mut gate);
-            }
-            // The client has gone, or too many files are open.
-            Err(_) => thread::sleep(rt, Duration::from_millis(PAUSE)),
+        match house.accept() {
+            Ok(client) => receive(rt, reception, export, room, &mut pass, client, watch),
+            // The client has gone, too many files are open, or the house is closed.
+            Err(_) if !house.is_closed() => thread::sleep(rt, Duration::from_millis(PAUSE)),
+            Err(_) => break,
         }
     }
     export.leave(rt, pass);
 }
 
-// Serves a client from the first byte to the last.
-fn serve_client<B: ExportName, D: Disk, H: ReadBeside, R: Wait, G: Gate>(
+// Serves a client in a room, and stores what is pending before the client is let go.
+fn receive<B: ExportName, D: Disk, H: ReadBeside, R: Wait, G: Gate + Log + Copy>(
     rt: &R,
-    reception: &Reception<B>,
+    reception: &Reception<'_, B>,
+    export: &Export<B, D, H>,
+    room: usize,
+    pass: &mut Pass<B>,
+    client: Client,
+    watch: G,
+) {
+    let house = reception.house;
+    let Ok(client) = Arc::new(reception.alloc, client) else {
+        return;
+    };
+    let Ok(guest) = Arc::try_clone(&client) else {
+        return;
+    };
+    let Some(number) = house.enter(rt, room, guest) else {
+        return;
+    };
+    watch.note(Event::Came {
+        client: number,
+        from: &client,
+    });
+    if house.is_full(rt) {
+        watch.note(Event::Full {
+            workers: reception.workers,
+        });
+    }
+    let traffic = Cell::new(Traffic::none());
+    let end = serve_client(
+        rt, reception, export, pass, &client, number, &traffic, watch,
+    );
+    let _settled = export.settle(rt, pass);
+    watch.note(Event::Left {
+        client: number,
+        end,
+        traffic: traffic.get(),
+    });
+    house.leave(rt, room);
+}
+
+// Serves a client from the first byte to the last.
+fn serve_client<B: ExportName, D: Disk, H: ReadBeside, R: Wait, G: Gate + Log + Copy>(
+    rt: &R,
+    reception: &Reception<'_, B>,
     export: &Export<B, D, H>,
     pass: &mut Pass<B>,
     client: &Client,
-    gate: &mut G,
+    number: u64,
+    traffic: &Cell<Traffic>,
+    watch: G,
 ) -> Result<(), End> {
-    let Ok(()) = client.limit_wait(Some(reception.handshake_limit)) else {
+    let Ok(()) = client.limit_wait(reception.limits.handshake()) else {
         return Err(End::IoFault);
     };
     let is_replying = Cell::new(false);
@@ -131,18 +186,21 @@ fn serve_client<B: ExportName, D: Disk, H: ReadBeside, R: Wait, G: Gate>(
         rt,
         export,
         client,
+        number,
+        traffic,
+        log: watch,
+        idle_limit: reception.limits.idle(),
         is_replying: &is_replying,
     };
+    let mut gate = watch;
     let mut output = Gated {
         inner: Output(client),
         is_replying: &is_replying,
-        gate,
+        gate: &mut gate,
     };
-    serve_session(
-        reception.alloc,
-        &mut Input(client),
-        &mut output,
-        &desk,
-        pass,
-    )
+    let mut input = Input {
+        client,
+        house: reception.house,
+    };
+    serve_session(reception.alloc, &mut input, &mut output, &desk, pass)
 }

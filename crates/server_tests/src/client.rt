@@ -125,6 +125,13 @@ impl Client {
         wanted(reply == expected)
     }
 
+    // Waits for the end of what the server sends.
+    pub fn expect_end(&mut self) -> io::Result<()> {
+        let mut more = [0; 1];
+        let count = self.stream.read(&mut more)?;
+        wanted(count == 0)
+    }
+
     // Waits for the bytes of two blocks behind a reply, each of one byte over and over.
     pub fn expect_blocks(&mut self, first: u8, second: u8) -> io::Result<()> {
         let mut blocks = [[0; 4096]; 2];

@@ -8,10 +8,11 @@ use export::{Gate, OpenDevice, Point};
 use image_model::Geometry;
 use nbd_wire::CommandFlags;
 use nbdj_pipe::Refusal;
-use server::{Listener, ServeOptions, serve};
+use server::{Event, Limits, Listener, Log, OnFault, ServeOptions, serve};
 use std::alloc::{AllocError, Global};
 use std::io::{self, ErrorKind};
 use std::net::{Ipv4Addr, SocketAddr, TcpListener, TcpStream};
+use std::os::unix::net::UnixStream;
 use std::rt::Clock;
 use std::sync::Wait;
 use std::sync::atomic::{AtomicBool, AtomicU64, Ordering};
@@ -73,6 +74,10 @@ impl<'a, R: Clock> Gate for Holding<'a, R> {
             }
         }
     }
+}
+
+impl<'a, R: Clock> Log for Holding<'a, R> {
+    fn note(&self, _event: Event<'_>) {}
 }
 
 impl<'a, R: Clock> Holding<'a, R> {
@@ -165,6 +170,31 @@ fn write_to_a_failing_device(rt: &HostRuntime, port: u16) -> io::Result<()> {
     one.disconnect()
 }
 
+// A client's FUA WRITE meets a sync that fails, and the server ends its session and that of another one.
+fn write_before_an_end(rt: &HostRuntime, port: u16) -> io::Result<()> {
+    let mut other = Client::connect(rt, port)?;
+    let mut one = Client::connect(rt, port)?;
+    one.send_write(1, 0x41, CommandFlags::FUA.bits())?;
+    one.expect(1, EIO)?;
+    one.expect_end()?;
+    other.expect_end()
+}
+
+// A client writes, and the input of the server ends while it is served.
+fn write_until_the_input_ends(rt: &HostRuntime, port: u16, ending: UnixStream) -> io::Result<()> {
+    let mut one = Client::connect(rt, port)?;
+    one.send_write(1, 0x41, 0)?;
+    one.expect_done(1)?;
+    drop(ending);
+    one.expect_end()
+}
+
+// A client that says nothing once its handshake is over.
+fn say_nothing(rt: &HostRuntime, port: u16) -> io::Result<()> {
+    let mut one = Client::connect(rt, port)?;
+    one.expect_end()
+}
+
 // A device over holes that was opened. Where it fails, the first sync behind the opening does, which has one.
 fn fresh(alloc: Global, fails: bool) -> Option<OpenDevice<SimDisk, ()>> {
     let geometry = Geometry::new(64, 2_097_152)?;
@@ -183,6 +213,44 @@ enum Clients {
     FlushWhatAnotherWrote,
     FlushBehindATrim,
     WriteToAFailingDevice,
+    WriteBeforeAnEnd,
+    WriteUntilTheInputEnds,
+    SayNothing,
+}
+
+impl Clients {
+    // Whether the device fails.
+    fn meet_a_fault(self) -> bool {
+        matches!(
+            self,
+            Clients::WriteToAFailingDevice | Clients::WriteBeforeAnEnd
+        )
+    }
+
+    // How they are served: two sessions, and an end of their own for those that meet another one.
+    fn options(self) -> Option<ServeOptions> {
+        let mut limits = Limits {
+            sessions: 2,
+            handshake_seconds: 5,
+            idle_seconds: 0,
+            flush_seconds: 0,
+        };
+        let mut on_fault = OnFault::Stay;
+        let mut until_eof = false;
+        match self {
+            Clients::WriteBeforeAnEnd => {
+                limits.sessions = 0;
+                on_fault = OnFault::Exit;
+            }
+            Clients::WriteUntilTheInputEnds => {
+                limits.sessions = 0;
+                until_eof = true;
+            }
+            Clients::SayNothing => limits.idle_seconds = 1,
+            _ => {}
+        }
+        ServeOptions::new(512, Mode::Writeback, 2, limits, on_fault, until_eof)
+    }
 }
 
 // What a run came to: what the clients met, and what the server and its device did.
@@ -193,8 +261,8 @@ struct Ran {
     disk: SimDisk,
 }
 
-// Has clients served until two sessions have ended.
-fn run<R: Threads + Wait + Clock + Sync>(
+// Has clients served until the server ends.
+fn run<R: Threads + Wait + Clock + Copy + Send + Sync + Drop + 'static>(
     rt: &HostRuntime,
     threads: &R,
     clients: Clients,
@@ -204,19 +272,14 @@ fn run<R: Threads + Wait + Clock + Sync>(
     let socket = TcpListener::bind(rt, SocketAddr::from((Ipv4Addr::LOCALHOST, 0))).ok()?;
     let port = socket.local_addr().ok()?.port();
     let listener = Listener::Tcp(socket);
-    let options = ServeOptions::new(512, Mode::Writeback, 2, 2, 5)?;
-    let fails = match clients {
-        Clients::WriteToAFailingDevice => true,
-        Clients::WriteBesideAHeldOne | Clients::FlushWhatAnotherWrote | Clients::FlushBehindATrim =>
-            false,
-    };
-    let device = fresh(alloc, fails)?;
+    let options = clients.options()?;
+    let device = fresh(alloc, clients.meet_a_fault())?;
     beside_a_server(
         rt, threads, alloc, device, listener, port, options, clients, seen,
     )
 }
 
-fn beside_a_server<R: Threads + Wait + Clock + Sync>(
+fn beside_a_server<R: Threads + Wait + Clock + Copy + Send + Sync + Drop + 'static>(
     rt: &HostRuntime,
     threads: &R,
     alloc: Global,
@@ -228,9 +291,11 @@ fn beside_a_server<R: Threads + Wait + Clock + Sync>(
     seen: &Seen,
 ) -> Option<Ran> {
     let gate = Holding { rt: threads, seen };
+    let (ending, input) = UnixStream::pair(rt).ok()?;
     thread::scope(thread::scope_env(), threads, move |scope| {
-        let Ok(server) = scope.spawn(move || serve(threads, alloc, device, listener, options, gate))
-        else {
+        let Ok(server) = scope.spawn(move || serve(
+            threads, alloc, device, listener, input, options, gate,
+        )) else {
             return None;
         };
         let met = match clients {
@@ -238,6 +303,9 @@ fn beside_a_server<R: Threads + Wait + Clock + Sync>(
             Clients::FlushWhatAnotherWrote => flush_what_another_wrote(rt, port),
             Clients::FlushBehindATrim => flush_behind_a_trim(rt, port),
             Clients::WriteToAFailingDevice => write_to_a_failing_device(rt, port),
+            Clients::WriteBeforeAnEnd => write_before_an_end(rt, port),
+            Clients::WriteUntilTheInputEnds => write_until_the_input_ends(rt, port, ending),
+            Clients::SayNothing => say_nothing(rt, port),
         };
         // Where clients gave up, a group may still be held, and the server still waits for sessions.
         seen.holds.store(false, Ordering::SeqCst);
@@ -302,9 +370,37 @@ fn reply_is_written_before_a_flush_waits(rt: HostRuntime) {
 }
 
 #[test]
-fn a_device_that_fails_ends_the_server_with_its_fault(rt: HostRuntime) {
+fn a_server_that_stays_answers_with_a_fault(rt: HostRuntime) {
     let seen = Seen::new(false);
     let ran = run(&rt, &rt, Clients::WriteToAFailingDevice, &seen).expect(&rt, "a server");
     assert!(rt; ran.clients.is_ok());
     assert!(rt; ran.outcome == Err(Refusal::DeviceFault));
+}
+
+#[test]
+fn a_device_that_fails_ends_the_server(rt: HostRuntime) {
+    let seen = Seen::new(false);
+    let ran = run(&rt, &rt, Clients::WriteBeforeAnEnd, &seen).expect(&rt, "a server");
+    assert!(rt; ran.clients.is_ok());
+    assert!(rt; ran.outcome == Err(Refusal::DeviceFault));
+}
+
+#[test]
+fn the_end_of_the_input_ends_the_server(rt: HostRuntime) {
+    let seen = Seen::new(false);
+    let ran = run(&rt, &rt, Clients::WriteUntilTheInputEnds, &seen).expect(&rt, "a server");
+    assert!(rt; ran.clients.is_ok());
+    assert!(rt; ran.outcome.is_ok());
+    let mut keeper = Keeper::open(rt.alloc(), ran.disk)
+        .ok()
+        .expect(&rt, "an image");
+    assert!(rt; has_block(&mut keeper, 1, 0x41));
+}
+
+#[test]
+fn a_client_that_says_nothing_is_let_go(rt: HostRuntime) {
+    let seen = Seen::new(false);
+    let ran = run(&rt, &rt, Clients::SayNothing, &seen).expect(&rt, "a server");
+    assert!(rt; ran.clients.is_ok());
+    assert!(rt; ran.outcome.is_ok());
 }

@@ -2,7 +2,7 @@ use Rattle.std.proofs.Common.{◌∙◌, Ok, ap, codes}
 use Rattle.std.proofs.lemmas.Result.{IfOk-weaker}
 use Rattle.clap.specs.Simple.{app_of_fields}
 use Rattle.clap.specs.Words.{app_of, new_app}
-use Rattle.nbdj_line.specs.Commands.{area_rule, blocks_rule, path_rule, size_rule}
+use Rattle.nbdj_line.specs.Commands.{area_rule, blocks_rule, flag_rule, path_rule, size_rule, verbose_rule}
 use Rattle.nbdj_line.proofs.Builders.{takes}
 use Rattle.nbdj_line.proofs.commands.format.Goals as goal
 
@@ -12,4 +12,7 @@ returns c =
     let one = takes (Ok c.path.result) path_rule (new_app (codes "format")) _ (app_of c.in_ok-command.command) named (c.path.ensures.local, c.path.ensures.rule) c.in_ok-command.ensures.shape in
     let two = takes c.size.result size_rule _ _ (app_of c.in_ok-command-2.command) one c.size.ensures c.in_ok-command-2.ensures in
     let three = takes c.blocks-2.result blocks_rule _ _ (app_of c.in_ok-command-3.command) two c.blocks-2.ensures c.in_ok-command-3.ensures in
-    IfOk-weaker c.arg-2.result _ _ (λ whole added. takes (Ok c.area.result) area_rule _ _ (app_of whole) three (c.area.ensures.local, c.area.ensures.rule) added.shape) c.arg-2.ensures
+    let four = takes (Ok c.area.result) area_rule _ _ (app_of c.in_ok-command-4.command) three (c.area.ensures.local, c.area.ensures.rule) c.in_ok-command-4.ensures.shape in
+    let five =
+    takes (Ok c.preallocate.result) (flag_rule (codes "preallocate")) _ _ (app_of c.in_ok-command-5.command) four (c.preallocate.ensures.local, c.preallocate.ensures.rule) c.in_ok-command-5.ensures.shape in
+    IfOk-weaker c.arg-4.result _ _ (λ whole added. takes (Ok c.verbose.result) verbose_rule _ _ (app_of whole) five (c.verbose.ensures.local, c.verbose.ensures.rule) added.shape) c.arg-4.ensures

@@ -1,14 +1,12 @@
-use Rattle.std.proofs.Common.{Ok}
+use Rattle.std.proofs.Common.{Ok, codes}
 use Rattle.std.proofs.lemmas.Result.{IfOk-weaker}
 use Rattle.clap.specs.Words.{app_of}
-use Rattle.nbdj_line.specs.Commands.{cache_rule, frames_rule, handshake_rule, served_app, sessions_rule, workers_rule}
+use Rattle.nbdj_line.specs.Commands.{flag_rule, on_fault_rule, timed_app, verbose_rule}
 use Rattle.nbdj_line.proofs.Builders.{takes}
 use Rattle.nbdj_line.proofs.commands.serve.Goals as goal
 
 pub returns : goal.returns
 returns c =
-    let one = takes (Ok c.workers.result) workers_rule served_app _ (app_of c.in_ok-command-2.command) c.in_ok-command.ensures (c.workers.ensures.local, c.workers.ensures.rule) c.in_ok-command-2.ensures.shape in
-    let two = takes (Ok c.frames.result) frames_rule _ _ (app_of c.in_ok-command-3.command) one (c.frames.ensures.local, c.frames.ensures.rule) c.in_ok-command-3.ensures.shape in
-    let three = takes (Ok c.cache.result) (cache_rule c.args.modes) _ _ (app_of c.in_ok-command-4.command) two (c.cache.ensures.local, c.cache.ensures.rule) c.in_ok-command-4.ensures.shape in
-    let four = takes (Ok c.sessions.result) sessions_rule _ _ (app_of c.in_ok-command-5.command) three (c.sessions.ensures.local, c.sessions.ensures.rule) c.in_ok-command-5.ensures.shape in
-    IfOk-weaker c.arg-5.result _ _ (λ whole added. takes (Ok c.handshake_timeout.result) handshake_rule _ _ (app_of whole) four (c.handshake_timeout.ensures.local, c.handshake_timeout.ensures.rule) added.shape) c.arg-5.ensures
+    let one = takes (Ok c.on_fault.result) on_fault_rule (timed_app c.args.modes) _ (app_of c.in_ok-command-2.command) c.in_ok-command.ensures (c.on_fault.ensures.local, c.on_fault.ensures.rule) c.in_ok-command-2.ensures.shape in
+    let two = takes (Ok c.until_eof.result) (flag_rule (codes "until-eof")) _ _ (app_of c.in_ok-command-3.command) one (c.until_eof.ensures.local, c.until_eof.ensures.rule) c.in_ok-command-3.ensures.shape in
+    IfOk-weaker c.arg-3.result _ _ (λ whole added. takes (Ok c.verbose.result) verbose_rule _ _ (app_of whole) two (c.verbose.ensures.local, c.verbose.ensures.rule) added.shape) c.arg-3.ensures

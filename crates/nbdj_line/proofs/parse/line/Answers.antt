@@ -2,7 +2,7 @@ use Rattle.std.proofs.Common.{◌≡◌, ◌∙◌, refl, sym, ap, subst, true, 
 use Rattle.std.proofs.lemmas.Result.{IfOk-weaker}
 use Rattle.clap.specs.Words.{App, Row, Text, app_of, found_of, is_simple, rows_of, subcommand_of}
 use Rattle.nbdj_line.specs.Commands.{nbdj_app}
-use Rattle.nbdj_line.specs.Line.{IsAsked}
+use Rattle.nbdj_line.specs.Line.{IsErrand}
 use Rattle.nbdj_line.proofs.Given.{found_whole}
 use Rattle.nbdj_line.proofs.parse.line.Goals as goal
 
@@ -16,4 +16,4 @@ returns-in-Some c =
     let matched = (c.in_ok-matches.ensures.matches (ap is_simple app_is ∙ simple)).1 ∙ ap (λ (app : App). subcommand_of app words) app_is in
     let whole = found_whole _ _ c.in-Some.name.now (rows_of (found_of c.in-Some.matches.now)) c.in-Some.ensures.name c.in-Some.ensures.rows in
     let found : subcommand_of (nbdj_app modes others) words ≡ Some (c.in-Some.name.now, rows_of (found_of c.in-Some.matches.now)) = sym matched ∙ whole in
-    IfOk-weaker c.asked.result _ _ (λ plan asked. (modes, others, subst (λ (f : Option (Text × List Row)). IsAsked f plan) (sym found) asked)) c.asked.ensures
+    IfOk-weaker c.errand.result _ _ (λ errand asked. (modes, others, subst (λ (f : Option (Text × List Row)). IsErrand f errand) (sym found) asked)) c.errand.ensures

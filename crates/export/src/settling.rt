@@ -1,0 +1,102 @@
+//! What is stored though nobody waits for it: at the end of a session, and once it has been pending for a while.
+ghost use Rattle.std.specs.Prelude.{◌≡◌, ◌≤◌};
+ghost use Rattle.export.specs.Submits.{IsSettled};
+
+use crate::beside::ReadBeside;
+use crate::book::Book;
+use crate::export::Export;
+use crate::name::ExportName;
+use disk_model::Disk;
+use marks::Pass;
+use nbd_wire::Answer;
+use std::rt::Clock;
+use std::sync::{CondvarTimeouts, MutexGuard, Wait};
+use std::time::{Duration, Instant};
+
+/// How long a command may be pending though nobody waits for it.
+#[derive(Drop)]
+pub(crate) struct Patience {
+    // None for as long as it likes.
+    limit: Option<Duration>,
+    // When the flusher first saw what is pending.
+    since: Option<Instant>,
+    // Whether the flusher waits to be told of the first command that is pending.
+    awaits_first: bool,
+}
+
+impl Patience {
+    pub(crate) fn endless() -> Patience {
+        Patience {
+            limit: None,
+            since: None,
+            awaits_first: false,
+        }
+    }
+
+    /// Whether the flusher waits to be told of a first command, which it then is.
+    pub(crate) fn tell_first(&mut self) -> bool {
+        let awaits = self.awaits_first;
+        self.awaits_first = false;
+        awaits
+    }
+
+    // How long what is pending may still wait; none where its time is over, or can't be told.
+    fn left<R: Clock>(&mut self, rt: &R, limit: Duration) -> Option<Duration> {
+        let since = match self.since {
+            Some(since) => since,
+            None => Instant::now(rt).ok()?,
+        };
+        self.since = Some(since);
+        let left = limit.checked_sub(since.elapsed(rt).ok()?)?;
+        if left.is_zero() {
+            return None;
+        }
+        Some(left)
+    }
+}
+
+impl<B: ExportName, D: Disk, H: ReadBeside> Export<B, D, H> {
+    /// Has the flusher store what has been pending for so long, though nobody waits for it.
+    pub fn store_within<R: Wait>(&self, rt: &R, limit: Duration) {
+        self.book.lock(rt).patience().limit = Some(limit);
+    }
+
+    /// Stores what was accepted by now, as a FLUSH does. It waits until that is durable, or never will be.
+    pub fn settle<R: Wait>(&self, rt: &R, pass: &mut Pass<B>) -> Answer
+        ensures { IsSettled pass.old pass.new result }
+    {
+        let accepted = self.board.look_accepted(pass);
+        self.wait_for(rt, pass, accepted)
+    }
+
+    // Waits for the flusher's next work, which comes to be where what is pending has waited for long enough.
+    pub(crate) fn wait_for_work<R: Wait + Clock>(&self, rt: &R, book: MutexGuard<'_, Book<B>>) {
+        let mut book = book;
+        let is_pending = book.is_pending();
+        let patience = book.patience();
+        let left = match patience.limit {
+            None => None,
+            Some(_) if !is_pending => {
+                patience.since = None;
+                patience.awaits_first = true;
+                None
+            }
+            Some(limit) => match patience.left(rt, limit) {
+                Some(left) => Some(left),
+                None => {
+                    patience.since = None;
+                    book.want_pending();
+                    return;
+                }
+            },
+        };
+        match left {
+            Some(left) => {
+                let _woken = self.work.wait_timeout(rt, book, left);
+            }
+            None => {
+                let _woken = self.work.wait(rt, book);
+            }
+        }
+    }
+}

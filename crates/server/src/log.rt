@@ -1,0 +1,64 @@
+use crate::client::Client;
+use nbd_wire::SessionFlags;
+use negotiation::End;
+use std::time::Duration;
+
+/// What a session has asked for.
+#[derive(Clone, Copy, Debug, PartialEq, Eq)]
+pub struct Traffic {
+    pub requests: u64,
+    /// The bytes that READs asked for.
+    pub bytes_read: u64,
+    /// The bytes that WRITEs brought.
+    pub bytes_written: u64,
+}
+
+impl Traffic {
+    pub(crate) fn none() -> Traffic {
+        Traffic {
+            requests: 0,
+            bytes_read: 0,
+            bytes_written: 0,
+        }
+    }
+}
+
+/// What happens in the life of a server. Clients are counted from 1.
+#[derive(Clone, Copy)]
+pub enum Event<'a> {
+    /// A client has come.
+    Came {
+        client: u64,
+        from: &'a Client,
+    },
+    /// All workers have a client.
+    Full {
+        workers: u32,
+    },
+    /// A client's first request has come, after this was agreed on.
+    Agreed {
+        client: u64,
+        flags: SessionFlags,
+    },
+    /// A session is over: the client has ended it, or this has.
+    Left {
+        client: u64,
+        end: Result<(), End>,
+        traffic: Traffic,
+    },
+    /// A checkpoint is done, which has copied so many blocks.
+    Checkpoint {
+        blocks: u64,
+        took: Duration,
+    },
+}
+
+/// Who is told what happens.
+pub trait Log {
+    fn note(&self, event: Event<'_>);
+}
+
+/// Nobody is told.
+impl Log for () {
+    fn note(&self, _event: Event<'_>) {}
+}

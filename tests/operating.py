@@ -1,0 +1,220 @@
+#!/usr/bin/env python3
+"""How `serve` of the built program NBDJ begins, goes on and ends, as who runs it sees it: what a kill leaves, an end that is asked for, dead
+clients, a device that fails, and what is told.
+
+Prints a line for each check that fails, and last 'N passed, M failed'.
+"""
+import os
+import re
+import resource
+import signal
+import socket
+import subprocess
+import sys
+import tempfile
+import time
+
+import hostile
+from hostile import BLOCK, DISC, FLUSH, MIB, NBDJ, READ, WRITE, Server, block_of, check, request, take
+
+EIO = 5
+
+
+def reply(cookie, error=0):
+    return hostile.struct.pack(">IIQ", 0x67446698, error, cookie)
+
+
+def write(client, cookie, count, flags=0):
+    """One WRITE of so many bytes at MIB times its cookie, which is answered Ok."""
+    client.sendall(request(WRITE, cookie, cookie * MIB, count, flags) + bytes([cookie]) * count)
+    return take(client, 16) == reply(cookie)
+
+
+def recovered(server):
+    """What the recovery of a server's image prints once the server has ended."""
+    return subprocess.run([NBDJ, "recover", server.image], capture_output=True, text=True, timeout=60).stdout.strip()
+
+
+def killed(server):
+    server.process.kill()
+    server.process.wait(timeout=60)
+    return recovered(server)
+
+
+def ended(server, seconds=20):
+    """The status and the standard error of a server that ends by itself; what became of it where it doesn't."""
+    try:
+        return server.process.wait(timeout=seconds), server.process.stderr.read()
+    except subprocess.TimeoutExpired:
+        return "it goes on", ""
+
+
+def kills(folder):
+    """Writes that no client has flushed, and a kill: behind the end of the session, behind the interval, and without one."""
+    with Server(folder, "left", 2, "--flush-interval", "0") as server:
+        with server.shaken() as client:
+            check("three writes", True, all(write(client, cookie, MIB // 4) for cookie in (0, 1, 2)))
+            client.sendall(request(DISC, 9, 0, 0))
+            check("the end of the session", b"", take(client, 1))
+        check("a kill behind the end of a session", "commands 3", killed(server))
+    with Server(folder, "cut", 2, "--flush-interval", "0") as server:
+        with server.shaken() as client:
+            check("a write before a connection is cut", True, write(client, 1, MIB // 4))
+            client.shutdown(socket.SHUT_RDWR)
+        time.sleep(1)
+        check("a kill behind a connection that was cut", "commands 1", killed(server))
+    for name, words, wait, found in (("interval", ("--flush-interval", "1"), 2.5, 3), ("never", ("--flush-interval", "0"), 2.5, 0), ("usual", (), 7, 3)):
+        with Server(folder, name, 2, *words) as server, server.shaken() as client:
+            check(f"{name}: three writes", True, all(write(client, cookie, MIB // 4) for cookie in (0, 1, 2)))
+            time.sleep(wait)
+            check(f"{name}: a kill after {wait} seconds", f"commands {found}", killed(server))
+
+
+def goes_on_writing(client, seconds):
+    """One WRITE after another, none flushed."""
+    end = time.monotonic() + seconds
+    cookie = 0
+    while time.monotonic() < end:
+        cookie += 1
+        client.sendall(request(WRITE, cookie, BLOCK, BLOCK) + block_of(cookie))
+        if take(client, 16) != reply(cookie):
+            break
+        time.sleep(0.01)
+    return cookie
+
+
+def intervals(folder):
+    """The interval counts from the first write, also of a client that goes on writing."""
+    with Server(folder, "writing", 2, "--flush-interval", "1") as server, server.shaken() as client:
+        count = goes_on_writing(client, 4)
+        found = int(killed(server).split()[1])
+        check("at least a third of four seconds of writes is stored", True, found >= count // 3 or (found, count))
+
+
+def asked_to_end(folder):
+    """The end of standard input, with a client that waits, one that takes no reply, and none."""
+    for name, flushes in (("waiting", False), ("flushed", True)):
+        with Server(folder, name, 2, "--until-eof", "--flush-interval", "0", stdin=subprocess.PIPE) as server, server.shaken() as client:
+            check(f"{name}: a write", True, write(client, 1, MIB // 4))
+            if flushes:
+                client.sendall(request(FLUSH, 2, 0, 0))
+                check(f"{name}: a flush", reply(2), take(client, 16))
+            server.process.stdin.write("not looked at\n")
+            server.process.stdin.flush()
+            time.sleep(0.3)
+            check(f"{name}: it goes on", None, server.process.poll())
+            server.process.stdin.close()
+            check(f"{name}: the end of the session", b"", take(client, 1))
+            check(f"{name}: the end of the input", (0, ""), ended(server))
+            check(f"{name}: what was answered is stored", "commands 1", recovered(server))
+    with Server(folder, "deaf-end", 2, "--until-eof", stdin=subprocess.PIPE) as server, server.shaken() as client:
+        client.settimeout(2)
+        try:
+            for cookie in range(200):
+                client.sendall(request(READ, cookie, 0, MIB))
+        except OSError:
+            pass
+        begun = time.monotonic()
+        server.process.stdin.close()
+        check("a client that takes no reply: the end", (0, ""), ended(server))
+        check("a client that takes no reply: at most 9 seconds", True, time.monotonic() - begun < 9 or time.monotonic() - begun)
+    with Server(folder, "empty-end", 4, "--until-eof") as server:
+        check("an empty input", (0, ""), ended(server))
+    image = os.path.join(folder, "empty-end.img")
+    path = os.path.join(folder, "end.sock")
+    done = subprocess.run([NBDJ, "serve", image, "--unix", path, "--until-eof"], stdin=subprocess.DEVNULL, capture_output=True, text=True, timeout=20)
+    check("an empty input at a Unix socket", (0, f"listening {path}\n", "", False), (done.returncode, done.stdout, done.stderr, os.path.exists(path)))
+
+
+def idle(folder):
+    """A client that says nothing behind its handshake is let go, and one that says something in time isn't."""
+    with Server(folder, "idle", 1, "--idle-timeout", "2") as server:
+        with server.shaken() as client:
+            for cookie in (1, 2, 3):
+                time.sleep(1)
+                check("a client that says something", True, write(client, cookie, BLOCK))
+            begun = time.monotonic()
+            check("a client that says nothing more", b"", take(client, 1))
+            waited = time.monotonic() - begun
+            check("it waited 1.5 to 8 seconds", True, 1.5 < waited < 8 or waited)
+        server.goes_on("behind an idle client")
+
+
+def limited():
+    """No byte of a file is written behind its headers, as if the disk were full there."""
+    resource.setrlimit(resource.RLIMIT_FSIZE, (8192, 8192))
+    signal.signal(signal.SIGXFSZ, signal.SIG_IGN)
+
+
+LIMITED = {"preexec_fn": limited, "restore_signals": False}
+
+
+def failing(folder):
+    """A device that takes no more: what waits is answered EIO, and the server ends, or stays where it is to."""
+    with Server(folder, "failing", 3, **LIMITED) as server, server.shaken() as other, server.shaken() as client:
+        check("failing: a write", True, write(client, 1, BLOCK))
+        client.sendall(request(FLUSH, 2, 0, 0))
+        check("failing: a flush", reply(2, EIO), take(client, 16))
+        check("failing: its session ends", b"", take(client, 1))
+        check("failing: another session ends", b"", take(other, 1))
+        status, errors = ended(server)
+        told = [re.sub(r"write of \d+ bytes at \d+", "write of N bytes at K", line) for line in errors.splitlines()]
+        wanted = [f"nbdj: {server.image}: write of N bytes at K: File too large (os error 27)", "nbdj: device fault (1)"]
+        check("failing: the end", (1, wanted), (status, told))
+        check("failing: the image", "commands 0", recovered(server))
+    with Server(folder, "staying", 3, "--on-fault", "stay", **LIMITED) as server, server.shaken() as client:
+        check("staying: a write", True, write(client, 1, BLOCK))
+        for cookie in (2, 3):
+            client.sendall(request(FLUSH, cookie, 0, 0))
+            check("staying: a flush", reply(cookie, EIO), take(client, 16))
+        check("staying: it lives", None, server.process.poll())
+        server.process.kill()
+        server.process.wait(timeout=60)
+        told = server.process.stderr.read().splitlines()
+        check("staying: it told once", [True], [line.endswith(": File too large (os error 27)") for line in told])
+
+
+def told(folder):
+    """What a server tells of two clients that share one worker, and of the one that waits."""
+    with Server(folder, "told", 1, "--verbose") as server:
+        with server.shaken() as client:
+            check("told: a write", True, write(client, 1, 2 * BLOCK))
+            client.sendall(request(READ, 2, 0, BLOCK))
+            check("told: a read", reply(2), take(client, 16 + BLOCK)[:16])
+            client.sendall(request(DISC, 3, 0, 0))
+            check("told: the end of the first session", b"", take(client, 1))
+        with server.connect() as client:
+            client.sendall(hostile.LONG_HANDSHAKE + request(FLUSH, 1, 0, 0))
+            check("told: a greeting", 18, len(take(client, 18)))
+            client.shutdown(socket.SHUT_WR)
+            while client.recv(MIB):
+                pass
+        server.process.kill()
+        server.process.wait(timeout=60)
+        lines = [re.sub(r"\d+\.\d+ s$", "T s", re.sub(r"127\.0\.0\.1:\d+", "A", line)) for line in server.process.stderr.read().splitlines()]
+        full = "nbdj: all 1 workers have a client, and further ones wait"
+        check("what is told", [
+            "nbdj: recovered 0 commands in T s",
+            "nbdj: client 1 came from A",
+            full,
+            "nbdj: client 1 agreed on simple replies",
+            "nbdj: client 1 left after 2 requests, 4096 bytes read and 8192 written",
+            "nbdj: client 2 came from A",
+            full,
+            "nbdj: client 2 agreed on structured replies and base:allocation",
+            "nbdj: client 2 was gone, or its session ended from here, after 1 requests, 0 bytes read and 0 written",
+        ], lines)
+
+
+def main():
+    with tempfile.TemporaryDirectory() as folder:
+        for scenario in (kills, intervals, asked_to_end, idle, failing, told):
+            begun = time.monotonic()
+            hostile.guarded(scenario, folder)
+            print(f"{scenario.__name__}: {time.monotonic() - begun:.1f} s", flush=True)
+    print(f"{hostile.passed} passed, {hostile.failed} failed")
+    return hostile.failed > 0
+
+
+if __name__ == "__main__":
+    sys.exit(main())
