@@ -114,7 +114,7 @@ def help_of(program, command):
     about, _, rest = done.stdout.partition("\n\nUsage: ")
     usage = [line.strip() for line in rest.partition("\n\n")[0].splitlines()]
     rows = {}
-    for tag, text in re.findall(r"^ +((?:--[a-z-]+ )?<\w+>)(?: {2,}|\n +)(.*)$", rest, re.M):
+    for tag, text in re.findall(r"^ +((?:--[a-z-]+ )?<\w+>|--[a-z-]+)(?: {2,}|\n +)(.*)$", rest, re.M):
         text, _, values = text.partition(" [possible values: ")
         text, _, default = text.partition(" [default: ")
         rows[tag] = {"text": text, "default": default.rstrip("]"), "values": values.rstrip("]")}
@@ -131,7 +131,7 @@ def man_of(page, command):
     rows = {}
     for item in tagged:
         head, text, *more = item.splitlines()
-        tag = re.sub(r'^\.BI (--[a-z-]+) " (\w+)"$', r"\1 <\2>", re.sub(r"^\.I (\w+)$", r"<\1>", head))
+        tag = re.sub(r'^\.BI (--[a-z-]+) " (\w+)"$', r"\1 <\2>", re.sub(r"^\.I (\w+)$", r"<\1>", re.sub(r"^\.B (--[a-z-]+)$", r"\1", head)))
         told = dict(re.findall(r"^(Default|Values): (.*)\.$", "\n".join(more), re.M))
         rows[tag] = {"text": text.removesuffix("."), "default": told.get("Default", ""), "values": told.get("Values", "")}
     return {"usage": usage, "about": about.strip().removesuffix("."), "note": " ".join(note.split()), "rows": rows}

@@ -12,8 +12,9 @@ use crate::serving::serve_at;
 use clap::error::ErrorKind;
 use disk_model::{Disk, FileDisk};
 use nbdj_line::line;
-use nbdj_run::{Plan, perform};
+use nbdj_run::{Course, Plan, perform};
 use nbdj_script::script;
+use nbdj_sweep::{faults, sweep};
 use std::process::ExitCode;
 use std::rt::Clock;
 use std::sync::Wait;
@@ -70,7 +71,7 @@ fn run<R: Threads + Wait + Clock + Sync>(rt: &HostRuntime, threads: &R, plan: &P
             Ok((file, size)) => run_on(rt, plan, FileDisk::new(file, size)),
             Err(fault) => no_file(rt, path, fault),
         },
-        Plan::Rehearse => run_script(rt),
+        Plan::Rehearse { course } => run_script(rt, course),
     }
 }
 
@@ -96,9 +97,13 @@ fn no_file(rt: &HostRuntime, path: &str, fault: FileFault) -> u8 {
     1
 }
 
-fn run_script(rt: &HostRuntime) -> u8 {
+fn run_script(rt: &HostRuntime, course: Course) -> u8 {
     let mut input = rt.reader();
     let mut output = io::writer(rt);
     let mut errors = rt.stderr();
-    script(rt.alloc(), &mut input, &mut output, &mut errors)
+    match course {
+        Course::Once => script(rt.alloc(), &mut input, &mut output, &mut errors),
+        Course::Sweep => sweep(rt.alloc(), &mut input, &mut output, &mut errors),
+        Course::Faults => faults(rt.alloc(), &mut input, &mut output, &mut errors),
+    }
 }

@@ -2,6 +2,7 @@
 use Rattle.std.specs.Prelude.{true, false, Some, [], ◌∷◌, codes}
 use Rattle.clap.specs.Words.{App, Rule, Text, new_app, new_rule, with_rule, with_subcommand}
 use Rattle.clap.specs.Simple.{on_top}
+use Rattle.clap.specs.declared.builder.action.ArgAction.TheVariants.{SetTrue}
 use Rattle.clap.specs.declared.builder.value_parser.ValueParser.{ValueParser}
 use Rattle.clap.specs.declared.builder.value_parser.ValueParser.TheVariants as parser
 
@@ -12,6 +13,10 @@ path_rule = record (new_rule (codes "path")) { value_names = 1; required = true 
 -- an option `--NAME VALUE`, which takes any value
 abbrev pub option_rule : Text → Rule
 option_rule name = record (new_rule name) { long = Some name; value_names = 1 }
+
+-- an option `--NAME` without a value
+abbrev pub flag_rule : Text → Rule
+flag_rule name = record (new_rule name) { long = Some name; action = Some SetTrue }
 
 -- options whose value says so many bytes; one that isn't free has a say in which others are given
 abbrev pub size_rule : Rule
@@ -69,7 +74,7 @@ abbrev pub check_app : App
 check_app = with_rule (new_app (codes "check")) path_rule
 
 abbrev pub rehearse_app : App
-rehearse_app = new_app (codes "rehearse")
+rehearse_app = with_rule (with_rule (new_app (codes "rehearse")) (flag_rule (codes "sweep"))) (flag_rule (codes "faults"))
 
 -- the program without its subcommands: it has a version, as each of them has, wants a subcommand, and prints its help where
 -- no word is given

@@ -9,6 +9,8 @@ use Rattle.world.specs.declared.step.Mode.TheVariants.{Writeback, Writethrough}
 use Rattle.nbdj_run.specs.declared.plan.Plan.{Plan}
 use Rattle.nbdj_run.specs.declared.plan.Address.{Address}
 use Rattle.nbdj_run.specs.declared.plan.Address.TheVariants.{Tcp, Unix}
+use Rattle.nbdj_run.specs.declared.plan.Course.{Course}
+use Rattle.nbdj_run.specs.declared.plan.Course.TheVariants.{Once, Sweep, Faults}
 use Rattle.nbdj_run.specs.declared.plan.Plan.TheVariants.{Format, Pipe, Serve, Recover, Check, Rehearse}
 
 -- the option was given this number, in decimal digits
@@ -49,6 +51,16 @@ abbrev pub SaysAddress : List Row → Address → Type 0
 SaysAddress rows (Tcp text) = (first_of (codes "listen") rows ≡ Some text.now) × IsLeftOut rows (codes "unix")
 SaysAddress rows (Unix path) = (first_of (codes "unix") rows ≡ Some path.now) × IsLeftOut rows (codes "listen")
 
+-- an option without a value was given
+abbrev pub IsSet : List Row → Text → Type 0
+IsSet rows name = first_of name rows ≡ Some (codes "true")
+
+-- which of --sweep and --faults was given, if any
+abbrev pub SaysCourse : List Row → Course → Type 0
+SaysCourse rows Once = (IsSet rows (codes "sweep") → ⊥) × (IsSet rows (codes "faults") → ⊥)
+SaysCourse rows Sweep = IsSet rows (codes "sweep") × (IsSet rows (codes "faults") → ⊥)
+SaysCourse rows Faults = IsSet rows (codes "faults") × (IsSet rows (codes "sweep") → ⊥)
+
 -- the subcommand with its values, as clap reads them from the words, asks for this plan
 abbrev pub IsAsked : Option (Text × List Row) → Plan → Type 0
 IsAsked None plan = ⊥
@@ -63,4 +75,4 @@ IsAsked (Some (name, rows)) (Serve path address options) =
     × IsGiven rows (codes "sessions") options.sessions × IsGiven rows (codes "handshake-timeout") options.handshake_seconds
 IsAsked (Some (name, rows)) (Recover path) = (name ≡ codes "recover") × HasPath rows path.now
 IsAsked (Some (name, rows)) (Check path) = (name ≡ codes "check") × HasPath rows path.now
-IsAsked (Some (name, rows)) Rehearse = name ≡ codes "rehearse"
+IsAsked (Some (name, rows)) (Rehearse course) = (name ≡ codes "rehearse") × SaysCourse rows course

@@ -1,9 +1,9 @@
 ghost use Rattle.std.specs.Prelude.{◌≡◌, false, true, IfOk, IsOkAnd};
 ghost use Rattle.clap.specs.Words.{app_of, new_app, rule_of, with_rule, with_subcommand};
-ghost use Rattle.nbdj_line.specs.Commands.{area_rule, bare_app, block_count_rule, blocks_rule, cache_rule, check_app, format_app, frames_rule, handshake_rule, listen_rule, nbdj_app, option_rule, path_rule, pipe_app, recover_app, rehearse_app, serve_app, served_app, sessions_rule, size_rule, unix_rule, workers_rule};
+ghost use Rattle.nbdj_line.specs.Commands.{area_rule, bare_app, block_count_rule, blocks_rule, cache_rule, check_app, flag_rule, format_app, frames_rule, handshake_rule, listen_rule, nbdj_app, option_rule, path_rule, pipe_app, recover_app, rehearse_app, serve_app, served_app, sessions_rule, size_rule, unix_rule, workers_rule};
 
 use clap::builder::ValueParser;
-use clap::{Arg, Command, value_parser};
+use clap::{Arg, ArgAction, Command, value_parser};
 use nbdj_pipe::{LEAST_FRAMES, MOST_FRAMES};
 use server::MOST_WORKERS;
 use std::alloc::{AllocError, Global};
@@ -21,7 +21,7 @@ pub fn program<'a>(
     let command = joined(command, pipe(alloc, modes))?;
     let command = joined(command, recover(alloc))?;
     let command = joined(command, check(alloc))?;
-    joined(command, Ok(rehearse(alloc)))
+    joined(command, rehearse(alloc))
 }
 
 // The command with a subcommand, where there is memory for it.
@@ -272,8 +272,8 @@ fn check<'a>(alloc: Global) -> Result<Command<'a>, AllocError>
     .arg(path(alloc))
 }
 
-fn rehearse<'a>(alloc: Global) -> Command<'a>
-    ensures { app_of result ≡ rehearse_app }
+fn rehearse<'a>(alloc: Global) -> Result<Command<'a>, AllocError>
+    ensures { IfOk result (λ command. app_of command ≡ rehearse_app) }
 {
     described(
         alloc,
@@ -281,6 +281,19 @@ fn rehearse<'a>(alloc: Global) -> Command<'a>
         "Runs a script from standard input on a simulated device, crashes included",
         "Example: nbdj rehearse <script\n\nEach line is one step; docs/SCRIPTS.md teaches the lines, and what each prints. A kill loses nothing but the simulated device.",
     )
+    .arg(flag(alloc, "sweep", "Runs it anew for each crash at a call of the device, and compares what is opened"))?
+    .arg(flag(alloc, "faults", "Runs it anew for each fault of a call of the device, crashes it, and compares what is opened"))
+}
+
+// An option `--NAME` without a value.
+fn flag<'a>(alloc: Global, name: &'a str, help: &'a str) -> Arg<'a>
+    ensures local { result.global ≡ false }
+    ensures rule { rule_of result ≡ flag_rule name.now }
+{
+    Arg::new(alloc, name)
+        .long(name)
+        .action(ArgAction::SetTrue)
+        .help(help)
 }
 
 fn path<'a>(alloc: Global) -> Arg<'a>

@@ -4,5 +4,5 @@
 mod plan;
 mod run;
 
-pub use plan::{Address, Plan};
+pub use plan::{Address, Course, Plan};
 pub use run::{exit_status, perform};
