@@ -23,8 +23,9 @@ use clap::error::ErrorKind;
 use disk_model::{Disk, FileDisk};
 use nbdj_line::line;
 use nbdj_pipe::Refusal;
-use nbdj_run::{Errand, Plan, exit_status, perform};
+use nbdj_run::{Course, Errand, Plan, exit_status, perform};
 use nbdj_script::script;
+use nbdj_sweep::{faults, sweep};
 use std::fs::File;
 use std::process::ExitCode;
 use std::rt::Clock;
@@ -114,7 +115,7 @@ where
             }
             Err(fault) => no_file(rt, teller, path, fault),
         },
-        Plan::Rehearse => run_script(rt),
+        Plan::Rehearse { course } => run_script(rt, course),
     }
 }
 
@@ -161,9 +162,13 @@ fn no_file(rt: &HostRuntime, teller: Teller, path: &str, fault: FileFault) -> u8
     1
 }
 
-fn run_script(rt: &HostRuntime) -> u8 {
+fn run_script(rt: &HostRuntime, course: Course) -> u8 {
     let mut input = rt.reader();
     let mut output = io::writer(rt);
     let mut errors = rt.stderr();
-    script(rt.alloc(), &mut input, &mut output, &mut errors)
+    match course {
+        Course::Once => script(rt.alloc(), &mut input, &mut output, &mut errors),
+        Course::Sweep => sweep(rt.alloc(), &mut input, &mut output, &mut errors),
+        Course::Faults => faults(rt.alloc(), &mut input, &mut output, &mut errors),
+    }
 }

@@ -95,7 +95,7 @@ abbrev pub check_app : App
 check_app = with_rule (with_rule (new_app (codes "check")) path_rule) verbose_rule
 
 abbrev pub rehearse_app : App
-rehearse_app = new_app (codes "rehearse")
+rehearse_app = with_rule (with_rule (new_app (codes "rehearse")) (flag_rule (codes "sweep"))) (flag_rule (codes "faults"))
 
 -- the program without its subcommands: it has a version, as each of them has, wants a subcommand, and prints its help where
 -- no word is given

@@ -10,6 +10,8 @@ use Rattle.nbdj_run.specs.declared.plan.Errand.{Errand}
 use Rattle.nbdj_run.specs.declared.plan.Plan.{Plan}
 use Rattle.nbdj_run.specs.declared.plan.Address.{Address}
 use Rattle.nbdj_run.specs.declared.plan.Address.TheVariants.{Tcp, Unix}
+use Rattle.nbdj_run.specs.declared.plan.Course.{Course}
+use Rattle.nbdj_run.specs.declared.plan.Course.TheVariants.{Once, Sweep, Faults}
 use Rattle.nbdj_run.specs.declared.plan.Plan.TheVariants.{Format, Pipe, Serve, Recover, Check, Rehearse}
 use Rattle.server.specs.declared.options.Limits.{Limits}
 use Rattle.server.specs.declared.options.OnFault.{OnFault}
@@ -69,6 +71,12 @@ abbrev pub SaysAddress : List Row → Address → Type 0
 SaysAddress rows (Tcp text) = (first_of (codes "listen") rows ≡ Some text.now) × IsLeftOut rows (codes "unix")
 SaysAddress rows (Unix path) = (first_of (codes "unix") rows ≡ Some path.now) × (path.now ≢ []) × IsLeftOut rows (codes "listen")
 
+-- which of --sweep and --faults was given, if any
+abbrev pub SaysCourse : List Row → Course → Type 0
+SaysCourse rows Once = SaysFlag rows (codes "sweep") false × SaysFlag rows (codes "faults") false
+SaysCourse rows Sweep = SaysFlag rows (codes "sweep") true × SaysFlag rows (codes "faults") false
+SaysCourse rows Faults = SaysFlag rows (codes "sweep") false × SaysFlag rows (codes "faults") true
+
 -- the subcommand with its values, as clap reads them from the words, asks for this plan
 abbrev pub IsAsked : Option (Text × List Row) → Plan → Type 0
 IsAsked None plan = ⊥
@@ -85,7 +93,7 @@ IsAsked (Some (name, rows)) (Serve path address options) =
     × SaysFlag rows (codes "until-eof") options.until_eof
 IsAsked (Some (name, rows)) (Recover path) = (name ≡ codes "recover") × HasPath rows path.now
 IsAsked (Some (name, rows)) (Check path) = (name ≡ codes "check") × HasPath rows path.now
-IsAsked (Some (name, rows)) Rehearse = name ≡ codes "rehearse"
+IsAsked (Some (name, rows)) (Rehearse course) = (name ≡ codes "rehearse") × SaysCourse rows course
 
 -- the subcommand asks for this plan, and to tell of it or not
 abbrev pub IsErrand : Option (Text × List Row) → Errand → Type 0

@@ -21,7 +21,7 @@ pub fn program<'a>(
     let command = joined(command, pipe(alloc, modes))?;
     let command = joined(command, recover(alloc))?;
     let command = joined(command, check(alloc))?;
-    joined(command, Ok(rehearse(alloc)))
+    joined(command, rehearse(alloc))
 }
 
 // The command with a subcommand, where there is memory for it.
@@ -369,8 +369,8 @@ fn check<'a>(alloc: Global) -> Result<Command<'a>, AllocError>
     .arg(verbose(alloc))
 }
 
-fn rehearse<'a>(alloc: Global) -> Command<'a>
-    ensures { app_of result ≡ rehearse_app }
+fn rehearse<'a>(alloc: Global) -> Result<Command<'a>, AllocError>
+    ensures { IfOk result (λ command. app_of command ≡ rehearse_app) }
 {
     described(
         alloc,
@@ -378,6 +378,12 @@ fn rehearse<'a>(alloc: Global) -> Command<'a>
         "Runs a script from standard input on a simulated device, crashes included",
         "Example: nbdj rehearse <script\n\nEach line is one step; docs/SCRIPTS.md teaches the lines, and what each prints. A kill loses nothing but the simulated device.",
     )
+    .arg(flag(alloc, "sweep").help(
+        "Runs it anew for each crash at a call of the device, and compares what is opened",
+    ))?
+    .arg(flag(alloc, "faults").help(
+        "Runs it anew for each fault of a call of the device, crashes it, and compares what is opened",
+    ))
 }
 
 fn path<'a>(alloc: Global) -> Arg<'a>

@@ -1,8 +1,8 @@
-ghost use Rattle.std.specs.Prelude.{◌≡◌, ◌≤◌, ◌*◌, Some, IfOk, codes, map, option_map};
+ghost use Rattle.std.specs.Prelude.{◌≡◌, ◌≤◌, ◌*◌, ◌↔◌, IsTrue, Some, IfOk, codes, map, option_map};
 ghost use Rattle.clap.specs.Words.{first_of, found_of, rows_of, subcommand_of};
 ghost use Rattle.clap.specs.declared.builder.value_parser.ValueParser.{ValueParser};
 ghost use Rattle.nbdj_line.specs.Commands.{nbdj_app};
-ghost use Rattle.nbdj_line.specs.Line.{fault_name, mode_name, HasPath, IsAsked, IsErrand, IsGiven, SaysAddress, SaysArea, SaysBlocks, SaysFlag, SaysLimits};
+ghost use Rattle.nbdj_line.specs.Line.{fault_name, mode_name, HasPath, IsAsked, IsErrand, IsGiven, SaysAddress, SaysArea, SaysBlocks, SaysCourse, SaysFlag, SaysLimits};
 ghost use Rattle.nbdj_line.specs.Size.{IsSize};
 
 use crate::commands::{self, modes, program};
@@ -11,7 +11,7 @@ use clap::error::ErrorKind;
 use clap::{ArgMatches, Command, Error};
 use image_model::{BLOCK_BYTES, Geometry, LEAST_AREA_BYTES, MOST_AREA_BYTES, MOST_BLOCKS};
 use nbdj_pipe::PipeOptions;
-use nbdj_run::{Address, Errand, Plan};
+use nbdj_run::{Address, Course, Errand, Plan};
 use server::{Limits, OnFault, ServeOptions};
 use std::alloc::{AllocError, Global};
 use world::Mode;
@@ -51,7 +51,9 @@ fn asked<'a>(alloc: Global, name: &str, matches: &ArgMatches<'a>) -> Result<Plan
         "check" => Ok(Plan::Check {
             path: path(alloc, matches)?,
         }),
-        "rehearse" => Ok(Plan::Rehearse),
+        "rehearse" => Ok(Plan::Rehearse {
+            course: course(alloc, matches)?,
+        }),
         _ => Err(fault(alloc, "no such command")),
     }
 }
@@ -260,6 +262,18 @@ fn mode(alloc: Global, matches: &ArgMatches<'_>) -> Result<Mode, Error>
         Some("writeback") => Ok(Mode::Writeback),
         Some("writethrough") => Ok(Mode::Writethrough),
         _ => Err(fault(alloc, "--cache: the mode is writeback or writethrough")),
+    }
+}
+
+// How a script is run, as at most one of two options says.
+fn course(alloc: Global, matches: &ArgMatches<'_>) -> Result<Course, Error>
+    ensures { IfOk result (SaysCourse (rows_of (found_of matches.now))) }
+{
+    match (flag(matches, "sweep"), flag(matches, "faults")) {
+        (false, false) => Ok(Course::Once),
+        (true, false) => Ok(Course::Sweep),
+        (false, true) => Ok(Course::Faults),
+        (true, true) => Err(fault(alloc, "one of --sweep and --faults at a time")),
     }
 }
 

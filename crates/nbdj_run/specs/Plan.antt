@@ -12,7 +12,7 @@ Suits (Pipe path options) extent = Unit {0}
 Suits (Serve path address options) extent = ⊥
 Suits (Recover path) extent = Unit {0}
 Suits (Check path) extent = Unit {0}
-Suits Rehearse extent = ⊥
+Suits (Rehearse course) extent = ⊥
 
 -- what a plan that serves a connection comes to, by its options
 abbrev pub IfPipe : Plan → (PipeOptions → Type 0) → Type 0
@@ -21,7 +21,7 @@ IfPipe (Pipe path options) P = P options
 IfPipe (Serve path address options) P = Unit {0}
 IfPipe (Recover path) P = Unit {0}
 IfPipe (Check path) P = Unit {0}
-IfPipe Rehearse P = Unit {0}
+IfPipe (Rehearse course) P = Unit {0}
 
 -- what a plan that only reads the device comes to
 abbrev pub IfCheck : Plan → Type 0 → Type 0
@@ -30,4 +30,4 @@ IfCheck (Pipe path options) P = Unit {0}
 IfCheck (Serve path address options) P = Unit {0}
 IfCheck (Recover path) P = Unit {0}
 IfCheck (Check path) P = P
-IfCheck Rehearse P = Unit {0}
+IfCheck (Rehearse course) P = Unit {0}

@@ -4,5 +4,5 @@
 mod plan;
 mod run;
 
-pub use plan::{Address, Errand, Plan};
+pub use plan::{Address, Course, Errand, Plan};
 pub use run::{exit_status, perform};

@@ -11,6 +11,17 @@ pub enum Address<'a> {
     Unix(&'a str),
 }
 
+/// How a script is run.
+#[derive(Clone, Copy, Debug, PartialEq, Eq)]
+pub enum Course {
+    /// Once, as it stands.
+    Once,
+    /// Anew for each crash at a call of the device.
+    Sweep,
+    /// Anew for each fault of a call of the device.
+    Faults,
+}
+
 /// What a command line asks for, and whether what happens is told on standard error.
 #[derive(Clone, Copy, Debug)]
 pub struct Errand<'a> {
@@ -47,5 +58,7 @@ pub enum Plan<'a> {
         path: &'a str,
     },
     /// Runs a script from standard input on a simulated device.
-    Rehearse,
+    Rehearse {
+        course: Course,
+    },
 }

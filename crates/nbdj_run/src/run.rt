@@ -21,8 +21,8 @@ use std::io::{Read, Write};
 /// Carries out the plan on a device, and answers the exit status and the device: 0 where it is done, else 1, or 3 where a
 /// check found the device bad (6, 7, 8 or 12), and a line `nbdj: TEXT (NUMBER)` on `errors`.
 ///
-/// The device of a `Format` has the full size of its geometry; a `Rehearse` has none, and is what `script` does, and a
-/// `Serve` is what `server::serve` does.
+/// The device of a `Format` has the full size of its geometry; a `Rehearse` has none, and is what `nbdj_script` and
+/// `nbdj_sweep` do, and a `Serve` is what `server::serve` does.
 pub fn perform<D: Disk + Drop, R: Read, W: Write, E: Write>(
     alloc: Global,
     plan: &Plan<'_>,
@@ -48,7 +48,7 @@ pub fn perform<D: Disk + Drop, R: Read, W: Write, E: Write>(
         Plan::Format { geometry, .. } => format(alloc, disk, geometry, output),
         Plan::Pipe { path: _, options } => pipe(alloc, disk, options, input, output),
         Plan::Recover { path: _ } => recover(alloc, disk, output),
-        Plan::Serve { .. } | Plan::Check { path: _ } | Plan::Rehearse => unreachable!(),
+        Plan::Serve { .. } | Plan::Check { path: _ } | Plan::Rehearse { .. } => unreachable!(),
     };
     (exit_status(outcome, errors), disk)
 }

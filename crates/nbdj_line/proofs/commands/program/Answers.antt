@@ -12,4 +12,4 @@ returns c =
     let three = joins _ _ _ _ _ refl two c.pipe.ensures c.in_ok-command-3.ensures in
     let four = joins _ _ _ _ _ refl three c.recover.ensures c.in_ok-command-4.ensures in
     let five = joins _ _ _ _ _ refl four c.check.ensures c.in_ok-command-5.ensures in
-    IfOk-weaker c.joined-6.result _ _ (λ whole joined. joins (Ok c.rehearse.result) rehearse_app _ _ (app_of whole) refl five c.rehearse.ensures joined) c.joined-6.ensures
+    IfOk-weaker c.joined-6.result _ _ (λ whole joined. joins c.rehearse.result rehearse_app _ _ (app_of whole) refl five c.rehearse.ensures joined) c.joined-6.ensures

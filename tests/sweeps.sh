@@ -1,0 +1,72 @@
+#!/bin/sh
+# Sweeps scripts with the built program NBDJ: each is run anew for each crash at a call of the device, and for each fault of one, and
+# what is opened afterwards is compared with plain bytes. Swept are the scripts of tests/scripts, without their lines that crash the
+# device or let a call of it fail, and those of docs/SCRIPTS.md. Prints how many runs with a crash there were, and last
+# 'N passed, M failed'. Those that take many minutes are swept with --long alone.
+set -u
+here=$(cd "$(dirname "$0")/.." && pwd)
+. "$here/tests/checks.sh"
+runs=0
+
+# Scripts with hundreds of calls of the device.
+long=checkpoint_lets_frames_go
+
+# swept NAME: sweeps the script in the file `input`
+swept() {
+    run rehearse --sweep
+    calls=$(sed -n 's/^calls //p' output)
+    runs=$((runs + 5 * (${calls:-0} + 1)))
+    is "the sweep of $1" "0|$(printf 'calls %s\nruns %s\nok' "$calls" $((5 * (${calls:-0} + 1))))|" "$status|$(cat output)|$errors"
+    run rehearse --faults
+    is "the faults of $1" '0|ok|' "$status|$(tail -n 1 output)|$errors"
+    # each call of the device fails once
+    is "the calls of $1" "${calls:-}" "$(awk '{ if (NF == 2) sum += $2 } END { print sum + 0 }' output)"
+}
+
+# without_trouble FILE: a script without the lines that crash the device or let a call of it fail
+without_trouble() { grep -v -e '^crash ' -e '^fault ' "$1" >input; }
+
+if [ "${1:-}" = --long ]; then
+    without_trouble "$here/tests/scripts/$long.in"
+    swept "$long"
+    echo "$runs runs with a crash"
+    the_end
+    exit
+fi
+
+# One put that is stored: a write and a sync of the body, and of the gate. Nothing is read.
+printf '%s\n' 'format 16 2097152 512' 'send 1 put 0 1 41' 'serve 1' 'answer 1' seal append publish >input
+ends 'a put that is stored, swept' 0 "$(printf '%s\n' 'calls 4' 'runs 25' ok | hex)" '' rehearse --sweep
+ends 'the faults of a put that is stored' 0 "$(printf '%s\n' 'reads 0' 'writes 2' 'syncs 2' ok | hex)" '' rehearse --faults
+
+# A script is read to its end before anything runs, and no line of it crashes the device or lets a call of it fail.
+for how in --sweep --faults; do
+    for line in 'crash ff' 'crash at 1 00' 'fault sync 1' 'no step' '' 'format 16 2097152 512'; do
+        printf 'format 16 2097152 512\nsend 1 flush\n%s\nseal\n' "$line" >input
+        ends "no step of $how: '$line'" 2 '' 'nbdj: line 3: not a step' rehearse "$how"
+    done
+    printf 'seal\n' >input
+    ends "no format of $how" 2 '' 'nbdj: line 1: not a step' rehearse "$how"
+    : >input
+    ends "an empty script of $how" 2 '' 'nbdj: line 1: not a step' rehearse "$how"
+done
+: >input
+run rehearse --sweep --faults
+is 'one of both at a time' 2 "$status"
+
+for script in "$here"/tests/scripts/*.in; do
+    name=$(basename "$script" .in)
+    [ "$name" = "$long" ] && continue
+    without_trouble "$script"
+    swept "$name"
+done
+
+block() { awk -v kind="$1" -v k="$2" '$0 == "```" kind { n++; on = n == k; next } /^```/ { on = 0 } on' "$here/docs/SCRIPTS.md"; }
+for k in 1 2 3 4; do
+    block script "$k" >whole
+    without_trouble whole
+    swept "script $k of the page"
+done
+
+echo "$runs runs with a crash"
+the_end
