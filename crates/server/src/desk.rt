@@ -66,7 +66,7 @@ impl<'a, B: ExportName, D: Disk, H: ReadBeside, R: Wait, L: Log> Serve<Pass<B>>
     }
 }
 
-impl<'a, B: ExportName, D: Disk, H: ReadBeside, R: Wait, L: Log> Desk<'a, B, D, R, L> {
+impl<'a, B: ExportName, D: Disk, H: ReadBeside, R: Wait, L: Log> Desk<'a, B, D, H, R, L> {
     // Counts a request, and tells of the first one.
     fn count(&self, request: &Request, flags: &SessionFlags) {
         let mut traffic = self.traffic.get();
