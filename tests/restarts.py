@@ -1,0 +1,200 @@
+#!/usr/bin/env python3
+"""300 restarts of `serve` over one image, by the built program NBDJ: each server is killed (SIGKILL) while it opens the image, while a client
+that has read all of it waits, or amid a client's writes.
+
+What a client reads of the whole image before a kill without load is, byte for byte, what it reads after the restart. After a kill under load
+it is the image after some first commands of those that the client sent, all that a FLUSH confirmed among them. The bytes of both header
+slots are kept at each step, and printed with a difference. Prints a line for each check that fails, and last 'N passed, M failed'.
+"""
+import contextlib
+import os
+import random
+import signal
+import socket
+import struct
+import subprocess
+import sys
+import tempfile
+import threading
+import time
+
+BLOCK, BLOCKS, AREA = 4096, 256, 2097152
+RESTARTS, SECONDS = 300, 60
+SEED = int(os.environ.get("RESTARTS_SEED", "41"))
+READ, WRITE, FLUSH, TRIM, ZEROES = 0, 1, 3, 4, 6
+NO_HOLE = 2
+NBDJ = os.environ["NBDJ"]
+passed, failed = 0, 0
+
+
+def check(name, wanted, got):
+    global passed, failed
+    if wanted == got:
+        passed += 1
+    else:
+        failed += 1
+        print(f"FAILED {name}\n  wanted: {wanted}\n  got:    {got}", flush=True)
+
+
+class Client:
+    """A client at a Unix socket, with simple replies."""
+
+    def __init__(self, path):
+        self.socket = socket.socket(socket.AF_UNIX)
+        self.socket.settimeout(20)
+        self.socket.connect(path)
+        self.cookie = 0
+        go = struct.pack(">IHH", 0, 1, 3)
+        self.socket.sendall(struct.pack(">I", 3) + b"IHAVEOPT" + struct.pack(">II", 7, len(go)) + go)
+        self.take(18)
+        kind = 0
+        while kind != 1:
+            _, _, kind, length = struct.unpack(">QIII", self.take(20))
+            self.take(length)
+
+    def take(self, count):
+        found = bytearray()
+        while len(found) < count:
+            piece = self.socket.recv(count - len(found))
+            if not piece:
+                raise ConnectionError("the server has gone")
+            found += piece
+        return bytes(found)
+
+    def ask(self, kind, block=0, blocks=0, data=b"", flags=0):
+        """The data of a READ, or nothing; another reply than Ok ends the run."""
+        self.cookie += 1
+        self.socket.sendall(struct.pack(">IHHQQI", 0x25609513, flags, kind, self.cookie, block * BLOCK, blocks * BLOCK) + data)
+        magic, error, cookie = struct.unpack(">IIQ", self.take(16))
+        if (magic, error, cookie) != (0x67446698, 0, self.cookie):
+            raise ValueError(f"a reply {magic:x}, {error}, {cookie} to request {self.cookie}")
+        return self.take(blocks * BLOCK) if kind == READ else b""
+
+    def image(self):
+        return self.ask(READ, 0, BLOCKS)
+
+    def close(self):
+        self.socket.close()
+
+
+class Load:
+    """Commands of one client, in the order in which they were sent: each the block that it begins with and the bytes that it leaves there. How
+    many of them a FLUSH has confirmed."""
+
+    numbers = 0
+
+    def __init__(self):
+        self.sent, self.confirmed = [], 0
+
+    def command(self, client, source):
+        blocks = min(1 + int(source.expovariate(0.4)), 32)
+        block = source.randrange(BLOCKS - blocks + 1)
+        kind = source.choices((WRITE, TRIM, ZEROES), (8, 1, 1))[0]
+        data = bytes(blocks * BLOCK)
+        if kind == WRITE:
+            Load.numbers += 1
+            data = b"".join(struct.pack(">IHH", Load.numbers, block, place % 65536) for place in range(blocks * BLOCK // 8))
+        self.sent.append((block, data))
+        client.ask(kind, block, blocks, data if kind == WRITE else b"", source.choice((0, NO_HOLE)) if kind == ZEROES else 0)
+
+    def run(self, client, source):
+        """Commands without end, and a FLUSH now and then; the connection's end is the only way out."""
+        with contextlib.suppress(OSError):
+            while True:
+                for _ in range(source.randrange(1, 12)):
+                    self.command(client, source)
+                count = len(self.sent)
+                client.ask(FLUSH)
+                self.confirmed = count
+
+    def leaves(self, image):
+        """The image after each count of first commands that may stand: those that are confirmed, and one more each time."""
+        image = bytearray(image)
+        for count in range(len(self.sent) + 1):
+            if count >= self.confirmed:
+                yield count, bytes(image)
+            if count < len(self.sent):
+                block, data = self.sent[count]
+                image[block * BLOCK: block * BLOCK + len(data)] = data
+
+
+class Restarts:
+    def __init__(self, image, path):
+        self.image, self.path = image, path
+        self.slots = []
+        self.server = None
+
+    def start(self):
+        words = [NBDJ, "serve", self.image, "--unix", self.path, "--frames", "512", "--flush-interval", "0"]
+        self.server = subprocess.Popen(words, stdin=subprocess.DEVNULL, stdout=subprocess.PIPE, stderr=subprocess.PIPE)
+
+    def listens(self):
+        said = self.server.stdout.readline()
+        return said.startswith(b"listening") or self.server.stderr.read().decode(errors="replace")
+
+    def kill(self):
+        self.server.send_signal(signal.SIGKILL)
+        self.server.communicate()
+        with open(self.image, "rb") as file:
+            self.slots = self.slots[-4:] + [[file.read(40).hex(), (file.seek(BLOCK), file.read(40).hex())[1]]]
+
+    def told(self, name):
+        """A failure is told with the last header slots."""
+        for one, other in self.slots:
+            print(f"{name}: slots {one} {other}", flush=True)
+
+
+def differing(one, other):
+    return [it for it in range(BLOCKS) if one[it * BLOCK: (it + 1) * BLOCK] != other[it * BLOCK: (it + 1) * BLOCK]][:8]
+
+
+def run(folder):
+    source = random.Random(SEED)
+    restarts = Restarts(os.path.join(folder, "d.img"), os.path.join(folder, "socket"))
+    subprocess.run([NBDJ, "format", restarts.image, "--blocks", str(BLOCKS), "--area", str(AREA)], check=True, stdout=subprocess.DEVNULL)
+    known, load = bytes(BLOCKS * BLOCK), Load()
+    ways = dict.fromkeys(("opening", "idle", "load"), 0)
+    began = time.monotonic()
+    for number in range(1, RESTARTS + 1):
+        if time.monotonic() - began > SECONDS:
+            print(f"{number - 1} restarts in {SECONDS} seconds, and not {RESTARTS}", flush=True)
+            break
+        way = source.choices(("opening", "idle", "load"), (2, 2, 5))[0]
+        ways[way] += 1
+        restarts.start()
+        if way == "opening":
+            time.sleep(source.random() * 0.02)
+            restarts.kill()
+            continue
+        said = restarts.listens()
+        if said is not True:
+            check(f"restart {number}: it listens", True, said)
+            restarts.told(f"restart {number}")
+            return ways
+        client = Client(restarts.path)
+        found = client.image()
+        stands = next((count for count, image in load.leaves(known) if image == found), None)
+        if stands is None:
+            near = next(load.leaves(known))[1]
+            restarts.told(f"restart {number}")
+            check(f"restart {number}: the image after {load.confirmed} to {len(load.sent)} commands", "none", f"blocks {differing(near, found)}")
+            return ways
+        check(f"restart {number}: the image is one that may stand", True, load.confirmed <= stands <= len(load.sent))
+        known, load = found, Load()
+        if way == "load":
+            worker = threading.Thread(target=load.run, args=(client, random.Random(source.random())))
+            worker.start()
+            time.sleep(source.random() * 0.08)
+            restarts.kill()
+            worker.join()
+        else:
+            time.sleep(source.random() * 0.01)
+            restarts.kill()
+        client.close()
+    return ways
+
+
+with tempfile.TemporaryDirectory() as temporary:
+    print("kills:", ", ".join(f"{count} {way}" for way, count in run(temporary).items()), flush=True)
+print(f"{passed} passed, {failed} failed")
+sys.exit(failed > 0)
