@@ -1,5 +1,8 @@
 //! What a board of marks costs, by threads.
 
+ghost use Rattle.std.specs.Prelude.{◌≡◌, ◌≤◌};
+ghost use Rattle.marks.specs.Known.{known};
+
 mod calls;
 mod line;
 

@@ -1,5 +1,8 @@
 //! What an export costs over a file, by threads, beside its device's own writes and syncs.
 
+ghost use Rattle.std.specs.Prelude.{◌≡◌, ◌≤◌};
+ghost use Rattle.image_model.specs.Geometry.{device_bytes_of};
+
 mod load;
 mod threads;
 

@@ -1,6 +1,8 @@
 //! How fast the stream reader takes requests from a stream, how fast replies to READs are written, and how fast a session serves
 //! requests that are answered at once, beside plain copies.
 
+ghost use Rattle.std.specs.Prelude.{◌<◌, ◌≤◌};
+
 mod sessions;
 
 use anyhow::Result;
