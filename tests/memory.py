@@ -17,6 +17,7 @@ import os
 import re
 import shlex
 import shutil
+import signal
 import socket
 import struct
 import subprocess
@@ -32,6 +33,8 @@ ORACLE = shlex.split(os.environ.get("ORACLE", "")) or [NBDJ, "rehearse"]
 LONG = "--long" in sys.argv[1:]
 # How many calls of a built test are refused in turn before they are taken in samples, and how many samples there are then.
 IN_TURN, SAMPLES = (10**9, 0) if LONG else (60, 60)
+# Tests in which a thread waits for another one's requests without a limit: where that one is refused its memory nothing ends them.
+WAITING = {"beside_tests::held_read_gives_what_was_written_meanwhile", "loopback_tests::a_device_that_fails_ends_the_server"}
 BLOCK, BLOCKS = 4096, 16
 READ, WRITE, DISC, FLUSH = 0, 1, 2, 3
 passed, failed, refused = 0, 0, 0
@@ -486,9 +489,11 @@ def calls_to_refuse():
 def refuse_test(built, test):
     """A test that memory is refused ends by itself: it passes, or it says where it stopped, but one that is about refused memory stops at none
     of what it asserts. Some need no memory."""
+    name = f"{os.path.basename(built)}, {test}"
+    if test in WAITING:
+        return print(f"not tried: {name}, since nothing ends it where a thread is refused its memory", flush=True)
     began = time.monotonic()
     whole = Run([built, test])
-    name = f"{os.path.basename(built)}, {test}"
     if whole.status != 0:
         return conclude(name, 1, [f"status {whole.status} with all memory"])
     if time.monotonic() - began > 1 and not LONG:
@@ -500,7 +505,9 @@ def refuse_test(built, test):
         runs = list(pool.map(lambda call: Run([built, test], b"", call), batch))
         for call, run in zip(batch, runs):
             calls += run.met
-            if run.met and (run.status < 0 or not re.search(ends, (run.output + run.errors.encode()).decode(errors="replace"), re.MULTILINE)):
+            said = run.output.decode(errors="replace") + run.errors
+            # (a test that stops ends by the signal of an abort)
+            if run.met and (run.status == -signal.SIGKILL or not re.search(ends, said, re.MULTILINE)):
                 wrong.append(f"call {call}: status {run.status}")
         if not runs[-1].met:
             break
