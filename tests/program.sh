@@ -102,9 +102,12 @@ for command in format serve pipe recover check rehearse; do
     is "version of $command" "0|$version|" "$status|$(sed 's/.* //' output)|$errors"
     run "$command" --help
     is "help of $command" '0|yes|' "$status|$(grep -q "^Usage: nbdj $command" output && echo yes)|$errors"
+    # each command has 0, 1 and 2, and check has 3 too
+    case $command in check) statuses='0 1 2 3 ' ;; *) statuses='0 1 2 ' ;; esac
+    is "the exit statuses in the help of $command" "$statuses" "$(sed -n 's/^Exit status: //p' output | tr ';' '\n' | sed 's/^ *\([0-9]*\) [a-z].*/\1/' | tr '\n' ' ')"
 done
 
-# The example in each help runs; that of serve has no end, and listens.
+# The example in each help runs; that of serve has no end, and listens, as that of the program does.
 mkdir bin
 ln -s "$NBDJ" bin/nbdj
 request 0000 2 1 0 0 >requests
@@ -136,6 +139,12 @@ serves() {
 }
 example=$("$NBDJ" serve --help | sed -n 's/^Example: nbdj serve //p')
 serves 'the example of serve' 143 "listening ${example##*:}" '' $example
+example=$("$NBDJ" --help | sed -n 's/^Example: //p')
+rm -f d.img
+is 'the example of the program: format' 'nbdj format d.img 0' "$(echo "$example" | cut -d ' ' -f 1-3) $(PATH="$folder/bin:$PATH" sh -c "${example%%&&*} --area 2M" >printed 2>&1; echo $?)"
+example=${example#*&& nbdj serve }
+serves 'the example of the program: serve' 143 "listening ${example##*:}" '' $example
+fresh 16 2097152
 serves 'an address without a port' 143 'listening 10809' '' d.img --listen 127.0.0.1
 if [ -s /proc/net/if_inet6 ]; then
     for address in ::1 '[::1]' '[::1]:10809'; do
