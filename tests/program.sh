@@ -246,6 +246,22 @@ ROWS
 ends 'format --blocks with letters in the area' 0 "$(text 'formatted 4276224')" '' format s.img --blocks 16 --area 2M
 rm -f s.img
 
+# A file of which every block is there, and one of holes where the file system has any: blocks of 512 bytes hold it whole, or don't.
+held() { [ $(($(stat -c %b "$1") * 512)) -ge "$(stat -c %s "$1")" ] && echo whole || echo holes; }
+truncate -s 4276224 sparse
+ends 'format without --preallocate' 0 "$(text 'formatted 4276224')" '' format s.img --blocks 16 --area 2M
+is 'the blocks of a file' "$(held sparse)" "$(held s.img)"
+ends 'format --preallocate' 0 "$(text 'formatted 4276224')" '' format d.img --blocks 16 --area 2M --preallocate
+is 'the blocks of a file that was preallocated' 'whole 4276224' "$(held d.img) $(stat -c %s d.img)"
+same 'the bytes of a file that was preallocated' s.img d.img
+checks 'check of a file that was preallocated' 16 0 0 0 0 0 16
+ends 'recover a file that was preallocated' 0 "$(text 'commands 0')" '' recover d.img
+differing 5000000 1 >d.img
+ends 'format --preallocate over a longer file' 0 "$(text 'formatted 4276224')" '' format d.img --blocks 16 --area 2M --preallocate
+same 'the bytes of a longer file that was preallocated' s.img d.img
+is 'the blocks of a longer file that was preallocated' whole "$(held d.img)"
+rm -f s.img sparse
+
 # A format takes the place of what was there, whichever is longer.
 ends 'format over a longer file' 0 "$(text 'formatted 4276224')" '' format d.img --blocks 16 --area 2097152
 differing 5000000 1 >d.img
