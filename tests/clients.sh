@@ -189,14 +189,13 @@ copies() {
         is "$1: nbdinfo --map of the copy" "$map_a" "$(map)"
     fi
     if has qemu-img; then
-        # (without -t writeback it wouldn't flush)
-        is "$1: qemu-img convert in" 0 "$(quiet qemu-img convert -n -f raw -O raw -t writeback source_b "$uri")"
+        is "$1: qemu-img convert in" 0 "$(quiet qemu-img convert -n -f raw -O raw source_b "$uri")"
         is "$1: qemu-img compare" 0 "$(quiet qemu-img compare -f raw -F raw source_b "$uri")"
         timeout 60 qemu-img compare -f raw -F raw source_a "$uri" >output 2>&1
         is "$1: qemu-img compare with another" 1 $?
         is "$1: qemu-img convert out" 0 "$(quiet qemu-img convert -f raw -O raw "$uri" found)"
         same "$1: what qemu-img copied" source_b found
-        is "$1: qemu-img convert in again" 0 "$(quiet qemu-img convert -n -f raw -O raw -t writeback source_a "$uri")"
+        is "$1: qemu-img convert in again" 0 "$(quiet qemu-img convert -n -f raw -O raw source_a "$uri")"
         is "$1: qemu-img map" '0 16777216 true
 41943040 1048576 true
 67104768 4096 true' "$(timeout 30 qemu-img map --output=json -f raw "$uri" 2>&1 |
@@ -434,7 +433,7 @@ fi
 
 # What each client does again and again, until the kill: the first half of the image from the one source and from the other in turn.
 nbdcopy_half() { timeout 30 nbdcopy --connections=4 --flush "half_$1" "$uri"; }
-qemu_img_half() { timeout 30 qemu-img convert -n -f raw -O raw -t writeback "half_$1" "$uri"; }
+qemu_img_half() { timeout 30 qemu-img convert -n -f raw -O raw "half_$1" "$uri"; }
 qemu_io_half() { timeout 30 qemu-io -f raw -c "write -s half_$1 0 32M" -c flush "$uri"; }
 fio_half() { timeout 30 fio --name=job --ioengine=nbd --uri="$uri" --rw=write --bs=64k --size=8m --numjobs=4 --offset_increment=8m --buffer_pattern="'half_$1'" --iodepth=8; }
 

@@ -12,6 +12,7 @@ import socket
 import subprocess
 import sys
 import tempfile
+import threading
 import time
 
 import hostile
@@ -206,9 +207,24 @@ def told(folder):
         ], lines)
 
 
+def copied(folder):
+    """A checkpoint that is told: the third write takes more than two thirds of the frames, and of an area."""
+    with Server(folder, "copied", 1, "--verbose") as server:
+        with server.shaken() as client:
+            for cookie in (0, 1, 2):
+                check("copied: a write", True, write(client, cookie, MIB // 2))
+                client.sendall(request(FLUSH, 9, 0, 0))
+                check("copied: a flush", reply(9), take(client, 16))
+            late = threading.Timer(20, server.process.kill)
+            late.start()
+            line = next((it for it in server.process.stderr if "checkpoint" in it), "")
+            late.cancel()
+        check("copied: what is told", "nbdj: checkpoint of 384 blocks in T s\n", re.sub(r"\d+\.\d{3} s$", "T s", line, flags=re.M))
+
+
 def main():
     with tempfile.TemporaryDirectory() as folder:
-        for scenario in (kills, intervals, asked_to_end, idle, failing, told):
+        for scenario in (kills, intervals, asked_to_end, idle, failing, told, copied):
             begun = time.monotonic()
             hostile.guarded(scenario, folder)
             print(f"{scenario.__name__}: {time.monotonic() - begun:.1f} s", flush=True)

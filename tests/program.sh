@@ -102,9 +102,12 @@ for command in format serve pipe recover check rehearse; do
     is "version of $command" "0|$version|" "$status|$(sed 's/.* //' output)|$errors"
     run "$command" --help
     is "help of $command" '0|yes|' "$status|$(grep -q "^Usage: nbdj $command" output && echo yes)|$errors"
+    # each command has 0, 1 and 2, and check has 3 too
+    case $command in check) statuses='0 1 2 3 ' ;; *) statuses='0 1 2 ' ;; esac
+    is "the exit statuses in the help of $command" "$statuses" "$(sed -n 's/^Exit status: //p' output | tr ';' '\n' | sed 's/^ *\([0-9]*\) [a-z].*/\1/' | tr '\n' ' ')"
 done
 
-# The example in each help runs; that of serve has no end, and listens.
+# The example in each help runs; that of serve has no end, and listens, as that of the program does.
 mkdir bin
 ln -s "$NBDJ" bin/nbdj
 request 0000 2 1 0 0 >requests
@@ -136,6 +139,12 @@ serves() {
 }
 example=$("$NBDJ" serve --help | sed -n 's/^Example: nbdj serve //p')
 serves 'the example of serve' 143 "listening ${example##*:}" '' $example
+example=$("$NBDJ" --help | sed -n 's/^Example: //p')
+rm -f d.img
+is 'the example of the program: format' 'nbdj format d.img 0' "$(echo "$example" | cut -d ' ' -f 1-3) $(PATH="$folder/bin:$PATH" sh -c "${example%%&&*} --area 2M" >printed 2>&1; echo $?)"
+example=${example#*&& nbdj serve }
+serves 'the example of the program: serve' 143 "listening ${example##*:}" '' $example
+fresh 16 2097152
 serves 'an address without a port' 143 'listening 10809' '' d.img --listen 127.0.0.1
 if [ -s /proc/net/if_inet6 ]; then
     for address in ::1 '[::1]' '[::1]:10809'; do
@@ -236,6 +245,22 @@ done <<'ROWS'
 ROWS
 ends 'format --blocks with letters in the area' 0 "$(text 'formatted 4276224')" '' format s.img --blocks 16 --area 2M
 rm -f s.img
+
+# A file of which every block is there, and one of holes where the file system has any: blocks of 512 bytes hold it whole, or don't.
+held() { [ $(($(stat -c %b "$1") * 512)) -ge "$(stat -c %s "$1")" ] && echo whole || echo holes; }
+truncate -s 4276224 sparse
+ends 'format without --preallocate' 0 "$(text 'formatted 4276224')" '' format s.img --blocks 16 --area 2M
+is 'the blocks of a file' "$(held sparse)" "$(held s.img)"
+ends 'format --preallocate' 0 "$(text 'formatted 4276224')" '' format d.img --blocks 16 --area 2M --preallocate
+is 'the blocks of a file that was preallocated' 'whole 4276224' "$(held d.img) $(stat -c %s d.img)"
+same 'the bytes of a file that was preallocated' s.img d.img
+checks 'check of a file that was preallocated' 16 0 0 0 0 0 16
+ends 'recover a file that was preallocated' 0 "$(text 'commands 0')" '' recover d.img
+differing 5000000 1 >d.img
+ends 'format --preallocate over a longer file' 0 "$(text 'formatted 4276224')" '' format d.img --blocks 16 --area 2M --preallocate
+same 'the bytes of a longer file that was preallocated' s.img d.img
+is 'the blocks of a longer file that was preallocated' whole "$(held d.img)"
+rm -f s.img sparse
 
 # A format takes the place of what was there, whichever is longer.
 ends 'format over a longer file' 0 "$(text 'formatted 4276224')" '' format d.img --blocks 16 --area 2097152

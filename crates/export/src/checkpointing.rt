@@ -5,17 +5,26 @@ use crate::name::ExportName;
 use crate::store::{Stage, Store};
 use checkpoint::KeeperFault;
 use disk_model::Disk;
+use std::rt::Clock;
 use std::sync::Wait;
 use std::thread;
+use std::time::{Duration, Instant};
 
 // What a step of a checkpoint came to.
 enum Turn {
     // This step is next.
     Next(Stage),
+    // There is nothing to copy.
+    Idle,
     // Memory was refused, and the step is taken again.
     Again,
     // No further step can be taken, of this checkpoint or of another.
     Ended,
+}
+
+// The time since then, where it can be told.
+fn time_since<R: Clock>(rt: &R, began: Option<Instant>) -> Option<Duration> {
+    began?.elapsed(rt).ok()
 }
 
 impl<B: ExportName, D: Disk, H: ReadBeside> Export<B, D, H> {
@@ -25,7 +34,7 @@ impl<B: ExportName, D: Disk, H: ReadBeside> Export<B, D, H> {
     /// It ends once the flusher has, so it is started behind one that was, and a checkpoint that has begun is then carried to
     /// its end; when a call of the device has failed; and where no greater generation of a header is left, after which what
     /// finds no room waits for good.
-    pub fn checkpointer<R: Wait, G: Gate>(&self, rt: &R, gate: &mut G) {
+    pub fn checkpointer<R: Wait + Clock, G: Gate>(&self, rt: &R, gate: &mut G) {
         for _ in rt.forever() {
             if !self.wait_for_checkpoint(rt) || !self.checkpoint(rt, gate) {
                 return;
@@ -49,15 +58,21 @@ impl<B: ExportName, D: Disk, H: ReadBeside> Export<B, D, H> {
     }
 
     // Carries out a checkpoint; whether there may be another one.
-    fn checkpoint<R: Wait, G: Gate>(&self, rt: &R, gate: &mut G) -> bool {
+    fn checkpoint<R: Wait + Clock, G: Gate>(&self, rt: &R, gate: &mut G) -> bool {
+        let began = Instant::now(rt).ok();
+        let mut blocks = 0;
         let mut stage = Stage::Rotate;
         for _ in rt.forever() {
             if stage == Stage::Done {
+                if let Some(took) = time_since(rt, began) {
+                    gate.reach(Point::Copied { blocks, took });
+                }
                 return true;
             }
             gate.reach(Point::Step);
-            match self.take_step(rt, stage) {
+            match self.take_step(rt, stage, &mut blocks) {
                 Turn::Next(next) => stage = next,
+                Turn::Idle => return true,
                 Turn::Again => thread::yield_now(),
                 Turn::Ended => return false,
             }
@@ -68,9 +83,9 @@ impl<B: ExportName, D: Disk, H: ReadBeside> Export<B, D, H> {
     // Carries out a step in one hold of the keeper's lock, and the clean behind the last one too. So no other checkpoint begins,
     // which would write the data of blocks, before the order knows the base that the last one has left: who reads beside the
     // locks rests on it.
-    fn take_step<R: Wait>(&self, rt: &R, stage: Stage) -> Turn {
+    fn take_step<R: Wait>(&self, rt: &R, stage: Stage, copied: &mut u64) -> Turn {
         let mut store = self.store.lock(rt);
-        match store.take(stage) {
+        match store.take(stage, copied) {
             Ok(next) => {
                 self.note(rt, stage, next, &*store);
                 Turn::Next(next)
@@ -80,7 +95,7 @@ impl<B: ExportName, D: Disk, H: ReadBeside> Export<B, D, H> {
                 // Nothing was stored since the last one.
                 self.book.lock(rt).forget_wish();
                 self.settled.notify_all();
-                Turn::Next(Stage::Done)
+                Turn::Idle
             }
             Err(KeeperFault::NumbersFull) => Turn::Ended,
             Err(_) => {

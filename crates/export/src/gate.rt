@@ -1,3 +1,5 @@
+use std::time::Duration;
+
 /// Where a thread of an export can be held.
 #[derive(Clone, Copy, Debug, PartialEq, Eq)]
 pub enum Point {
@@ -5,11 +7,13 @@ pub enum Point {
     Append,
     /// Before a step of a checkpoint, with no lock held.
     Step,
+    /// After a checkpoint, with no lock held; not where its time can't be told.
+    Copied { blocks: u64, took: Duration },
     /// After a reply was written.
     Answered,
 }
 
-/// What holds the threads of an export: a test holds one until another got on.
+/// Who is told where the threads of an export are, and may hold them: a test holds one until another got on.
 pub trait Gate {
     /// The thread has come to this point, and goes on once this returns.
     fn reach(&mut self, at: Point);

@@ -94,8 +94,8 @@ impl<B: ExportName, D: Disk> Store<B, D> {
         Ok(())
     }
 
-    /// Carries out a step of a checkpoint, and gives the next one.
-    pub(crate) fn take(&mut self, stage: Stage) -> Result<Stage, KeeperFault> {
+    /// Carries out a step of a checkpoint, and gives the next one. The blocks that it copies are added to `copied`.
+    pub(crate) fn take(&mut self, stage: Stage, copied: &mut u64) -> Result<Stage, KeeperFault> {
         match stage {
             Stage::Rotate => {
                 self.seated.keeper.rotate()?;
@@ -103,7 +103,10 @@ impl<B: ExportName, D: Disk> Store<B, D> {
                 Ok(Stage::Copy)
             }
             Stage::Copy => match self.seated.keeper.copy_some(MOST_COPIED) {
-                Ok(_) => Ok(Stage::Copy),
+                Ok(blocks) => {
+                    *copied = copied.saturating_add(blocks as u64);
+                    Ok(Stage::Copy)
+                }
                 Err(KeeperFault::NotNow) => Ok(Stage::Map),
                 Err(fault) => Err(fault),
             },

@@ -115,7 +115,11 @@ impl Teller {
 
 // It holds no thread.
 impl Gate for Teller {
-    fn reach(&mut self, _at: Point) {}
+    fn reach(&mut self, at: Point) {
+        if let Point::Copied { blocks, took } = at {
+            self.report(format_args!("checkpoint of {blocks} blocks in {}", Seconds(took)));
+        }
+    }
 }
 
 impl Log for Teller {
@@ -137,9 +141,6 @@ impl Log for Teller {
                 end,
                 traffic,
             } => self.tell_end(client, end, traffic),
-            Event::Checkpoint { blocks, took } => {
-                self.report(format_args!("checkpoint of {blocks} blocks in {}", Seconds(took)));
-            }
         }
     }
 }

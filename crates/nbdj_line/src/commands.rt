@@ -70,6 +70,9 @@ fn bare<'a>(alloc: Global) -> Command<'a>
         .version("0.1.0")
         .propagate_version(true)
         .about("Network Block Device export server over a journalled image")
+        .after_help(
+            "Example: nbdj format d.img --size 10G && nbdj serve d.img --listen 127.0.0.1:10809",
+        )
         .subcommand_required(true)
         .arg_required_else_help(true)
 }
@@ -85,7 +88,7 @@ pub fn format<'a>(alloc: Global) -> Result<Command<'a>, AllocError>
         alloc,
         "format",
         "Makes or replaces the file at its full size: an image of holes with an empty journal",
-        "Example: nbdj format d.img --size 10G\n\nWhat the file held before is lost, unless the format is refused. A kill or a power cut before the end leaves what the file held, or a file that doesn't open.",
+        "Example: nbdj format d.img --size 10G\n\nWhat the file held before is lost, unless the format is refused. A kill or a power cut before the end leaves what the file held, or a file that doesn't open.\n\nExit status: 0 done; 1 a fault of file, device or memory; 2 a refused command line.",
     );
     let command = command.override_usage(FORMAT_USAGE).arg(path(alloc))?;
     let command = with_argument(command, size(alloc))?;
@@ -181,7 +184,7 @@ fn served<'a>(alloc: Global) -> Result<Command<'a>, AllocError>
         alloc,
         "serve",
         "Serves the image to clients of the Network Block Device protocol",
-        "Example: nbdj serve d.img --listen 127.0.0.1:10809\n\nIt prints `listening PORT`, or `listening SOCKET`, once clients can come. A kill is as a power cut: every write that a FLUSH, or a FUA reply, has confirmed stays. So a service manager may stop it by any signal.",
+        "Example: nbdj serve d.img --listen 127.0.0.1:10809\n\nIt prints `listening PORT`, or `listening SOCKET`, once clients can come. A kill is as a power cut: every write that a FLUSH, or a FUA reply, has confirmed stays. So a service manager may stop it by any signal.\n\nExit status: 0 ended as asked; 1 a fault of file, image, address, device or memory; 2 a refused command line.",
     );
     let command = command.override_usage(SERVE_USAGE).arg(path(alloc))?;
     let command = with_argument(command, listen(alloc))?;
@@ -307,7 +310,7 @@ fn pipe<'a>(alloc: Global, modes: ValueParser<'a>) -> Result<Command<'a>, AllocE
         alloc,
         "pipe",
         "Serves the transmission phase of one connection over standard input and output",
-        "Example: nbdj pipe d.img --cache writethrough <requests >replies\n\nA kill or a power cut keeps every write that a FLUSH, or a FUA reply, has confirmed.",
+        "Example: nbdj pipe d.img --cache writethrough <requests >replies\n\nA kill or a power cut keeps every write that a FLUSH, or a FUA reply, has confirmed.\n\nExit status: 0 the client has ended the session; 1 a fault of file, image, device, stream or memory; 2 a refused command line.",
     )
     .arg(path(alloc))?
     .arg(frames(alloc))?
@@ -350,7 +353,7 @@ fn recover<'a>(alloc: Global) -> Result<Command<'a>, AllocError>
         alloc,
         "recover",
         "Recovers the device and prints the number of its last command",
-        "Example: nbdj recover d.img\n\nThe journal is copied into the image and is empty then. A kill or a power cut loses nothing.",
+        "Example: nbdj recover d.img\n\nThe journal is copied into the image and is empty then. A kill or a power cut loses nothing.\n\nExit status: 0 done; 1 a fault of file, image, device or memory; 2 a refused command line.",
     )
     .arg(path(alloc))?
     .arg(verbose(alloc))
@@ -363,7 +366,7 @@ fn check<'a>(alloc: Global) -> Result<Command<'a>, AllocError>
         alloc,
         "check",
         "Prints what the device holds, and writes nothing",
-        "Example: nbdj check d.img\n\nThe exit status is 3 where the device is bad. A kill or a power cut changes nothing.",
+        "Example: nbdj check d.img\n\nA kill or a power cut changes nothing.\n\nExit status: 0 the image is whole; 1 a fault of file, device or memory; 2 a refused command line; 3 the image is bad.",
     )
     .arg(path(alloc))?
     .arg(verbose(alloc))
@@ -376,7 +379,7 @@ fn rehearse<'a>(alloc: Global) -> Result<Command<'a>, AllocError>
         alloc,
         "rehearse",
         "Runs a script from standard input on a simulated device, crashes included",
-        "Example: nbdj rehearse <script\n\nEach line is one step; docs/SCRIPTS.md teaches the lines, and what each prints. A kill loses nothing but the simulated device.",
+        "Example: nbdj rehearse <script\n\nEach line is one step; docs/SCRIPTS.md teaches the lines, and what each prints. A kill loses nothing but the simulated device.\n\nExit status: 0 done; 1 a fault of device, stream or memory, or a sweep that found a difference; 2 a refused command line, or a line that is no step.",
     )
     .arg(flag(alloc, "sweep").help(
         "Runs it anew for each crash at a call of the device, and compares what is opened",

@@ -1,7 +1,6 @@
 use crate::client::Client;
 use nbd_wire::SessionFlags;
 use negotiation::End;
-use std::time::Duration;
 
 /// What a session has asked for.
 #[derive(Clone, Copy, Debug, PartialEq, Eq)]
@@ -45,11 +44,6 @@ pub enum Event<'a> {
         client: u64,
         end: Result<(), End>,
         traffic: Traffic,
-    },
-    /// A checkpoint is done, which has copied so many blocks.
-    Checkpoint {
-        blocks: u64,
-        took: Duration,
     },
 }
 

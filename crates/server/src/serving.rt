@@ -262,7 +262,7 @@ fn flush<B: ExportName, D: Disk, H: ReadBeside, R: Wait + Clock, G: Gate + Copy>
     }
 }
 
-fn checkpoint<B: ExportName, D: Disk, H: ReadBeside, R: Wait, G: Gate + Copy>(
+fn checkpoint<B: ExportName, D: Disk, H: ReadBeside, R: Wait + Clock, G: Gate + Copy>(
     rt: &R,
     export: &Export<B, D, H>,
     mut watch: G,

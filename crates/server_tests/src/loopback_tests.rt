@@ -68,7 +68,7 @@ impl<'a, R: Clock> Gate for Holding<'a, R> {
     fn reach(&mut self, at: Point) {
         match at {
             Point::Append => self.hold(),
-            Point::Step => {}
+            Point::Step | Point::Copied { .. } => {}
             Point::Answered => {
                 self.seen.answers.fetch_add(1, Ordering::SeqCst);
             }
