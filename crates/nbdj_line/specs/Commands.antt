@@ -18,7 +18,7 @@ option_rule name = record (new_rule name) { long = Some name; value_names = 1 }
 abbrev pub flag_rule : Text → Rule
 flag_rule name = record (new_rule name) { long = Some name; action = Some SetTrue }
 
--- the option `-v` or `--verbose`, which each subcommand but that for scripts takes
+-- the option `-v` or `--verbose`, which each subcommand takes
 abbrev pub verbose_rule : Rule
 verbose_rule = record (flag_rule (codes "verbose")) { short = Some 118 }
 
@@ -95,7 +95,7 @@ abbrev pub check_app : App
 check_app = with_rule (with_rule (new_app (codes "check")) path_rule) verbose_rule
 
 abbrev pub rehearse_app : App
-rehearse_app = with_rule (with_rule (new_app (codes "rehearse")) (flag_rule (codes "sweep"))) (flag_rule (codes "faults"))
+rehearse_app = with_rule (with_rule (with_rule (new_app (codes "rehearse")) (flag_rule (codes "sweep"))) (flag_rule (codes "faults"))) verbose_rule
 
 -- the program without its subcommands: it has a version, as each of them has, wants a subcommand, and prints its help where
 -- no word is given

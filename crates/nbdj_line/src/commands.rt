@@ -386,7 +386,8 @@ fn rehearse<'a>(alloc: Global) -> Result<Command<'a>, AllocError>
     ))?
     .arg(flag(alloc, "faults").help(
         "Runs it anew for each fault of a call of the device, crashes it, and compares what is opened",
-    ))
+    ))?
+    .arg(verbose(alloc))
 }
 
 fn path<'a>(alloc: Global) -> Arg<'a>
