@@ -129,7 +129,7 @@ def asked_to_end(folder):
 
 def idle(folder):
     """A client that says nothing behind its handshake is let go, and one that says something in time isn't."""
-    with Server(folder, "idle", 1, "--idle-timeout", "2") as server:
+    with Server(folder, "idle", 1, "--idle-timeout", "2", "--flush-interval", "0") as server:
         with server.shaken() as client:
             for cookie in (1, 2, 3):
                 time.sleep(1)
