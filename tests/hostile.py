@@ -298,6 +298,32 @@ def cut(folder):
         server.goes_on("sessions that were cut")
 
 
+def parted(folder):
+    """A whole session whose input comes in two pieces, parted at each byte: what is written is the same each time."""
+    data = block_of(7)
+    whole = FLAGS + option(STRUCTURED) + go() + request(WRITE, 1, 0, BLOCK) + data + request(READ, 2, 0, BLOCK)
+    whole += request(FLUSH, 3, 0, 0) + request(DISC, 4, 0, 0)
+    answer = struct.Struct(">QIII")
+    wanted = bytes.fromhex("4e42444d41474943 49484156454f5054 0003")
+    wanted += answer.pack(0x3E889045565A9, STRUCTURED, 1, 0)
+    wanted += answer.pack(0x3E889045565A9, GO, 3, 12) + struct.pack(">HQH", 0, BLOCKS * BLOCK, 0x01ED)
+    wanted += answer.pack(0x3E889045565A9, GO, 3, 14) + struct.pack(">HIII", 3, BLOCK, BLOCK, MIB) + answer.pack(0x3E889045565A9, GO, 1, 0)
+    wanted += struct.pack(">IIQ", 0x67446698, 0, 1)
+    wanted += struct.pack(">IHHQIQ", 0x668E33EF, 1, 1, 2, BLOCK + 8, 0) + data + struct.pack(">IIQ", 0x67446698, 0, 3)
+    wrong = []
+    with Server(folder, "parted", 2) as server:
+        for place in range(1, len(whole)):
+            with server.connect() as client:
+                client.sendall(whole[:place])
+                # (so that the server is likely to have read the first piece by itself)
+                time.sleep(0.0003)
+                client.sendall(whole[place:])
+                if take(client, len(wanted) + 1) != wanted:
+                    wrong.append(place)
+        check(f"a session parted at each of {len(whole) - 1} places: where other bytes are written", [], wrong[:9])
+        server.goes_on("parted sessions")
+
+
 def oversized(folder):
     """Lengths that are too large: of options, of names, of requests."""
     with Server(folder, "oversized", 2) as server:
@@ -397,7 +423,7 @@ def main():
         # The silent ones take half a minute by themselves, so that the others are tried beside them.
         beside = threading.Thread(target=guarded, args=(silent, folder))
         beside.start()
-        for scenario in (slow_handshake, announced, deaf, half_closed, cut, oversized, random_bytes):
+        for scenario in (slow_handshake, announced, deaf, half_closed, cut, parted, oversized, random_bytes):
             begun = time.monotonic()
             guarded(scenario, folder)
             print(f"{scenario.__name__}: {time.monotonic() - begun:.1f} s", flush=True)
