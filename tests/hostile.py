@@ -324,6 +324,32 @@ def parted(folder):
         server.goes_on("parted sessions")
 
 
+def largest(folder):
+    """The largest image, all holes: a write, a clear of as many blocks as a request can name, and the states of half of those as one run."""
+    blocks, image = 1 << 24, os.path.join(folder, "largest.img")
+    subprocess.run([NBDJ, "format", image, "--blocks", str(blocks), "--area", "2097152"], check=True, stdout=subprocess.DEVNULL, timeout=60)
+    words = [NBDJ, "serve", image, "--listen", "127.0.0.1:0", "--frames", str(FRAMES), "--sessions", "1"]
+    with subprocess.Popen(words, stdin=subprocess.DEVNULL, stdout=subprocess.PIPE, text=True) as server:
+        port = int(server.stdout.readline().split()[1])
+        with socket.create_connection(("127.0.0.1", port), timeout=60) as client:
+            client.sendall(LONG_HANDSHAKE)
+            take(client, 18)
+            answered = (0, 0)
+            while answered != (GO, 1):
+                _, asked, kind, length = struct.unpack(">QIII", take(client, 20))
+                take(client, length)
+                answered = asked, kind
+            client.sendall(request(WRITE, 1, 5 * BLOCK, BLOCK) + block_of(1) + request(TRIM, 2, 0, 1_048_575 * BLOCK))
+            client.sendall(request(STATUS, 3, 0, 524_288 * BLOCK) + request(FLUSH, 4, 0, 0) + request(DISC, 5, 0, 0))
+            wanted = "67446698 00000000 0000000000000001 67446698 00000000 0000000000000002"
+            wanted += "668e33ef 0001 0005 0000000000000003 0000000c 00000001 80000000 00000003 67446698 00000000 0000000000000004"
+            check("what the largest image answers", bytes.fromhex(wanted).hex(), take(client, 16 * 3 + 32 + 1).hex())
+        check("the largest image: the server ends", 0, server.wait(timeout=60))
+    told = subprocess.run([NBDJ, "check", image], capture_output=True, text=True, timeout=60).stdout
+    check("a check of the largest image", f"blocks {blocks}\nmode 0\nbase 0\ncommands 2\ndata 0\nzero 0\nhole {blocks}\n", told)
+    os.unlink(image)
+
+
 def oversized(folder):
     """Lengths that are too large: of options, of names, of requests."""
     with Server(folder, "oversized", 2) as server:
@@ -423,7 +449,7 @@ def main():
         # The silent ones take half a minute by themselves, so that the others are tried beside them.
         beside = threading.Thread(target=guarded, args=(silent, folder))
         beside.start()
-        for scenario in (slow_handshake, announced, deaf, half_closed, cut, parted, oversized, random_bytes):
+        for scenario in (slow_handshake, announced, deaf, half_closed, cut, parted, largest, oversized, random_bytes):
             begun = time.monotonic()
             guarded(scenario, folder)
             print(f"{scenario.__name__}: {time.monotonic() - begun:.1f} s", flush=True)
