@@ -1,10 +1,12 @@
 -- links of nodes in ascending order
-use Rattle.std.proofs.Common.{◌≡◌, ◌<◌, ◌≤◌, ◌+◌, ◌-◌, ◌%◌, ◌^◌, inl, inr, ℕ, zero, suc, List, [], ◌∷◌, ◌++◌, get_or, map, refl, ap, ◌∙◌, sym, subst, zero-add, arith, replicate, Option, None}
+use Rattle.std.proofs.Common.{◌≡◌, ◌<◌, ◌≤◌, ◌+◌, ◌-◌, ◌%◌, ◌^◌, inl, inr, ℕ, zero, suc, List, [], ◌∷◌, ◌++◌, length, get_or, map, refl, ap, ◌∙◌, sym, subst, zero-add, arith, replicate, Option, None}
 use Rattle.std.specs.List.{range_with_len}
 use Rattle.std.proofs.lemmas.List.{length-replicate}
 use Rattle.std.proofs.lemmas.List.FromFn.{length-range_with_len, length-map-range_with_len, get_or-map-range_with_len}
 use Rattle.std.proofs.lemmas.Bool.{ne_eqb, eq-eqb, lt-ltb, le-ltb, cases_lt, cases_eq}
 use Rattle.std.proofs.Math.Nat.{mod-eq_of_lt, mod_self, add-mod_right}
+use Rattle.frame_pool.specs.Frames.{HaveBytes, shown}
+use Rattle.frame_pool.specs.Linked.{LinkedState}
 use Rattle.frame_pool.specs.Lists.{ListsState, HoldEach, times}
 use Rattle.frame_pool.specs.Numbers.{AreNumbered, kept_at, one_if_kept, pool_of}
 use Rattle.frame_pool.specs.Ring.{IsPath, AreLinks, AreLinked, ring_of}
@@ -101,13 +103,13 @@ AreLinked-fresh frames next previous few n p =
     }
 
 -- frames that are all free have no numbers
-pub AreNumbered-fresh : (frames : ℕ) → frames + 3 < 2 ^ 32 → AreNumbered frames (fresh frames) (replicate frames None) 0
+pub AreNumbered-fresh : (frames : ℕ) → frames + 3 < 2 ^ 32 → AreNumbered frames (fresh frames) (replicate (frames + 3) None) 0
 AreNumbered-fresh frames few = record {
   few = few;
   each = HoldEach-fresh frames;
   count = omega (arith, length-range_with_len 0 frames);
-  size = length-replicate frames None;
-  kept = λ frame. ap one_if_kept (sym (kept_none frames frame));
+  size = length-replicate (frames + 3) None;
+  kept = λ node. ap one_if_kept (sym (kept_none (frames + 3) node));
   order = λ i j d le below. absurd (omega (arith, below));
   dirty_count = refl;
 }
@@ -117,6 +119,26 @@ AreNumbered-fresh frames few = record {
     kept_none (suc frames) zero = refl
     kept_none (suc frames) (suc frame) = kept_none frames frame
 
-pub pool_of-fresh : (frames : ℕ) (lists : ListsState) (numbers : List (Option ℕ)) (bytes whole : List (List ℕ)) → lists ≡ fresh frames → bytes ≡ whole
-    → pool_of lists numbers bytes ≡ record { free = range_with_len 0 frames; clean = []; dirty = []; bytes = whole }
-pool_of-fresh frames lists numbers bytes whole l b = rw (l, b) refl
+-- frames none of which has bytes show zeros
+shown-fresh : (frames : ℕ) → map shown (replicate frames None) ≡ replicate frames (replicate 4096 0)
+shown-fresh zero = refl
+shown-fresh (suc frames) = ap (λ (bytes : List (List ℕ)). replicate 4096 0 ∷ bytes) (shown-fresh frames)
+
+module _ (count : ℕ) (lists : LinkedState) (frames : List (Option (List ℕ)))
+    (l : lists ≡ record { linked = fresh count; numbers = replicate (count + 3) None }) (f : frames ≡ replicate count None) where
+  pub numbered_fresh : count + 3 < 2 ^ 32 → AreNumbered (length frames) lists.linked lists.numbers 0
+  numbered_fresh few =
+      let P : LinkedState × ℕ → Type 0 = λ now. AreNumbered now.1 now.0.linked now.0.numbers 0 in
+      let size : length frames ≡ count = ap length f ∙ length-replicate count None in
+      subst P (λ i. (sym l i, sym size i)) (AreNumbered-fresh count few)
+
+  pub have_fresh : HaveBytes lists.linked frames
+  have_fresh =
+      let P : LinkedState → Type 0 = λ now. HaveBytes now.linked frames in
+      subst P (sym l) (λ frame held. absurd (omega (arith, held)))
+
+  pub pool_fresh : pool_of lists.linked lists.numbers (map shown frames)
+      ≡ record { free = range_with_len 0 count; clean = []; dirty = []; bytes = replicate count (replicate 4096 0) }
+  pool_fresh =
+      let bytes = ap (λ (list : List (Option (List ℕ))). map shown list) f ∙ shown-fresh count in
+      λ i. pool_of (l i).linked (l i).numbers (bytes i)

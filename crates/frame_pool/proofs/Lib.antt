@@ -1,5 +1,11 @@
+mod Block
+mod Crosses
 mod Fresh
 mod Linked
+mod Memory
 mod Moved
 mod Numbered
 mod RingMoves
+mod Ringed
+mod Sharing
+mod Written

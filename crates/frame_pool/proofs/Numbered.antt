@@ -1,20 +1,22 @@
 -- frames with the numbers that are kept for them
-use Rattle.std.proofs.Common.{◌≡◌, ◌≢◌, ◌<◌, ◌≤◌, ◌+◌, ◌-◌, inl, inr, ℕ, not, List, [], ◌∷◌, length, get_or, set, refl, ap, ◌∙◌, sym, subst, arith, Option, None, Some, if◌then◌else◌, slice_get, is_some}
+use Rattle.std.proofs.Common.{◌≡◌, ◌≢◌, ◌<◌, ◌≤◌, ◌+◌, ◌-◌, inl, inr, ℕ, Bool, true, false, not, List, [], ◌∷◌, length, get_or, map, set, refl, ap, ◌∙◌, sym, subst, arith, Option, None, Some, if◌then◌else◌, slice_get, is_some}
 use Rattle.std.specs.List.{All}
 use Rattle.std.specs.List.Sorted.{IsNonDecreasingBy}
 use Rattle.std.proofs.lemmas.Bool.{cases_eq, eqb-false, not-true, lt-ltb}
 use Rattle.std.proofs.lemmas.Bool.Decides.{eqb_tells}
-use Rattle.std.proofs.lemmas.List.{get_or-set_same, get_or-set_other, length-set, length-map, get_or-map, map_push}
+use Rattle.std.proofs.lemmas.List.{get_or-set_same, get_or-set_other, length-set, length-map, get_or-map, map-set, map_push}
 use Rattle.std.proofs.lemmas.List.Elements.{All-filter, filter_passes}
 use Rattle.std.proofs.lemmas.List.Kept.{IsNonDecreasingBy-filter}
 use Rattle.std.proofs.lemmas.List.Sorted.{IsNonDecreasingBy-push}
 use Rattle.std.proofs.Math.Dec.{eqb, leb, ltb}
 use Rattle.frame_pool.specs.declared.place.Place.{Place}
 use Rattle.frame_pool.specs.declared.place.Place.TheVariants.{Free, Clean, Dirty}
+use Rattle.frame_pool.specs.Frames.{shown}
+use Rattle.frame_pool.specs.Linked.{LinkedState}
 use Rattle.frame_pool.specs.Lists.{ListsState, total, times, without, moved}
 use Rattle.frame_pool.specs.Numbers.{AreNumbered, kept_at, number_at, numbered, one_if_kept, pool_of}
-use Rattle.frame_pool.specs.Pool.{DirtyFrame, PoolState, IsPool, frames_of, others, is_dirty, front_through, with_free, with_clean, with_dirty}
-use Rattle.frame_pool.specs.laws.Times.{times-without_same, times-without_other, length-without}
+use Rattle.frame_pool.specs.Pool.{DirtyFrame, PoolState, IsPool, frames_of, others, is_dirty, front_through, with_bytes, with_free, with_clean, with_dirty}
+use Rattle.frame_pool.specs.laws.Times.{times-without_same, times-without_other, times_head, length-without}
 use Rattle.frame_pool.proofs.Moved.{total-moved, HoldEach-moved, times-last_same, times-last_other, length-last}
 
 pub frames_of-numbered : (numbers : List (Option ℕ)) (frames : List ℕ) → frames_of (numbered numbers frames) ≡ frames
@@ -131,7 +133,7 @@ pub AreNumbered-moved : (frames frame : ℕ) (place : Place) (number : ℕ) (lis
     → AreNumbered frames (moved lists frame place) (set numbers frame (number_for place number)) dirty'
 AreNumbered-moved frames frame place number lists numbers dirty dirty' are below last counted =
     let held : frame < total lists = rw are.count below in
-    let inside : frame < length numbers = rw are.size below in
+    let inside : frame < length numbers = omega (arith, are.size, below) in
     record {
       few = are.few;
       each = HoldEach-moved lists frame place are.each held;
@@ -143,15 +145,15 @@ AreNumbered-moved frames frame place number lists numbers dirty dirty' are below
     }
 
 -- what is promised of a pool
-pub IsPool_numbered : (lists : ListsState) (numbers : List (Option ℕ)) (bytes : List (List ℕ)) (dirty : ℕ)
-    → AreNumbered (length bytes) lists numbers dirty → IsPool (pool_of lists numbers bytes)
-IsPool_numbered lists numbers bytes dirty are = record {
+pub IsPool_numbered : (lists : ListsState) (numbers : List (Option ℕ)) (frames : List (Option (List ℕ))) (dirty : ℕ)
+    → AreNumbered (length frames) lists numbers dirty → IsPool (pool_of lists numbers (map shown frames))
+IsPool_numbered lists numbers frames dirty are = record {
   each = rw (frames_of-numbered numbers lists.dirty) are.each;
-  count = rw (frames_of-numbered numbers lists.dirty) are.count;
+  count = rw (frames_of-numbered numbers lists.dirty, length-map frames shown) are.count;
   order = λ i j d le below.
       let short : j < length lists.dirty = rw length-map at below in
-      let shown = λ (f : ℕ). let held : DirtyFrame = record { frame = f; number = number_at numbers f } in held in
-      rw (get_or-map shown lists.dirty i 0 d (omega arith), get_or-map shown lists.dirty j 0 d short) (are.order i j 0 le short);
+      let dirty_frame = λ (f : ℕ). let held : DirtyFrame = record { frame = f; number = number_at numbers f } in held in
+      rw (get_or-map dirty_frame lists.dirty i 0 d (omega arith), get_or-map dirty_frame lists.dirty j 0 d short) (are.order i j 0 le short);
 }
 
 -- whether a frame is dirty, as the kept number tells
@@ -167,13 +169,13 @@ is_dirty-numbered numbers frame (other ∷ frames) =
 pub last_numbered : (numbers : List (Option ℕ)) (number : ℕ) (dirty : List ℕ)
     → All (λ (held : DirtyFrame). held.number ≤ number) (numbered numbers dirty) → IsLast Dirty number numbers dirty
 last_numbered numbers number dirty all i d below =
-    let shown = λ (f : ℕ). let held : DirtyFrame = record { frame = f; number = number_at numbers f } in held in
+    let dirty_frame = λ (f : ℕ). let held : DirtyFrame = record { frame = f; number = number_at numbers f } in held in
     let inside : i < length (numbered numbers dirty) = rw length-map below in
-    rw (get_or-map shown dirty i d (shown d) below) at (all i (shown d) inside)
+    rw (get_or-map dirty_frame dirty i d (dirty_frame d) below) at (all i (dirty_frame d) inside)
 
-pub IsPool_seen : (lists : ListsState) (numbers : List (Option ℕ)) (bytes : List (List ℕ)) (dirty : ℕ) (pool : PoolState)
-    → AreNumbered (length bytes) lists numbers dirty → pool_of lists numbers bytes ≡ pool → IsPool pool
-IsPool_seen lists numbers bytes dirty pool are is = let P : PoolState → Type 0 = IsPool in subst P is (IsPool_numbered lists numbers bytes dirty are)
+pub IsPool_seen : (lists : ListsState) (numbers : List (Option ℕ)) (frames : List (Option (List ℕ))) (dirty : ℕ) (pool : PoolState)
+    → AreNumbered (length frames) lists numbers dirty → pool_of lists numbers (map shown frames) ≡ pool → IsPool pool
+IsPool_seen lists numbers frames dirty pool are is = let P : PoolState → Type 0 = IsPool in subst P is (IsPool_numbered lists numbers frames dirty are)
 
 -- the front of the dirty frames by the kept numbers
 pub front_through-none : (numbers : List (Option ℕ)) (number : ℕ) (dirty : List ℕ) → slice_get dirty 0 ≡ None → front_through number (numbered numbers dirty) ≡ None
@@ -185,17 +187,20 @@ pub front_through-some : (numbers : List (Option ℕ)) (number frame : ℕ) (dir
 front_through-some numbers number frame [] is = cc
 front_through-some numbers number frame (first ∷ dirty) is = let same : first ≡ frame = cc in rw same refl
 
--- a frame that the code moved to a list
-pub numbered_moved : (frames frame : ℕ) (place : Place) (number : ℕ) (lists lists' : ListsState) (numbers numbers' : List (Option ℕ)) (dirty dirty' : ℕ)
-    → AreNumbered frames lists numbers dirty → frame < frames → IsLast place number numbers lists.dirty
-    → lists' ≡ moved lists frame place → numbers' ≡ set numbers frame (number_for place number)
-    → dirty' + one_if_kept (kept_at numbers frame) ≡ dirty + one_if_kept (number_for place number)
-    → AreNumbered frames lists' numbers' dirty'
-numbered_moved frames frame place number lists lists' numbers numbers' dirty dirty' are below last l n counted =
-    rw (l, n) (AreNumbered-moved frames frame place number lists numbers dirty dirty' are below last counted)
+-- a frame that the code moved to a list, and the number that it has there
+pub numbered_moved : (frames frame : ℕ) (place : Place) (number : ℕ) (lists lists' : LinkedState) (dirty dirty' : ℕ)
+    → AreNumbered frames lists.linked lists.numbers dirty → frame < frames → IsLast place number lists.numbers lists.linked.dirty
+    → lists' ≡ record { linked = moved lists.linked frame place; numbers = set lists.numbers frame (number_for place number) }
+    → dirty' + one_if_kept (kept_at lists.numbers frame) ≡ dirty + one_if_kept (number_for place number)
+    → AreNumbered frames lists'.linked lists'.numbers dirty'
+numbered_moved frames frame place number lists lists' dirty dirty' are below last is counted =
+    let P : LinkedState → Type 0 = λ now. AreNumbered frames now.linked now.numbers dirty' in
+    subst P (sym is) (AreNumbered-moved frames frame place number lists.linked lists.numbers dirty dirty' are below last counted)
 
-pub frame_inside : (frame : ℕ) (shown pool : PoolState) → shown ≡ pool → frame < length pool.bytes → frame < length shown.bytes
-frame_inside frame shown pool is below = let P : PoolState → Type 0 = λ seen. frame < length seen.bytes in subst P (sym is) below
+pub frame_inside : (frame : ℕ) (lists : ListsState) (numbers : List (Option ℕ)) (frames : List (Option (List ℕ))) (pool : PoolState)
+    → pool_of lists numbers (map shown frames) ≡ pool → frame < length pool.bytes → frame < length frames
+frame_inside frame lists numbers frames pool is below =
+    omega (arith, length-map frames shown, ap (λ (seen : PoolState). length seen.bytes) is, below)
 
 -- Exactly the dirty frames have a number.
 pub is_some-kept : (frames frame : ℕ) (lists : ListsState) (numbers : List (Option ℕ)) (dirty : ℕ) → AreNumbered frames lists numbers dirty
@@ -206,3 +211,27 @@ is_some-kept frames frame lists numbers dirty are =
     flag : (o : Option ℕ) → is_some o ≡ ltb 0 (one_if_kept o)
     flag None = refl
     flag (Some n) = refl
+
+-- a pool whose lists are these
+pub seen_moved : (lists' : LinkedState) (linked : ListsState) (numbers : List (Option ℕ)) (bytes : List (List ℕ))
+    → lists' ≡ record { linked = linked; numbers = numbers } → pool_of lists'.linked lists'.numbers bytes ≡ pool_of linked numbers bytes
+seen_moved lists' linked numbers bytes is = ap (λ (lists : LinkedState). pool_of lists.linked lists.numbers bytes) is
+
+-- the same with the bytes of a frame that was written
+pub seen_written : (lists' : LinkedState) (linked : ListsState) (numbers : List (Option ℕ)) (frames frames' : List (Option (List ℕ))) (frame : ℕ) (bytes : List ℕ)
+    → lists' ≡ record { linked = linked; numbers = numbers } → frames' ≡ set frames frame (Some bytes)
+    → pool_of lists'.linked lists'.numbers (map shown frames') ≡ with_bytes frame bytes (pool_of linked numbers (map shown frames))
+seen_written lists' linked numbers frames frames' frame bytes l f =
+    let shows = ap (λ (list : List (Option (List ℕ))). map shown list) f ∙ map-set shown frames frame (Some bytes) in
+    λ i. pool_of (l i).linked (l i).numbers (shows i)
+
+-- the front of the dirty frames is dirty
+pub front_through-held : (numbers : List (Option ℕ)) (number frame : ℕ) (dirty : List ℕ) → front_through number (numbered numbers dirty) ≡ Some frame
+    → 1 ≤ times frame dirty
+front_through-held numbers number frame [] is = cc
+front_through-held numbers number frame (first ∷ dirty) is =
+    let same = chosen (leb (number_at numbers first) number) is in rw same (omega (arith, times_head frame dirty))
+  where
+    chosen : {first : ℕ} (test : Bool) → (if test then Some first else None) ≡ Some frame → first ≡ frame
+    chosen true e = cc
+    chosen false e = cc

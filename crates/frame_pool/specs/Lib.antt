@@ -1,5 +1,12 @@
+pub mod Cells
+pub mod Frames
+pub mod Lends
+pub mod Linked
 pub mod Lists
+pub mod Nodes
 pub mod Numbers
+pub mod Ownership
 pub mod Pool
+pub mod Region
 pub mod Ring
 pub mod laws

@@ -30,7 +30,7 @@ pub record AreNumbered (frames : ℕ) (lists : ListsState) (numbers : List (Opti
   pub few : frames + 3 < 2 ^ 32
   pub each : HoldEach lists
   pub count : total lists ≡ frames
-  pub size : length numbers ≡ frames
+  pub size : length numbers ≡ frames + 3
   pub kept : (frame : ℕ) → times frame lists.dirty ≡ one_if_kept (kept_at numbers frame)
   pub order : IsNonDecreasingBy (number_at numbers) lists.dirty
   pub dirty_count : dirty ≡ length lists.dirty

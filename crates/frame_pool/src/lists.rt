@@ -1,32 +1,33 @@
-ghost use Rattle.std.specs.Prelude.{◌≡◌, ◌+◌, ◌<◌, ◌^◌, [], slice_get, IfOk, IfSome};
+ghost use Rattle.std.specs.Prelude.{◌≡◌, ◌+◌, ◌<◌, ◌^◌, [], replicate, slice_get, slice_set, IfOk, IfSome, None};
 ghost use Rattle.std.specs.List.{range_with_len};
 ghost use Rattle.frame_pool.specs.Lists.{HoldEach, list_at, moved, total};
+ghost use Rattle.frame_pool.specs.Numbers.{kept_at};
 ghost use Rattle.frame_pool.specs.Ring.{end_of, start_of};
 
-use crate::links::{link_before, ring, unlink};
+use crate::links::{link_before, unlink};
+use crate::nodes::Nodes;
 use crate::place::Place;
 use std::alloc::{AllocError, Global};
 use std::marker::Model;
 
 // The frames in three lists, by links: one ring goes through all frames, with a node behind the last frame of each
-// list, so that no list is ever empty and a frame has a node on either side.
+// list, so that no list is ever empty and a frame has a node on either side. A frame's node also has its number.
 #[derive(Drop)]
 pub struct FrameLists {
     frames: u32,
-    next: Vec<u32>,
-    previous: Vec<u32>,
+    nodes: Nodes,
 }
 
-// In contracts these are the three lists.
+// In contracts these are the three lists, and the numbers of the frames, each of them one or none.
 impl Model for FrameLists {
-    ghost use Rattle.frame_pool.specs.Lists.{ListsState};
+    ghost use Rattle.frame_pool.specs.Linked.{LinkedState};
     ghost use Rattle.frame_pool.specs.Ring.{AreLinked, lists_of};
 
-    ghost Value = { ListsState };
+    ghost Value = { LinkedState };
 
-    ghost view = { λ lists. lists_of lists.frames lists.next.items };
+    ghost view = { λ lists. record { linked = lists_of lists.frames lists.nodes.next; numbers = lists.nodes.numbers } };
 
-    ghost invariant = { λ lists. AreLinked lists.frames lists.next.items lists.previous.items (lists_of lists.frames lists.next.items) };
+    ghost invariant = { λ lists. AreLinked lists.frames lists.nodes.next lists.nodes.previous (lists_of lists.frames lists.nodes.next) };
 }
 
 // The node behind a list's last frame.
@@ -57,43 +58,61 @@ impl FrameLists {
     // So many frames, which are free, in ascending order.
     pub fn new(alloc: Global, frames: u32) -> Result<FrameLists, AllocError>
         requires { frames + 3 < 2 ^ 31 }
-        ensures { IfOk result (λ lists. lists ≡ record { free = range_with_len 0 frames; clean = []; dirty = [] }) }
+        ensures { IfOk result (λ lists. lists ≡ record {
+          linked = record { free = range_with_len 0 frames; clean = []; dirty = [] };
+          numbers = replicate (frames + 3) None;
+        }) }
     {
-        let nodes = frames + 3;
         Ok(FrameLists {
             frames,
-            next: ring(alloc, nodes, 1)?,
-            previous: ring(alloc, nodes, nodes - 1)?,
+            nodes: Nodes::ring(alloc, frames + 3)?,
         })
     }
 
     // How many frames there are.
     pub fn total(&self) -> u32
-        ensures total { result ≡ total self.now }
-        ensures each { HoldEach self.now }
+        ensures total { result ≡ total self.now.linked }
+        ensures each { HoldEach self.now.linked }
     {
         self.frames
     }
 
+    // The number of a frame.
+    pub fn number(&self, frame: u32) -> Option<u64>
+        requires { frame < total self.now.linked }
+        ensures { result ≡ kept_at self.now.numbers frame }
+    {
+        self.nodes.number(frame)
+    }
+
+    // Gives a frame this number, or none.
+    pub fn set_number(&mut self, frame: u32, number: Option<u64>)
+        requires frame { frame < total self.old.linked }
+        requires some { IfSome number (λ n. 0 < n) }
+        ensures { self.new ≡ record { linked = self.old.linked; numbers = slice_set self.old.numbers frame number } }
+    {
+        self.nodes.set_number(frame, number);
+    }
+
     // The first frame of a list.
     pub fn front(&self, place: Place) -> Option<u32>
-        ensures front { result ≡ slice_get (list_at self.now place) 0 }
-        ensures inside { IfSome result (λ frame. frame < total self.now) }
+        ensures front { result ≡ slice_get (list_at self.now.linked place) 0 }
+        ensures inside { IfSome result (λ frame. frame < total self.now.linked) }
     {
         let before = start(self.frames, place);
         let after = end(self.frames, place);
-        let first = self.next[before as usize];
+        let first = self.nodes.next(before);
         if first == after { None } else { Some(first) }
     }
 
     // Takes a frame from where it is to the back of a list.
     pub fn move_to(&mut self, frame: u32, place: Place)
-        requires { frame < total self.old }
-        ensures moved { self.new ≡ moved self.old frame place }
-        ensures each { HoldEach self.new }
+        requires { frame < total self.old.linked }
+        ensures moved { self.new ≡ record { linked = moved self.old.linked frame place; numbers = self.old.numbers } }
+        ensures each { HoldEach self.new.linked }
     {
         let after = end(self.frames, place);
-        unlink(&mut self.next, &mut self.previous, frame);
-        link_before(&mut self.next, &mut self.previous, frame, after);
+        unlink(&mut self.nodes, frame);
+        link_before(&mut self.nodes, frame, after);
     }
 }

@@ -1,55 +1,57 @@
 ghost use Rattle.std.specs.Prelude.{◌≡◌, ◌+◌, ◌<◌, ◌≤◌, ◌^◌, ◌↔◌, [], All, length, replicate, slice_get, slice_set, IfOk, IfNone, IfSome, IsErr, OnErr, Some};
 ghost use Rattle.std.specs.List.{range_with_len};
+ghost use Rattle.frame_pool.specs.Lists.{moved, total};
 ghost use Rattle.frame_pool.specs.Numbers.{kept_at, one_if_kept};
 ghost use Rattle.frame_pool.specs.Pool.{DirtyFrame, IsPool, front_through, is_dirty, with_bytes, with_clean, with_dirty, with_free};
 
 use crate::fault::NoFrame;
+use crate::frames::Frames;
 use crate::lists::FrameLists;
-use crate::numbers::Numbers;
 use crate::place::Place;
 use std::alloc::{AllocError, Global};
 use std::marker::Model;
 
 /// Frames of 4,096 bytes, named by their numbers from 0 on. Each is in one of three lists: free, clean, or dirty with a
 /// number. Every call but `new` takes the same few steps however many frames there are, beside the copy of a frame's
-/// bytes, and no memory; a pool takes 4,096 bytes a frame and 16 more.
+/// bytes, and no memory; a pool takes 4,096 bytes a frame, which aren't touched before it is written, and 17 more.
 #[derive(Drop)]
 pub struct FramePool {
     lists: FrameLists,
-    numbers: Numbers,
     dirty: u32,
-    frames: Vec<[u8; 4096]>,
+    frames: Frames,
 }
 
 // In contracts a pool is its three lists, each from front to back, and the bytes of each frame.
 impl Model for FramePool {
-    ghost use Rattle.std.specs.Prelude.{length};
+    ghost use Rattle.std.specs.Prelude.{length, map};
+    ghost use Rattle.frame_pool.specs.Frames.{HaveBytes, shown};
     ghost use Rattle.frame_pool.specs.Pool.{PoolState};
     ghost use Rattle.frame_pool.specs.Numbers.{AreNumbered, pool_of};
 
     ghost Value = { PoolState };
 
-    ghost view = { λ pool. pool_of pool.lists pool.numbers pool.frames.items };
+    ghost view = { λ pool. pool_of pool.lists.linked pool.lists.numbers (map shown pool.frames) };
 
-    ghost invariant = { λ pool. AreNumbered (length pool.frames.items) pool.lists pool.numbers pool.dirty };
+    ghost invariant = { λ pool. AreNumbered (length pool.frames) pool.lists.linked pool.lists.numbers pool.dirty × HaveBytes pool.lists.linked pool.frames };
 }
 
-// Keeps this number, or none, for a frame, and counts the numbers that are kept.
-fn keep(numbers: &mut Numbers, count: &mut u32, frame: u32, number: Option<u64>)
-    requires frame { frame < length numbers.old }
-    requires counted { one_if_kept (kept_at numbers.old frame) ≤ count.old }
+// Moves a frame to the back of a list, with this number or none, and counts the frames that have one.
+fn move_to(lists: &mut FrameLists, count: &mut u32, frame: u32, place: Place, number: Option<u64>)
+    requires frame { frame < total lists.old.linked }
+    requires counted { one_if_kept (kept_at lists.old.numbers frame) ≤ count.old }
     requires few { count.old + 1 < 2 ^ 32 }
     requires some { IfSome number (λ n. 0 < n) }
-    ensures numbers { numbers.new ≡ slice_set numbers.old frame number }
-    ensures count { count.new + one_if_kept (kept_at numbers.old frame) ≡ count.old + one_if_kept number }
+    ensures lists { lists.new ≡ record { linked = moved lists.old.linked frame place; numbers = slice_set lists.old.numbers frame number } }
+    ensures count { count.new + one_if_kept (kept_at lists.old.numbers frame) ≡ count.old + one_if_kept number }
 {
     if number.is_some() {
         *count += 1;
     }
-    let before = numbers.replace(frame, number);
-    if before.is_some() {
+    if lists.number(frame).is_some() {
         *count -= 1;
     }
+    lists.set_number(frame, number);
+    lists.move_to(frame, place);
 }
 
 impl FramePool {
@@ -66,9 +68,8 @@ impl FramePool {
     {
         Ok(FramePool {
             lists: FrameLists::new(alloc, frames)?,
-            numbers: Numbers::new(alloc, frames)?,
             dirty: 0,
-            frames: vec![in alloc; [0; 4096]; frames as usize]?,
+            frames: Frames::new(alloc, frames)?,
         })
     }
 
@@ -92,7 +93,7 @@ impl FramePool {
         requires { frame < length self.now.bytes }
         ensures { result ≡ is_dirty frame self.now.dirty }
     {
-        self.numbers.get(frame).is_some()
+        self.lists.number(frame).is_some()
     }
 
     /// The bytes that were last written to a frame.
@@ -100,10 +101,10 @@ impl FramePool {
         requires { frame < length self.now.bytes }
         ensures { slice_get self.now.bytes frame ≡ Some result.now }
     {
-        &self.frames[frame as usize]
+        self.frames.bytes(frame)
     }
 
-    /// The front of the free frames, which stays there until it is written. It is refused with 13 where none is free.
+    /// The front of the free frames, which stays there until it is written. Refusal 13 (no frame) where none is free.
     pub fn take_free(&self) -> Result<u32, NoFrame>
         ensures front { IfOk result (λ frame. slice_get self.now.free 0 ≡ Some frame) }
         ensures inside { IfOk result (λ frame. frame < length self.now.bytes) }
@@ -112,8 +113,8 @@ impl FramePool {
         self.lists.front(Place::Free).ok_or(NoFrame)
     }
 
-    /// Moves the front of the clean frames to the back of the free ones, and names it. It is refused with 13 where none
-    /// is clean, and then nothing has changed.
+    /// Moves the front of the clean frames to the back of the free ones, and names it. Refusal 13 (no frame) where none is
+    /// clean, and then nothing has changed.
     pub fn evict_front(&mut self) -> Result<u32, NoFrame>
         ensures front { IfOk result (λ frame. slice_get self.old.clean 0 ≡ Some frame) }
         ensures inside { IfOk result (λ frame. frame < length self.old.bytes) }
@@ -133,8 +134,7 @@ impl FramePool {
         ensures moved { self.new ≡ with_free frame self.old }
         ensures pool { IsPool self.new }
     {
-        self.lists.move_to(frame, Place::Free);
-        keep(&mut self.numbers, &mut self.dirty, frame, None);
+        move_to(&mut self.lists, &mut self.dirty, frame, Place::Free, None);
     }
 
     /// Writes a frame, and moves it from where it is to the back of the clean ones.
@@ -143,8 +143,8 @@ impl FramePool {
         ensures written { self.new ≡ with_bytes frame bytes.now (with_clean frame self.old) }
         ensures pool { IsPool self.new }
     {
-        self.frames[frame as usize] = *bytes;
-        self.move_to_clean(frame);
+        self.frames.write(frame, bytes);
+        move_to(&mut self.lists, &mut self.dirty, frame, Place::Clean, None);
     }
 
     /// Writes a frame, and moves it from where it is to the back of the dirty ones, with this number, which is at
@@ -156,9 +156,14 @@ impl FramePool {
         ensures written { self.new ≡ with_bytes frame bytes.now (with_dirty frame number self.old) }
         ensures pool { IsPool self.new }
     {
-        self.lists.move_to(frame, Place::Dirty);
-        keep(&mut self.numbers, &mut self.dirty, frame, Some(number));
-        self.frames[frame as usize] = *bytes;
+        self.frames.write(frame, bytes);
+        move_to(
+            &mut self.lists,
+            &mut self.dirty,
+            frame,
+            Place::Dirty,
+            Some(number),
+        );
     }
 
     /// Moves the front of the dirty frames to the back of the clean ones where its number is at most this one, and names
@@ -171,7 +176,7 @@ impl FramePool {
         ensures pool { IsPool self.new }
     {
         let frame = self.front_through(number)?;
-        self.move_to_clean(frame);
+        move_to(&mut self.lists, &mut self.dirty, frame, Place::Clean, None);
         Some(frame)
     }
 
@@ -182,17 +187,7 @@ impl FramePool {
         ensures pool { IsPool self.now }
     {
         let frame = self.lists.front(Place::Dirty)?;
-        let kept = self.numbers.get(frame).unwrap_or(0);
+        let kept = self.lists.number(frame).unwrap_or(0);
         if kept <= number { Some(frame) } else { None }
-    }
-
-    // Moves a frame from where it is to the back of the clean ones.
-    fn move_to_clean(&mut self, frame: u32)
-        requires { frame < length self.old.bytes }
-        ensures moved { self.new ≡ with_clean frame self.old }
-        ensures pool { IsPool self.new }
-    {
-        self.lists.move_to(frame, Place::Clean);
-        keep(&mut self.numbers, &mut self.dirty, frame, None);
     }
 }

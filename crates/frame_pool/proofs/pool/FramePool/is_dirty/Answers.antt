@@ -6,6 +6,6 @@ use Rattle.frame_pool.proofs.pool.FramePool.is_dirty.Goals as goal
 pub returns : goal.returns
 returns c =
     c.is_some.ensures
-    ∙ ap (λ (number : Option ℕ). is_some number) c.get.ensures
-    ∙ is_some-kept _ c.args.frame _ _ _ c.self.invariant
+    ∙ ap (λ (number : Option ℕ). is_some number) c.number.ensures
+    ∙ is_some-kept _ c.args.frame _ _ _ c.self.invariant.0
     ∙ ap (λ (pool : PoolState). is_dirty c.args.frame pool.dirty) c.self.view_is

@@ -1,0 +1,9 @@
+use Rattle.std.proofs.Common.{rules}
+use Rattle.frame_pool.proofs.Ringed.{AreWritten-set, next_set}
+use Rattle.frame_pool.proofs.nodes.Nodes.set_next.Goals as goal
+
+pub invariant_of-self : goal.invariant_of-self
+invariant_of-self c = AreWritten-set _ _ c.args.node _ c.write.ensures c.self.invariant
+
+pub returns : goal.returns
+returns c = next_set _ _ c.args.node _ _ c.get-kept.ensures c.self.view_is c.args.next (search rules)
