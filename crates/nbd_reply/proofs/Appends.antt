@@ -1,6 +1,6 @@
 -- What is appended in steps, and how long it is.
 use Rattle.std.proofs.Common.{◌≡◌, ℕ, ◌+◌, ◌*◌, ◌<◌, Bool, List, [], ◌∷◌, ◌++◌, length, refl, ap, ◌∙◌, append_assoc, length-append, arith}
-use Rattle.std.specs.Prelude.{Result, Ok, Err, OnOk, OnErr, is_ok, if◌then◌else◌}
+use Rattle.std.specs.Prelude.{Result, Ok, Err, OnErr}
 use Rattle.std.specs.List.{flat_map}
 use Rattle.nbd_wire.specs.declared.message.Run.{Run}
 use Rattle.nbd_reply.specs.Chunk.{Chunk, chunk_head, chunk_bytes, chunk_type, payload, run_bytes}

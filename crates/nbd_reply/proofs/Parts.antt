@@ -1,12 +1,13 @@
 -- The chunks on the parts of bytes, one after the other.
-use Rattle.std.proofs.Common.{◌≡◌, ℕ, ◌+◌, ◌≤◌, Bool, true, false, List, [], ◌∷◌, ◌++◌, length, take, drop, refl, ap, ◌∙◌, append_assoc, length-append, length-take, arith}
+use Rattle.std.proofs.Common.{◌≡◌, ℕ, ◌+◌, ◌≤◌, Bool, true, false, List, [], ◌∷◌, ◌++◌, length, take, drop, refl, sym, ap, ◌∙◌, append_assoc, length-append, length-take, arith}
 use Rattle.std.specs.Prelude.{◌==◌, if◌then◌else◌}
 use Rattle.std.specs.Int.{w64, to_be_bytes}
 use Rattle.std.specs.List.{sum_by}
 use Rattle.std.proofs.lemmas.Bool.{ne_eqb}
+use Rattle.std.proofs.lemmas.List.{append-nil, take-append-drop}
 use Rattle.std.proofs.lemmas.List.Sums.{sum_by-cons}
 use Rattle.nbd_wire.specs.declared.message.Run.{Run}
-use Rattle.nbd_wire.specs.Answer.{PartsBytes}
+use Rattle.nbd_wire.specs.Answer.{PartsBytes, data_status}
 use Rattle.nbd_reply.specs.Chunk.{offset_data, offset_hole, chunk_bytes, chunks_bytes, is_last}
 use Rattle.nbd_reply.specs.Reply.{part_chunk, part_chunks, part_len}
 use Rattle.nbd_reply.proofs.Appends.{length-chunk}
@@ -58,3 +59,14 @@ length-parts cookie offset (run ∷ runs) bytes parts =
       length-parts cookie (offset + run.length) runs (drop run.length bytes) parts.3,
       length-append (chunk_bytes (is_last chunks) cookie (part_chunk offset run bytes)) (chunks_bytes cookie chunks),
     )
+
+-- all that is taken, where nothing is left behind it
+take_whole : (size : ℕ) (bytes : List ℕ) → drop size bytes ≡ [] → take size bytes ≡ bytes
+take_whole size bytes none =
+    sym (append-nil (take size bytes)) ∙ ap (λ (rest : List ℕ). take size bytes ++ rest) (sym none) ∙ take-append-drop size bytes
+
+-- the bytes of one run of data are one chunk
+pub run_chunk : (offset : ℕ) (run : Run) (bytes : List ℕ) → run.status ≡ data_status → PartsBytes (run ∷ []) bytes → part_chunks offset (run ∷ []) bytes ≡ offset_data offset bytes ∷ []
+run_chunk offset run bytes is_data parts =
+    ap (λ (status : ℕ). (if status == data_status then offset_data offset (take run.length bytes) else offset_hole offset run.length) ∷ []) is_data
+    ∙ ap (λ (part : List ℕ). offset_data offset part ∷ []) (take_whole run.length bytes parts.3)

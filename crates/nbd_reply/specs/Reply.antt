@@ -5,10 +5,10 @@ use Rattle.nbd_wire.specs.declared.message.Answer.TheVariants.{Done, Refused, By
 use Rattle.nbd_wire.specs.declared.message.Reply.{Reply}
 use Rattle.nbd_wire.specs.declared.message.Run.{Run}
 use Rattle.nbd_wire.specs.declared.message.SessionFlags.{SessionFlags}
-use Rattle.nbd_wire.specs.Answer.{data_status}
+use Rattle.nbd_wire.specs.Answer.{BytesRead, data_status}
 use Rattle.nbd_wire.specs.Errno.{errno_number}
 use Rattle.nbd_wire.specs.Head.{simple_reply}
-use Rattle.nbd_reply.specs.Chunk.{Chunk, offset_data, offset_hole, block_status, error, chunks_bytes}
+use Rattle.nbd_reply.specs.Chunk.{Chunk, offset_data, offset_hole, block_status, error, chunk_bytes, chunks_bytes}
 
 -- the types of a READ and of a BLOCK_STATUS
 abbrev pub read_type : ℕ
@@ -46,6 +46,11 @@ simple_text cookie Done = simple_reply 0 cookie []
 simple_text cookie (Refused errno) = simple_reply (errno_number errno) cookie []
 simple_text cookie (Bytes read) = simple_reply 0 cookie read.bytes
 simple_text cookie (States runs) = []
+
+-- the bytes of a READ in one piece: in one chunk, or in a simple reply
+abbrev pub whole_text : ℕ → Bool → BytesRead → List ℕ
+whole_text cookie chunked read =
+    if chunked then chunk_bytes true cookie (offset_data read.offset read.bytes) else simple_reply 0 cookie read.bytes
 
 -- whether a request of this type is answered in chunks, an error included
 abbrev pub is_chunked : SessionFlags → ℕ → Bool

@@ -1,4 +1,5 @@
 ghost use Rattle.std.specs.Prelude.{◌≡◌, ◌+◌, ◌*◌, ◌≤◌, ◌<◌, ◌^◌, ◌++◌, true, length, vec_len, vec_capacity};
+ghost use Rattle.std.specs.Int.{w64, to_be_bytes};
 ghost use Rattle.std.specs.List.{flat_map};
 ghost use Rattle.nbd_wire.specs.Errno.{errno_number};
 ghost use Rattle.nbd_reply.specs.Chunk.{block_status, chunk_bytes, chunk_head, error, offset_data, offset_hole, run_bytes};
@@ -57,6 +58,21 @@ pub fn put(out: &mut Vec<u8>, bytes: &[u8])
     out.extend_from_slice(bytes).unwrap();
 }
 
+/// Appends what stands before so many data in their chunk, for which there is room.
+pub fn put_data_head(out: &mut Vec<u8>, done: bool, cookie: u64, offset: u64, size: usize)
+    requires room { vec_len out.old + DATA_HEAD_LEN ≤ vec_capacity out.old }
+    requires fits { 8 + size < 2 ^ 32 }
+    ensures items { out.new.items ≡ out.old.items ++ (chunk_head done 1 cookie (8 + size) ++ to_be_bytes w64 offset) }
+    ensures len { vec_len out.new ≡ vec_len out.old + DATA_HEAD_LEN }
+    ensures room { vec_capacity out.old ≤ vec_capacity out.new }
+{
+    put(
+        out,
+        &encode_head(done, OFFSET_DATA, cookie, 8 + size as u32),
+    );
+    put(out, &offset.to_be_bytes());
+}
+
 /// Appends the chunk with these data, for which there is room.
 pub fn put_data(out: &mut Vec<u8>, done: bool, cookie: u64, offset: u64, bytes: &[u8])
     requires room { vec_len out.old + DATA_HEAD_LEN + length bytes.now ≤ vec_capacity out.old }
@@ -65,11 +81,7 @@ pub fn put_data(out: &mut Vec<u8>, done: bool, cookie: u64, offset: u64, bytes: 
     ensures len { vec_len out.new ≡ vec_len out.old + DATA_HEAD_LEN + length bytes.now }
     ensures room { vec_capacity out.old ≤ vec_capacity out.new }
 {
-    put(
-        out,
-        &encode_head(done, OFFSET_DATA, cookie, 8 + bytes.len() as u32),
-    );
-    put(out, &offset.to_be_bytes());
+    put_data_head(out, done, cookie, offset, bytes.len());
     put(out, bytes);
 }
 

@@ -6,4 +6,4 @@ mod laws;
 mod reply;
 
 pub use laws::{one_reply, reads_back};
-pub use reply::{encode_chunks, encode_reply, encode_simple_reply};
+pub use reply::{encode_before_data, encode_chunks, encode_reply, encode_simple_reply};

@@ -1,13 +1,14 @@
-ghost use Rattle.std.specs.Prelude.{◌≡◌, ◌≢◌, ◌+◌, ◌≤◌, ◌<◌, ◌++◌, OnOk, OnErr, List, true, if◌then◌else◌, length, vec_len, vec_capacity};
+ghost use Rattle.std.specs.Prelude.{◌≡◌, ◌≢◌, ◌⊎◌, ◌+◌, ◌≤◌, ◌<◌, ◌++◌, ◌∷◌, [], IfOk, IsTrue, OnOk, OnErr, List, true, if◌then◌else◌, length, vec_len, vec_capacity};
 ghost use Rattle.std.specs.List.{sum_by};
 ghost use Rattle.nbd_wire.specs.declared.message.Run.{Run};
+ghost use Rattle.nbd_wire.specs.Answer.{data_status};
 ghost use Rattle.nbd_wire.specs.Head.{simple_reply};
 ghost use Rattle.nbd_reply.specs.Chunk.{block_status, chunk_bytes, chunks_bytes, offset_data, offset_hole};
-ghost use Rattle.nbd_reply.specs.Reply.{IsAnswerTo, chunks_of, part_chunks, part_len, reply_text, simple_text};
+ghost use Rattle.nbd_reply.specs.Reply.{IsAnswerTo, chunks_of, part_chunks, part_len, reply_text, simple_text, whole_text};
 
 use crate::chunk::{
-    DATA_HEAD_LEN, ERROR_LEN, HOLE_LEN, RUN_LEN, STATUS_HEAD_LEN, put, put_data, put_error,
-    put_hole, put_states,
+    DATA_HEAD_LEN, ERROR_LEN, HOLE_LEN, RUN_LEN, STATUS_HEAD_LEN, put, put_data, put_data_head,
+    put_error, put_hole, put_states,
 };
 use nbd_wire::{
     Answer, BLOCK_STATUS, DATA, READ, ReadBytes, Reply, Run, SessionFlags, States, encode_simple,
@@ -16,6 +17,9 @@ use std::alloc::AllocError;
 
 // The length of a simple reply, before the bytes of a READ.
 const SIMPLE_LEN: usize = 16;
+
+// So many data are worth a write of their own, which spares a copy of them.
+const LEAST_APART: usize = 65_536;
 
 /// Appends the reply to a request of this type, which asked for its bytes in one chunk where `df`: in chunks to
 /// a READ and a BLOCK_STATUS where structured replies were agreed on, and else as a simple reply.
@@ -39,6 +43,72 @@ pub fn encode_reply(
     } else {
         encode_plain(reply, out)
     }
+}
+
+/// Appends a reply up to the data that end it, and gives these, to be written from where they are. They are none where
+/// they are few, or aren't all the bytes of a READ.
+pub fn encode_before_data<'a>(
+    reply: &'a Reply,
+    session: &SessionFlags,
+    kind: u16,
+    df: bool,
+    out: &mut Vec<u8>,
+) -> Result<&'a [u8], AllocError>
+    requires { IsAnswerTo session.now kind reply.now.answer }
+    ensures ok { IfOk result (λ behind. out.new.items ++ behind.now ≡ out.old.items ++ reply_text session.now kind df reply.now) }
+
+    // It fails only where there is no room for the reply.
+    ensures err { OnErr result (out.new.items ≡ out.old.items) }
+    ensures full { OnErr result (vec_capacity out.old
+        < vec_len out.old + length (reply_text session.now kind df reply.now)) }
+{
+    if let Answer::Bytes(read) = &reply.answer {
+        let chunked = session.structured && kind == READ;
+        if is_long_whole(read, df || !chunked) {
+            encode_head(reply.cookie, read, chunked, out)?;
+            return Ok(read.bytes());
+        }
+    }
+    encode_reply(reply, session, kind, df, out)?;
+    Ok(&[])
+}
+
+// Whether these are many data in one piece: as a whole, or in one run.
+fn is_long_whole(read: &ReadBytes, whole: bool) -> bool
+    ensures { IsTrue result → IsTrue whole ⊎ (part_chunks read.now.offset read.now.runs read.now.bytes ≡ offset_data read.now.offset read.now.bytes ∷ []) }
+{
+    read.bytes().len() >= LEAST_APART && (whole || is_one_run(read.runs()))
+}
+
+// Whether all is one run of data.
+fn is_one_run(runs: &[Run]) -> bool
+    ensures { IsTrue result → (run : Run) × (run.status ≡ data_status) × (runs.now ≡ run ∷ []) }
+{
+    match runs {
+        [run] => run.status == DATA,
+        _ => false,
+    }
+}
+
+// Appends what stands before the data of a READ, in one chunk or in a simple reply.
+fn encode_head(
+    cookie: u64,
+    read: &ReadBytes,
+    chunked: bool,
+    out: &mut Vec<u8>,
+) -> Result<(), AllocError>
+    ensures ok { OnOk result (out.new.items ++ read.now.bytes ≡ out.old.items ++ whole_text cookie chunked read.now) }
+    ensures err { OnErr result (out.new.items ≡ out.old.items) }
+    ensures full { OnErr result (vec_capacity out.old < vec_len out.old + length (whole_text cookie chunked read.now)) }
+{
+    if chunked {
+        out.reserve(DATA_HEAD_LEN)?;
+        put_data_head(out, true, cookie, read.offset(), read.bytes().len());
+    } else {
+        out.reserve(SIMPLE_LEN)?;
+        put(out, &encode_simple(0, cookie));
+    }
+    Ok(())
 }
 
 /// Appends the reply in chunks: an error, the bytes of a READ, with DF in one chunk, or the states of a

@@ -197,6 +197,18 @@ impl ReadBytes {
     {
         &self.runs
     }
+
+    /// The bytes, to keep their room.
+    pub fn into_bytes(self) -> Vec<u8>
+        ensures { result.items ≡ self.bytes }
+    {
+        let ReadBytes {
+            offset: _,
+            bytes,
+            runs: _,
+        } = self;
+        bytes
+    }
 }
 
 // A run alone.

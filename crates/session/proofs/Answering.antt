@@ -13,7 +13,7 @@ use Rattle.negotiation.specs.declared.end.End.{End}
 use Rattle.byte_streams.specs.Streams.{WritesPart}
 use Rattle.byte_streams.specs.declared.streams.StreamFault.{StreamFault}
 use Rattle.session.specs.Streams.{Writes}
-use Rattle.session.specs.Talk.{Answers, AreSteps, Exchange, Serves, asked, exchange_text, talk_text}
+use Rattle.session.specs.Talk.{Answers, AreSteps, Exchange, ServesOn, asked, exchange_text, talk_text}
 use Rattle.byte_streams.specs.laws.Bytes.{appends_none, appends_on}
 
 -- ---- writing
@@ -24,6 +24,28 @@ writes_nothing output due = record { text = []; unsent = due; begins = refl; wri
 pub writes_part : (old new : Option (List ℕ)) (before after : List ℕ) (result : Result (Unit {0}) StreamFault) → WritesPart old new before result → after ≡ [] → Writes old new before after (is_ok result)
 writes_part old new before after (Ok done) part none = record { text = before; unsent = []; begins = sym (append-nil before); written = part; left = λ e. none }
 writes_part old new before after (Err fault) part none = record { text = part.0; unsent = part.1; begins = part.2; written = part.3; left = λ e. cc }
+
+-- what wasn't written is lost, and so is what stands behind it
+pub writes_less : (old new : Option (List ℕ)) (before more after left : List ℕ) (result : Result (Unit {0}) StreamFault) → IsErr result → Writes old new before after false → Writes old new (before ++ more) left (is_ok result)
+writes_less old new before more after left (Ok done) is writes = cc
+writes_less old new before more after left (Err fault) is writes = record {
+  text = writes.text;
+  unsent = writes.unsent ++ more;
+  begins = ap (λ (t : List ℕ). t ++ more) writes.begins ∙ append_assoc writes.text writes.unsent more;
+  written = writes.written;
+  left = λ e. cc;
+}
+
+-- all of it was written, and then what stands behind it
+pub writes_both : (old mid new : Option (List ℕ)) (before more between after : List ℕ) (ok : Bool) → between ≡ [] → Writes old mid before between true → Writes mid new more after ok → Writes old new (before ++ more) after ok
+writes_both old mid new before more between after ok none one two = record {
+  text = one.text ++ two.text;
+  unsent = two.unsent;
+  begins = ap (λ (t : List ℕ). t ++ more) (one.begins ∙ ap (λ (t : List ℕ). one.text ++ t) (sym (one.left refl) ∙ none) ∙ append-nil one.text)
+      ∙ ap (λ (t : List ℕ). one.text ++ t) two.begins ∙ sym (append_assoc one.text two.text two.unsent);
+  written = appends_on old mid new one.text two.text one.written two.written;
+  left = two.left;
+}
 
 pub err_not_ok : (result : Result (Unit {0}) End) → IsErr result → is_ok result ≡ true → ⊥
 err_not_ok (Ok done) is ok = cc
@@ -116,7 +138,7 @@ module _ {P : Type 0} (allows : P → Message → SessionFlags → P → Reply �
       whole = λ is. ((whole is).0, sym (writes.left (whole is).2) ∙ (whole is).1);
     }
 
-    module _ (exchanges : List Exchange) (going : Answering old exchanges pass output made due) (request : Message) (new : P) (after : List ℕ) (ok : Bool) (serves : Serves allows flags pass request new due after ok) where
+    module _ (exchanges : List Exchange) (going : Answering old exchanges pass output made due) (request : Message) (new : P) (later : Option (List ℕ)) (after : List ℕ) (ok : Bool) (serves : ServesOn allows flags pass request new made later due after ok) where
       abbrev pub exchange : Exchange
       exchange = record { request = request; reply = serves.reply }
 
@@ -128,27 +150,28 @@ module _ {P : Type 0} (allows : P → Message → SessionFlags → P → Reply �
           talk_text-append flags exchanges (exchange ∷ []) ∙ ap (λ (t : List ℕ). talk_text flags exchanges ++ t) (append-nil (exchange_text flags exchange))
           ∙ ap (λ (t : List ℕ). t ++ exchange_text flags exchange) going.begins ∙ append_assoc going.text due (exchange_text flags exchange)
 
-      pub answering_next : ok ≡ true → Answering old (exchanges ++ exchange ∷ []) new output made after
+      pub answering_next : ok ≡ true → Answering old (exchanges ++ exchange ∷ []) new output later after
       answering_next is = record {
         steps = served;
-        text = going.text;
-        begins = text_on ∙ ap (λ (t : List ℕ). going.text ++ t) (sym (serves.due is));
-        written = going.written;
+        text = going.text ++ serves.writes.text;
+        begins = text_on ∙ ap (λ (t : List ℕ). going.text ++ t) serves.writes.begins
+            ∙ ap (λ (t : List ℕ). going.text ++ (serves.writes.text ++ t)) (sym (serves.writes.left is)) ∙ sym (append_assoc going.text serves.writes.text after);
+        written = appends_on output made later going.text serves.writes.text going.written serves.writes.written;
       }
 
       pub asked_next : asked (exchanges ++ exchange ∷ []) ≡ asked exchanges ++ request ∷ []
       asked_next = asked-append exchanges (exchange ∷ [])
 
-      -- there was no memory for the reply
-      pub answers_unwritten : (requests unanswered : List Message) → requests ≡ (asked exchanges ++ request ∷ []) ++ unanswered → (is_whole : Bool) → (is_whole ≡ true → ⊥) → Answers allows flags old requests new output made is_whole
+      -- there was no memory for the reply, or it wasn't written
+      pub answers_unwritten : (requests unanswered : List Message) → requests ≡ (asked exchanges ++ request ∷ []) ++ unanswered → (is_whole : Bool) → (is_whole ≡ true → ⊥) → Answers allows flags old requests new output later is_whole
       answers_unwritten requests unanswered all is_whole part = record {
         exchanges = exchanges ++ exchange ∷ [];
         unanswered = unanswered;
         all = all ∙ ap (λ (r : List Message). r ++ unanswered) (sym asked_next);
         steps = served;
-        text = going.text;
-        unsent = due ++ exchange_text flags exchange;
-        begins = text_on;
-        written = going.written;
+        text = going.text ++ serves.writes.text;
+        unsent = serves.writes.unsent;
+        begins = text_on ∙ ap (λ (t : List ℕ). going.text ++ t) serves.writes.begins ∙ sym (append_assoc going.text serves.writes.text serves.writes.unsent);
+        written = appends_on output made later going.text serves.writes.text going.written serves.writes.written;
         whole = λ is. absurd (part is);
       }

@@ -1,4 +1,4 @@
-ghost use Rattle.std.specs.Prelude.{◌≡◌, ◌≤◌, [], false, is_ok, vec_len, IfErr, IsTrue, OnOk};
+ghost use Rattle.std.specs.Prelude.{◌≡◌, ◌≤◌, ◌++◌, [], false, is_ok, vec_len, IfErr, IsTrue, OnOk};
 ghost use Rattle.nbd_reply.specs.Reply.{IsAnswerTo};
 ghost use Rattle.nbd_wire.specs.Request.{Message};
 ghost use Rattle.negotiation.specs.Dialog.{HasNoDisc, is_disc};
@@ -6,17 +6,16 @@ ghost use Rattle.nbd_wire.specs.declared.message.Reply.{Reply};
 ghost use Rattle.nbd_wire.specs.declared.message.SessionFlags.{SessionFlags};
 ghost use Rattle.image_model.specs.declared.geometry.Geometry.{Geometry};
 ghost use Rattle.session.specs.Streams.{IsEarly, Writes};
-ghost use Rattle.session.specs.Talk.{Answers, IsStep, Serves, is_thrown_away, is_whole};
+ghost use Rattle.session.specs.Talk.{Answers, IsStep, ServesOn, is_thrown_away, is_whole};
 
 use bitflags::Flags;
 use byte_streams::{StreamFault, write_whole};
 use image_model::Geometry;
-use nbd_reply::encode_reply;
+use nbd_reply::encode_before_data;
 use nbd_wire::{
     Answer, CommandFlags, Errno, MAX_PAYLOAD, Reply, Request, RequestHead, SessionFlags, WRITE,
 };
 use negotiation::End;
-use std::alloc::AllocError;
 use std::io::Write;
 
 // Where the replies that are due pass so many bytes they are written: 1 MiB.
@@ -39,6 +38,9 @@ pub trait Serve<P> {
 
     /// It is told that the handshake is over: requests come, or the client has ended the session.
     fn handshake_is_over(&self) {}
+
+    /// It gets a reply back that isn't needed any more, whose room it may use again.
+    fn reuse(&self, _reply: Reply) {}
 
     /// Answers a request, which isn't a DISC, and whose data were kept.
     fn serve(&self, pass: &mut P, request: Request, flags: &SessionFlags) -> Reply
@@ -70,7 +72,7 @@ pub fn answer_all<P, S: Serve<P>, W: Write>(
     while let Some(request) = requests.pop() {
         let waits = export.may_wait(&request.head());
         write_before(waits, output, due)?;
-        answer(export, pass, flags, request, due)?;
+        answer(export, pass, flags, request, output, due)?;
     }
     write_due(output, due)?;
     Ok(())
@@ -104,20 +106,40 @@ pub fn write_due<W: Write>(output: &mut W, due: &mut Vec<u8>) -> Result<(), Stre
     written
 }
 
-// Answers a request, and puts its reply behind those that are due.
-fn answer<P, S: Serve<P>>(
+// Answers a request, and puts its reply behind those that are due; long data of a READ are written at once, from where they are.
+fn answer<P, S: Serve<P>, W: Write>(
     export: &S,
     pass: &mut P,
     flags: &SessionFlags,
     request: Request,
+    output: &mut W,
     due: &mut Vec<u8>,
-) -> Result<(), AllocError>
+) -> Result<(), End>
     requires { is_disc request ≡ false }
-    ensures { Serves (S.allows export.now) flags.now pass.old request pass.new due.old.items due.new.items (is_ok result) }
+    ensures serves { ServesOn (S.allows export.now) flags.now pass.old request pass.new (W.contents output.old) (W.contents output.new) due.old.items due.new.items (is_ok result) }
+    ensures early { IfErr result IsEarly }
 {
     let head = request.head();
     let reply = reply_to(export, pass, flags, request);
-    encode_reply(&reply, flags, head.kind, is_whole(&head), due)
+    let bytes = encode_before_data(&reply, flags, head.kind, is_whole(&head), due)?;
+    write_behind(output, due, bytes)?;
+    export.reuse(reply);
+    Ok(())
+}
+
+// Writes what is due and these bytes behind it; not where there are none.
+fn write_behind<W: Write>(
+    output: &mut W,
+    due: &mut Vec<u8>,
+    bytes: &[u8],
+) -> Result<(), StreamFault>
+    ensures { Writes (W.contents output.old) (W.contents output.new) (due.old.items ++ bytes.now) due.new.items (is_ok result) }
+{
+    if bytes.is_empty() {
+        return Ok(());
+    }
+    write_due(output, due)?;
+    write_whole(output, bytes)
 }
 
 // The reply to a request. A WRITE whose data were thrown away is too long, and isn't handed over.

@@ -65,14 +65,24 @@ fn replies_go_out_together(rt: HostRuntime) -> Result<(), Fail> {
 
 #[test]
 fn replies_of_more_than_1_mib_are_written(rt: HostRuntime) -> Result<(), Fail> {
+    // 16 replies with 65,535 bytes each take 240 bytes more than 1 MiB.
+    let mut reads = String::new(rt.alloc());
+    for _ in 0..17 {
+        reads.push_str("25609513 0000 0000 0000000000000003 0000000000000000 0000ffff ")?;
+    }
+    has_writes(&rt, rt.alloc(), &reads, 4)
+}
+
+#[test]
+fn long_data_are_written_behind_their_head(rt: HostRuntime) -> Result<(), Fail> {
     has_writes(
         &rt,
         rt.alloc(),
         "25609513 0000 0000 0000000000000003 0000000000000000 00100000
          25609513 0000 0000 0000000000000005 0000000000000000 00080000
-         25609513 0000 0000 0000000000000007 0000000000000000 00080000
+         25609513 0000 0000 0000000000000007 0000000000000000 00010000
          25609513 0000 0000 0000000000000009 0000000000000000 00000001",
-        5,
+        9,
     )
 }
 

@@ -35,11 +35,11 @@ loop-request-preserved g c =
     let request = c.in-Some.request in
     let going = answering_write allows c.args.flags.now c.args.pass.now c.loop-request.pass output (g.W.Write.contents c.loop-request.output) c.loop-request.due.items i.exchanges i.going made due c.in_ok-write_before.ensures.writes in
     record {
-      exchanges = i.exchanges ++ record { request = request; reply = c.in_ok-answer.ensures.reply } ∷ [];
-      going = answering_next allows c.args.flags.now c.args.pass.now c.loop-request.pass output made due i.exchanges going request c.answer.new.pass c.answer.new.due.items true c.in_ok-answer.ensures refl;
+      exchanges = i.exchanges ++ record { request = request; reply = c.in_ok-answer.ensures.serves.reply } ∷ [];
+      going = answering_next allows c.args.flags.now c.args.pass.now c.loop-request.pass output made due i.exchanges going request c.answer.new.pass (g.W.Write.contents c.answer.new.output) c.answer.new.due.items true c.in_ok-answer.ensures.serves refl;
       whole = next_served c.args.requests.items c.reverse.new.self.items c.loop-request.requests.items (asked i.exchanges) c.reverse.ensures.items i.whole c.pop.new.self.items request c.in-Some.ensures.items
           ∙ ap (λ (r : List Message). r ++ reverse c.pop.new.self.items)
-          (sym (asked_next allows c.args.flags.now c.args.pass.now c.loop-request.pass output made due i.exchanges going request c.answer.new.pass c.answer.new.due.items true c.in_ok-answer.ensures));
+          (sym (asked_next allows c.args.flags.now c.args.pass.now c.loop-request.pass output made due i.exchanges going request c.answer.new.pass (g.W.Write.contents c.answer.new.output) c.answer.new.due.items true c.in_ok-answer.ensures.serves));
       no_disc = (before_last c.pop.new.self.items request (subst HasNoDisc c.in-Some.ensures.items i.no_disc)).0;
     }
 
@@ -55,7 +55,7 @@ returns-in_err-answer-clause-answers g c =
     let back = c.reverse.new.self.items in
     let going = answering_write allows c.args.flags.now c.args.pass.now c.loop-request.pass output (g.W.Write.contents c.loop-request.output) c.loop-request.due.items i.exchanges i.going made due c.in_ok-write_before.ensures.writes in
     let next = sym (ap reverse c.reverse.ensures.items ∙ reverse-reverse all) ∙ next_served all back c.loop-request.requests.items (asked i.exchanges) c.reverse.ensures.items i.whole c.pop.new.self.items request c.in-Some.ensures.items in
-    answers_unwritten allows c.args.flags.now c.args.pass.now c.loop-request.pass output made due i.exchanges going request c.answer.new.pass c.answer.new.due.items false c.in_err-answer.ensures all (reverse c.pop.new.self.items) next
+    answers_unwritten allows c.args.flags.now c.args.pass.now c.loop-request.pass output made due i.exchanges going request c.answer.new.pass (g.W.Write.contents c.answer.new.output) c.answer.new.due.items false c.in_err-answer.ensures.serves all (reverse c.pop.new.self.items) next
     (is_ok c.from_residual-in_err-answer.result) (err_not_ok c.from_residual-in_err-answer.result c.from_residual-in_err-answer.ensures.0)
 
 pub returns-in_err-write_due-clause-answers : goal.returns-in_err-write_due-clause-answers
