@@ -2,8 +2,9 @@
 ghost use Rattle.std.specs.Prelude.{◌≡◌, ◌≢◌, IfErr, IfOk, IfSome, IsErr, OnErr, length, vec_len};
 ghost use Rattle.export.specs.Submits.{FitsServed, IsServedFor};
 ghost use Rattle.marks.specs.Known.{PassState};
-ghost use Rattle.request_core.specs.Reading.{IsPlanned};
+ghost use Rattle.request_core.specs.Reading.{IsPlanned, IsReadOverServed};
 
+use crate::gathering::Crowd;
 use crate::name::ExportName;
 use crate::settling::Patience;
 use crate::store::Store;
@@ -39,8 +40,9 @@ pub(crate) struct Book<B: ExportName> {
     frames: u32,
     // The passes that haven't left.
     passes: usize,
-    // The greatest number that somebody waits for.
+    // The greatest number that somebody waits for, and how many wait.
     wanted: u64,
+    crowd: Crowd,
     // Whether a group didn't fit the area, and no other area has been taken into use since.
     is_full: bool,
     // Whether a command had no room, and no frame has been let go since.
@@ -62,6 +64,7 @@ impl<B: ExportName> Drop for Book<B> {
             frames: _,
             passes: _,
             wanted: _,
+            crowd: _,
             is_full: _,
             lacks_room: _,
             wish: _,
@@ -81,6 +84,7 @@ impl<B: ExportName> Book<B> {
             frames,
             passes,
             wanted: 0,
+            crowd: Crowd::new(),
             is_full: false,
             lacks_room: false,
             wish: None,
@@ -143,6 +147,7 @@ impl<B: ExportName> Book<B> {
         ensures fits { IfOk result (λ served. FitsServed terms.now.geometry terms.now.flags request.now served) }
         ensures size { IfErr result (λ back. vec_len back ≡ request.now.head.length) }
         ensures settled { self.new.settled ≡ self.old.settled }
+        ensures over { IfOk result (λ served. IsReadOverServed request.now.head planned.span bytes.items self.old.order self.new.order served) }
 
         // Nothing is served of bytes that were read before frames were let go.
         ensures let_go { planned.settled ≢ self.old.settled → IsErr result }
@@ -208,6 +213,19 @@ impl<B: ExportName> Book<B> {
         self.wanted = self.wanted.max(number);
     }
 
+    /// Somebody begins to wait until a number is durable, which it isn't.
+    pub(crate) fn begin_wait(&mut self, number: u64) {
+        let is_sealed = number <= self.order.sealed();
+        self.crowd.join(is_sealed);
+        self.want(number);
+    }
+
+    /// Whether more are expected to wait for the next group, and nothing asks for it at once. Where there is one pass, nobody
+    /// else comes.
+    pub(crate) fn is_worth_gathering(&self) -> bool {
+        self.passes > 1 && !self.lacks_room && !self.has_much_pending() && self.crowd.expects_more()
+    }
+
     /// A command has no room.
     pub(crate) fn miss_room(&mut self) {
         self.lacks_room = true;
@@ -225,7 +243,7 @@ impl<B: ExportName> Book<B> {
         }
     }
 
-    /// Wants a checkpoint where two thirds of the frames are dirty; whether it is wanted since now.
+    /// Wants a checkpoint where half of the frames are dirty; whether it is wanted since now.
     pub(crate) fn look_at_frames(&mut self) -> bool {
         if self.wish.is_some() || !self.has_few_frames() {
             return false;
@@ -234,9 +252,9 @@ impl<B: ExportName> Book<B> {
         true
     }
 
-    // Whether two thirds of the frames are dirty.
+    // Whether half of the frames are dirty.
     fn has_few_frames(&self) -> bool {
-        self.order.dirty_blocks() as u64 * 3 >= self.frames as u64 * 2
+        self.order.dirty_blocks() as u64 * 2 >= self.frames as u64
     }
 
     /// Whether so many bytes are pending that they are stored though nobody waits for them.
@@ -302,11 +320,16 @@ impl<B: ExportName> Book<B> {
 
     /// Takes the longest beginning of what is pending as a group.
     pub(crate) fn seal(&mut self) -> Result<Option<Group>, OrderFault> {
-        self.order.seal()
+        let sealed = self.order.seal()?;
+        if self.order.sealed() == self.order.mark() {
+            self.crowd.seal();
+        }
+        Ok(sealed)
     }
 
     /// Makes a group pending again, which the area had no room for or the device didn't take.
     pub(crate) fn take_back(&mut self, group: Group) {
+        self.crowd.put_back();
         if self.order.is_in_hand(&group) {
             self.order.put_back(group);
         } else {
@@ -329,6 +352,7 @@ impl<B: ExportName> Book<B> {
     /// Makes durable what is stored.
     pub(crate) fn publish<D: Disk>(&mut self, board: &Board<B>, store: &mut Store<B, D>) {
         store.publish(board, &mut self.order);
+        self.crowd.publish();
     }
 
     /// Lets the frames go whose blocks the image holds. A checkpoint that was wanted is done, and is wanted again where the area

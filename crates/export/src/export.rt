@@ -9,6 +9,7 @@ ghost use Rattle.marks.specs.Known.{new_pass};
 use crate::beside::ReadBeside;
 use crate::book::Book;
 use crate::name::ExportName;
+use crate::rooms::Rooms;
 use crate::store::Store;
 use checkpoint::{Keeper, KeeperFault};
 use disk_model::Disk;
@@ -72,6 +73,8 @@ pub struct Export<B: ExportName, D: Disk, H: ReadBeside> {
     pub(crate) book: Mutex<Book<B>>,
     // By which the device is read with neither lock held.
     pub(crate) beside: Option<H>,
+    // Into which it is read.
+    pub(crate) rooms: Mutex<Rooms>,
     // Told after each publish, after each clean and after the stop.
     pub(crate) settled: Condvar,
     // Told where the flusher has work, and the checkpointer.
@@ -91,6 +94,7 @@ impl<B: ExportName, D: Disk + Drop, H: ReadBeside> Drop for Export<B, D, H> {
             store: _,
             book: _,
             beside: _,
+            rooms: _,
             settled: _,
             work: _,
             turn: _,
@@ -131,6 +135,7 @@ impl<B: ExportName, D: Disk, H: ReadBeside> Export<B, D, H> {
                     store: Mutex::new(Store::new(keeper, seat)),
                     book: Mutex::new(Book::new(order, frames, workers, settled)),
                     beside,
+                    rooms: Mutex::new(Rooms::new(alloc)),
                     settled: Condvar::new(),
                     work: Condvar::new(),
                     turn: Condvar::new(),
@@ -156,6 +161,7 @@ impl<B: ExportName, D: Disk, H: ReadBeside> Export<B, D, H> {
             store,
             book: _,
             beside: _,
+            rooms: _,
             settled: _,
             work: _,
             turn: _,

@@ -1,6 +1,8 @@
 use crate::beside::ReadBeside;
+use crate::book::Book;
 use crate::export::Export;
 use crate::gate::{Gate, Point};
+use crate::gathering::Pace;
 use crate::name::ExportName;
 use crate::store::Store;
 use checkpoint::KeeperFault;
@@ -9,24 +11,29 @@ use journal::Group;
 use std::rt::Clock;
 use std::sync::Wait;
 use std::thread;
+use std::time::{Duration, Instant};
 
 impl<B: ExportName, D: Disk, H: ReadBeside> Export<B, D, H> {
     /// Stores groups of commands where somebody waits for one, where more than 4 MiB are pending, where a command had no room,
     /// where one was pending for as long as `store_within` says, and once all passes have left. It ends when all have left and
     /// nothing is pending, or when a call of the device has failed.
+    ///
+    /// A group is sealed a little later than somebody waits for it, where storing one takes long and more are likely to wait
+    /// for the same one.
     pub fn flusher<R: Wait + Clock, G: Gate>(&self, rt: &R, gate: &mut G) {
+        let mut pace = Pace::new();
         for _ in rt.forever() {
-            let Some(group) = self.next_group(rt) else {
+            let Some(group) = self.next_group(rt, &mut pace) else {
                 break;
             };
-            self.store_group(rt, gate, group);
+            self.store_group(rt, gate, &mut pace, group);
         }
         self.book.lock(rt).end();
         self.turn.notify_all();
     }
 
     // The next group that is to be stored, once there is one.
-    fn next_group<R: Wait + Clock>(&self, rt: &R) -> Option<Group> {
+    fn next_group<R: Wait + Clock>(&self, rt: &R, pace: &mut Pace) -> Option<Group> {
         for _ in rt.forever() {
             let mut book = self.book.lock(rt);
             if book.stopped() || book.is_done() {
@@ -34,7 +41,10 @@ impl<B: ExportName, D: Disk, H: ReadBeside> Export<B, D, H> {
             }
             if !book.is_group_due() {
                 self.wait_for_work(rt, book);
+            } else if let Some(left) = time_to_gather(rt, &*book, pace) {
+                let _woken = self.work.wait_timeout(rt, book, left);
             } else if let Ok(Some(group)) = book.seal() {
+                pace.seal();
                 return Some(group);
             } else {
                 // No memory for it: others may let some go meanwhile.
@@ -46,13 +56,19 @@ impl<B: ExportName, D: Disk, H: ReadBeside> Export<B, D, H> {
     }
 
     // Stores a group; where memory is refused it stays in hand, and is stored later.
-    fn store_group<R: Wait, G: Gate>(&self, rt: &R, gate: &mut G, group: Group) {
+    fn store_group<R: Wait + Clock, G: Gate>(
+        &self,
+        rt: &R,
+        gate: &mut G,
+        pace: &mut Pace,
+        group: Group,
+    ) {
         let mut waiting = Some(group);
         for _ in rt.forever() {
             let Some(group) = waiting else {
                 return;
             };
-            waiting = self.try_group(rt, gate, group);
+            waiting = self.try_group(rt, gate, pace, group);
         }
         // The loop has no end but that one; a group has to be spent on each way out.
         if let Some(group) = waiting {
@@ -61,11 +77,19 @@ impl<B: ExportName, D: Disk, H: ReadBeside> Export<B, D, H> {
     }
 
     // Stores a group in one hold of the keeper's lock, or gives it back where memory was refused.
-    fn try_group<R: Wait, G: Gate>(&self, rt: &R, gate: &mut G, group: Group) -> Option<Group> {
+    fn try_group<R: Wait + Clock, G: Gate>(
+        &self,
+        rt: &R,
+        gate: &mut G,
+        pace: &mut Pace,
+        group: Group,
+    ) -> Option<Group> {
         let mut store = self.store.lock(rt);
+        let begin = Instant::now(rt).ok();
         gate.reach(Point::Append);
         match store.append(group) {
             Ok(()) => {
+                pace.note(rt, begin);
                 self.publish(rt, &mut *store);
                 None
             }
@@ -110,4 +134,16 @@ impl<B: ExportName, D: Disk, H: ReadBeside> Export<B, D, H> {
             self.tell_all();
         }
     }
+}
+
+// How long the next group is to be gathered still; none where it is sealed now.
+fn time_to_gather<B: ExportName, R: Clock>(
+    rt: &R,
+    book: &Book<B>,
+    pace: &mut Pace,
+) -> Option<Duration> {
+    if !book.is_worth_gathering() {
+        return None;
+    }
+    pace.left(rt)
 }

@@ -14,8 +14,11 @@ use order_book::{Order, SeatedKeeper};
 use request_core::{Served, Terms};
 use std::alloc::Global;
 
-/// The most blocks that are copied at once: 1 MiB.
+/// The most blocks that are copied in a hold of the keeper's lock: 1 MiB.
 const MOST_COPIED: u32 = 256;
+
+/// The most ranges that are copied in a hold, each in one read and one write.
+const MOST_RANGES: u32 = 16;
 
 /// What stands in an area round the commands of a group.
 const GROUP_BYTES: u64 = 17;
@@ -81,9 +84,9 @@ impl<B: ExportName, D: Disk> Store<B, D> {
         keeper
     }
 
-    /// Whether two thirds of the area are used.
+    /// Whether half of the area is used.
     pub(crate) fn is_filling(&self) -> bool {
-        self.used.saturating_mul(3) >= self.seated.keeper.geometry().area as u64 * 2
+        self.used.saturating_mul(2) >= self.seated.keeper.geometry().area as u64
     }
 
     /// Stores a group; one that is refused comes back.
@@ -102,14 +105,7 @@ impl<B: ExportName, D: Disk> Store<B, D> {
                 self.used = 0;
                 Ok(Stage::Copy)
             }
-            Stage::Copy => match self.seated.keeper.copy_some(MOST_COPIED) {
-                Ok(blocks) => {
-                    *copied = copied.saturating_add(blocks as u64);
-                    Ok(Stage::Copy)
-                }
-                Err(KeeperFault::NotNow) => Ok(Stage::Map),
-                Err(fault) => Err(fault),
-            },
+            Stage::Copy => self.copy(copied),
             Stage::Map => {
                 self.seated.keeper.write_map()?;
                 Ok(Stage::Finish)
@@ -120,6 +116,25 @@ impl<B: ExportName, D: Disk> Store<B, D> {
             }
             Stage::Done => Ok(Stage::Done),
         }
+    }
+
+    // Copies the next blocks, as many as one hold takes, and gives the next step: the map where none is left.
+    fn copy(&mut self, copied: &mut u64) -> Result<Stage, KeeperFault> {
+        let mut left = MOST_COPIED;
+        for _ in 0..MOST_RANGES {
+            if left == 0 {
+                break;
+            }
+            match self.seated.keeper.copy_some(left) {
+                Ok(blocks) => {
+                    *copied = copied.saturating_add(blocks as u64);
+                    left -= blocks;
+                }
+                Err(KeeperFault::NotNow) => return Ok(Stage::Map),
+                Err(fault) => return Err(fault),
+            }
+        }
+        Ok(Stage::Copy)
     }
 
     /// Serves a request that isn't a DISC, with the keeper.

@@ -1,4 +1,4 @@
-ghost use Rattle.std.specs.Prelude.{◌≡◌, ◌≢◌, ◌≤◌, ◌<◌, ◌+◌, ◌-◌, ◌*◌, max, IfNone, IfSome, OnOk, length, slice_range};
+ghost use Rattle.std.specs.Prelude.{◌≡◌, ◌≢◌, ◌≤◌, ◌<◌, ◌+◌, ◌-◌, ◌*◌, max, IfNone, IfSome, OnOk, length, slice_range, vec_len};
 ghost use Rattle.export.specs.Submits.{FitsServed, IsJudged, IsServedFor, IsSubmitted, IsWaitedFor};
 ghost use Rattle.export.specs.Outcomes.{FitsOutcome, IsOutcomeFor};
 ghost use Rattle.marks.specs.Known.{PassState, known};
@@ -12,6 +12,7 @@ use crate::beside::ReadBeside;
 use crate::book::Planned;
 use crate::export::Export;
 use crate::name::ExportName;
+use crate::rooms::LEAST_KEPT;
 use disk_model::{DeviceFault, Disk};
 use image_model::BLOCK_BYTES;
 use marks::{Pass, Told};
@@ -86,6 +87,21 @@ impl<B: ExportName, D: Disk, H: ReadBeside> Export<B, D, H> {
                 cookie,
                 answer: self.wait_for(rt, pass, number),
             },
+        }
+    }
+
+    /// Takes a reply back that isn't needed any more, whose room is used for another READ.
+    pub fn reuse<R: Wait>(&self, rt: &R, reply: Reply) {
+        match reply.answer {
+            Answer::Bytes(read) => self.keep_room(rt, read.into_bytes()),
+            _answer => {}
+        }
+    }
+
+    // Keeps room for another READ, where it is long.
+    fn keep_room<R: Wait>(&self, rt: &R, room: Vec<u8>) {
+        if room.len() >= LEAST_KEPT {
+            self.rooms.lock(rt).put(room);
         }
     }
 
@@ -185,7 +201,7 @@ impl<B: ExportName, D: Disk, H: ReadBeside> Export<B, D, H> {
     {
         let handle = self.beside.as_ref()?;
         let head = request.head();
-        let mut bytes = vec![in self.alloc; 0; head.length as usize].ok()?;
+        let mut bytes = self.room(rt, head.length as usize)?;
         let mut planned = planned;
         for _ in 0..MOST_TRIES {
             self.read_span(handle, head.offset / BLOCK_BYTES, planned.span, &mut bytes)
@@ -198,6 +214,19 @@ impl<B: ExportName, D: Disk, H: ReadBeside> Export<B, D, H> {
             planned = book.plan(request, terms)?;
         }
         None
+    }
+
+    // Room of so many bytes.
+    fn room<R: Wait>(&self, rt: &R, length: usize) -> Option<Vec<u8>>
+        ensures { IfSome result (λ room. vec_len room ≡ length) }
+    {
+        if length >= LEAST_KEPT {
+            let kept = self.rooms.lock(rt).take(length);
+            if kept.is_some() {
+                return kept;
+            }
+        }
+        vec![in self.alloc; 0; length].ok()
     }
 
     // Reads the blocks of a span, in one call and with no lock held, to their places behind the first block.
@@ -253,7 +282,11 @@ impl<B: ExportName, D: Disk, H: ReadBeside> Export<B, D, H> {
             return Answer::Done;
         }
         let mut book = self.book.lock(rt);
-        book.want(number);
+        // Who finds it durable by now doesn't wait, and isn't counted.
+        if self.board.look_durable(pass) >= number {
+            return Answer::Done;
+        }
+        book.begin_wait(number);
         self.work.notify_one();
         for _ in rt.forever() {
             if self.board.look_durable(pass) >= number {

@@ -86,7 +86,7 @@ fn one_turn<B: ExportName, D: Disk, H: ReadBeside, R: Wait + Clock>(
 {
     latch.hold(turn);
     turns.asked.store(turn, Ordering::SeqCst);
-    let mut good = latch.wait_held(rt, turn);
+    let mut good = latch.wait_held(rt, turn, &turns.answered);
     good &= if round_left(turn) == 0 {
         trim_block(rt, alloc, export, pass, turn)
     } else {
@@ -137,18 +137,26 @@ fn run_turns<
     let writes = passes.pop()?;
     thread::scope(thread::scope_env(), rt, move |scope| {
         let flusher = scope.spawn(move || export.flusher(rt, &mut ()));
-        let have_started = flusher.is_ok()
+        let mut have_started = flusher.is_ok()
             && scope
                 .spawn(move || export.checkpointer(rt, &mut ()))
                 .is_ok();
-        if !have_started
-            || scope
-                .spawn(move || read_turns(rt, alloc, export, reads, turns))
-                .is_err()
-        {
-            return None;
+        if !have_started {
+            export.leave(rt, reads);
+        } else if let Err(refused) = scope.spawn(move || read_turns(
+            rt, alloc, export, reads, turns,
+        )) {
+            // Its pass leaves all the same, with no turn to wait for.
+            have_started = false;
+            turns.asked.store(TURNS, Ordering::SeqCst);
+            (refused.value)();
         }
-        Some(write_turns(rt, alloc, export, writes, turns, latch))
+        if have_started {
+            Some(write_turns(rt, alloc, export, writes, turns, latch))
+        } else {
+            export.leave(rt, writes);
+            None
+        }
     })
 }
 

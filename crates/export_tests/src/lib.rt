@@ -8,6 +8,8 @@ mod fault_tests;
 #[cfg(test)]
 mod flush_tests;
 #[cfg(test)]
+mod gather_tests;
+#[cfg(test)]
 mod load_tests;
 #[cfg(test)]
 mod memory_file;

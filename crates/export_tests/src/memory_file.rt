@@ -79,9 +79,18 @@ impl Latch {
         self.wanted.store(turn, Ordering::SeqCst);
     }
 
-    /// Waits until a read is held; whether it is.
-    pub fn wait_held<R: Clock>(&self, rt: &R, turn: u64) -> bool {
-        wait_for_turn(rt, &self.held, turn)
+    /// Waits until a read is held, or the turn's READ is answered with none held, at most ten seconds; whether one is held.
+    pub fn wait_held<R: Clock>(&self, rt: &R, turn: u64, answered: &AtomicU64) -> bool {
+        for _ in 0..20_000 {
+            if self.held.load(Ordering::SeqCst) >= turn {
+                return true;
+            }
+            if answered.load(Ordering::SeqCst) >= turn {
+                return false;
+            }
+            thread::sleep(rt, Duration::from_micros(500));
+        }
+        false
     }
 
     /// Lets the read go on.

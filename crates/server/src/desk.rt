@@ -64,6 +64,10 @@ impl<'a, B: ExportName, D: Disk, H: ReadBeside, R: Wait, L: Log> Serve<Pass<B>>
         self.count(&request, flags);
         self.export.submit(self.rt, pass, request, flags)
     }
+
+    fn reuse(&self, reply: Reply) {
+        self.export.reuse(self.rt, reply);
+    }
 }
 
 impl<'a, B: ExportName, D: Disk, H: ReadBeside, R: Wait, L: Log> Desk<'a, B, D, H, R, L> {

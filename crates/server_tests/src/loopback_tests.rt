@@ -181,11 +181,15 @@ fn write_before_an_end(rt: &HostRuntime, port: u16) -> io::Result<()> {
 }
 
 // A client writes, and the input of the server ends while it is served.
-fn write_until_the_input_ends(rt: &HostRuntime, port: u16, ending: UnixStream) -> io::Result<()> {
+fn write_until_the_input_ends(
+    rt: &HostRuntime,
+    port: u16,
+    ending: &mut Option<UnixStream>,
+) -> io::Result<()> {
     let mut one = Client::connect(rt, port)?;
     one.send_write(1, 0x41, 0)?;
     one.expect_done(1)?;
-    drop(ending);
+    *ending = None;
     one.expect_end()
 }
 
@@ -241,6 +245,8 @@ impl Clients {
             Clients::WriteBeforeAnEnd => {
                 limits.sessions = 0;
                 on_fault = OnFault::Exit;
+                // It ends so where the clients give up.
+                until_eof = true;
             }
             Clients::WriteUntilTheInputEnds => {
                 limits.sessions = 0;
@@ -292,6 +298,7 @@ fn beside_a_server<R: Threads + Wait + Clock + Copy + Send + Sync + Drop + 'stat
 ) -> Option<Ran> {
     let gate = Holding { rt: threads, seen };
     let (ending, input) = UnixStream::pair(rt).ok()?;
+    let mut ending = Some(ending);
     thread::scope(thread::scope_env(), threads, move |scope| {
         let Ok(server) = scope.spawn(move || serve(
             threads, alloc, device, listener, input, options, gate,
@@ -304,11 +311,12 @@ fn beside_a_server<R: Threads + Wait + Clock + Copy + Send + Sync + Drop + 'stat
             Clients::FlushBehindATrim => flush_behind_a_trim(rt, port),
             Clients::WriteToAFailingDevice => write_to_a_failing_device(rt, port),
             Clients::WriteBeforeAnEnd => write_before_an_end(rt, port),
-            Clients::WriteUntilTheInputEnds => write_until_the_input_ends(rt, port, ending),
+            Clients::WriteUntilTheInputEnds => write_until_the_input_ends(rt, port, &mut ending),
             Clients::SayNothing => say_nothing(rt, port),
         };
-        // Where clients gave up, a group may still be held, and the server still waits for sessions.
+        // Where clients gave up, a group may still be held, and the server still waits for sessions or for its input's end.
         seen.holds.store(false, Ordering::SeqCst);
+        ending = None;
         for _ in 0..2 {
             let _ = TcpStream::connect(rt, SocketAddr::from((Ipv4Addr::LOCALHOST, port)));
         }

@@ -18,3 +18,8 @@ returns-clause-fits g c =
     c.requires.planned.passes c.requires.planned.reads
     (subst (λ (head : RequestHead). IfOk c.serve_read_over.result (λ served. IsReadOverServed head c.args.planned.span c.args.bytes.items c.args.self.now.order c.serve_read_over.new.order served))
     c.head.ensures c.serve_read_over.ensures.read)
+
+pub returns-clause-over : goal.returns-clause-over
+returns-clause-over g c =
+    subst (λ (head : RequestHead). IfOk c.serve_read_over.result (λ served. IsReadOverServed head c.args.planned.span c.args.bytes.items c.args.self.now.order c.serve_read_over.new.order served))
+    c.head.ensures c.serve_read_over.ensures.read

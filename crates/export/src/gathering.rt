@@ -1,0 +1,107 @@
+//! How the flusher waits for more to go into a group.
+
+use std::rt::Clock;
+use std::time::{Duration, Instant};
+
+/// Groups aren't gathered where storing one took fewer microseconds.
+const LEAST_APPEND: u64 = 500;
+
+/// A group is gathered for a quarter of the time that the last one took to be stored, and for no more milliseconds than these.
+const MOST_GATHERED: u64 = 25;
+
+/// Who waits until a number is durable, counted.
+#[derive(Clone, Copy, Debug, PartialEq, Eq)]
+pub(crate) struct Crowd {
+    // Those whose number is in a group, and those whose number isn't yet.
+    sealed: usize,
+    behind: usize,
+    // How many the next group may have: those who waited when the last one was stored.
+    expected: usize,
+}
+
+impl Crowd {
+    pub(crate) fn new() -> Crowd {
+        Crowd {
+            sealed: 0,
+            behind: 0,
+            expected: 0,
+        }
+    }
+
+    /// Somebody begins to wait.
+    pub(crate) fn join(&mut self, is_sealed: bool) {
+        let part = if is_sealed {
+            &mut self.sealed
+        } else {
+            &mut self.behind
+        };
+        *part = part.saturating_add(1);
+    }
+
+    /// All that is pending went into a group.
+    pub(crate) fn seal(&mut self) {
+        self.sealed = self.sealed.saturating_add(self.behind);
+        self.behind = 0;
+    }
+
+    /// The group came back.
+    pub(crate) fn put_back(&mut self) {
+        self.behind = self.behind.saturating_add(self.sealed);
+        self.sealed = 0;
+    }
+
+    /// The group was stored: who waited for it goes, and may soon wait for the next one, as those do who wait behind it.
+    pub(crate) fn publish(&mut self) {
+        self.expected = self.sealed.saturating_add(self.behind);
+        self.sealed = 0;
+    }
+
+    /// Whether fewer wait for the next group than are expected.
+    pub(crate) fn expects_more(&self) -> bool {
+        self.behind < self.expected
+    }
+}
+
+/// How long the last group took to be stored, and since when the next one is gathered.
+#[derive(Clone, Copy)]
+pub(crate) struct Pace {
+    last: Duration,
+    since: Option<Instant>,
+}
+
+impl Pace {
+    pub(crate) fn new() -> Pace {
+        Pace {
+            last: Duration::ZERO,
+            since: None,
+        }
+    }
+
+    /// How much longer the next group is gathered; none where it isn't any more, or the clock can't be read.
+    pub(crate) fn left<R: Clock>(&mut self, rt: &R) -> Option<Duration> {
+        if self.last < Duration::from_micros(LEAST_APPEND) {
+            return None;
+        }
+        let since = match self.since {
+            Some(since) => since,
+            None => Instant::now(rt).ok()?,
+        };
+        self.since = Some(since);
+        let limit = (self.last / 4).min(Duration::from_millis(MOST_GATHERED));
+        let left = limit.saturating_sub(since.elapsed(rt).ok()?);
+        if left.is_zero() { None } else { Some(left) }
+    }
+
+    /// The group is gathered.
+    pub(crate) fn seal(&mut self) {
+        self.since = None;
+    }
+
+    /// The group was stored, since this moment.
+    pub(crate) fn note<R: Clock>(&mut self, rt: &R, begin: Option<Instant>) {
+        self.last = match begin {
+            Some(begin) => begin.elapsed(rt).unwrap_or(Duration::ZERO),
+            None => Duration::ZERO,
+        };
+    }
+}
