@@ -135,12 +135,13 @@ impl<D: Disk> Keeper<D> {
     /// Stores the group behind all that is stored, and makes it stable.
     ///
     /// Refusals 0 (no memory), 1 (device fault), 10 (area full), 11 (out of order) and 16 (failed): the group comes back.
-    /// After 1 every later group is refused with 16, until the device is opened again; 0, 10 and 11 leave everything as it
-    /// was.
+    /// After a device fault every later group is refused with 16 (failed), until the device is opened again; the other
+    /// refusals leave the keeper and its device as they were.
     pub fn append(&mut self, group: Group) -> Result<(), (KeeperFault, Group)>
         ensures ok { OnOk result (self.new ≡ grown_by self.old group self.new.disk self.new.memory) }
         ensures err { IfErr result (λ refused. self.new ≡ refused_by refused.0 self.old self.new.disk) }
         ensures group_back { IfErr result (λ refused. refused.1 ≡ group) }
+        ensures unchanged { IfErr result (λ refused. (refused.0 ≡ KeeperFault.DeviceFault) ⊎ (self.new.disk ≡ self.old.disk)) }
         ensures extent { D.extent self.new.disk ≡ D.extent self.old.disk }
         ensures honest { D.honest self.new.disk ↔ D.honest self.old.disk }
         ensures remembered { (commands : List Change) → Remembers self.old commands → AreChanges self.old.geometry.blocks (map change_of group.commands)

@@ -1,11 +1,10 @@
 -- Which commands a journal holds, and over which image.
-use Rattle.std.specs.Prelude.{ℕ, ◌≡◌, ◌+◌, ◌*◌, ◌<◌, Bool, false, ◌&&◌, List, [], length}
+use Rattle.std.specs.Prelude.{ℕ, ◌≡◌, ◌+◌, ◌*◌, ◌<◌, Bool, false, List, [], length}
 use Rattle.std.specs.List.{list_any}
 use Rattle.alloc_map.specs.Codes.{state_at}
 use Rattle.disk_model.specs.Disk.{State}
 use Rattle.image_model.specs.Change.{Change}
-use Rattle.image_model.specs.Dirty.{is_write, touches}
-use Rattle.image_model.specs.Image.{Image, apply_all}
+use Rattle.image_model.specs.Image.{Image, apply_all, writes}
 use Rattle.image_model.specs.declared.command.Kind.{Kind}
 use Rattle.image_model.specs.declared.geometry.Geometry.{Geometry}
 use Rattle.group_list.specs.GroupList.{changes_of}
@@ -15,7 +14,7 @@ use Rattle.device_image.specs.Stands.{all_changes, stored_image}
 
 -- whether one of the commands writes the block
 abbrev pub is_written : ℕ → List Change → Bool
-is_written block changes = list_any (λ change. touches block change && is_write change) changes
+is_written block changes = list_any (writes block) changes
 
 -- Map and data hold this image, but for the data of blocks that the commands write, which a checkpoint may have copied.
 pub record IsBase (base : Image) (content : List ℕ) (geometry : Geometry) (states : List Kind) (commands : List Change) : Type 0 where

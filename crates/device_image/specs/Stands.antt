@@ -1,5 +1,5 @@
 -- What the content of a device stands for: an image, and the number of the last command in it.
-use Rattle.std.specs.Prelude.{ℕ, suc, ◌≡◌, ◌+◌, ◌%◌, ◌/◌, Bool, true, false, if◌then◌else◌, List, [], ◌∷◌, length, slice_index}
+use Rattle.std.specs.Prelude.{ℕ, suc, ◌≡◌, ◌+◌, ◌%◌, ◌/◌, if◌then◌else◌, List, [], ◌∷◌, length, slice_index}
 use Rattle.std.specs.List.{flat_map}
 use Rattle.alloc_map.specs.Codes.{state_at}
 use Rattle.header_slots.specs.Header.{mode_of}
@@ -7,9 +7,10 @@ use Rattle.header_slots.specs.Slots.{HoldsHeader}
 use Rattle.header_slots.specs.declared.header.Header.{Header}
 use Rattle.image_model.specs.Change.{Change}
 use Rattle.image_model.specs.declared.side.Side.{Side}
+pub use Rattle.image_model.specs.Image.{is_data}
 use Rattle.image_model.specs.Image.{Image, apply_all}
 use Rattle.image_model.specs.declared.command.Kind.{Kind}
-use Rattle.image_model.specs.declared.command.Kind.TheVariants.{Data, Zero, Hole}
+use Rattle.image_model.specs.declared.command.Kind.TheVariants.{Hole}
 use Rattle.image_model.specs.declared.geometry.Geometry.{Geometry}
 use Rattle.group_list.specs.Area.{AreaState}
 use Rattle.group_list.specs.GroupList.{IsList, changes_of, next_behind}
@@ -20,11 +21,6 @@ use Rattle.regions.specs.Map.{HoldsMap}
 -- an image of so many blocks of which nothing was written
 abbrev pub holes : ℕ → Image
 holes count = record { blocks = count; byte = λ place. 0; kind = λ block. Hole }
-
-abbrev pub is_data : Kind → Bool
-is_data Data = true
-is_data Zero = false
-is_data Hole = false
 
 -- the image that map and data hold: a block that isn't data reads as zero, whatever stands in the data region
 abbrev pub stored_image : List ℕ → Geometry → List Kind → Image

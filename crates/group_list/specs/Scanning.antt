@@ -1,8 +1,10 @@
 -- What a scan of an area finds, piece by piece. A place is a byte of the device.
-use Rattle.std.specs.Prelude.{ℕ, ◌≡◌, ◌+◌, ◌*◌, ◌≤◌, ◌<◌, ◌⊎◌, List, ◌++◌, length, slice_index, if◌then◌else◌, ◌==◌}
+use Rattle.std.specs.Prelude.{ℕ, ◌≡◌, ◌+◌, ◌*◌, ◌≤◌, ◌<◌, ◌⊎◌, Option, Some, None, List, ◌++◌, ◌||◌, length, slice_index, if◌then◌else◌, ◌==◌}
 use Rattle.std.specs.List.{flat_map}
 use Rattle.disk_model.specs.Disk.{State, InRange, IsSyncedIn}
-use Rattle.image_model.specs.Change.{Change, IsChange, AreChanges}
+use Rattle.image_model.specs.declared.command.Edges.{Edges}
+use Rattle.image_model.specs.declared.command.Edges.TheVariants.{Head, Tail, Both}
+use Rattle.image_model.specs.Change.{Change, IsChange, AreChanges, edge_count, least_blocks}
 use Rattle.group_list.specs.declared.fault.JournalFault.{JournalFault}
 use Rattle.group_list.specs.declared.fault.JournalFault.TheVariants.{NoMemory, DeviceFault, AreaFull, OutOfOrder, DamagedGroup}
 use Rattle.image_model.specs.declared.command.Kind.TheVariants.{Zero, Hole}
@@ -38,23 +40,42 @@ pub record IsReadAs (content : List ℕ) (state : State) (area bytes : ℕ) (win
   pub scanned : IsScanned content state area bytes
   pub held : (k : ℕ) → k < window.held → slice_index window.buffer k ≡ slice_index content (area + window.from + k)
 
--- the head of a change of an image of so many blocks, with so many bytes of data behind it
-pub record IsHead (image kind first blocks bytes : ℕ) : Type 0 where
-  pub some : 1 ≤ blocks
+-- the kind of a head with edges
+abbrev pub IsEdgedKind : ℕ → Type 0
+IsEdgedKind kind = (kind ≡ 4) ⊎ (kind ≡ 5)
+
+-- the edges that the byte behind such a head says
+abbrev pub edges_said : ℕ → Option Edges
+edges_said byte = if byte == 1 then Some Head else (if byte == 2 then Some Tail else (if byte == 3 then Some Both else None))
+
+-- the heads of a put, of a clear, and of one with these edges, with so many bytes behind them
+abbrev pub IsPutHead : ℕ → ℕ → ℕ → Type 0
+IsPutHead kind blocks bytes = (kind ≡ 1) × (1 ≤ blocks) × (blocks ≤ 257) × (bytes ≡ 4096 * blocks)
+
+abbrev pub IsClearHead : ℕ → ℕ → ℕ → Type 0
+IsClearHead kind blocks bytes = ((kind ≡ 2) ⊎ ((kind ≡ 3) × (1 ≤ blocks))) × (bytes ≡ 0)
+
+abbrev pub IsEdgedHead : ℕ → ℕ → Option Edges → ℕ → Type 0
+IsEdgedHead kind blocks edges bytes =
+    IsEdgedKind kind × ((own : Edges) × (edges ≡ Some own) × (least_blocks own ≤ blocks) × (bytes ≡ 1 + 4096 * edge_count own))
+
+-- the head of a change of an image of so many blocks, with so many bytes behind it, which say these edges where there are
+-- some
+pub record IsHead (image kind first blocks : ℕ) (edges : Option Edges) (bytes : ℕ) : Type 0 where
   pub inside : first + blocks ≤ image
-  pub kinds : ((kind ≡ 1) × (blocks ≤ 256) × (bytes ≡ 4096 * blocks)) ⊎ (((kind ≡ 2) ⊎ (kind ≡ 3)) × (bytes ≡ 0))
+  pub kinds : IsPutHead kind blocks bytes ⊎ (IsClearHead kind blocks bytes ⊎ IsEdgedHead kind blocks edges bytes)
 
 -- what the command with this kind of head makes of its blocks, whose data stand from this place of the device on
 abbrev pub touch_of_head : ℕ → ℕ → Touch
-touch_of_head kind place = if kind == 1 then Put place else (if kind == 2 then Clear Hole else Clear Zero)
+touch_of_head kind place = if kind == 1 then Put place else (if kind == 2 || kind == 4 then Clear Hole else Clear Zero)
 
 -- a change stands at the place and ends where the next one may begin
-pub record FoundChange (image : ℕ) (content : List ℕ) (place end : ℕ) (range : TouchedRange) : Type 0 where
+pub record FoundChange (image : ℕ) (content : List ℕ) (place end : ℕ) (ranges : List TouchedRange) : Type 0 where
   pub change : Change
   pub is : IsChange image change
   pub bytes : StandsAt content place (change_bytes change)
   pub end_is : place + length (change_bytes change) ≡ end
-  pub range_is : range ≡ touched_by place change
+  pub ranges_are : ranges ≡ touched_by place change
 
 -- no change stands at the place that ends at `end` at the latest
 abbrev pub HasNoChange : ℕ → List ℕ → ℕ → ℕ → Type 0

@@ -4,7 +4,9 @@ use Rattle.std.specs.List.{flat_map}
 use Rattle.byteorder.specs.Endian.{big_bytes}
 use Rattle.image_model.specs.declared.command.Kind.{Kind}
 use Rattle.image_model.specs.declared.command.Kind.TheVariants.{Data, Zero, Hole}
-use Rattle.image_model.specs.Change.{Change, Written, Cleared, change_of}
+use Rattle.image_model.specs.declared.command.Edges.{Edges}
+use Rattle.image_model.specs.declared.command.Edges.TheVariants.{Head, Tail, Both}
+use Rattle.image_model.specs.Change.{Change, Written, Cleared, Edged, change_of}
 use Rattle.group_list.specs.Group.{Numbered}
 
 -- changes that are stored whole or not at all, and the number of the first
@@ -22,14 +24,27 @@ clear_byte Data = 2
 clear_byte Hole = 2
 clear_byte Zero = 3
 
+-- the byte for what is cleared to this state but for edges
+abbrev pub edged_byte : Kind → ℕ
+edged_byte Data = 4
+edged_byte Hole = 4
+edged_byte Zero = 5
+
+-- the byte that says which edges there are: bit 0 for the head, bit 1 for the tail
+abbrev pub edges_byte : Edges → ℕ
+edges_byte Head = 1
+edges_byte Tail = 2
+edges_byte Both = 3
+
 -- the head of a command: its kind, its first block, its blocks
 unfoldable pub change_head : ℕ → ℕ → ℕ → List ℕ
 change_head kind first blocks = kind ∷ (big_bytes 8 first ++ big_bytes 4 blocks)
 
--- a command: its head, and a put's bytes
+-- a command: its head, a put's bytes, and with edges the byte that says which, and their bytes
 unfoldable pub change_bytes : Change → List ℕ
 change_bytes (Written first bytes) = change_head 1 first (length bytes / 4096) ++ bytes
 change_bytes (Cleared first blocks kind) = change_head (clear_byte kind) first blocks
+change_bytes (Edged first blocks kind edges bytes) = change_head (edged_byte kind) first blocks ++ edges_byte edges ∷ bytes
 
 -- the commands of a group, one after another
 abbrev pub body_of_group : StoredGroup → List ℕ

@@ -1,25 +1,58 @@
 -- Which blocks the commands of an area's groups touch, and the last touch of each block.
-use Rattle.std.specs.Prelude.{ℕ, ◌+◌, ◌-◌, ◌*◌, ◌/◌, ◌≤◌, if◌then◌else◌, List, [], ◌∷◌, ◌++◌, length, slice_index, Option, Some, None}
+use Rattle.std.specs.Prelude.{ℕ, ◌+◌, ◌-◌, ◌*◌, ◌/◌, ◌%◌, ◌≤◌, min, if◌then◌else◌, List, [], ◌∷◌, ◌++◌, length, slice_index, Option, Some, None}
 use Rattle.std.specs.List.{AllByRecursion}
 use Rattle.image_model.specs.declared.command.Kind.{Kind}
 use Rattle.image_model.specs.declared.command.Kind.TheVariants.{Data}
-use Rattle.image_model.specs.Change.{Change, Written, Cleared}
+use Rattle.image_model.specs.declared.command.Edges.{Edges}
+use Rattle.image_model.specs.declared.command.Edges.TheVariants.{Head, Tail, Both}
+use Rattle.image_model.specs.Change.{Change, Written, Cleared, Edged}
 use Rattle.image_model.specs.Image.{covers}
 use Rattle.group_list.specs.declared.touch.Touch.{Touch}
 use Rattle.group_list.specs.declared.touch.Touch.TheVariants.{Put, Clear}
+use Rattle.group_list.specs.declared.touch.CommandTouch.{CommandTouch}
+use Rattle.group_list.specs.declared.touch.StoredEdges.{StoredEdges}
 use Rattle.group_list.specs.declared.touch.TouchedRange.{TouchedRange}
 use Rattle.group_list.specs.Spelling.{StoredGroup, change_bytes, body_of_group}
 
--- the blocks of a change that stands at this place of the device, and what it makes of them: the data of a put stand
--- behind its head of 13 bytes
-abbrev pub touched_by : ℕ → Change → TouchedRange
-touched_by place (Written first bytes) = record { first = first; blocks = length bytes / 4096; touch = Put (place + 13) }
-touched_by place (Cleared first blocks kind) = record { first = first; blocks = blocks; touch = Clear kind }
+-- where the bytes that a change brings stand, if it stands at this place of the device: behind its head of 13 bytes, and
+-- with edges behind the byte that says which
+abbrev pub data_place : ℕ → Change → ℕ
+data_place place (Written first bytes) = place + 13
+data_place place (Cleared first blocks kind) = place + 13
+data_place place (Edged first blocks kind edges bytes) = place + 14
+
+-- the last of so many blocks from the first on, as a number of 64 bits
+abbrev pub tail_block : ℕ → ℕ → ℕ
+tail_block first blocks = (first + (blocks - 1)) % 18446744073709551616
+
+-- The edges of so many blocks from the first on, where so many blocks of bytes stand for them from this place on: one for
+-- each, the head's in front.
+abbrev pub edge_ranges : ℕ → ℕ → Edges → ℕ → ℕ → List TouchedRange
+edge_ranges first blocks Head place stored = record { first = first; blocks = min 1 stored; touch = Put place } ∷ []
+edge_ranges first blocks Tail place stored = record { first = tail_block first blocks; blocks = min 1 stored; touch = Put place } ∷ []
+edge_ranges first blocks Both place stored = record { first = first; blocks = min 1 stored; touch = Put place }
+    ∷ record { first = tail_block first blocks; blocks = min 1 (stored - 1); touch = Put (place + 4096 * min 1 stored) } ∷ []
+
+-- the blocks of a change that stands at this place, and what it makes of them: edges stand over what was cleared
+abbrev pub touched_by : ℕ → Change → List TouchedRange
+touched_by place (Written first bytes) = record { first = first; blocks = length bytes / 4096; touch = Put (place + 13) } ∷ []
+touched_by place (Cleared first blocks kind) = record { first = first; blocks = blocks; touch = Clear kind } ∷ []
+touched_by place (Edged first blocks kind edges bytes) =
+    record { first = first; blocks = blocks; touch = Clear kind } ∷ edge_ranges first blocks edges (place + 14) (length bytes / 4096)
+
+-- the same of edges that were stored, where there are some
+abbrev pub stored_ranges : ℕ → ℕ → Option StoredEdges → List TouchedRange
+stored_ranges first blocks None = []
+stored_ranges first blocks (Some stored) = edge_ranges first blocks stored.edges stored.place stored.blocks
+
+-- what a command touched, as ranges
+abbrev pub ranges_of : CommandTouch → List TouchedRange
+ranges_of touch = touch.range ∷ stored_ranges touch.range.first touch.range.blocks touch.edges
 
 -- the same for changes that stand one after another
 abbrev pub touched_by_changes : ℕ → List Change → List TouchedRange
 touched_by_changes place [] = []
-touched_by_changes place (change ∷ changes) = touched_by place change ∷ touched_by_changes (place + length (change_bytes change)) changes
+touched_by_changes place (change ∷ changes) = touched_by place change ++ touched_by_changes (place + length (change_bytes change)) changes
 
 -- the same for groups that stand one after another, the first of them with its gate at the place
 abbrev pub touched_by_groups : ℕ → List StoredGroup → List TouchedRange

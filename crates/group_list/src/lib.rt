@@ -3,6 +3,7 @@
 
 mod fault;
 mod laws;
+mod noting;
 mod scan;
 mod spelling;
 mod touch;
@@ -12,6 +13,7 @@ pub use fault::JournalFault;
 pub use laws::{damaged_holds_none, holds_one_list, last_puts_within, last_touches_tell};
 pub use scan::{Behind, Place};
 pub use spelling::{
-    ALLOCATED_ZERO, COMMAND_HEAD_BYTES, GROUP_HEAD_BYTES, HOLE, MOST_BODY_BYTES, PUT,
+    ALLOCATED_ZERO, BOTH, COMMAND_HEAD_BYTES, EDGED_ALLOCATED_ZERO, EDGED_HOLE, GROUP_HEAD_BYTES,
+    HEAD, HOLE, MOST_BODY_BYTES, PUT, TAIL,
 };
-pub use touch::{Touch, TouchedRange, note};
+pub use touch::{CommandTouch, StoredEdges, Touch, TouchedRange};

@@ -1,25 +1,28 @@
-ghost use Rattle.std.specs.Prelude.{◌≡◌, ℕ, ◌+◌, ◌≤◌, ◌<◌, ◌↔◌, ◌^◌, List, [], length, slice_index, IfOk, IfErr, IfSome, IfNone, OnOk, IsErrOf, IsTrue};
+ghost use Rattle.std.specs.Prelude.{◌≡◌, ℕ, ◌+◌, ◌*◌, ◌≤◌, ◌<◌, ◌↔◌, ◌^◌, List, [], ◌∷◌, length, slice_index, Some, IfOk, IfErr, IfSome, IfNone, OnOk, IsErrOf, IsTrue};
 ghost use Rattle.disk_model.specs.Faults.{faults_after};
 ghost use Rattle.group_list.specs.Faults.{faults_by};
 ghost use Rattle.group_list.specs.GroupList.{IsOpen, StandsAt};
 ghost use Rattle.group_list.specs.Reading.{IsOnlyRead};
-ghost use Rattle.group_list.specs.Scanning.{FoundChange, FoundChanges, FoundGroup, FoundList, HasNoChange, HasNoChanges, HasNoGroup, IsHead, IsNextHead, touch_of_head, IsReadAs, IsScanFault, IsScanned, FoundDamage};
+ghost use Rattle.group_list.specs.Scanning.{FoundChange, FoundChanges, FoundGroup, FoundList, HasNoChange, HasNoChanges, HasNoGroup, IsEdgedKind, IsHead, IsNextHead, edges_said, touch_of_head, IsReadAs, IsScanFault, IsScanned, FoundDamage};
 ghost use Rattle.group_list.specs.Spelling.{change_head, group_head};
-ghost use Rattle.group_list.specs.Touches.{AreWithin, IsWithin};
+ghost use Rattle.group_list.specs.Touches.{AreWithin, edge_ranges, ranges_of, stored_ranges};
+ghost use Rattle.image_model.specs.Change.{edge_count, least_blocks};
+ghost use Rattle.image_model.specs.declared.command.Edges.{Edges};
 
 use crate::fault::JournalFault;
 use crate::spelling::{
-    ALLOCATED_ZERO, COMMAND_HEAD_BYTES, GROUP_HEAD_BYTES, HOLE, MOST_BODY_BYTES, PUT,
+    ALLOCATED_ZERO, BOTH, COMMAND_HEAD_BYTES, EDGED_ALLOCATED_ZERO, EDGED_HOLE, GROUP_HEAD_BYTES,
+    HEAD, HOLE, MOST_BODY_BYTES, PUT, TAIL,
 };
-use crate::touch::{Touch, TouchedRange, note};
+use crate::touch::{CommandTouch, StoredEdges, Touch, TouchedRange};
 use crate::window::Window;
 use byteorder::{BigEndian, ByteOrder};
 use disk_model::{DeviceFault, Disk};
-use image_model::{BLOCK_BYTES, Kind, OPEN};
+use image_model::{BLOCK_BYTES, Edges, Kind, OPEN};
 use std::alloc::Global;
 
 // The most blocks of a put.
-const MOST_PUT_BLOCKS: u32 = 256;
+const MOST_PUT_BLOCKS: u32 = 257;
 
 /// A part of a device that is read as an area: where it begins, its bytes, the image's blocks.
 #[derive(Clone, Copy)]
@@ -54,7 +57,7 @@ struct CommandHead {
 // A command: what it touches, and where it ends.
 #[derive(Clone, Copy)]
 struct FoundCommand {
-    range: TouchedRange,
+    touch: CommandTouch,
     end: u32,
 }
 
@@ -131,7 +134,7 @@ impl Place {
             → IsErrOf result JournalFault.DamagedGroup
             → HasNoGroup self.now.blocks content (self.now.from + at.gate) at.next (self.now.from + self.now.bytes) }
     {
-        if self.gate_byte(disk, window, at.gate)? != OPEN {
+        if self.byte(disk, window, at.gate)? != OPEN {
             return Ok(None);
         }
         let found = self.open_group(disk, window, at, touched)?;
@@ -215,7 +218,7 @@ impl Place {
         let mut place = from;
         for _ in 0..count {
             let found = self.command(disk, window, place, end)?;
-            note(touched, found.range)?;
+            found.touch.note(touched)?;
             place = found.end;
         }
         if place == end {
@@ -245,9 +248,9 @@ impl Place {
         ensures read_as { D.honest disk.old → (content : List ℕ) → IsReadAs content (D.state disk.old) self.now.from self.now.bytes window.old
             → IsReadAs content (D.state disk.new) self.now.from self.now.bytes window.new }
         ensures inside { IfOk result (λ found. (place ≤ found.end) × (found.end ≤ end)) }
-        ensures within { IfOk result (λ found. IsWithin self.now.from (self.now.from + found.end) found.range) }
+        ensures within { IfOk result (λ found. AreWithin self.now.from (self.now.from + found.end) (ranges_of found.touch)) }
         ensures found { D.honest disk.old → (content : List ℕ) → IsReadAs content (D.state disk.old) self.now.from self.now.bytes window.old
-            → IfOk result (λ found. FoundChange self.now.blocks content (self.now.from + place) (self.now.from + found.end) found.range) }
+            → IfOk result (λ found. FoundChange self.now.blocks content (self.now.from + place) (self.now.from + found.end) (ranges_of found.touch)) }
         ensures damaged { D.honest disk.old → (content : List ℕ) → IsReadAs content (D.state disk.old) self.now.from self.now.bytes window.old
             → IsErrOf result JournalFault.DamagedGroup → HasNoChange self.now.blocks content (self.now.from + place) (self.now.from + end) }
     {
@@ -255,7 +258,11 @@ impl Place {
             return Err(JournalFault::DamagedGroup);
         }
         let head = self.command_head(disk, window, place)?;
-        let Some(data) = head.data_bytes(self.blocks) else {
+        if end - place < head.bytes() {
+            return Err(JournalFault::DamagedGroup);
+        }
+        let edges = self.edges(disk, window, head, place)?;
+        let Some(data) = head.data_bytes(self.blocks, edges) else {
             return Err(JournalFault::DamagedGroup);
         };
         let bytes = place + COMMAND_HEAD_BYTES;
@@ -263,15 +270,41 @@ impl Place {
             return Err(JournalFault::DamagedGroup);
         }
         Ok(FoundCommand {
-            range: head.range(self.from + bytes as u64),
+            touch: head.touch(self.from + bytes as u64, edges),
             end: bytes + data,
         })
+    }
+
+    // Which edges the byte behind this head says, where the head is one with edges; none where it says none.
+    fn edges<D: Disk>(
+        &self,
+        disk: &mut D,
+        window: &mut Window,
+        head: CommandHead,
+        place: u32,
+    ) -> Result<Option<Edges>, DeviceFault>
+        requires on_disk { self.now.from + self.now.bytes ≤ D.extent disk.old }
+        requires inside { IsEdgedKind head.kind → place + 14 ≤ self.now.bytes }
+        ensures extent { D.extent disk.new ≡ D.extent disk.old }
+        ensures faults { D.faults disk.new ≡ faults_after result (D.faults disk.old) }
+        ensures honest { D.honest disk.new ↔ D.honest disk.old }
+        ensures only_read { D.honest disk.old → IsOnlyRead (D.state disk.old) (D.state disk.new) }
+        ensures read_as { D.honest disk.old → (content : List ℕ) → IsReadAs content (D.state disk.old) self.now.from self.now.bytes window.old
+            → IsReadAs content (D.state disk.new) self.now.from self.now.bytes window.new }
+        ensures said { D.honest disk.old → (content : List ℕ) → IsReadAs content (D.state disk.old) self.now.from self.now.bytes window.old
+            → IfOk result (λ edges. IsEdgedKind head.kind → edges_said (slice_index content (self.now.from + place + 13)) ≡ edges) }
+    {
+        if !head.has_edges() {
+            return Ok(None);
+        }
+        let byte = self.byte(disk, window, place + COMMAND_HEAD_BYTES)?;
+        Ok(edges_of(byte))
     }
 }
 
 impl Place {
-    // The byte of the gate at this place.
-    fn gate_byte<D: Disk>(
+    // The byte at this place.
+    fn byte<D: Disk>(
         &self,
         disk: &mut D,
         window: &mut Window,
@@ -351,37 +384,119 @@ impl GroupHead {
 }
 
 impl CommandHead {
-    // The bytes of data behind the head; none where the command isn't one for an image of so many blocks.
-    fn data_bytes(self, image: u64) -> Option<u32>
-        ensures bounded { IfSome result (λ bytes. bytes ≤ 1048576) }
-        ensures some { IfSome result (λ bytes. IsHead image self.kind self.first self.blocks bytes) }
-        ensures none { IfNone result ((bytes : ℕ) → IsHead image self.kind self.first self.blocks bytes → ⊥) }
+    // Whether it is one of a command with edges.
+    fn has_edges(self) -> bool
+        ensures { IsTrue result ↔ IsEdgedKind self.kind }
     {
-        if self.blocks == 0 || image < self.first || image - self.first < self.blocks as u64 {
+        self.kind == EDGED_HOLE || self.kind == EDGED_ALLOCATED_ZERO
+    }
+
+    // The bytes of the head, with the one that says which edges there are.
+    fn bytes(self) -> u32
+        ensures edged { IsEdgedKind self.kind → result ≡ 14 }
+        ensures other { (IsEdgedKind self.kind → ⊥) → result ≡ 13 }
+    {
+        if self.has_edges() {
+            COMMAND_HEAD_BYTES + 1
+        } else {
+            COMMAND_HEAD_BYTES
+        }
+    }
+
+    // The bytes behind the 13 of the head, where it has these edges; none where the command isn't one for an image of so
+    // many blocks.
+    fn data_bytes(self, image: u64, edges: Option<Edges>) -> Option<u32>
+        ensures bounded { IfSome result (λ bytes. bytes ≤ 1052672) }
+        ensures some { IfSome result (λ bytes. IsHead image self.kind self.first self.blocks edges bytes) }
+        ensures none { IfNone result ((bytes : ℕ) → IsHead image self.kind self.first self.blocks edges bytes → ⊥) }
+    {
+        if image < self.first || image - self.first < self.blocks as u64 {
             return None;
         }
         match self.kind {
-            PUT if self.blocks <= MOST_PUT_BLOCKS => Some(self.blocks * BLOCK_BYTES as u32),
-            HOLE | ALLOCATED_ZERO => Some(0),
+            PUT if 1 <= self.blocks && self.blocks <= MOST_PUT_BLOCKS => Some(
+                self.blocks * BLOCK_BYTES as u32,
+            ),
+            HOLE => Some(0),
+            ALLOCATED_ZERO if 1 <= self.blocks => Some(0),
+            EDGED_HOLE | EDGED_ALLOCATED_ZERO => edges_bytes(edges, self.blocks),
             _ => None,
         }
     }
 
-    // What the command touches, whose data stand from this place of the device on.
-    fn range(self, place: u64) -> TouchedRange
-        ensures { result ≡ record { first = self.first; blocks = self.blocks; touch = touch_of_head self.kind place } }
+    // What the command touches, whose data stand from this place of the device on, with edges behind the byte that says
+    // which.
+    fn touch(self, place: u64, edges: Option<Edges>) -> CommandTouch
+        requires on_device { IsEdgedKind self.kind → (own : Edges) → edges ≡ Some own → place + 1 + 4096 * edge_count own < 2 ^ 64 }
+        ensures plain { (IsEdgedKind self.kind → ⊥)
+            → ranges_of result ≡ record { first = self.first; blocks = self.blocks; touch = touch_of_head self.kind place } ∷ [] }
+        ensures edged { IsEdgedKind self.kind → (own : Edges) → edges ≡ Some own
+            → ranges_of result ≡ record { first = self.first; blocks = self.blocks; touch = touch_of_head self.kind place }
+            ∷ edge_ranges self.first self.blocks own (place + 1) (edge_count own) }
     {
-        let touch = match self.kind {
-            PUT => Touch::Put(place),
-            HOLE => Touch::Clear(Kind::Hole),
-            _ => Touch::Clear(Kind::Zero),
-        };
-        TouchedRange {
+        let range = TouchedRange {
             first: self.first,
             blocks: self.blocks,
-            touch,
+            touch: self.own_touch(place),
+        };
+        if !self.has_edges() {
+            return CommandTouch { range, edges: None };
+        }
+        CommandTouch {
+            range,
+            edges: stored(edges, place),
         }
     }
+
+    // What the command makes of its blocks but for edges.
+    fn own_touch(self, place: u64) -> Touch
+        ensures { result ≡ touch_of_head self.kind place }
+    {
+        match self.kind {
+            PUT => Touch::Put(place),
+            HOLE | EDGED_HOLE => Touch::Clear(Kind::Hole),
+            _ => Touch::Clear(Kind::Zero),
+        }
+    }
+}
+
+// The edges that this byte says; none where it says none.
+fn edges_of(byte: u8) -> Option<Edges>
+    ensures { result ≡ edges_said byte }
+{
+    match byte {
+        HEAD => Some(Edges::Head),
+        TAIL => Some(Edges::Tail),
+        BOTH => Some(Edges::Both),
+        _ => None,
+    }
+}
+
+// The bytes behind the head of a command with these edges; none where it has none, or fewer blocks than these are.
+fn edges_bytes(edges: Option<Edges>, blocks: u32) -> Option<u32>
+    ensures some { IfSome result (λ bytes. (own : Edges) × (edges ≡ Some own) × (least_blocks own ≤ blocks) × (bytes ≡ 1 + 4096 * edge_count own)) }
+    ensures none { IfNone result ((own : Edges) → edges ≡ Some own → least_blocks own ≤ blocks → ⊥) }
+{
+    match edges {
+        Some(Edges::Head) if 1 <= blocks => Some(4097),
+        Some(Edges::Tail) if 2 <= blocks => Some(4097),
+        Some(Edges::Both) if 2 <= blocks => Some(8193),
+        _ => None,
+    }
+}
+
+// These edges, whose bytes stand behind the byte at this place.
+fn stored(edges: Option<Edges>, place: u64) -> Option<StoredEdges>
+    requires { (own : Edges) → edges ≡ Some own → place + 1 + 4096 * edge_count own < 2 ^ 64 }
+    ensures some { (own : Edges) → edges ≡ Some own → (first blocks : ℕ)
+        → stored_ranges first blocks result ≡ edge_ranges first blocks own (place + 1) (edge_count own) }
+{
+    let edges = edges?;
+    Some(StoredEdges {
+        edges,
+        place: place + 1,
+        blocks: edges.count() as u64,
+    })
 }
 
 // The head of a group from its bytes, the first of which is the gate.

@@ -11,3 +11,14 @@ pub const PUT: u8 = 1;
 pub const HOLE: u8 = 2;
 /// The kind of a clear to allocated zero.
 pub const ALLOCATED_ZERO: u8 = 3;
+/// The kind of a clear to holes but for edges.
+pub const EDGED_HOLE: u8 = 4;
+/// The kind of a clear to allocated zero but for edges.
+pub const EDGED_ALLOCATED_ZERO: u8 = 5;
+
+/// The byte behind the head of a command with edges, where its head is one.
+pub const HEAD: u8 = 1;
+/// The same, where its tail is one.
+pub const TAIL: u8 = 2;
+/// The same, where both are.
+pub const BOTH: u8 = 3;

@@ -1,10 +1,6 @@
-ghost use Rattle.std.specs.Prelude.{◌≡◌, [], ◌∷◌, ◌++◌, OnOk, OnErr};
+ghost use Rattle.std.specs.Prelude.{◌+◌, ◌*◌, ◌<◌, ◌^◌};
 
-use image_model::Kind;
-use std::alloc::AllocError;
-
-// By how many ranges a short list grows.
-const LEAST_GROWTH: usize = 64;
+use image_model::{Edges, Kind};
 
 /// What a command of an area made of a block.
 #[derive(Clone, Copy, Debug, PartialEq, Eq)]
@@ -23,15 +19,20 @@ pub struct TouchedRange {
     pub touch: Touch,
 }
 
-/// One more range at the end. The list grows by a quarter and 64 ranges, so that it takes at most 40 bytes a range and
-/// 2 KiB. Refusal 0 (no memory).
-pub fn note(touched: &mut Vec<TouchedRange>, range: TouchedRange) -> Result<(), AllocError>
-    ensures ok { OnOk result (touched.new.items ≡ touched.old.items ++ range ∷ []) }
-    ensures err { OnErr result (touched.new.items ≡ touched.old.items) }
-{
-    if touched.len() == touched.capacity() {
-        touched.reserve_exact(touched.len() / 4 + LEAST_GROWTH)?;
-    }
-    touched.push(range)?;
-    Ok(())
+/// The edges of a clear, whose bytes stand in an area.
+#[derive(Clone, Copy)]
+pub struct StoredEdges {
+    pub edges: Edges,
+    /// The byte of the device from which their bytes stand on.
+    pub place: u64,
+    /// How many blocks of bytes stand there: one for each edge.
+    pub blocks: u64,
+    ghost bytes_fit: { place + 4096 * blocks < 2 ^ 64 },
+}
+
+/// What a command of an area made of its blocks, and of its edges, where it has some.
+#[derive(Clone, Copy)]
+pub struct CommandTouch {
+    pub range: TouchedRange,
+    pub edges: Option<StoredEdges>,
 }

@@ -5,9 +5,9 @@ ghost use Rattle.header_slots.specs.declared.fault.HeaderFault.{HeaderFault};
 ghost use Rattle.header_slots.specs.declared.header.Header.{Header};
 ghost use Rattle.image_model.specs.declared.side.Side.{Side};
 
-/// What holds of headers and slots, beside the calls. A device has at most one header in force; where it has one, none
-/// of the refusals 7 and 8 stands, and where one of these stands, the other doesn't. All of this depends on the first
-/// 4,136 bytes alone, and on the device's size.
+/// What holds of headers and slots, beside the calls. A device has at most one header in force; where it has one, neither
+/// refusal 7 (no header) nor refusal 8 (bad header) stands, and where one of these stands, the other doesn't. All of this
+/// depends on the first 4,136 bytes alone, and on the device's size.
 pub fn header_laws()
     ensures one_slot { (content : List ℕ) (slot other : Side) → IsInForce content slot → IsInForce content other →
         slot ≡ other }

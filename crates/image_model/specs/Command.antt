@@ -1,10 +1,9 @@
 -- what a write command is, and the bytes it takes in a group, by docs/FORMATS.md, "Group"
-use Rattle.std.specs.Prelude.{ℕ, ◌≡◌, ◌+◌, ◌*◌, ◌≤◌, List, sum_by, vec_len}
+use Rattle.std.specs.Prelude.{ℕ, List, sum_by}
 pub use Rattle.image_model.specs.Change.{IsCleared}
-use Rattle.image_model.specs.Change.{change_of}
+use Rattle.image_model.specs.Change.{IsChange, change_of}
 use Rattle.image_model.specs.Bodies.{body_bytes}
 use Rattle.image_model.specs.declared.command.Command.{Command}
-use Rattle.image_model.specs.declared.command.Command.TheVariants.{Put, Clear}
 
 -- the bytes that a command takes in a group
 abbrev pub body_of : Command → ℕ
@@ -16,6 +15,4 @@ bodies_of commands = sum_by body_of commands
 
 -- a command that an image of so many blocks takes
 abbrev pub IsCommand : ℕ → Command → Type 0
-IsCommand image (Put first bytes) =
-    (count : ℕ) × (vec_len bytes ≡ 4096 * count) × (1 ≤ count) × (count ≤ 256) × (first + count ≤ image)
-IsCommand image (Clear first blocks kind) = (1 ≤ blocks) × (first + blocks ≤ image) × IsCleared kind
+IsCommand image command = IsChange image (change_of command)

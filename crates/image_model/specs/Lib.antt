@@ -2,6 +2,7 @@ pub mod Bodies
 pub mod Change
 pub mod Command
 pub mod Dirty
+pub mod Edit
 pub mod Geometry
 pub mod Image
 pub mod Patched

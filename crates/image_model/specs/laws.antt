@@ -1,5 +1,9 @@
+pub mod Becoming
 pub mod CleanedMaps
 pub mod DirtyCounts
 pub mod DirtyMaps
 pub mod DirtyTails
+pub mod Edits
 pub mod Positions
+pub mod Slots
+pub mod WholeEdits

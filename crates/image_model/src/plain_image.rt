@@ -1,21 +1,22 @@
-ghost use Rattle.std.specs.Prelude.{◌≡◌, ◌+◌, ◌*◌, ◌/◌, ◌≤◌, ◌<◌, ◌↔◌, length, replicate, IfOk, OnOk, OnErr, IsErr};
-ghost use Rattle.image_model.specs.Change.{change_of};
+ghost use Rattle.std.specs.Prelude.{◌≡◌, ℕ, ◌+◌, ◌*◌, ◌≤◌, ◌<◌, ◌^◌, ◌↔◌, length, replicate, slice_index, slice_index_or, IfOk, OnOk, OnErr, IsErr, IsTrue};
 ghost use Rattle.image_model.specs.declared.command.Kind.TheVariants as Kind;
-ghost use Rattle.image_model.specs.Image.{apply, blocks_of, first_of, image_of};
+ghost use Rattle.image_model.specs.Edit.{apply_edit, byte_edited, count_of, edit_of, kind_edited, offset_of};
+ghost use Rattle.image_model.specs.Image.{image_of};
 ghost use Rattle.image_model.specs.Patched.{patched};
 
-use crate::command::{Command, Kind};
+use crate::command::Kind;
+use crate::edit::Edit;
 use crate::geometry::BLOCK_BYTES;
 use std::alloc::{AllocError, Global};
 use std::marker::Model;
 use thiserror::Error;
 
-/// 2: a command's range passes the image.
+/// 2: an edit's range passes the image.
 #[derive(Clone, Copy, Debug, PartialEq, Eq, Error)]
 #[error("out of range")]
 pub struct OutOfRange;
 
-/// An image as an array in memory: what commands mean, for tests to compare with.
+/// An image as an array in memory: what edits mean, for tests to compare with.
 #[derive(Drop)]
 pub struct PlainImage {
     bytes: Vec<u8>,
@@ -58,45 +59,62 @@ impl PlainImage {
         &self.kinds
     }
 
-    /// Carries out a command. It is refused where its range passes the image, and then nothing has changed.
-    pub fn apply(&mut self, command: &Command) -> Result<(), OutOfRange>
-        ensures ok { OnOk result (image_of self.new ≡ apply (change_of command.now) (image_of self.old)) }
+    /// Carries out an edit. It is refused where its range passes the image, and then nothing has changed.
+    pub fn apply(&mut self, edit: &Edit) -> Result<(), OutOfRange>
+        ensures ok { OnOk result (image_of self.new ≡ apply_edit (edit_of edit.now) (image_of self.old)) }
         ensures size { length self.new.kinds ≡ length self.old.kinds }
         ensures err { OnErr result (self.new ≡ self.old) }
         ensures out_of_range { IsErr result
-            ↔ (length self.old.kinds < first_of (change_of command.now) + blocks_of (change_of command.now)) }
+            ↔ (4096 * length self.old.kinds < offset_of (edit_of edit.now) + count_of (edit_of edit.now)) }
     {
-        match command {
-            Command::Put { first, bytes } => {
-                let blocks = (bytes.len() as u64).div_ceil(BLOCK_BYTES);
-                let first = self.range(*first, blocks)?;
-                overwrite(&mut self.bytes, 4096 * first, bytes);
-                fill_kinds(&mut self.kinds, first, blocks as usize, Kind::Data);
-            }
-            Command::Clear {
-                first,
-                blocks,
-                kind,
-            } => {
-                let first = self.range(*first, *blocks as u64)?;
-                fill_zero(&mut self.bytes, 4096 * first, 4096 * *blocks as usize);
-                fill_kinds(&mut self.kinds, first, *blocks as usize, *kind);
-            }
+        if !self.has_room(edit) {
+            return Err(OutOfRange);
         }
+        write_bytes(&mut self.bytes, edit);
+        set_kinds(&mut self.kinds, edit);
         Ok(())
     }
 
-    // The first block of a range that lies in the image.
-    fn range(&self, first: u64, blocks: u64) -> Result<usize, OutOfRange>
-        ensures first { IfOk result (λ found. found ≡ first) }
-        ensures inside { OnOk result (first + blocks ≤ length self.now.kinds) }
-        ensures out_of_range { IsErr result ↔ (length self.now.kinds < first + blocks) }
+    // Whether an edit's range lies in the image.
+    fn has_room(&self, edit: &Edit) -> bool
+        ensures { IsTrue result ↔ (offset_of (edit_of edit.now) + count_of (edit_of edit.now) ≤ 4096 * length self.now.kinds) }
     {
-        let all = self.kinds.len() as u64;
-        if all < blocks || all - blocks < first {
-            return Err(OutOfRange);
+        let all = self.bytes.len() as u64;
+        edit.length() <= all && edit.offset() <= all - edit.length()
+    }
+}
+
+// Gives each place its byte after an edit.
+fn write_bytes(bytes: &mut Vec<u8>, edit: &Edit)
+    requires { offset_of (edit_of edit.now) + count_of (edit_of edit.now) ≤ length bytes.old.items }
+    ensures count { length bytes.new.items ≡ length bytes.old.items }
+    ensures each { (place : ℕ) → slice_index bytes.new.items place ≡ byte_edited (edit_of edit.now) place (slice_index bytes.old.items place) }
+{
+    match edit {
+        Edit::Put {
+            offset,
+            bytes: written,
+        } => overwrite(bytes, *offset as usize, written),
+        Edit::Zeroes { offset, length, .. } => fill_zero(bytes, *offset as usize, *length as usize),
+        Edit::Trim { offset, length } => {
+            let first = offset.div_ceil(BLOCK_BYTES) as usize;
+            let end = ((*offset + *length as u64) / BLOCK_BYTES) as usize;
+            if first < end {
+                fill_zero(bytes, 4096 * first, 4096 * (end - first));
+            }
         }
-        Ok(first as usize)
+    }
+}
+
+// Gives each block its state after an edit.
+fn set_kinds(kinds: &mut [Kind], edit: &Edit)
+    requires fits { 4096 * length kinds.old < 2 ^ 64 }
+    requires inside { offset_of (edit_of edit.now) + count_of (edit_of edit.now) ≤ 4096 * length kinds.old }
+    ensures count { length kinds.new ≡ length kinds.old }
+    ensures each { (block : ℕ) → slice_index_or kinds.new block Kind.Hole ≡ kind_edited (edit_of edit.now) block (slice_index_or kinds.old block Kind.Hole) }
+{
+    for (block, kind) in kinds.iter_mut().enumerate() {
+        *kind = edit.kind_after(block as u64, *kind);
     }
 }
 
@@ -114,12 +132,4 @@ fn fill_zero(bytes: &mut Vec<u8>, at: usize, count: usize)
     ensures { bytes.new.items ≡ patched bytes.old.items at (replicate count 0) }
 {
     bytes[at..at + count].fill(0);
-}
-
-// Gives `count` blocks from `at` on this state.
-fn fill_kinds(kinds: &mut Vec<Kind>, at: usize, count: usize, kind: Kind)
-    requires { at + count ≤ length kinds.old.items }
-    ensures { kinds.new.items ≡ patched kinds.old.items at (replicate count kind) }
-{
-    kinds[at..at + count].fill(kind);
 }

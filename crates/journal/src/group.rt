@@ -2,11 +2,15 @@ ghost use Rattle.std.specs.Prelude.{◌≡◌, ℕ, take, ◌+◌, ◌≤◌, �
 ghost use Rattle.image_model.specs.Change.{change_of};
 ghost use Rattle.image_model.specs.Command.{bodies_of, body_of};
 ghost use Rattle.group_list.specs.Group.{IsGroup, number_after};
-ghost use Rattle.group_list.specs.Touches.{AreWithin, touched_by, touched_by_changes};
-ghost use Rattle.group_list.specs.Spelling.{stored_of, clear_byte, change_head, change_bytes, group_head, group_bytes};
+ghost use Rattle.group_list.specs.Touches.{AreWithin, ranges_of, touched_by, touched_by_changes};
+ghost use Rattle.group_list.specs.Spelling.{stored_of, clear_byte, edged_byte, edges_byte, change_head, change_bytes, group_head, group_bytes};
+ghost use Rattle.group_list.specs.declared.touch.Touch.TheVariants as Touch;
 
-use group_list::{ALLOCATED_ZERO, COMMAND_HEAD_BYTES, HOLE, PUT, Touch, TouchedRange, note};
-use image_model::{BLOCK_BYTES, CLOSED, Command, Kind};
+use group_list::{
+    ALLOCATED_ZERO, BOTH, COMMAND_HEAD_BYTES, CommandTouch, EDGED_ALLOCATED_ZERO, EDGED_HOLE, HEAD,
+    HOLE, PUT, StoredEdges, TAIL, Touch, TouchedRange,
+};
+use image_model::{BLOCK_BYTES, CLOSED, Command, Edges, Kind};
 use std::alloc::AllocError;
 use std::marker::Model;
 
@@ -121,7 +125,7 @@ impl Group {
     {
         let mut place = place;
         for command in &self.commands {
-            note(touched, touched_by(place, command))?;
+            touched_by(place, command).note(touched)?;
             place += command.body_bytes();
         }
         Ok(())
@@ -153,27 +157,54 @@ impl Group {
 }
 
 // What the command touches, whose bytes stand from this place of the device on.
-fn touched_by(place: u64, command: &Command) -> TouchedRange
+fn touched_by(place: u64, command: &Command) -> CommandTouch
     requires on_device { place + body_of command.now < 2 ^ 64 }
     requires small { body_of command.now ≤ 8388608 }
-    ensures { result ≡ touched_by place (change_of command.now) }
+    ensures { ranges_of result ≡ touched_by place (change_of command.now) }
 {
     let data = place + COMMAND_HEAD_BYTES as u64;
     match command {
-        Command::Put { first, bytes } => TouchedRange {
-            first: *first,
-            blocks: (bytes.len() as u64 / BLOCK_BYTES) as u32,
-            touch: Touch::Put(data),
+        Command::Put { first, bytes } => CommandTouch {
+            range: TouchedRange {
+                first: *first,
+                blocks: (bytes.len() as u64 / BLOCK_BYTES) as u32,
+                touch: Touch::Put(data),
+            },
+            edges: None,
         },
         Command::Clear {
             first,
             blocks,
             kind,
-        } => TouchedRange {
-            first: *first,
-            blocks: *blocks,
-            touch: Touch::Clear(*kind),
+        } => CommandTouch {
+            range: cleared(*first, *blocks, *kind),
+            edges: None,
         },
+        Command::Edged {
+            first,
+            blocks,
+            kind,
+            edges,
+            bytes,
+        } => CommandTouch {
+            range: cleared(*first, *blocks, *kind),
+            edges: Some(StoredEdges {
+                edges: *edges,
+                place: data + 1,
+                blocks: bytes.len() as u64 / BLOCK_BYTES,
+            }),
+        },
+    }
+}
+
+// Blocks that were cleared to this state.
+fn cleared(first: u64, blocks: u32, kind: Kind) -> TouchedRange
+    ensures { result ≡ record { first = first; blocks = blocks; touch = Touch.Clear kind } }
+{
+    TouchedRange {
+        first,
+        blocks,
+        touch: Touch::Clear(kind),
     }
 }
 
@@ -192,7 +223,7 @@ fn spell_group_head(
     buffer.extend_from_slice(&count.to_be_bytes())
 }
 
-// A command of a group: its head, and a put's bytes.
+// A command of a group: its head, and its bytes, with edges behind the byte that says which.
 #[tactic(auto, unfolding(group_list::specs::Spelling::change_bytes))]
 fn spell_command(command: &Command, buffer: &mut Vec<u8>) -> Result<(), AllocError>
     requires { body_of command.now ≤ 8388608 }
@@ -209,6 +240,17 @@ fn spell_command(command: &Command, buffer: &mut Vec<u8>) -> Result<(), AllocErr
             blocks,
             kind,
         } => spell_head(cleared_kind(*kind), *first, *blocks, buffer),
+        Command::Edged {
+            first,
+            blocks,
+            kind,
+            edges,
+            bytes,
+        } => {
+            spell_head(edged_kind(*kind), *first, *blocks, buffer)?;
+            buffer.push(edges_byte(*edges))?;
+            buffer.extend_from_slice(bytes)
+        }
     }
 }
 
@@ -229,5 +271,26 @@ fn cleared_kind(kind: Kind) -> u8
     match kind {
         Kind::Zero => ALLOCATED_ZERO,
         Kind::Data | Kind::Hole => HOLE,
+    }
+}
+
+// The byte that stands for a Clear to this kind but for edges.
+fn edged_kind(kind: Kind) -> u8
+    ensures { result ≡ edged_byte kind }
+{
+    match kind {
+        Kind::Zero => EDGED_ALLOCATED_ZERO,
+        Kind::Data | Kind::Hole => EDGED_HOLE,
+    }
+}
+
+// The byte that says which edges there are.
+fn edges_byte(edges: Edges) -> u8
+    ensures { result ≡ edges_byte edges }
+{
+    match edges {
+        Edges::Head => HEAD,
+        Edges::Tail => TAIL,
+        Edges::Both => BOTH,
     }
 }

@@ -14,7 +14,8 @@ use std::marker::Model;
 
 /// The last touch of each block of an image by the commands of an area, as ranges in ascending order.
 ///
-/// Of n commands there are at most 2n ranges. They take at most 80 bytes a command, also while they are made.
+/// Of n touched ranges, of which a command has one and with edges up to three, there are at most 2n ranges. They take at
+/// most 80 bytes a touched range, also while they are made.
 #[derive(Drop)]
 pub struct LastTouches {
     blocks: u32,
@@ -37,7 +38,7 @@ impl LastTouches {
     /// The last touches of the blocks before `blocks` by an area that begins at byte `from` of the device, where the
     /// ranges stand in the order of their commands.
     ///
-    /// The time it takes goes with the number n of commands, as n log n, and not with that of blocks. Refusal 0 (no
+    /// The time it takes goes with the number n of touched ranges, as n log n, and not with that of blocks. Refusal 0 (no
     /// memory).
     pub fn resolve(
         alloc: Global,
@@ -114,16 +115,16 @@ fn resolved(
     )
 }
 
-// The most ranges of so many commands: each adds at most one, and leaves at most two parts of another; so of a newer range
-// with the older ones.
-fn most_ranges(commands: usize, older: usize, newer: usize) -> usize
-    ensures { result ≤ commands + commands }
+// The most ranges of so many touched ones: each adds at most one, and leaves at most two parts of another; so of a newer
+// range with the older ones.
+fn most_ranges(touched: usize, older: usize, newer: usize) -> usize
+    ensures { result ≤ touched + touched }
 {
     let laid = older.saturating_add(newer).saturating_add(newer);
-    laid.min(commands.saturating_mul(2))
+    laid.min(touched.saturating_mul(2))
 }
 
-// What one command touched, or none.
+// What one range touched, or none.
 fn one(
     alloc: Global,
     from: u64,

@@ -3,8 +3,11 @@ use Rattle.std.proofs.Common.{◌≡◌, ◌≢◌, ◌⊎◌, inl, inr, ℕ, �
 use Rattle.std.proofs.lemmas.Bool.{and_parts, both_ways, cases_lt, eqb-false, eqb-true, false_from_ne_true, leb-false, ltb-false, ltb-true}
 use Rattle.std.proofs.lemmas.List.{take-append-drop}
 use Rattle.image_model.specs.Bodies.{body_bytes, body_limit, longest}
-use Rattle.image_model.specs.Change.{Change, Written, Cleared, AreChanges, IsChange}
+use Rattle.image_model.specs.declared.command.Edges.{Edges}
+use Rattle.image_model.specs.declared.command.Edges.TheVariants.{Head, Tail, Both}
+use Rattle.image_model.specs.Change.{Change, Written, Cleared, Edged, AreChanges, IsChange, edge_count}
 use Rattle.order_book.specs.Order.{OrderState}
+use Rattle.order_book.specs.Pending.{most_body}
 use Rattle.request_core.specs.Bench.{ConnectionsState}
 use Rattle.request_core.specs.Parts.{IsOrderOf}
 use Rattle.request_core.specs.laws.Lives.{all_behind}
@@ -111,8 +114,13 @@ end_shown end stored outcome first last (inr (inr same)) is = inr (subst (λ (o 
 abbrev pub IsBare : Refusal → Type 0
 IsBare refusal = (first last : World) → HasCause refusal first last
 
+two_edges : (edges : Edges) → edge_count edges ≤ 2
+two_edges Head = omega arith
+two_edges Tail = omega arith
+two_edges Both = omega arith
+
 -- of commands that an image takes the first fits a group
-longest_some : (limit image : ℕ) (changes : List Change) → AreChanges image changes → 0 < length changes → 1048589 ≤ limit → 0 < longest limit changes
+longest_some : (limit image : ℕ) (changes : List Change) → AreChanges image changes → 0 < length changes → most_body ≤ limit → 0 < longest limit changes
 longest_some limit image [] takes some large = absurd (omega (arith, some))
 longest_some limit image (Written first bytes ∷ changes) takes some large =
     let (blocks, len, least, most, inside) = takes.0 in
@@ -121,6 +129,11 @@ longest_some limit image (Written first bytes ∷ changes) takes some large =
 longest_some limit image (Cleared first blocks kind ∷ changes) takes some large =
     of_test (λ (n : ℕ). 0 < n) (nat_le (body_bytes (Cleared first blocks kind)) limit) _ _ (λ is. omega arith)
     (λ is. absurd (omega (arith, leb-false (body_bytes (Cleared first blocks kind)) limit is, large)))
+longest_some limit image (Edged first blocks kind edges bytes ∷ changes) takes some large =
+    let own = takes.0 in
+    let len = own.4 in
+    of_test (λ (n : ℕ). 0 < n) (nat_le (body_bytes (Edged first blocks kind edges bytes)) limit) _ _ (λ is. omega arith)
+    (λ is. absurd (omega (arith, leb-false (body_bytes (Edged first blocks kind edges bytes)) limit is, len, two_edges edges, large)))
 
 -- an order that isn't settled works, and has commands that aren't durable
 pub unsettled : (world : World) (order : OrderState) (connections : ConnectionsState) → IsWithin world → IsOrderOf world.stage order connections.group → (IsSettled order → ⊥)

@@ -184,14 +184,14 @@ module _ (world : World) where
   numbered_apart c number is = cc
 
   served_waits : (request : Message) (waits : Bool) (number : ℕ) → IsAnswerOf request.head Done
-      → IsServedAs request (Ok Action.Serve) (logged (moved (ordered world 0 request) 0 (state_after waits number)) (Numbered 0 number))
+      → IsServedAs request (Ok Action.Serve) (logged (moved (ordered world 0 (command_of request)) 0 (state_after waits number)) (Numbered 0 number))
   served_waits request true number done = inr (done, (Numbered 0 number, refl, refl, numbered_apart 0 number))
   served_waits request false number done = inr (done, (Numbered 0 number, refl, refl, numbered_apart 0 number))
 
   served_refused : (request : Message) (errno : Errno) → IsServedAs request (Ok Action.Serve) (ready world 0 (Refused errno))
   served_refused request errno = inr (tt, (Took, refl, refl, took_apart))
 
-  served_accepted : (failure : Failure) (request : Message) → IsAnswerOf request.head Done → IsServedAs request (Ok Action.Serve) (accepted failure world 0 request)
+  served_accepted : (failure : Failure) (request : Message) → IsAnswerOf request.head Done → IsServedAs request (Ok Action.Serve) (accepted failure world 0 request (command_of request))
   served_accepted OutOfMemory request done = served_refused request NoMemory
   served_accepted Nothing request done = served_waits request _ _ done
   served_accepted DeviceFailure request done = served_waits request _ _ done

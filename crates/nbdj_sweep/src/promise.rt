@@ -1,5 +1,5 @@
 use bitflags::Flags;
-use image_model::{BLOCK_BYTES, Command, Kind, PlainImage};
+use image_model::{Edit, Kind, PlainImage};
 use nbd_wire::{Answer, CommandFlags, FLUSH, Request, RequestHead, TRIM, WRITE, WRITE_ZEROES};
 use std::alloc::{AllocError, Global};
 use world::{Event, Mode};
@@ -10,8 +10,8 @@ const CONNECTIONS: usize = 16;
 /// What a log promises of every later opening.
 #[derive(Drop)]
 pub struct Promise {
-    /// The write commands, in the order of their numbers.
-    pub commands: Vec<Command>,
+    /// What the write commands ask for, in the order of their numbers.
+    pub edits: Vec<Edit>,
     /// So many of the first of them are there: all that were answered before a FLUSH was sent that is answered Ok, and all
     /// that wait until they are stored and are answered Ok.
     pub covered: u64,
@@ -23,7 +23,7 @@ impl Promise {
         let mut reading = Reading {
             mode,
             open: vec![in alloc; None; CONNECTIONS]?,
-            commands: Vec::new(alloc),
+            edits: Vec::new(alloc),
             answered: 0,
             covered: 0,
         };
@@ -40,7 +40,7 @@ impl Promise {
             }
         }
         Ok(Promise {
-            commands: reading.commands,
+            edits: reading.edits,
             covered: reading.covered,
         })
     }
@@ -54,11 +54,11 @@ impl Promise {
         count: u64,
     ) -> Result<Option<PlainImage>, AllocError> {
         let mut image = PlainImage::new(alloc, blocks)?;
-        if count > self.commands.len() as u64 {
+        if count > self.edits.len() as u64 {
             return Ok(None);
         }
-        for command in &self.commands[..count as usize] {
-            if image.apply(command).is_err() {
+        for edit in &self.edits[..count as usize] {
+            if image.apply(edit).is_err() {
                 return Ok(None);
             }
         }
@@ -86,7 +86,7 @@ struct Open {
 struct Reading {
     mode: Mode,
     open: Vec<Option<Open>>,
-    commands: Vec<Command>,
+    edits: Vec<Edit>,
     // The greatest number of a write that was answered Ok.
     answered: u64,
     covered: u64,
@@ -117,9 +117,9 @@ impl Reading {
             return Ok(());
         };
         if let Some(Event::Sent(_, request)) = log.get(open.place) {
-            if let Some(command) = command_of(alloc, request)? {
-                self.commands.push(command)?;
-                open.number = self.commands.len() as u64;
+            if let Some(edit) = edit_of(alloc, request)? {
+                self.edits.push(edit)?;
+                open.number = self.edits.len() as u64;
             }
         }
         Ok(())
@@ -148,23 +148,28 @@ fn is_durable(mode: Mode, head: RequestHead) -> bool {
     mode == Mode::Writethrough || head.flags & CommandFlags::FUA.bits() != 0
 }
 
-// The write command that a request is.
-fn command_of(alloc: Global, request: &Request) -> Result<Option<Command>, AllocError> {
+// What a request asks for, where it is a write command.
+fn edit_of(alloc: Global, request: &Request) -> Result<Option<Edit>, AllocError> {
     let head = request.head();
-    let first = head.offset / BLOCK_BYTES;
-    let blocks = head.length / BLOCK_BYTES as u32;
-    let kind = match head.kind {
-        WRITE => {
-            let bytes = Vec::from_slice(alloc, request.bytes())?;
-            return Ok(Some(Command::Put { first, bytes }));
-        }
-        WRITE_ZEROES if head.flags & CommandFlags::NO_HOLE.bits() != 0 => Kind::Zero,
-        WRITE_ZEROES | TRIM => Kind::Hole,
+    let offset = head.offset;
+    let length = head.length;
+    let edit = match head.kind {
+        WRITE => Edit::Put {
+            offset,
+            bytes: Vec::from_slice(alloc, request.bytes())?,
+        },
+        WRITE_ZEROES if head.flags & CommandFlags::NO_HOLE.bits() != 0 => Edit::Zeroes {
+            offset,
+            length,
+            kind: Kind::Zero,
+        },
+        WRITE_ZEROES => Edit::Zeroes {
+            offset,
+            length,
+            kind: Kind::Hole,
+        },
+        TRIM => Edit::Trim { offset, length },
         _ => return Ok(None),
     };
-    Ok(Some(Command::Clear {
-        first,
-        blocks,
-        kind,
-    }))
+    Ok(Some(edit))
 }

@@ -1,27 +1,38 @@
 -- the dirty blocks of a cache as a map, and its frames
-use Rattle.std.proofs.Common.{◌≡◌, ℕ, ◌+◌, ◌-◌, ◌≤◌, ◌==◌, ◌||◌, ◌↔◌, inl, inr, zero, suc, Bool, true, false, cond, not, nat_eq, nat_lt, nat_le, if◌then◌else◌, Option, Some, None, List, [], ◌∷◌, ◌++◌, length, map, filter, sym, ap, ◌∙◌, refl, arith, length-append, length-drop}
+use Rattle.std.proofs.Common.{◌≡◌, ℕ, ◌+◌, ◌-◌, ◌*◌, ◌/◌, ◌≤◌, ◌==◌, ◌||◌, ◌↔◌, inl, inr, zero, suc, Bool, true, false, cond, not, nat_eq, nat_lt, nat_le, if◌then◌else◌, Option, Some, None, List, [], ◌∷◌, ◌++◌, length, map, filter, take, drop, replicate, min, sym, ap, ◌∙◌, refl, arith, length-append, length-drop}
 use Rattle.std.specs.Bool.{IsTrue}
 use Rattle.std.specs.FinMap.{get, len, from_entries}
 use Rattle.std.specs.List.{All, AllByRecursion, IsDistinct, list_any}
 use Rattle.std.specs.Map.{lookup, keys_of}
 use Rattle.std.specs.Option.{is_some}
 use Rattle.std.specs.Ordering.{nat_cmp}
+use Rattle.std.specs.Simd.{first_chunks}
 use Rattle.std.proofs.lemmas.Bool.{le-leb, leb-true, true≢false}
 use Rattle.std.proofs.lemmas.Bool.Decides.{eqb_tells, nat_tests}
-use Rattle.std.proofs.lemmas.List.{append-nil, length-map}
+use Rattle.std.proofs.lemmas.List.{append-nil, length-map, length-replicate, length-take-le}
 use Rattle.std.proofs.lemmas.List.Filters.{length-filter_both}
 use Rattle.std.proofs.lemmas.List.Elements.{All-append, All-cons, All-filter, All-nil}
 use Rattle.std.proofs.lemmas.Map.Entries.{lookup-filter-keys}
 use Rattle.std.proofs.lemmas.Map.Made.{is_some-lookup}
 use Rattle.std.proofs.Math.Dec.{eqb}
 use borrow.Author.Tests.{eqb-true, eq-eqb}
-use Rattle.image_model.specs.Dirty.{with_blocks, without_blocks, clean_through}
-use Rattle.image_model.specs.Image.{covers}
-use Rattle.image_model.specs.laws.DirtyMaps.{with_blocks_none}
-use Rattle.shared_cache.specs.Blocks.{BlocksState, DirtyBlock, IsOnce, as_clean, at_hand, cleaned, count_missing, dirty_outside, is_dirty, times_in, with_put, with_puts, without}
+use Rattle.image_model.specs.declared.command.Edges.{Edges}
+use Rattle.image_model.specs.declared.command.Edges.TheVariants.{Head, Tail, Both}
+use Rattle.image_model.specs.declared.command.Kind.{Kind}
+use Rattle.image_model.specs.declared.command.Kind.TheVariants.{Data}
+use Rattle.image_model.specs.Change.{Change, Written, Cleared, Edged, IsChange, edge_count, least_blocks}
+use Rattle.image_model.specs.Dirty.{Dirty, clean_through, dirty_after, frames_suffice, with_blocks, with_edges, with_written}
+use Rattle.image_model.specs.Image.{blocks_of, covers, last_of, touches}
+use Rattle.image_model.specs.laws.DirtyMaps.{get-with_blocks, given, len-with_blocks_more, with_blocks_none}
+use Rattle.image_model.specs.laws.Positions.{length-patched}
+use Rattle.shared_cache.specs.Blocks.{BlocksState, DirtyBlock, IsOnce, as_clean, at_hand, cleaned, count_missing, dirty_outside, edges_missing, is_clean, is_dirty, is_held, times_in, with_put, with_puts, without}
+use Rattle.shared_cache.specs.Cache.{CacheState}
+use Rattle.shared_cache.specs.laws.Edges.{length-with_edges, room_at_head, room_at_tail}
 use Rattle.shared_cache.specs.laws.Once.{times_in-append}
 use Rattle.shared_cache.specs.laws.Ranges.{at_hand_put, clean_le, count_put, outside_le, outside_less}
-use Rattle.order_book.proofs.Maps.{Entries, get-entries, len-entries, len-with_blocks_step, made-clean_through, made-with_blocks, made-without_blocks, all_kept}
+use Rattle.order_book.specs.Cached.{blocks_in, cache_after, dirty_of, frames_of, head_count}
+use Rattle.order_book.proofs.Edges.{Somewhere, at_of, counts_add, counts_fit, edge_at, tail_count}
+use Rattle.order_book.proofs.Maps.{Entries, get-entries, len-entries, len-with_blocks_step, made-after, made-clean_through, all_kept}
 
 -- the blocks of some frames and their numbers
 abbrev pub pairs : List DirtyBlock → Entries
@@ -93,15 +104,83 @@ lookup-puts q number first (bytes ∷ blocks) s =
     either true own o = refl
     either false own o = refl
 
--- puts one after another
-pub map-puts : (number first : ℕ) (blocks : List (List ℕ)) (s : BlocksState)
-    → from_entries {R = nat_cmp} (pairs (with_puts number first blocks s).dirty) ≡ with_blocks (from_entries (pairs s.dirty)) number first (length blocks)
-map-puts number first blocks s = made-with_blocks (pairs s.dirty) _ number first (length blocks) (λ q. lookup-puts q number first blocks s)
+-- the bytes of some blocks, block by block
+pub length-chunks : (n count : ℕ) (list : List ℕ) → length (first_chunks n count list) ≡ count
+length-chunks n zero list = refl
+length-chunks n (suc count) list = ap suc (length-chunks n count (drop n list))
 
--- a range let go
-pub map-without : (first count : ℕ) (s : BlocksState)
-    → from_entries {R = nat_cmp} (pairs (without (covers first count) s).dirty) ≡ without_blocks (from_entries (pairs s.dirty)) first count
-map-without first count s = made-without_blocks (pairs s.dirty) _ first count (λ q. lookup-outside (covers first count) s.dirty q)
+-- a block that is touched has the command's number, if the command writes it
+decided : (touched : Bool) (at : ℕ) (number : ℕ) (found : Option ℕ)
+    → (if touched then Some number else found) ≡ (if touched then (if is_some (if touched then Some at else None) then Some number else None) else found)
+decided true at number found = refl
+decided false at number found = refl
+
+lookup-written : (q number first : ℕ) (bytes : List ℕ) (s : BlocksState)
+    → lookup (nat_eq q) (pairs (with_puts number first (blocks_in bytes) s).dirty)
+    ≡ (if touches q (Written first bytes) then given number q (Written first bytes) else lookup (nat_eq q) (pairs s.dirty))
+lookup-written q number first bytes s =
+    lookup-puts q number first (blocks_in bytes) s
+    ∙ ap (λ (n : ℕ). if covers first n q then Some number else lookup (nat_eq q) (pairs s.dirty)) (length-chunks 4096 ((length bytes + 4095) / 4096) bytes)
+    ∙ decided (touches q (Written first bytes)) (4096 * (q - first)) number (lookup (nat_eq q) (pairs s.dirty))
+
+-- the edges that stand at the head of a clear, and those at its tail
+module _ (first blocks : ℕ) (kind : Kind) (edges : Edges) (bytes : List ℕ) (least : least_blocks edges ≤ blocks) (whole : length bytes ≡ 4096 * edge_count edges) where
+  abbrev pub head_blocks : List (List ℕ)
+  head_blocks = take (head_count edges) (blocks_in bytes)
+
+  abbrev pub tail_blocks : List (List ℕ)
+  tail_blocks = drop (head_count edges) (blocks_in bytes)
+
+  pub length-edges : length (blocks_in bytes) ≡ edge_count edges
+  length-edges = length-chunks 4096 ((length bytes + 4095) / 4096) bytes ∙ omega (arith, whole)
+
+  pub length-head : length head_blocks ≡ head_count edges
+  length-head = length-take-le (head_count edges) (blocks_in bytes) (omega (arith, length-edges, counts_add edges))
+
+  pub length-tail : length tail_blocks ≡ tail_count edges
+  length-tail = length-drop (head_count edges) (blocks_in bytes) ∙ omega (arith, length-edges)
+
+  abbrev behind : ℕ → ℕ
+  behind tail = first + blocks - tail
+
+  lookup-edges : (q number : ℕ) (cache : CacheState)
+      → lookup (nat_eq q) (pairs (cache_after cache number (Edged first blocks kind edges bytes)).blocks.dirty)
+      ≡ (if touches q (Edged first blocks kind edges bytes) then given number q (Edged first blocks kind edges bytes) else lookup (nat_eq q) (pairs cache.blocks.dirty))
+  lookup-edges q number cache =
+      let old = lookup (nat_eq q) (pairs cache.blocks.dirty) in
+      let between = covers (first + length head_blocks) (behind (length tail_blocks) - (first + length head_blocks)) in
+      let cleared = without between cache.blocks in
+      let headed = with_puts number first head_blocks cleared in
+      lookup-puts q number (behind (length tail_blocks)) tail_blocks headed
+      ∙ ap (λ (o : Option ℕ). if covers (behind (length tail_blocks)) (length tail_blocks) q then Some number else o)
+      (lookup-puts q number first head_blocks cleared
+      ∙ ap (λ (o : Option ℕ). if covers first (length head_blocks) q then Some number else o) (lookup-outside between cache.blocks.dirty q))
+      ∙ (λ i. if covers (behind (length-tail i)) (length-tail i) q then Some number
+      else (if covers first (length-head i) q then Some number
+      else (if covers (first + length-head i) (behind (length-tail i) - (first + length-head i)) q then None else old)))
+      ∙ by_place old (at_of first blocks q edges least)
+    where
+      by_place : (old : Option ℕ)
+          → Somewhere first blocks edges q
+          → (if covers (behind (tail_count edges)) (tail_count edges) q then Some number
+          else (if covers first (head_count edges) q then Some number
+          else (if covers (first + head_count edges) (behind (tail_count edges) - (first + head_count edges)) q then None else old)))
+          ≡ (if covers first blocks q then (if is_some (edge_at first blocks edges q) then Some number else None) else old)
+      by_place old (inl (inl at)) = rw (at.slot_is, at.place.is_tail, at.place.is_head, at.place.is_inside) refl
+      by_place old (inl (inr at)) = rw (at.slot_is, at.place.is_tail, at.place.is_head, at.place.is_between, at.place.is_inside) refl
+      by_place old (inr (inl at)) = rw (at.slot_is, at.place.is_tail, at.place.is_inside) refl
+      by_place old (inr (inr at)) = rw (at.slot_is, at.place.is_tail, at.place.is_head, at.place.is_between, at.place.is_inside) refl
+
+-- the numbers of the dirty blocks after a command
+lookup-after : (image : ℕ) (cache : CacheState) (number : ℕ) (change : Change) → IsChange image change → (q : ℕ)
+    → lookup (nat_eq q) (pairs (cache_after cache number change).blocks.dirty) ≡ (if touches q change then given number q change else lookup (nat_eq q) (pairs cache.blocks.dirty))
+lookup-after image cache number (Written first bytes) is q = lookup-written q number first bytes cache.blocks
+lookup-after image cache number (Cleared first blocks kind) is q = lookup-outside (covers first blocks) cache.blocks.dirty q
+lookup-after image cache number (Edged first blocks kind edges bytes) is q = lookup-edges first blocks kind edges bytes is.0 is.4 q number cache
+
+pub map-after : (image : ℕ) (cache : CacheState) (number : ℕ) (change : Change) → IsChange image change
+    → dirty_of (cache_after cache number change) ≡ dirty_after (dirty_of cache) number change
+map-after image cache number change is = made-after (pairs cache.blocks.dirty) _ number change (lookup-after image cache number change is)
 
 -- blocks that are held once have entries of their own
 none_there : (block : ℕ) (dirty : List DirtyBlock) → times_in block (map as_clean dirty) ≡ 0 → AllByRecursion (λ other. nat_eq block other ≡ false) (keys_of (pairs dirty))
@@ -158,7 +237,14 @@ is_dirty-pairs block (held ∷ dirty) = λ i. turned_round block held.block i ||
     turned_round : (a b : ℕ) → nat_eq a b ≡ eqb b a
     turned_round a b = grind (arith, nat_tests)
 
--- a block that isn't dirty has no number
+-- a block that isn't held isn't dirty, and one that isn't dirty has no number
+pub not_dirty : (block : ℕ) (s : BlocksState) → is_held block s ≡ false → is_dirty block s ≡ false
+not_dirty block s is = or_none (is_clean block s) (is_dirty block s) is
+  where
+    or_none : (one other : Bool) → (one || other) ≡ false → other ≡ false
+    or_none true other is = absurd (true≢false is)
+    or_none false other is = is
+
 pub not_dirty_get : (block : ℕ) (s : BlocksState) → is_dirty block s ≡ false → get (from_entries {R = nat_cmp} (pairs s.dirty)) block ≡ None
 not_dirty_get block s is =
     get-entries (pairs s.dirty) block ∙ none_of (lookup (nat_eq block) (pairs s.dirty)) (is_some-lookup (nat_eq block) (pairs s.dirty) ∙ is_dirty-pairs block s.dirty ∙ is)
@@ -185,7 +271,7 @@ count-more first (suc count) s =
 pub len-dirty : (s : BlocksState) → IsOnce s → len (from_entries {R = nat_cmp} (pairs s.dirty)) ≡ length s.dirty
 len-dirty s once = len-entries (pairs s.dirty) (pairs_apart s once) ∙ length-map s.dirty (λ (held : DirtyBlock). (held.block, held.number))
 
-pub len-puts : (number first count : ℕ) (s : BlocksState) → IsOnce s
+len-puts : (number first count : ℕ) (s : BlocksState) → IsOnce s
     → len (with_blocks (from_entries (pairs s.dirty)) number first count) ≡ length s.dirty + count_missing first count s
 len-puts number first zero s once =
     let size = ap len (with_blocks_none (from_entries (pairs s.dirty)) number first) ∙ len-dirty s once in
@@ -206,7 +292,7 @@ len-puts number first (suc count) s once =
     one_more false counted missing is = omega (arith, is)
 
 -- frames that hold nothing dirty are enough for a put where its blocks that aren't dirty are no more
-pub frames-without : (inside : ℕ → Bool) (s : BlocksState) → let left = without inside s in left.free + length left.clean + length left.dirty ≡ s.free + length s.clean + length s.dirty
+frames-without : (inside : ℕ → Bool) (s : BlocksState) → let left = without inside s in left.free + length left.clean + length left.dirty ≡ s.free + length s.clean + length s.dirty
 frames-without inside s = omega (arith, clean_le inside s.clean, outside_le inside s.dirty)
 
 frames-put : (number block : ℕ) (bytes : List ℕ) (s : BlocksState) → (if is_dirty block s then 0 else 1) ≤ at_hand s
@@ -220,7 +306,7 @@ frames-put number block bytes s enough =
     let same = frames-without (λ b. b == block) s in
     omega (arith, enough, less, dropped, more, same, clean_le (λ b. b == block) s.clean, outside_le (λ b. b == block) s.dirty)
 
-pub frames-puts : (number first : ℕ) (blocks : List (List ℕ)) (s : BlocksState) → count_missing first (length blocks) s ≤ at_hand s
+frames-puts : (number first : ℕ) (blocks : List (List ℕ)) (s : BlocksState) → count_missing first (length blocks) s ≤ at_hand s
     → let new = with_puts number first blocks s in new.free + length new.clean + length new.dirty ≡ s.free + length s.clean + length s.dirty
 frames-puts number first [] s enough = refl
 frames-puts number first (bytes ∷ blocks) s enough =
@@ -243,7 +329,7 @@ frames-cleaned number s =
         other own = grind (arith, nat_tests)
 
 -- the numbers of the dirty blocks behind puts
-pub order-puts : (number first : ℕ) (blocks : List (List ℕ)) (s : BlocksState) → All (λ (held : DirtyBlock). held.number ≤ number) s.dirty
+order-puts : (number first : ℕ) (blocks : List (List ℕ)) (s : BlocksState) → All (λ (held : DirtyBlock). held.number ≤ number) s.dirty
     → All (λ (held : DirtyBlock). held.number ≤ number) (with_puts number first blocks s).dirty
 order-puts number first [] s below = below
 order-puts number first (bytes ∷ blocks) s below =
@@ -270,12 +356,65 @@ none_cleaned number s long =
     no_items [] is = refl
     no_items (held ∷ list) is = absurd (omega (arith, is))
 
--- whether a put finds frames
-pub finds_frames : (number first count : ℕ) (s : BlocksState) (found : Bool) → IsOnce s → IsTrue found ↔ (count_missing first count s ≤ at_hand s)
-    → found ≡ nat_le (len (with_blocks (from_entries (pairs s.dirty)) number first count)) (s.free + length s.clean + length s.dirty)
-finds_frames number first count s found once is =
-    let size = len-puts number first count s once in
-    either found _ (λ t. le-leb _ _ (let enough = is.0 t in omega (arith, enough, size))) (λ t. is.1 (let within = leb-true _ _ t in omega (arith, within, size)))
+-- how many of the blocks that a command writes aren't dirty
+abbrev pub missing_of : Change → BlocksState → ℕ
+missing_of (Written first bytes) s = count_missing first (blocks_of (Written first bytes)) s
+missing_of (Cleared first blocks kind) s = 0
+missing_of (Edged first blocks kind edges bytes) s = edges_missing first blocks (head_count edges) (tail_count edges) s
+
+-- with them so many blocks are dirty
+len-edges : (number first blocks : ℕ) (edges : Edges) (s : BlocksState) → IsOnce s → least_blocks edges ≤ blocks
+    → len (with_edges (from_entries (pairs s.dirty)) number first blocks edges) ≡ length s.dirty + edges_missing first blocks (head_count edges) (tail_count edges) s
+len-edges number first blocks Head s once least =
+    let one : min 1 blocks ≡ 1 = omega (arith, least) in
+    let size = len-puts number first 1 s once in
+    ap (λ (n : ℕ). len (with_blocks (from_entries (pairs s.dirty)) number first n)) one ∙ omega (arith, size)
+len-edges number first blocks Tail s once least =
+    let one : min 1 blocks ≡ 1 = omega (arith, least) in
+    let size = len-puts number (last_of first blocks) 1 s once in
+    ap (λ (n : ℕ). len (with_blocks (from_entries (pairs s.dirty)) number (last_of first blocks) n)) one ∙ omega (arith, size)
+len-edges number first blocks Both s once least =
+    let one : min 1 blocks ≡ 1 = omega (arith, least) in
+    let last = last_of first blocks in
+    let dirty : Dirty = from_entries (pairs s.dirty) in
+    let headed = with_blocks dirty number first 1 in
+    let size = len-puts number first 1 s once in
+    let more = len-with_blocks_more headed number last 0 in
+    let none = ap len (with_blocks_none headed number last) in
+    let tail = two_edges (is_some (get headed (last + 0))) (is_dirty last s) _ _ _ more none (last_dirty number first last s (omega (arith, least))) in
+    (λ i. len (with_blocks (with_blocks dirty number first (one i)) number last (one i)))
+    ∙ omega (arith, size, tail)
+  where
+    two_edges : (found dirty : Bool) (size none counted : ℕ) → size ≡ (if found then none else none + 1) → none ≡ counted → found ≡ dirty → size ≡ counted + (if dirty then 0 else 1)
+    two_edges true true size none counted more same is = omega (arith, more, same)
+    two_edges false false size none counted more same is = omega (arith, more, same)
+    two_edges true false size none counted more same is = absurd (true≢false is)
+    two_edges false true size none counted more same is = absurd (true≢false (sym is))
+
+    last_dirty : (number first last : ℕ) (s : BlocksState) → first + 1 ≤ last → is_some (get (with_blocks (from_entries {R = nat_cmp} (pairs s.dirty)) number first 1) (last + 0)) ≡ is_dirty last s
+    last_dirty number first last s beyond =
+        let dirty : Dirty = from_entries (pairs s.dirty) in
+        let at : last + 0 ≡ last = omega arith in
+        let out : covers first 1 last ≡ false = grind (arith, nat_tests, beyond) in
+        ap is_some (ap (λ (b : ℕ). get (with_blocks dirty number first 1) b) at
+        ∙ get-with_blocks dirty number first 1 last
+        ∙ ap (λ (b : Bool). if b then Some number else get dirty last) out
+        ∙ get-entries (pairs s.dirty) last)
+        ∙ is_some-lookup (nat_eq last) (pairs s.dirty) ∙ is_dirty-pairs last s.dirty
+
+len-written : (image : ℕ) (cache : CacheState) (number : ℕ) (change : Change) → IsChange image change → IsOnce cache.blocks
+    → len (with_written (dirty_of cache) number change) ≡ length cache.blocks.dirty + missing_of change cache.blocks
+len-written image cache number (Written first bytes) is once = len-puts number first (blocks_of (Written first bytes)) cache.blocks once
+len-written image cache number (Cleared first blocks kind) is once = len-dirty cache.blocks once ∙ omega arith
+len-written image cache number (Edged first blocks kind edges bytes) is once = len-edges number first blocks edges cache.blocks once is.0
+
+-- whether a command finds frames
+pub finds_frames : (image : ℕ) (cache : CacheState) (number : ℕ) (change : Change) (found : Bool) → IsChange image change → IsOnce cache.blocks
+    → IsTrue found ↔ (missing_of change cache.blocks ≤ at_hand cache.blocks)
+    → found ≡ nat_le (len (with_written (dirty_of cache) number change)) (frames_of cache)
+finds_frames image cache number change found is once enough =
+    let size = len-written image cache number change is once in
+    either found _ (λ t. le-leb _ _ (let fits = enough.0 t in omega (arith, fits, size))) (λ t. enough.1 (let within = leb-true _ _ t in omega (arith, within, size)))
   where
     either : (a b : Bool) → (a ≡ true → b ≡ true) → (b ≡ true → a ≡ true) → a ≡ b
     either true b there back = sym (there refl)
@@ -283,7 +422,67 @@ finds_frames number first count s found once is =
     either false false there back = refl
 
 -- and where it does
-pub frames_enough : (number first count : ℕ) (s : BlocksState) → IsOnce s
-    → nat_le (len (with_blocks (from_entries (pairs s.dirty)) number first count)) (s.free + length s.clean + length s.dirty) ≡ true
-    → count_missing first count s ≤ at_hand s
-frames_enough number first count s once is = let within = leb-true _ _ is in omega (arith, within, len-puts number first count s once)
+pub frames_enough : (image : ℕ) (cache : CacheState) (number : ℕ) (change : Change) → IsChange image change → IsOnce cache.blocks
+    → frames_suffice (frames_of cache) (dirty_of cache) number change ≡ true → missing_of change cache.blocks ≤ at_hand cache.blocks
+frames_enough image cache number (Written first bytes) is once enough =
+    let within = leb-true _ _ enough in omega (arith, within, len-written image cache number (Written first bytes) is once)
+frames_enough image cache number (Cleared first blocks kind) is once enough = omega arith
+frames_enough image cache number (Edged first blocks kind edges bytes) is once enough =
+    let within = leb-true _ _ enough in omega (arith, within, len-written image cache number (Edged first blocks kind edges bytes) is once)
+
+-- the frames stay
+pub frames-after : (image : ℕ) (cache : CacheState) (number : ℕ) (change : Change) → IsChange image change → missing_of change cache.blocks ≤ at_hand cache.blocks
+    → frames_of (cache_after cache number change) ≡ frames_of cache
+frames-after image cache number (Written first bytes) is enough =
+    frames-puts number first (blocks_in bytes) cache.blocks
+    (omega (arith, enough, ap (λ (n : ℕ). count_missing first n cache.blocks) (length-chunks 4096 ((length bytes + 4095) / 4096) bytes)))
+frames-after image cache number (Cleared first blocks kind) is enough = frames-without (covers first blocks) cache.blocks
+frames-after image cache number (Edged first blocks kind edges bytes) is enough =
+    let head = take (head_count edges) (blocks_in bytes) in
+    let tail = drop (head_count edges) (blocks_in bytes) in
+    let in_head = length-head first blocks kind edges bytes is.0 is.4 in
+    let in_tail = length-tail first blocks kind edges bytes is.0 is.4 in
+    let between = covers (first + length head) (first + blocks - length tail - (first + length head)) in
+    let cleared = without between cache.blocks in
+    let fits : length head + length tail ≤ blocks = omega (arith, in_head, in_tail, counts_fit edges blocks is.0) in
+    let same : edges_missing first blocks (length head) (length tail) cache.blocks ≡ edges_missing first blocks (head_count edges) (tail_count edges) cache.blocks =
+    λ i. edges_missing first blocks (in_head i) (in_tail i) cache.blocks in
+    let room : edges_missing first blocks (length head) (length tail) cache.blocks ≤ at_hand cache.blocks = omega (arith, enough, same) in
+    frames-puts number (first + blocks - length tail) tail (with_puts number first head cleared)
+    (room_at_tail number first blocks (length tail) head cache.blocks cleared (with_puts number first head cleared) fits room refl refl)
+    ∙ frames-puts number first head cleared (room_at_head first blocks (length head) (length tail) cache.blocks cleared fits room refl)
+    ∙ frames-without between cache.blocks
+
+-- the dirty blocks have numbers up to the command's, where they had such before
+pub order-after : (cache : CacheState) (number : ℕ) (change : Change) → All (λ (held : DirtyBlock). held.number ≤ number) cache.blocks.dirty
+    → All (λ (held : DirtyBlock). held.number ≤ number) (cache_after cache number change).blocks.dirty
+order-after cache number (Written first bytes) below = order-puts number first (blocks_in bytes) cache.blocks below
+order-after cache number (Cleared first blocks kind) below =
+    All-filter (λ (held : DirtyBlock). not (covers first blocks held.block)) (λ (held : DirtyBlock). held.number ≤ number) cache.blocks.dirty below
+order-after cache number (Edged first blocks kind edges bytes) below =
+    let head = take (head_count edges) (blocks_in bytes) in
+    let tail = drop (head_count edges) (blocks_in bytes) in
+    let between = covers (first + length head) (first + blocks - length tail - (first + length head)) in
+    let cleared = without between cache.blocks in
+    order-puts number (first + blocks - length tail) tail (with_puts number first head cleared)
+    (order-puts number first head cleared
+    (All-filter (λ (held : DirtyBlock). not (between held.block)) (λ (held : DirtyBlock). held.number ≤ number) cache.blocks.dirty below))
+
+-- the image has as many blocks as before
+pub states-after : (cache : CacheState) (number : ℕ) (change : Change) → IsChange (length cache.states) change
+    → length (cache_after cache number change).states ≡ length cache.states
+states-after cache number (Written first bytes) is =
+    let many = length-replicate (length (blocks_in bytes)) Data in
+    let whole = is.1 in
+    let within = is.4 in
+    length-patched cache.states first (replicate (length (blocks_in bytes)) Data)
+    (omega (arith, many, length-chunks 4096 ((length bytes + 4095) / 4096) bytes, whole, within))
+states-after cache number (Cleared first blocks kind) is =
+    let within = is.1 in
+    length-patched cache.states first (replicate blocks kind) (omega (arith, length-replicate blocks kind, within))
+states-after cache number (Edged first blocks kind edges bytes) is =
+    let head = take (head_count edges) (blocks_in bytes) in
+    let tail = drop (head_count edges) (blocks_in bytes) in
+    let fits : length head + length tail ≤ blocks =
+    omega (arith, length-head first blocks kind edges bytes is.0 is.4, length-tail first blocks kind edges bytes is.0 is.4, counts_fit edges blocks is.0) in
+    length-with_edges number first blocks kind head tail cache is.1 fits

@@ -15,15 +15,7 @@ use Rattle.shared_cache.specs.laws.Views.{missing_seen}
 use Rattle.order_book.specs.Cached.{dirty_of}
 use Rattle.order_book.specs.Reading.{GivesBase, IsCleanAt, ShowsRead, block_of}
 use Rattle.order_book.specs.Shown.{ShowsImage}
-use Rattle.order_book.proofs.Frames.{not_dirty_get}
-
--- a block that isn't held isn't dirty
-or_none : (one other : Bool) → (one || other) ≡ false → other ≡ false
-or_none true other is = absurd (true≢false is)
-or_none false other is = is
-
-not_dirty : (block : ℕ) (s : BlocksState) → is_held block s ≡ false → is_dirty block s ≡ false
-not_dirty block s is = or_none (is_clean block s) (is_dirty block s) is
+use Rattle.order_book.proofs.Frames.{not_dirty, not_dirty_get}
 
 -- bytes that are in memory, or come from the base
 pub bytes_read : (base image : Image) (front : List Change) (cache : CacheState) (block k byte : ℕ) → ShowsImage image cache → IsCleanAt base front image (dirty_of cache) → k < 4096

@@ -1,7 +1,9 @@
+mod Edges
 mod Filled
 mod Frames
 mod Imaged
 mod Maps
 mod Missing
 mod Shown
+mod Small
 mod Written

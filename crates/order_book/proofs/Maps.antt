@@ -9,10 +9,10 @@ use Rattle.std.specs.Cmp.{nat_cmp_total, nat_eq_equiv, unsigned_tied}
 use Rattle.std.specs.FinMap.{find, get, len, from_entries, get-from_entries, len-empty, len-insert, same_map, nat_cmp-IsAntisymmetric}
 use Rattle.std.proofs.lemmas.Map.Entries.{option_filter, lookup-filter-values}
 use Rattle.image_model.specs.declared.command.Command.{Command}
-use Rattle.image_model.specs.Change.{change_of}
-use Rattle.image_model.specs.Image.{covers}
-use Rattle.image_model.specs.Dirty.{Dirty, with_blocks, without_blocks, clean_through, dirty_from}
-use Rattle.image_model.specs.laws.DirtyMaps.{get-with_blocks, get-without_blocks, len-with_blocks_more}
+use Rattle.image_model.specs.Change.{Change, change_of}
+use Rattle.image_model.specs.Image.{touches}
+use Rattle.image_model.specs.Dirty.{Dirty, with_blocks, clean_through, dirty_after, dirty_from}
+use Rattle.image_model.specs.laws.DirtyMaps.{get-dirty_after, given, len-with_blocks_more}
 use Rattle.image_model.specs.laws.CleanedMaps.{above, get-clean_through}
 use Rattle.order_book.specs.Order.{OrderState, with_command}
 
@@ -31,21 +31,13 @@ get-entries entries q = get-from_entries nat_cmp_total entries q ∙ find-lookup
 made : (entries : Entries) (dirty : Dirty) → ((q : ℕ) → lookup (nat_eq q) entries ≡ get dirty q) → from_entries entries ≡ dirty
 made entries dirty is = same_map nat_cmp_total nat_cmp-IsAntisymmetric _ _ (λ q. get-entries entries q ∙ is q)
 
--- the blocks of a range have a number
-pub made-with_blocks : (old new : Entries) (number first count : ℕ)
-    → ((q : ℕ) → lookup (nat_eq q) new ≡ (if covers first count q then Some number else lookup (nat_eq q) old))
-    → from_entries new ≡ with_blocks (from_entries old) number first count
-made-with_blocks old new number first count is = made new (with_blocks (from_entries old) number first count) (λ q.
-    is q ∙ sym (get-with_blocks (from_entries old) number first count q
-    ∙ ap (λ (o : Option ℕ). if covers first count q then Some number else o) (get-entries old q)))
-
--- the blocks of a range have none
-pub made-without_blocks : (old new : Entries) (first count : ℕ)
-    → ((q : ℕ) → lookup (nat_eq q) new ≡ (if covers first count q then None else lookup (nat_eq q) old))
-    → from_entries new ≡ without_blocks (from_entries old) first count
-made-without_blocks old new first count is = made new (without_blocks (from_entries old) first count) (λ q.
-    is q ∙ sym (get-without_blocks (from_entries old) first count q
-    ∙ ap (λ (o : Option ℕ). if covers first count q then None else o) (get-entries old q)))
+-- a command decides for the blocks that it touches
+pub made-after : (old new : Entries) (number : ℕ) (change : Change)
+    → ((q : ℕ) → lookup (nat_eq q) new ≡ (if touches q change then given number q change else lookup (nat_eq q) old))
+    → from_entries new ≡ dirty_after (from_entries old) number change
+made-after old new number change is = made new (dirty_after (from_entries old) number change) (λ q.
+    is q ∙ sym (get-dirty_after (from_entries old) number change q
+    ∙ ap (λ (o : Option ℕ). if touches q change then given number q change else o) (get-entries old q)))
 
 not_found : (k : ℕ) (entries : Entries) → AllByRecursion (λ x. nat_eq k x ≡ false) (keys_of entries) → lookup (nat_eq k) entries ≡ None
 not_found k [] all = refl

@@ -8,9 +8,13 @@ pub record Waiting : Type 0 where
   pub commands : List Command
   pub spare : ℕ
 
--- the command takes no more than 256 blocks and 13 bytes in a group
+-- the most bytes that a command takes in a group: a put of 257 blocks, and the 13 before them
+abbrev pub most_body : ℕ
+most_body = 1052685
+
+-- the command takes no more of them
 abbrev pub HasSmallBody : Command → Type 0
-HasSmallBody command = body_of command ≤ 1048589
+HasSmallBody command = body_of command ≤ most_body
 
 -- so many commands fit into the limit, and no more of them do
 pub record IsLongest (limit : ℕ) (commands : List Command) (count : ℕ) : Type 0 where

@@ -1,15 +1,16 @@
-ghost use Rattle.std.specs.Prelude.{◌≡◌, ◌+◌, ◌/◌, ◌<◌, ◌≤◌, ◌↔◌, ◌^◌, ℕ, All, true, false, IsTrue, OnOk, OnErr, length};
+ghost use Rattle.std.specs.Prelude.{◌≡◌, ◌≢◌, is_ok, ◌+◌, ◌/◌, ◌<◌, ◌≤◌, ◌↔◌, ◌^◌, ℕ, All, true, false, IsTrue, OnOk, OnErr, length};
 ghost use Rattle.std.specs.FinMap.{len};
 ghost use Rattle.image_model.specs.Change.{change_of};
 ghost use Rattle.image_model.specs.Command.{IsCommand};
 ghost use Rattle.image_model.specs.Dirty.{dirty_after, clean_through, frames_suffice};
 ghost use Rattle.image_model.specs.Image.{Image, apply as image_after};
-ghost use Rattle.order_book.specs.Cached.{ShowsCommand, cache_after, cache_cleaned, dirty_of, frames_of};
+ghost use Rattle.order_book.specs.Cached.{ShowsCommand, cache_after, cache_cleaned, dirty_of, frames_of, head_count};
 ghost use Rattle.order_book.specs.Shown.{ShowsImage};
 ghost use Rattle.shared_cache.specs.Blocks.{DirtyBlock};
 ghost use Rattle.shared_cache.specs.View.{ShowsClean};
+ghost use Rattle.shared_cache.specs.declared.fault.KeepFault.TheVariants as KeepFault;
 
-use image_model::{BLOCK_BYTES, Command};
+use image_model::{BLOCK_BYTES, Command, Edges};
 use shared_cache::{Cache, KeepFault};
 use std::alloc::AllocError;
 
@@ -20,6 +21,28 @@ fn blocks_in(bytes: &[u8]) -> u64
     (bytes.len() as u64).div_ceil(BLOCK_BYTES)
 }
 
+// How many of a clear's edges stand at its head.
+fn head_blocks(edges: Edges) -> usize
+    ensures { result ≡ head_count edges }
+{
+    match edges {
+        Edges::Head | Edges::Both => 1,
+        Edges::Tail => 0,
+    }
+}
+
+// A refusal where the frames are there: it is for want of memory.
+fn for_memory(kept: Result<(), KeepFault>) -> Result<(), AllocError>
+    requires { kept ≢ Err KeepFault.NoFrame }
+    ensures { is_ok result ≡ is_ok kept }
+{
+    match kept {
+        Ok(()) => Ok(()),
+        Err(KeepFault::NoMemory) => Err(AllocError),
+        Err(KeepFault::NoFrame) => unreachable!(),
+    }
+}
+
 // Whether the frames hold the dirty blocks and those of the command.
 pub(crate) fn has_frames(cache: &Cache, command: &Command) -> bool
     requires { IsCommand (length cache.now.states) command.now }
@@ -28,6 +51,16 @@ pub(crate) fn has_frames(cache: &Cache, command: &Command) -> bool
     match command {
         Command::Put { first, bytes } => cache.has_frames(*first, blocks_in(bytes)),
         Command::Clear { .. } => true,
+        Command::Edged {
+            first,
+            blocks,
+            edges,
+            ..
+        } => {
+            let head = head_blocks(*edges) as u64;
+            let tail = edges.count() as u64 - head;
+            cache.has_frames_at_edges(*first, *blocks as u64, head, tail)
+        }
     }
 }
 
@@ -49,11 +82,7 @@ pub(crate) fn apply(cache: &mut Cache, command: &Command, number: u64) -> Result
     match command {
         Command::Put { first, bytes } => {
             let (blocks, _) = bytes.as_chunks::<4096>();
-            match cache.put(number, *first, blocks) {
-                Ok(()) => Ok(()),
-                Err(KeepFault::NoMemory) => Err(AllocError),
-                Err(KeepFault::NoFrame) => unreachable!(),
-            }
+            for_memory(cache.put(number, *first, blocks))
         }
         Command::Clear {
             first,
@@ -62,6 +91,17 @@ pub(crate) fn apply(cache: &mut Cache, command: &Command, number: u64) -> Result
         } => {
             cache.clear(*first, *blocks as u64, *kind);
             Ok(())
+        }
+        Command::Edged {
+            first,
+            blocks,
+            kind,
+            edges,
+            bytes,
+        } => {
+            let (written, _) = bytes.as_chunks::<4096>();
+            let (head, tail) = written.split_at(head_blocks(*edges));
+            for_memory(cache.clear_between(number, *first, *blocks as u64, *kind, head, tail))
         }
     }
 }

@@ -388,8 +388,8 @@ impl<B: BoardName> Order<B> {
         clean_through(&mut self.cache, keeper.base())
     }
 
-    /// Reads blocks from the first one on, as all that was accepted left them. It is refused with 14 exactly where one
-    /// that is data has no frame; the slice then holds any bytes.
+    /// Reads blocks from the first one on, as all that was accepted left them. It is refused with 14 (missing) exactly
+    /// where one that is data has no frame; the slice then holds any bytes.
     pub fn read_cached(&self, first: u64, into: &mut [[u8; 4096]]) -> Result<(), Missing>
         requires range { first + length into.old ≤ length self.now.cache.states }
         ensures ok { OnOk result ((k : ℕ) (d : List ℕ) → k < length into.new → bytes_seen self.now.cache (first + k) ≡ Some (slice_index_or into.new k d)) }
@@ -429,8 +429,8 @@ impl<B: BoardName> Order<B> {
     /// the data region each run of the others in one call of the device. These are then kept in memory, as far as there
     /// are frames that aren't dirty.
     ///
-    /// Where all are in memory nothing has changed. Else it refuses with 1, and with 16 after an earlier 1; `into` then
-    /// holds any bytes.
+    /// Where all are in memory nothing has changed. Else refusals 1 (device fault), and 16 (failed) after an earlier 1;
+    /// `into` then holds any bytes.
     pub fn read_with<D: Disk>(
         &mut self,
         keeper: &mut Keeper<D>,
@@ -487,6 +487,8 @@ impl<B: BoardName> Order<B> {
         requires some { 0 < count }
         ensures bounds { (first ≤ result.first) × (result.first < first + count) × (result.first ≤ result.end) × (result.end ≤ first + count) }
         ensures all { (block : ℕ) → first ≤ block → block < first + count → bytes_seen self.now.cache block ≡ None → LiesIn block result }
+        ensures begins { result.first < result.end → bytes_seen self.now.cache result.first ≡ None }
+        ensures ends { (block : ℕ) → result.first ≤ block → block + 1 ≡ result.end → bytes_seen self.now.cache block ≡ None }
     {
         let _blocks = self.blocks();
         missing_span(&self.cache, first, count)

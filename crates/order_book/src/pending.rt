@@ -1,7 +1,7 @@
 ghost use Rattle.std.specs.Prelude.{◌≡◌, ◌+◌, ◌-◌, ◌<◌, ◌≤◌, ◌++◌, [], ◌∷◌, ◌↔◌, IsTrue, All, length, take, drop, OnOk, OnErr, IfOk};
 ghost use Rattle.std.specs.VecDeque.{deque_len, deque_capacity};
 ghost use Rattle.std.specs.Vec.{vec_capacity};
-ghost use Rattle.order_book.specs.Pending.{HasSmallBody, IsLongest};
+ghost use Rattle.order_book.specs.Pending.{HasSmallBody, IsLongest, most_body};
 
 use image_model::Command;
 use std::alloc::{AllocError, Global};
@@ -28,7 +28,7 @@ impl Model for PendingCommands {
 }
 
 /// The most bytes that a command takes in a group.
-const MOST_COMMAND_BYTES: u64 = 1_048_589;
+const MOST_COMMAND_BYTES: u64 = 1_052_685;
 
 /// Whether each of the commands takes no more bytes in a group than one may.
 pub(crate) fn have_small_bodies(commands: &[Command]) -> bool
@@ -42,7 +42,7 @@ pub(crate) fn have_small_bodies(commands: &[Command]) -> bool
 // How many commands from the front have bodies of at most `limit` bytes together.
 fn longest(commands: &VecDeque<Command>, limit: u64) -> usize
     requires small { All HasSmallBody commands.now.items }
-    requires enough { 1048589 ≤ limit }
+    requires enough { most_body ≤ limit }
     requires limit { limit ≤ 8388608 }
     ensures longest { IsLongest limit commands.now.items result }
     ensures first { 0 < length commands.now.items → 0 < result }
@@ -119,7 +119,7 @@ impl PendingCommands {
     /// How many commands from the front have bodies of at most `limit` bytes together.
     pub(crate) fn longest(&self, limit: u64) -> usize
         requires small { All HasSmallBody self.now.commands }
-        requires enough { 1048589 ≤ limit }
+        requires enough { most_body ≤ limit }
         requires limit { limit ≤ 8388608 }
         ensures longest { IsLongest limit self.now.commands result }
         ensures first { 0 < length self.now.commands → 0 < result }

@@ -203,6 +203,8 @@ pub(crate) fn missing_span(cache: &Cache, first: u64, count: u64) -> Span
     requires fits { first + count < 2 ^ 64 }
     ensures bounds { (first ≤ result.first) × (result.first < first + count) × (result.first ≤ result.end) × (result.end ≤ first + count) }
     ensures all { (block : ℕ) → first ≤ block → block < first + count → bytes_seen cache.now block ≡ None → LiesIn block result }
+    ensures begins { result.first < result.end → bytes_seen cache.now result.first ≡ None }
+    ensures ends { (block : ℕ) → result.first ≤ block → block + 1 ≡ result.end → bytes_seen cache.now block ≡ None }
 {
     let mut from = first;
     let mut end = first;

@@ -1,9 +1,11 @@
 //! Commands, and what an order says to them: a test wants one answer of it, so most functions here tell no fault.
 ghost use Rattle.std.specs.Prelude.{◌≡◌, ◌+◌, ◌*◌, ◌<◌, ◌≤◌, length, true, IfOk, IfSome};
+ghost use Rattle.image_model.specs.Change.{IsCleared, least_blocks};
 ghost use Rattle.image_model.specs.Command.{IsCommand};
+ghost use Rattle.image_model.specs.declared.command.Kind.TheVariants as Kind;
 ghost use Rattle.marks.specs.Known.{known};
 
-use image_model::{Command, Kind};
+use image_model::{Command, Edges, Kind};
 use marks::{Board, BoardName, Pass};
 use order_book::{Order, OrderFault};
 use std::alloc::{AllocError, Global};
@@ -29,21 +31,42 @@ pub fn put(alloc: Global, first: u64, blocks: u32, salt: u64) -> Result<Command,
     Ok(Command::Put { first, bytes })
 }
 
-// Whether so many blocks from the first one on are some, and lie in an image.
+// Whether so many blocks from the first one on lie in an image.
 fn is_range(image: u64, first: u64, blocks: u64) -> bool
-    ensures some { result ≡ true → 1 ≤ blocks }
-    ensures inside { result ≡ true → first + blocks ≤ image }
+    ensures { result ≡ true → first + blocks ≤ image }
 {
-    1 <= blocks && blocks <= image && first <= image - blocks
+    blocks <= image && first <= image - blocks
+}
+
+// Whether so many blocks may be cleared to this kind: no block at all to holes alone.
+fn is_cleared(kind: Kind, blocks: u32) -> bool
+    ensures kind { result ≡ true → IsCleared kind }
+    ensures some { result ≡ true → kind ≡ Kind.Zero → 1 ≤ blocks }
+{
+    match kind {
+        Kind::Data => false,
+        Kind::Zero => 1 <= blocks,
+        Kind::Hole => true,
+    }
+}
+
+// How many blocks there are at least where these are edges.
+fn least_blocks(edges: Edges) -> u32
+    ensures { result ≡ least_blocks edges }
+{
+    match edges {
+        Edges::Head => 1,
+        Edges::Tail | Edges::Both => 2,
+    }
 }
 
 // How many blocks the bytes fill, where these are whole and no more than a command has.
 fn whole_blocks(bytes: &[u8]) -> Option<u64>
     ensures whole { IfSome result (λ blocks. length bytes.now ≡ 4096 * blocks) }
-    ensures few { IfSome result (λ blocks. blocks ≤ 256) }
+    ensures few { IfSome result (λ blocks. blocks ≤ 257) }
 {
     let blocks = bytes.len() as u64 / 4096;
-    if bytes.len() as u64 != 4096 * blocks || blocks > 256 {
+    if bytes.len() as u64 != 4096 * blocks || blocks > 257 {
         return None;
     }
     Some(blocks)
@@ -55,14 +78,26 @@ fn is_inside(image: u64, command: &Command) -> bool
 {
     match command {
         Command::Put { first, bytes } => match whole_blocks(bytes) {
-            Some(blocks) => is_range(image, *first, blocks),
+            Some(blocks) => 1 <= blocks && is_range(image, *first, blocks),
             None => false,
         },
         Command::Clear {
             first,
             blocks,
             kind,
-        } => *kind != Kind::Data && is_range(image, *first, *blocks as u64),
+        } => is_cleared(*kind, *blocks) && is_range(image, *first, *blocks as u64),
+        Command::Edged {
+            first,
+            blocks,
+            kind,
+            edges,
+            bytes,
+        } => {
+            is_cleared(*kind, *blocks)
+                && least_blocks(*edges) <= *blocks
+                && bytes.len() == 4096 * edges.count()
+                && is_range(image, *first, *blocks as u64)
+        }
     }
 }
 

@@ -4,7 +4,11 @@
 #[cfg(test)]
 mod cache_tests;
 #[cfg(test)]
+mod clear_tests;
+#[cfg(test)]
 mod commands;
+#[cfg(test)]
+mod edits;
 #[cfg(test)]
 mod frame_tests;
 #[cfg(test)]

@@ -1,7 +1,7 @@
-//! An image as plain bytes and states, and commands on it.
-use crate::commands::byte_at;
+//! An image as plain bytes and states, and edits of it.
+use crate::edits::{Asked, ByteRange, Shape, edit};
 use alloc_map::Run;
-use image_model::{Command, Kind};
+use image_model::{Command, Kind, PlainImage};
 use std::alloc::Global;
 
 // How many blocks it has.
@@ -10,39 +10,12 @@ pub const BLOCKS: u64 = 64;
 // The bytes of an image, one after another, and the states of its blocks.
 #[derive(Drop)]
 pub struct Plain {
-    bytes: Vec<u8>,
-    kinds: Vec<Kind>,
+    image: PlainImage,
 }
 
 // Whether a block is one of so many from the first one on.
 fn is_within(block: u64, first: u64, blocks: u64) -> bool {
     first <= block && block - first < blocks
-}
-
-// Gives so many blocks from the first one on a state.
-fn set_kinds(kinds: &mut [Kind], first: u64, blocks: u64, kind: Kind) {
-    for block in 0..kinds.len() {
-        if is_within(block as u64, first, blocks) {
-            kinds[block] = kind;
-        }
-    }
-}
-
-// The byte of a put with this salt, or zero.
-fn new_byte(place: u64, salt: Option<u64>) -> u8 {
-    match salt {
-        Some(salt) => byte_at(place, salt),
-        None => 0,
-    }
-}
-
-// Gives the places of so many blocks from the first one on the bytes of a put with this salt, or zero.
-fn set_bytes(bytes: &mut [u8], first: u64, blocks: u64, salt: Option<u64>) {
-    for place in 0..bytes.len() {
-        if is_within(place as u64 / 4096, first, blocks) {
-            bytes[place] = new_byte(place as u64, salt);
-        }
-    }
 }
 
 // Whether the blocks from the first one on are in this state, so many of them, and the one behind them isn't.
@@ -60,45 +33,44 @@ fn has_run(kinds: &[Kind], first: u64, blocks: u64, kind: Kind) -> bool {
 impl Plain {
     // Holes alone.
     pub fn new(alloc: Global) -> Option<Plain> {
-        Some(Plain {
-            bytes: vec![in alloc; 0; 262_144].ok()?,
-            kinds: vec![in alloc; Kind::Hole; 64].ok()?,
-        })
+        let image = PlainImage::new(alloc, BLOCKS as u32).ok()?;
+        Some(Plain { image })
     }
 
-    // Gives so many blocks from the first one on a state, and the bytes of a put with this salt, or zero.
-    fn set(&mut self, first: u64, blocks: u64, kind: Kind, salt: Option<u64>) {
-        set_kinds(&mut self.kinds, first, blocks, kind);
-        set_bytes(&mut self.bytes, first, blocks, salt);
+    // Carries out an edit with the bytes of this salt, and tells what it becomes.
+    pub fn edit(
+        &mut self,
+        alloc: Global,
+        range: ByteRange,
+        asked: Asked,
+        salt: u64,
+    ) -> Option<Shape> {
+        let shape = Shape::of(self.image.kinds(), range, asked);
+        self.image
+            .apply(&edit(alloc, range, asked, salt).ok()?)
+            .ok()?;
+        Some(shape)
     }
 
-    // Carries out a command, whose bytes are those of this salt.
-    pub fn apply(&mut self, command: &Command, salt: u64) {
-        match command {
-            Command::Put { first, bytes } => {
-                self.set(*first, bytes.len() as u64 / 4096, Kind::Data, Some(salt));
-            }
-            Command::Clear {
-                first,
-                blocks,
-                kind,
-            } => self.set(*first, *blocks as u64, *kind, None),
-        }
+    // The command of this shape, with the bytes of the image.
+    pub fn command(&self, alloc: Global, shape: Shape) -> Option<Command> {
+        shape.command(alloc, self.image.bytes())
     }
 
     // Whether these are the bytes of the blocks from the first one on.
     pub fn has_bytes(&self, first: u64, bytes: &[u8]) -> bool {
+        let own = self.image.bytes();
         let from = first.wrapping_mul(4096) as usize;
-        from <= self.bytes.len()
-            && bytes.len() <= self.bytes.len() - from
-            && &self.bytes[from..from + bytes.len()] == bytes
+        from <= own.len()
+            && bytes.len() <= own.len() - from
+            && &own[from..from + bytes.len()] == bytes
     }
 
     // Whether these are the longest runs of blocks in one state, from this one on up to the last.
     pub fn are_runs(&self, from: u64, runs: &[Run]) -> bool {
         let mut at = from;
         for run in runs {
-            if !has_run(&self.kinds, at, run.blocks, run.kind) {
+            if !has_run(self.image.kinds(), at, run.blocks, run.kind) {
                 return false;
             }
             at = at.wrapping_add(run.blocks);

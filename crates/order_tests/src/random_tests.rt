@@ -1,13 +1,14 @@
-//! Commands, reads, states and cleans in any order, each answer compared with that of plain bytes.
-ghost use Rattle.std.specs.Prelude.{◌≡◌, ◌<◌, ◌≤◌, ◌^◌};
+//! Edits, reads, states and cleans in any order, each answer compared with that of plain bytes.
+ghost use Rattle.std.specs.Prelude.{◌≡◌, ◌+◌, ◌<◌, ◌≤◌, ◌^◌};
 
-use crate::commands::{offer, put};
+use crate::commands::offer;
+use crate::edits::{Asked, ByteRange, Shape};
 use crate::plain::{BLOCKS, Plain};
 use crate::subject::{Start, Subject, fresh};
-use image_model::{Command, Kind};
+use image_model::Kind;
 use marks::BoardName;
 use order_book::OrderFault;
-use std::alloc::{AllocError, Global};
+use std::alloc::Global;
 use std::marker::Brand;
 
 // A square and a number more, with its halves exchanged.
@@ -31,29 +32,39 @@ fn roll(salt: u64, which: u64, limit: u64) -> u64
 // A range of blocks of the image, no more than so many.
 fn range(salt: u64, most: u64) -> (u64, u64)
     requires { 0 < most }
-    ensures { result.1 ≤ most }
+    ensures most { result.1 ≤ most }
+    ensures some { 1 ≤ result.1 }
+    ensures inside { result.0 + result.1 ≤ 64 }
 {
     let first = roll(salt, 1, BLOCKS);
     (first, 1 + roll(salt, 2, most.min(BLOCKS - first)))
 }
 
-// A put of a few blocks, or a clear of more.
-fn command(alloc: Global, salt: u64) -> Result<Command, AllocError> {
-    if roll(salt, 3, 4) > 0 {
-        let (first, blocks) = range(salt, 8);
-        return put(alloc, first, blocks as u32, salt);
+// What the edit of a turn asks for.
+fn asked(salt: u64) -> Asked {
+    match roll(salt, 3, 4) {
+        0 | 1 => Asked::Put,
+        2 if roll(salt, 4, 2) == 0 => Asked::Zeroes(Kind::Zero),
+        2 => Asked::Zeroes(Kind::Hole),
+        _ => Asked::Trim,
     }
-    let (first, blocks) = range(salt, 16);
-    let kind = if roll(salt, 4, 2) == 0 {
-        Kind::Zero
-    } else {
-        Kind::Hole
-    };
-    Ok(Command::Clear {
-        first,
-        blocks: blocks as u32,
-        kind,
-    })
+}
+
+// The bytes that it covers, of a few blocks: those of whole blocks, every fourth time.
+fn covered(salt: u64) -> ByteRange {
+    if roll(salt, 5, 4) == 0 {
+        let (first, blocks) = range(salt, 8);
+        return ByteRange {
+            offset: 4096 * first,
+            length: 4096 * blocks as u32,
+        };
+    }
+    let offset = roll(salt, 6, 262_144);
+    let most = (262_144 - offset).min(20_000);
+    ByteRange {
+        offset,
+        length: 1 + roll(salt, 7, most) as u32,
+    }
 }
 
 // What is compared: an order over a keeper, and the image that both come to.
@@ -80,19 +91,25 @@ impl<B: BoardName> Compared<B> {
         stored
     }
 
-    // What the order says to the command of this turn, which the image follows.
-    fn offer(&mut self, salt: u64) -> Option<Result<u64, OrderFault>> {
-        let change = command(self.subject.alloc, salt).ok()?;
-        self.plain.apply(&change, salt);
-        offer(&mut self.subject.desk, change)
+    // What the order says to a command of this shape, with the bytes of the image.
+    fn offer(&mut self, shape: Shape) -> Option<Result<u64, OrderFault>> {
+        let command = self.plain.command(self.subject.alloc, shape)?;
+        offer(&mut self.subject.desk, command)
     }
 
-    // Whether the command of this turn is accepted, where there is no room for it once there is some.
+    // Whether what the edit of this turn becomes is accepted, where there is no room for it once there is some.
     fn change(&mut self, salt: u64) -> bool {
-        match self.offer(salt) {
+        let range = covered(salt);
+        let edited = self
+            .plain
+            .edit(self.subject.alloc, range, asked(salt), salt);
+        let Some(shape) = edited else {
+            return false;
+        };
+        match self.offer(shape) {
             Some(Ok(_)) => true,
             Some(Err(OrderFault::NoRoom)) => {
-                self.make_room() && matches!(self.offer(salt), Some(Ok(_)))
+                self.make_room() && matches!(self.offer(shape), Some(Ok(_)))
             }
             _ => false,
         }

@@ -145,3 +145,26 @@ fn a_large_clear_is_one_run(rt: HostRuntime) {
     let runs = runs_of_a_clear::<Brand>(rt.alloc(), blank).expect(&rt, "two runs");
     assert!(rt; are_zeroes_and_holes(&runs, 524_288, 16_251_928));
 }
+
+// How many of eight puts of 257 blocks one group takes.
+fn longest_group<B: BoardName>(alloc: Global, start: Start) -> Option<usize>
+    requires { start.blank.board ≡ B.board }
+{
+    let mut subject = start.subject::<B>(alloc, 4096)?;
+    for place in 0..8 {
+        if !takes_put(alloc, &mut subject.desk, 257 * place, 257, place + 1) {
+            return None;
+        }
+    }
+    let Ok(Some(group)) = subject.desk.order.seal() else {
+        return None;
+    };
+    let (_first, commands) = group.into_parts();
+    Some(commands.len())
+}
+
+#[test]
+fn seven_puts_of_257_blocks_are_a_group(rt: HostRuntime) {
+    let start = fresh(rt.alloc(), 4096).expect(&rt, "a board over holes");
+    assert_eq!(rt; longest_group::<Brand>(rt.alloc(), start), Some(7));
+}

@@ -67,7 +67,7 @@ module _ (world : World) (c : ℕ) (request : Message) (old : OrderState) (group
       ∙ sym (ap (λ (l : List Change). apply_all l image) (take_all (length (order ++ command_of request ∷ [])) (order ++ command_of request ∷ []) (omega arith)) ∙ apply_append order (command_of request ∷ []) image)
 
   command_served : (command : Command) → change_of command ≡ command_of request → IsChange world.stage.setting.geometry.blocks (command_of request) → old.mark < 18446744073709551615
-      → IsCommandServed request world.stage.setting.mode command old new result → (failure : Failure) × Comes (write_served failure world c request)
+      → IsCommandServed request world.stage.setting.mode command old new result → (failure : Failure) × Comes (write_served failure world c request (command_of request))
   command_served command own change left (inl (none, same, is)) = (
     Nothing,
     write_held world c request old group of Nothing Comes command left own none
@@ -80,13 +80,13 @@ module _ (world : World) (c : ℕ) (request : Message) (old : OrderState) (group
   command_served command own change left (inr (inr (room, same, is, shows))) = (
     Nothing,
     write_accepted world c request old group of Nothing Comes command left own room (
-      served_numbered world c request old group of (accepted Nothing world c request) result (waits_for_store world.stage.setting.mode request) request.head.cookie (old.mark + 1) command new same refl is
+      served_numbered world c request old group of (accepted Nothing world c request (command_of request)) result (waits_for_store world.stage.setting.mode request) request.head.cookie (old.mark + 1) command new same refl is
           (served_accepted world c request old group of command (old.mark + 1) within left own change refl (ap (λ (o : OrderState). length o.cache.states) (sym same) ∙ kept)),
       λ shown. subst (λ (i : Image). ShowsImage i new.cache) (image_more command own) (shows (image_after world.stage.order (length world.stage.order) world.stage.setting.image) shown),
     ),
   )
 
-  written : IsWriteServed request world.stage.setting.geometry world.stage.setting.mode old new result → (failure : Failure) × Comes (write_served failure world c request)
+  written : IsWriteServed request world.stage.setting.geometry world.stage.setting.mode old new result → (failure : Failure) × Comes (write_served failure world c request (command_of request))
   written (inl (full, same, is)) = (Nothing, write_full world c request old group of Nothing Comes full (refused_so errno.NoSpace same is))
   written (inr (command, own, change, left, by)) = command_served command own change left by
 

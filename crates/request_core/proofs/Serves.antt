@@ -58,9 +58,9 @@ module _ (world : World) (c : ℕ) (request : Message) (order : OrderState) (gro
   pub served_accepted : (command : Command) (number : ℕ) → IsWithin world → order.mark < 18446744073709551615 → change_of command ≡ command_of request
       → IsChange world.stage.setting.geometry.blocks (command_of request) → number ≡ order.mark + 1
       → length (with_command order command).cache.states ≡ length order.cache.states
-      → IsServed world (accepted Nothing world c request) c (state_after (waits_for_store world.stage.setting.mode request) number) (numbered c number) (with_command order command) group
+      → IsServed world (accepted Nothing world c request (command_of request)) c (state_after (waits_for_store world.stage.setting.mode request) number) (numbered c number) (with_command order command) group
   served_accepted command number within left own change is kept = subst
-      (λ (n : ℕ). IsServed world (accepted Nothing world c request) c (state_after (waits_for_store world.stage.setting.mode request) n) (numbered c n) (with_command order command) group)
+      (λ (n : ℕ). IsServed world (accepted Nothing world c request (command_of request)) c (state_after (waits_for_store world.stage.setting.mode request) n) (numbered c n) (with_command order command) group)
       (sym (is ∙ ap (λ (n : ℕ). n + 1) of.mark))
       (record {
         connections = λ d. refl;
@@ -107,18 +107,18 @@ module _ (world : World) (c : ℕ) (request : Message) (order : OrderState) (gro
   room_same command own = ap (has_room world) (sym own) ∙ sym (room_of world.stage order group of command)
 
   -- which way a write command goes
-  pub write_full : (failure : Failure) (P : World → Type 0) → order.mark ≡ 18446744073709551615 → P (ready world c (Refused NoSpace)) → P (write_served failure world c request)
+  pub write_full : (failure : Failure) (P : World → Type 0) → order.mark ≡ 18446744073709551615 → P (ready world c (Refused NoSpace)) → P (write_served failure world c request (command_of request))
   write_full failure P full here = let mark = of.mark in
       if_true P (last_number world == 18446744073709551615) _ _ (eq-eqb (last_number world) 18446744073709551615 (omega (arith, mark, full))) here
 
   pub write_held : (failure : Failure) (P : World → Type 0) (command : Command) → order.mark < 18446744073709551615 → change_of command ≡ command_of request
-      → book.has_room order command ≡ false → P (held world) → P (write_served failure world c request)
+      → book.has_room order command ≡ false → P (held world) → P (write_served failure world c request (command_of request))
   write_held failure P command left own none here = let mark = of.mark in
       if_false P (last_number world == 18446744073709551615) _ _ (ne_eqb (last_number world) 18446744073709551615 (λ full. omega (arith, mark, full, left)))
       (if_false P (has_room world (command_of request)) _ _ (room_same command own ∙ none) here)
 
   pub write_accepted : (failure : Failure) (P : World → Type 0) (command : Command) → order.mark < 18446744073709551615 → change_of command ≡ command_of request
-      → book.has_room order command ≡ true → P (accepted failure world c request) → P (write_served failure world c request)
+      → book.has_room order command ≡ true → P (accepted failure world c request (command_of request)) → P (write_served failure world c request (command_of request))
   write_accepted failure P command left own room here = let mark = of.mark in
       if_false P (last_number world == 18446744073709551615) _ _ (ne_eqb (last_number world) 18446744073709551615 (λ full. omega (arith, mark, full, left)))
       (if_true P (has_room world (command_of request)) _ _ (room_same command own ∙ room) here)
@@ -171,7 +171,7 @@ pub clear_change : (request : Message) (geometry : Geometry) → (request.head.k
     → IsChange geometry.blocks (command_of request)
 clear_change request geometry other served few =
     let some = served.some in let from_block = served.from_block in let whole_blocks = served.whole_blocks in let inside = served.inside in
-    subst (IsChange geometry.blocks) (sym (clear_command request other)) (omega arith, omega arith, omega (arith, few), cleared_kind request.head)
+    subst (IsChange geometry.blocks) (sym (clear_command request other)) (λ zero. omega arith, omega arith, omega (arith, few), cleared_kind request.head)
 
 pub request_none : (state : Connection) → ((request : Message) → state ≡ Requested request → ⊥) → None ≡ request_in state
 request_none Idle other = refl

@@ -2,7 +2,7 @@
 use Rattle.std.specs.Prelude.{ℕ, ◌≡◌, ◌+◌, ◌<◌, ◌≤◌, ◌⊎◌, MatchBool, MatchOption, slice_index_or, slice_set, Bool, true, false, nat_le, nat_lt, Result, Ok, Err, if◌then◌else◌, Option, Some, None, List, [], ◌∷◌, ◌++◌, vec_len}
 use Rattle.image_model.specs.Change.{Change, AreChanges, IsChange, change_of}
 use Rattle.image_model.specs.declared.command.Command.{Command}
-use Rattle.image_model.specs.declared.command.Command.TheVariants.{Put, Clear}
+use Rattle.image_model.specs.declared.command.Command.TheVariants.{Put, Clear, Edged}
 use Rattle.image_model.specs.declared.geometry.Geometry.{Geometry}
 use Rattle.image_model.specs.Image.{Image, apply}
 use Rattle.group_list.specs.Group.{Numbered}
@@ -32,11 +32,13 @@ use Rattle.world.specs.World.{World, put, Stage}
 abbrev pub IsHandedBack : RequestHead → Command → Type 0
 IsHandedBack head (Put first bytes) = vec_len bytes ≡ handed_len head
 IsHandedBack head (Clear first blocks kind) = ⊥
+IsHandedBack head (Edged first blocks kind edges bytes) = ⊥
 
 -- the request again, of which the command is a Put
 abbrev pub request_again : RequestHead → Command → Served
 request_again head (Put first bytes) = served.NoRoom (record { head = head; bytes = bytes.items })
 request_again head (Clear first blocks kind) = served.Wait 0
+request_again head (Edged first blocks kind edges bytes) = served.Wait 0
 
 -- an answer to the request with this cookie
 abbrev pub ready_for : ℕ → Answer → Served

@@ -1,6 +1,6 @@
 //! Serving of READ and BLOCK_STATUS.
 
-ghost use Rattle.std.specs.Prelude.{◌≡◌, ◌≢◌, ◌↔◌, ◌+◌, ◌*◌, ◌/◌, ◌%◌, ◌<◌, ◌≤◌, ℕ, None, true, IfErr, IfOk, IfSome, IsErr, OnErr, length, vec_len};
+ghost use Rattle.std.specs.Prelude.{◌≡◌, ◌≢◌, ◌⊎◌, ◌↔◌, ◌+◌, ◌*◌, ◌/◌, ◌%◌, ◌<◌, ◌≤◌, ℕ, None, true, IfErr, IfOk, IfSome, IsErr, OnErr, length, vec_len};
 ghost use Rattle.order_book.specs.Reading.{LiesIn};
 ghost use Rattle.request_core.specs.Reading.{IsHeldReadServed, IsPlanned, IsReadOverServed, IsReadServed, IsStatusServed};
 ghost use Rattle.shared_cache.specs.Cache.{LacksBytes, bytes_seen};
@@ -148,6 +148,8 @@ pub fn serve_read_over<B: BoardName>(
     ensures stopped { order.old.stopped ≡ true → IsErr result }
     ensures size { IfErr result (λ back. vec_len back ≡ head.now.length) }
     ensures unchanged { OnErr result (order.new ≡ order.old) }
+    ensures back { IsErr result → (order.old.stopped ≡ true)
+        ⊎ ((j : ℕ) × (4096 * j < head.now.length) × (bytes_seen order.old.cache (head.now.offset / 4096 + j) ≡ None) × (LiesIn (head.now.offset / 4096 + j) span → ⊥)) }
 {
     if order.stopped() {
         return Err(bytes);

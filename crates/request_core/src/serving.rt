@@ -496,7 +496,7 @@ fn returned(head: RequestHead, command: Command) -> Served
 {
     match command {
         Command::Put { first: _, bytes } => Served::NoRoom(Request::new(head, bytes)),
-        Command::Clear { .. } => unreachable!(),
+        Command::Clear { .. } | Command::Edged { .. } => unreachable!(),
     }
 }
 

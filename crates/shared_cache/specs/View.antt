@@ -1,5 +1,5 @@
 -- what is known of an image block by block, before a call and after it
-use Rattle.std.specs.Prelude.{ℕ, ◌≡◌, ◌≢◌, ◌+◌, ◌<◌, ◌⊎◌, ◌==◌, ◌&&◌, ◌||◌, true, false, nat_lt, if◌then◌else◌, List, length, replicate, slice_index_or, Some, None}
+use Rattle.std.specs.Prelude.{ℕ, ◌≡◌, ◌≢◌, ◌+◌, ◌-◌, ◌<◌, ◌⊎◌, ◌==◌, ◌&&◌, ◌||◌, Bool, not, true, false, nat_lt, if◌then◌else◌, List, length, replicate, slice_index_or, Some, None}
 use Rattle.std.specs.List.{list_any}
 use Rattle.alloc_map.specs.Codes.{state_at}
 use Rattle.image_model.specs.declared.command.Kind.{Kind}
@@ -31,6 +31,24 @@ pub record ShowsClear (first count : ℕ) (kind : Kind) (old new : CacheState) :
   pub no_frame : (block : ℕ) → covers first count block ≡ true → is_held block new.blocks ≡ false
   pub others : (block : ℕ) → covers first count block ≡ false → bytes_seen new block ≡ bytes_seen old block
   pub dirty : (block : ℕ) → covers first count block ≡ false → is_dirty block new.blocks ≡ is_dirty block old.blocks
+
+-- whether a block is one of the edges of a range: so many blocks at its head, and so many at its tail
+abbrev pub is_edge : ℕ → ℕ → ℕ → ℕ → ℕ → Bool
+is_edge first count head tail block = covers first head block || covers (first + count - tail) tail block
+
+-- A range was cleared between its edges, which were written: the edges are data, have these bytes and are dirty, and the blocks
+-- between have this state, are zero, and no frame holds one. Each other block keeps its state, its bytes, but for a taken frame,
+-- and whether it is dirty.
+pub record ShowsEdges (first count : ℕ) (kind : Kind) (head tail : List (List ℕ)) (old new : CacheState) : Type 0 where
+  pub states : (block : ℕ) → state_at new.states block
+      ≡ (if is_edge first count (length head) (length tail) block then Data else (if covers first count block then kind else state_at old.states block))
+  pub at_head : (k : ℕ) (d : List ℕ) → k < length head → bytes_seen new (first + k) ≡ Some (slice_index_or head k d)
+  pub at_tail : (k : ℕ) (d : List ℕ) → k < length tail → bytes_seen new (first + count - length tail + k) ≡ Some (slice_index_or tail k d)
+  pub between : (block : ℕ) → covers first count block ≡ true → is_edge first count (length head) (length tail) block ≡ false
+      → (bytes_seen new block ≡ Some (replicate 4096 0)) × (is_held block new.blocks ≡ false)
+  pub others : (block : ℕ) → covers first count block ≡ false → KeepsBytes (length head + length tail) old new block
+  pub dirty : (block : ℕ) → is_dirty block new.blocks
+      ≡ (is_edge first count (length head) (length tail) block || (not (covers first count block) && is_dirty block old.blocks))
 
 -- A block of data was read: it has these bytes, where no frame held it. Each other block keeps its bytes, but for a taken frame,
 -- and the same blocks are dirty.

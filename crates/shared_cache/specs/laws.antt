@@ -1,3 +1,4 @@
+pub mod Edges
 pub mod Indexed
 pub mod Kept
 pub mod Lookups

@@ -4,9 +4,9 @@ ghost use Rattle.alloc_map.specs.Codes.{state_at};
 ghost use Rattle.image_model.specs.Image.{covers};
 ghost use Rattle.image_model.specs.Patched.{patched};
 ghost use Rattle.image_model.specs.declared.command.Kind.TheVariants as Kind;
-ghost use Rattle.shared_cache.specs.Blocks.{DirtyBlock, HasNoFrame, IsOnce, at_hand, cleaned, count_missing, is_held, with_fill, with_puts, without};
-ghost use Rattle.shared_cache.specs.Cache.{LacksBytes, bytes_seen};
-ghost use Rattle.shared_cache.specs.View.{ShowsClean, ShowsClear, ShowsFill, ShowsPut};
+ghost use Rattle.shared_cache.specs.Blocks.{DirtyBlock, HasNoFrame, IsOnce, at_hand, cleaned, count_missing, edges_missing, is_held, with_fill, with_puts, without};
+ghost use Rattle.shared_cache.specs.Cache.{LacksBytes, bytes_seen, with_edges};
+ghost use Rattle.shared_cache.specs.View.{ShowsClean, ShowsClear, ShowsEdges, ShowsFill, ShowsPut};
 ghost use Rattle.shared_cache.specs.declared.fault.KeepFault.TheVariants as KeepFault;
 
 use crate::fault::{KeepFault, Missing};
@@ -72,13 +72,15 @@ impl Cache {
         ensures enough { IsTrue result ↔ (count_missing first count self.now.blocks ≤ at_hand self.now.blocks) }
         ensures once { IsOnce self.now.blocks }
     {
-        self.held.count_missing(first, count) <= self.held.at_hand()
+        // Where as many frames are at hand as there are blocks, none has to be looked up.
+        let at_hand = self.held.at_hand();
+        count <= at_hand || self.held.count_missing(first, count) <= at_hand
     }
 
     /// Writes blocks from the first one on, with the number of their command, which is at least 1 and no smaller than
     /// those of the blocks that are dirty; they become data. Each takes the frame that it has, else a free one, else
-    /// that of the clean front. It is refused with 13 exactly where these don't suffice, and where it is refused nothing
-    /// has changed.
+    /// that of the clean front. It is refused with 13 (no frame) exactly where these don't suffice, and where it is
+    /// refused nothing has changed.
     pub fn put(&mut self, number: u64, first: u64, blocks: &[[u8; 4096]]) -> Result<(), KeepFault>
         requires range { first + length blocks.now ≤ length self.old.states }
         requires order { All (λ (held : DirtyBlock). held.number ≤ number) self.old.blocks.dirty }
@@ -102,8 +104,7 @@ impl Cache {
         Ok(())
     }
 
-    /// Gives so many blocks from the first one on this state, and frees their frames, by as many steps as there are
-    /// blocks in the range, or frames.
+    /// Gives so many blocks from the first one on this state, and frees their frames.
     pub fn clear(&mut self, first: u64, count: u64, kind: Kind)
         requires range { first + count ≤ length self.old.states }
         requires kind { kind ≢ Kind.Data }
@@ -113,17 +114,65 @@ impl Cache {
         } }
         ensures view { ShowsClear first count kind self.old self.new }
     {
-        if count <= u64::from(self.held.frames()) {
-            self.held.release_range(first, count);
-        } else {
-            self.held.release_frames(first, count);
-        }
+        self.held.release_blocks(first, count);
         self.map.set_range(first, count, kind);
     }
 
+    /// Whether the edges of a range find frames, beside the blocks that are dirty: so many blocks at its head, and so many at
+    /// its tail.
+    pub fn has_frames_at_edges(&self, first: u64, count: u64, head: u64, tail: u64) -> bool
+        requires range { first + count ≤ length self.now.states }
+        requires edges { head + tail ≤ count }
+        ensures enough { IsTrue result ↔ (edges_missing first count head tail self.now.blocks ≤ at_hand self.now.blocks) }
+        ensures once { IsOnce self.now.blocks }
+    {
+        let at_head = self.held.count_missing(first, head);
+        let at_tail = self.held.count_missing(first + count - tail, tail);
+        at_head + at_tail <= self.held.at_hand()
+    }
+
+    /// Clears so many blocks from the first one on but for the edges, which are written with the number of their command:
+    /// the first blocks with those of `head`, the last with those of `tail`. What lies between frees its frames first.
+    /// It is refused with 13 (no frame) exactly where a put of the edges alone would be, and where it is refused nothing has
+    /// changed.
+    pub fn clear_between(
+        &mut self,
+        number: u64,
+        first: u64,
+        count: u64,
+        kind: Kind,
+        head: &[[u8; 4096]],
+        tail: &[[u8; 4096]],
+    ) -> Result<(), KeepFault>
+        requires range { first + count ≤ length self.old.states }
+        requires edges { length head.now + length tail.now ≤ count }
+        requires kind { kind ≢ Kind.Data }
+        requires order { All (λ (held : DirtyBlock). held.number ≤ number) self.old.blocks.dirty }
+        requires some { 0 < number }
+        ensures ok { OnOk result (self.new ≡ with_edges number first count kind head.now tail.now self.old) }
+        ensures view { OnOk result (ShowsEdges first count kind head.now tail.now self.old self.new) }
+        ensures once { IsOnce self.new.blocks }
+        ensures no_frame { (result ≡ Err KeepFault.NoFrame) ↔ (at_hand self.old.blocks < edges_missing first count (length head.now) (length tail.now) self.old.blocks) }
+        ensures err { OnErr result (self.new ≡ self.old) }
+    {
+        if !self.has_frames_at_edges(first, count, head.len() as u64, tail.len() as u64) {
+            return Err(KeepFault::NoFrame);
+        }
+        let between = first + head.len() as u64;
+        let behind = first + count - tail.len() as u64;
+        self.held.reserve(head.len() + tail.len())?;
+        self.held.release_blocks(between, behind - between);
+        self.held.put_all(number, first, head);
+        self.held.put_all(number, behind, tail);
+        self.map.set_range(between, behind - between, kind);
+        self.map.set_range(first, head.len() as u64, Kind::Data);
+        self.map.set_range(behind, tail.len() as u64, Kind::Data);
+        Ok(())
+    }
+
     /// Keeps a block of data that was read from the image, in a free frame, else in that of the clean front; one that
-    /// is held already stays as it is. It is refused with 13 exactly where neither is there, and where it is refused
-    /// nothing has changed.
+    /// is held already stays as it is. It is refused with 13 (no frame) exactly where neither is there, and where it is
+    /// refused nothing has changed.
     pub fn fill(&mut self, block: u64, bytes: &[u8; 4096]) -> Result<(), KeepFault>
         requires range { block < length self.old.states }
         requires data { state_at self.old.states block ≡ Kind.Data }

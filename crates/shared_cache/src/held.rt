@@ -231,6 +231,7 @@ impl Held {
         ensures missing { IsMissing block self.new }
         ensures held_left { (frame : ℕ) → 1 ≤ held_times frame self.new.pool → 1 ≤ held_times frame self.old.pool }
         ensures kept { self.new.blocks ≡ self.old.blocks }
+        ensures spare { self.old.spare ≤ self.new.spare }
         ensures held { IsHeld self.new }
     {
         match self.frame_of(block) {
@@ -242,7 +243,8 @@ impl Held {
     // How many of so many blocks from the first one on aren't dirty.
     pub fn count_missing(&self, first: u64, count: u64) -> u64
         requires { first + count < 2 ^ 64 }
-        ensures { result ≡ count_missing first count (blocks_of self.now.pool self.now.blocks) }
+        ensures count { result ≡ count_missing first count (blocks_of self.now.pool self.now.blocks) }
+        ensures few { result ≤ count }
     {
         let mut missing = 0;
         for offset in 0..count {
@@ -282,6 +284,8 @@ impl Held {
         requires room { length blocks.now ≤ self.old.spare }
         requires held { IsHeld self.old }
         ensures blocks { blocks_of self.new.pool self.new.blocks ≡ with_puts number first blocks.now (blocks_of self.old.pool self.old.blocks) }
+        ensures order { All (λ (held : DirtyFrame). held.number ≤ number) self.new.pool.dirty }
+        ensures spare { self.old.spare ≤ self.new.spare + length blocks.now }
         ensures held { IsHeld self.new }
     {
         for (offset, bytes) in blocks.iter().enumerate() {
@@ -289,11 +293,27 @@ impl Held {
         }
     }
 
-    // Lets go of so many blocks from the first one on, by a look at each of them.
-    pub fn release_range(&mut self, first: u64, count: u64)
+    // Lets go of so many blocks from the first one on, by as many steps as there are blocks in the range, or frames.
+    pub fn release_blocks(&mut self, first: u64, count: u64)
         requires range { first + count < 2 ^ 64 }
         requires held { IsHeld self.old }
         ensures blocks { blocks_of self.new.pool self.new.blocks ≡ without (covers first count) (blocks_of self.old.pool self.old.blocks) }
+        ensures spare { self.old.spare ≤ self.new.spare }
+        ensures held { IsHeld self.new }
+    {
+        if count <= u64::from(self.pool.frames()) {
+            self.release_range(first, count);
+        } else {
+            self.release_frames(first, count);
+        }
+    }
+
+    // Lets go of so many blocks from the first one on, by a look at each of them.
+    fn release_range(&mut self, first: u64, count: u64)
+        requires range { first + count < 2 ^ 64 }
+        requires held { IsHeld self.old }
+        ensures blocks { blocks_of self.new.pool self.new.blocks ≡ without (covers first count) (blocks_of self.old.pool self.old.blocks) }
+        ensures spare { self.old.spare ≤ self.new.spare }
         ensures held { IsHeld self.new }
     {
         for offset in 0..count {
@@ -302,10 +322,11 @@ impl Held {
     }
 
     // Lets go of the same, by a look at each frame.
-    pub fn release_frames(&mut self, first: u64, count: u64)
+    fn release_frames(&mut self, first: u64, count: u64)
         requires range { first + count < 2 ^ 64 }
         requires held { IsHeld self.old }
         ensures blocks { blocks_of self.new.pool self.new.blocks ≡ without (covers first count) (blocks_of self.old.pool self.old.blocks) }
+        ensures spare { self.old.spare ≤ self.new.spare }
         ensures held { IsHeld self.new }
     {
         for frame in 0..self.pool.frames() {
@@ -323,6 +344,7 @@ impl Held {
         ensures missing { covers first count block ≡ true → IsMissing block self.new }
         ensures held_left { (frame : ℕ) → 1 ≤ held_times frame self.new.pool → 1 ≤ held_times frame self.old.pool }
         ensures kept { self.new.blocks ≡ self.old.blocks }
+        ensures spare { self.old.spare ≤ self.new.spare }
         ensures held { IsHeld self.new }
     {
         if first <= block && block < first + count {
@@ -337,13 +359,6 @@ impl Held {
         ensures held { IsHeld self.new }
     {
         while let Some(_) = self.clean_front(number) {}
-    }
-
-    // How many frames there are.
-    pub fn frames(&self) -> u32
-        ensures { result ≡ length self.now.pool.bytes }
-    {
-        self.pool.frames()
     }
 
     // The bytes of a block that is held.

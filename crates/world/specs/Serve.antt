@@ -1,6 +1,7 @@
 -- How serving a connection changes the world. Each step changes the world and adds its event to the log.
 use Rattle.std.specs.Prelude.{ℕ, ◌+◌, Bool, true, false, ◌==◌, nat_le, if◌then◌else◌, Result, Ok, Err, [], ◌∷◌, ◌++◌, length}
 use Rattle.disk_model.specs.Faults.{counted}
+use Rattle.image_model.specs.Change.{Change}
 use Rattle.image_model.specs.Image.{Image}
 use Rattle.nbd_wire.specs.Request.{Message}
 use Rattle.nbd_wire.specs.declared.error.Errno.{Errno}
@@ -47,10 +48,10 @@ moved world connection state = record world { connections = put world.connection
 abbrev pub ready : World → ℕ → Answer → World
 ready world connection outcome = logged (moved world connection (Ready outcome)) Took
 
--- the command of a request goes to the end of the order, paired with the request
-abbrev pub ordered : World → ℕ → Message → World
-ordered world connection request = record world {
-  stage = record world.stage { order = world.stage.order ++ command_of request ∷ [] };
+-- a command goes to the end of the order, paired with the connection's request
+abbrev pub ordered : World → ℕ → Change → World
+ordered world connection command = record world {
+  stage = record world.stage { order = world.stage.order ++ command ∷ [] };
   paired = put world.paired (length world.stage.order) (world.places connection);
 }
 
@@ -59,19 +60,19 @@ abbrev pub state_after : Bool → ℕ → Connection
 state_after true number = Waiting number
 state_after false number = Ready Done
 
--- a write command that nothing holds or refuses
-abbrev pub accepted : Failure → World → ℕ → Message → World
-accepted OutOfMemory world connection request = ready world connection (Refused NoMemory)
-accepted _ world connection request =
+-- a write request, whose command nothing holds or refuses
+abbrev pub accepted : Failure → World → ℕ → Message → Change → World
+accepted OutOfMemory world connection request command = ready world connection (Refused NoMemory)
+accepted _ world connection request command =
     let number = last_number world + 1 in
-    logged (moved (ordered world connection request) connection (state_after (waits_for_store world.stage.setting.mode request) number))
+    logged (moved (ordered world connection command) connection (state_after (waits_for_store world.stage.setting.mode request) number))
     (Numbered connection number)
 
--- a write command: refused where no number is left, held where there is no room
-abbrev pub write_served : Failure → World → ℕ → Message → World
-write_served failure world connection request =
+-- a write request that asks for a command: refused where no number is left, held where there is no room
+abbrev pub write_served : Failure → World → ℕ → Message → Change → World
+write_served failure world connection request command =
     if last_number world == 18446744073709551615 then ready world connection (Refused NoSpace)
-    else (if has_room world (command_of request) then accepted failure world connection request else held world)
+    else (if has_room world command then accepted failure world connection request command else held world)
 
 -- what a READ or a BLOCK_STATUS shows: the image after all of the order, but where the device isn't trusted and shows another
 abbrev pub image_shown : Failure → Stage → Image
@@ -104,7 +105,7 @@ passed failure world connection request =
     else (if is_flush request then logged (moved world connection (Waiting (last_number world))) Took
     else (if request.head.kind == 0 then read_served failure world connection request
     else (if request.head.kind == 7 then status_served failure world connection request
-    else write_served failure world connection request)))
+    else write_served failure world connection request (command_of request))))
 
 -- a request that is judged: DISC closes the connection
 abbrev pub judged : Result Action Errno → Failure → World → ℕ → Message → World

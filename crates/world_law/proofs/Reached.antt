@@ -88,11 +88,11 @@ module _ (world : World) where
     grows_send failure request (Ready outcome) = grows_held
     grows_send failure request Closed = grows_held
 
-    grows_numbered : (request : Message) (state : Connection) (event : Event) → Grows world (logged (moved (ordered world c request) c state) event)
-    grows_numbered request state event = record {
+    grows_numbered : (command : Change) (state : Connection) (event : Event) → Grows world (logged (moved (ordered world c command) c state) event)
+    grows_numbered command state event = record {
       setting = refl;
       log = (event ∷ [], refl);
-      order = (command_of request ∷ [], refl);
+      order = (command ∷ [], refl);
       paired = λ k below. put_other world.paired (length world.stage.order) (world.places c) k (λ is. omega (arith, is, below));
       stored = omega arith;
       durable = omega arith;
@@ -102,11 +102,11 @@ module _ (world : World) where
       stopped = λ is. is;
     }
 
-    grows_accepted : (failure : Failure) (request : Message) → Grows world (accepted failure world c request)
-    grows_accepted OutOfMemory request = grows_moved (Ready (Refused NoMemory)) Took
-    grows_accepted Nothing request = grows_numbered request _ _
-    grows_accepted DeviceFailure request = grows_numbered request _ _
-    grows_accepted (Misread image) request = grows_numbered request _ _
+    grows_accepted : (failure : Failure) (request : Message) (command : Change) → Grows world (accepted failure world c request command)
+    grows_accepted OutOfMemory request command = grows_moved (Ready (Refused NoMemory)) Took
+    grows_accepted Nothing request command = grows_numbered command _ _
+    grows_accepted DeviceFailure request command = grows_numbered command _ _
+    grows_accepted (Misread image) request command = grows_numbered command _ _
 
     grows_shown : (image : Image) (request : Message) → Grows world (shown image world c request)
     grows_shown image request = grows_plain world (shown image world c request) _ refl refl refl refl (omega arith) (omega arith) (λ within. omega arith) (λ within. omega arith) (omega arith) (λ is. is)
@@ -129,7 +129,7 @@ module _ (world : World) where
         (λ other. of_either (Grows world) (request.head.kind == 0) _ _ (λ read. grows_read failure request)
         (λ no_read. of_either (Grows world) (request.head.kind == 7) _ _ (λ status. grows_status failure request)
         (λ no_status. of_either (Grows world) (last_number world == 18446744073709551615) _ _ (λ full. grows_moved (Ready (Refused NoSpace)) Took)
-        (λ left. of_either (Grows world) (has_room world (command_of request)) _ _ (λ room. grows_accepted failure request) (λ none. grows_held))))))
+        (λ left. of_either (Grows world) (has_room world (command_of request)) _ _ (λ room. grows_accepted failure request (command_of request)) (λ none. grows_held))))))
 
     grows_judged : (result : Result Action Errno) (failure : Failure) (request : Message) → Grows world (judged result failure world c request)
     grows_judged (Ok End) failure request = grows_moved Closed Took

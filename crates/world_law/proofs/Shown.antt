@@ -262,17 +262,17 @@ fit_answered world c request outcome sound is_open fit is_due = record {
 image_same : (count : ℕ) (order more : List Change) (image : Image) → count ≤ length order → image_after (order ++ more) count image ≡ image_after order count image
 image_same count order more image within = ap (λ (l : List Change). apply_all l image) (take-append-le count order more within)
 
--- the command of an open request goes to the end of the order
-module _ (world : World) (c : ℕ) (request : Message) (is_open : IsOpen world.log c (world.places c) request) where
+-- a command of an open request goes to the end of the order
+module _ (world : World) (c : ℕ) (request : Message) (command : Change) (is_open : IsOpen world.log c (world.places c) request) where
   abbrev more : Facts
-  more = facts (ordered world c request)
+  more = facts (ordered world c command)
 
-  below_more : (k : ℕ) → k < length (world.stage.order ++ command_of request ∷ []) → (k < length world.stage.order) ⊎ (k ≡ length world.stage.order)
+  below_more : (k : ℕ) → k < length (world.stage.order ++ command ∷ []) → (k < length world.stage.order) ⊎ (k ≡ length world.stage.order)
   below_more k below = by_case (cases_eq k (length world.stage.order))
     where
       by_case : (k ≡ length world.stage.order) ⊎ (k ≡ length world.stage.order → ⊥) → (k < length world.stage.order) ⊎ (k ≡ length world.stage.order)
       by_case (inl is) = inr is
-      by_case (inr other) = inl (omega (arith, length-append world.stage.order (command_of request ∷ []), below, other))
+      by_case (inr other) = inl (omega (arith, length-append world.stage.order (command ∷ []), below, other))
 
   old_pair : (k : ℕ) → k < length world.stage.order → more.paired k ≡ world.paired k
   old_pair k below = put_other world.paired (length world.stage.order) (world.places c) k (λ is. omega (arith, is, below))
@@ -282,7 +282,7 @@ module _ (world : World) (c : ℕ) (request : Message) (is_open : IsOpen world.l
 
   shows_ordered : (place : ℕ) (asked : Message) (outcome : Answer) → world.shown place ≤ length world.stage.order → Shows (facts world) place asked outcome → Shows more place asked outcome
   shows_ordered place asked outcome within is = record {
-    shows = λ trusted. is.shows trusted ∙ ap (λ (i : Image). shown_by i asked.head) (sym (image_same (world.shown place) world.stage.order (command_of request ∷ []) world.stage.setting.image within));
+    shows = λ trusted. is.shows trusted ∙ ap (λ (i : Image). shown_by i asked.head) (sym (image_same (world.shown place) world.stage.order (command ∷ []) world.stage.setting.image within));
     after = λ k connection answer other below told before. after k connection answer other before told (below_more k below);
     rising = is.rising;
   }
@@ -301,15 +301,17 @@ module _ (world : World) (c : ℕ) (request : Message) (is_open : IsOpen world.l
   due_ordered connection place (Requested other) within is = tt
   due_ordered connection place Closed within is = tt
 
-  fit_ordered : Fits world → Fits (ordered world c request)
+  fit_ordered : Fits world → Fits (ordered world c command)
   fit_ordered fit = record {
-    within = λ place. let most = fit.within place in omega (arith, most, length-append world.stage.order (command_of request ∷ []));
+    within = λ place. let most = fit.within place in omega (arith, most, length-append world.stage.order (command ∷ []));
     due = λ d. due_ordered d (world.places d) (world.connections d) (fit.within (world.places d)) (fit.due d);
     answered = λ place is. shows_ordered place is.request is.outcome (fit.within place) (fit.answered place is);
     before = λ place is k below. let most = fit.within place in
         subst (λ (p : ℕ). p < is.answer) (sym (old_pair k (omega (arith, below, most)))) (fit.before place is k below);
   }
 
+-- an open request is answered with what an image shows
+module _ (world : World) (c : ℕ) (request : Message) (is_open : IsOpen world.log c (world.places c) request) where
   -- the count of the open request is that of all commands
   abbrev counted : World
   counted = record world { shown = put world.shown (world.places c) (length world.stage.order) }
@@ -402,18 +404,18 @@ module _ (world : World) (c : ℕ) (sound : IsSound world) (fit : Fits world) wh
     due_after given true number same other = λ asked at read. no_read asked (subst (λ (l : List Event). StandsAt l (world.places c) (Sent c asked)) same at) other read
     due_after given false number same other = λ asked at read told. absurd (no_read asked (subst (λ (l : List Event). StandsAt l (world.places c) (Sent c asked)) same at) other read)
 
-    fit_numbered : is_read request ≡ false → Fits (logged (moved (ordered world c request) c (state_after (waits_for_store world.stage.setting.mode request) (last_number world + 1))) (Numbered c (last_number world + 1)))
-    fit_numbered other =
+    fit_numbered : (command : Change) → is_read request ≡ false → Fits (logged (moved (ordered world c command) c (state_after (waits_for_store world.stage.setting.mode request) (last_number world + 1))) (Numbered c (last_number world + 1)))
+    fit_numbered command other =
         let state = state_after (waits_for_store world.stage.setting.mode request) (last_number world + 1) in
-        fit_quiet (moved (ordered world c request) c state) (Numbered c (last_number world + 1)) (quiet_numbered c (last_number world + 1))
-        (fit_moved (ordered world c request) c state (fit_ordered world c request is_open fit)
-        (due_after (facts (ordered world c request)) (waits_for_store world.stage.setting.mode request) (last_number world + 1) refl other))
+        fit_quiet (moved (ordered world c command) c state) (Numbered c (last_number world + 1)) (quiet_numbered c (last_number world + 1))
+        (fit_moved (ordered world c command) c state (fit_ordered world c request command is_open fit)
+        (due_after (facts (ordered world c command)) (waits_for_store world.stage.setting.mode request) (last_number world + 1) refl other))
 
-    fit_accepted : (failure : Failure) → is_read request ≡ false → Fits (accepted failure world c request)
-    fit_accepted OutOfMemory other = fit_ready NoMemory
-    fit_accepted Nothing other = fit_numbered other
-    fit_accepted DeviceFailure other = fit_numbered other
-    fit_accepted (Misread image) other = fit_numbered other
+    fit_accepted : (failure : Failure) (command : Change) → is_read request ≡ false → Fits (accepted failure world c request command)
+    fit_accepted OutOfMemory command other = fit_ready NoMemory
+    fit_accepted Nothing command other = fit_numbered command other
+    fit_accepted DeviceFailure command other = fit_numbered command other
+    fit_accepted (Misread image) command other = fit_numbered command other
 
     fit_fault : Fits (ready (faulted world) c (Refused Io))
     fit_fault = fit_quiet (moved (faulted world) c (Ready (Refused Io))) Took quiet_took (fit_moved (faulted world) c (Ready (Refused Io)) fit (λ asked at read given. absurd (given Io refl)))
@@ -430,21 +432,21 @@ module _ (world : World) (c : ℕ) (sound : IsSound world) (fit : Fits world) wh
     fit_status Nothing = fit_shown world c request is_open (image_shown Nothing world.stage) (shown_true Nothing world.stage) fit
     fit_status (Misread image) = fit_shown world c request is_open (image_shown (Misread image) world.stage) (shown_true (Misread image) world.stage) fit
 
-    fit_write : (failure : Failure) → is_read request ≡ false → Fits (write_served failure world c request)
-    fit_write failure other = of_either Fits (last_number world == 18446744073709551615) (ready world c (Refused NoSpace)) (if has_room world (command_of request) then accepted failure world c request else held world)
+    fit_write : (failure : Failure) (command : Change) → is_read request ≡ false → Fits (write_served failure world c request command)
+    fit_write failure command other = of_either Fits (last_number world == 18446744073709551615) (ready world c (Refused NoSpace)) (if has_room world command then accepted failure world c request command else held world)
         (λ full. fit_ready NoSpace)
-        (λ left. of_either Fits (has_room world (command_of request)) (accepted failure world c request) (held world) (λ room. fit_accepted failure other) (λ none. fit_held))
+        (λ left. of_either Fits (has_room world command) (accepted failure world c request command) (held world) (λ room. fit_accepted failure command other) (λ none. fit_held))
 
     -- a request that is no FLUSH
     abbrev asked : Failure → World
     asked failure = if request.head.kind == 0 then read_served failure world c request
-        else (if request.head.kind == 7 then status_served failure world c request else write_served failure world c request)
+        else (if request.head.kind == 7 then status_served failure world c request else write_served failure world c request (command_of request))
 
     fit_asked : (failure : Failure) → Fits (asked failure)
-    fit_asked failure = of_either Fits (request.head.kind == 0) (read_served failure world c request) (if request.head.kind == 7 then status_served failure world c request else write_served failure world c request)
+    fit_asked failure = of_either Fits (request.head.kind == 0) (read_served failure world c request) (if request.head.kind == 7 then status_served failure world c request else write_served failure world c request (command_of request))
         (λ read. fit_read failure)
-        (λ no_bytes. of_either Fits (request.head.kind == 7) (status_served failure world c request) (write_served failure world c request) (λ status. fit_status failure)
-        (λ no_status. fit_write failure (or_from (request.head.kind == 0) (request.head.kind == 7) no_bytes no_status)))
+        (λ no_bytes. of_either Fits (request.head.kind == 7) (status_served failure world c request) (write_served failure world c request (command_of request)) (λ status. fit_status failure)
+        (λ no_status. fit_write failure (command_of request) (or_from (request.head.kind == 0) (request.head.kind == 7) no_bytes no_status)))
 
     abbrev flushed : World
     flushed = logged (moved world c (Waiting (last_number world))) Took

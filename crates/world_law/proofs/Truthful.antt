@@ -2,6 +2,7 @@
 use Rattle.std.proofs.Common.{◌≡◌, ◌⊎◌, inl, inr, ℕ, ◌+◌, ◌-◌, ◌<◌, ◌≤◌, ◌==◌, ◌&&◌, ◌||◌, ◌*◌, Bool, true, false, nat_le, nat_lt, not, Result, Ok, Err, List, [], ◌∷◌, ◌++◌, drop, length, sym, ◌∙◌, ap, if◌then◌else◌, subst, refl, arith, bit_and}
 use Rattle.std.proofs.lemmas.Bool.{both_ways, cases_eq, cases_lt}
 use Rattle.image_model.specs.Bodies.{bodies_bytes, body_limit, longest}
+use Rattle.image_model.specs.Change.{Change}
 use Rattle.image_model.specs.declared.geometry.Geometry.{Geometry}
 use Rattle.nbd_wire.specs.Request.{Message}
 use Rattle.nbd_wire.specs.declared.error.Errno.{Errno}
@@ -211,8 +212,8 @@ module _ (world : World) (true_so_far : IsTruthful world) where
     after_unlike true number is = cc
     after_unlike false number is = cc
 
-    calm_numbered : (request : Message) (waits : Bool) (number : ℕ) → IsTruthful (logged (moved (ordered world c request) c (state_after waits number)) (Numbered c number))
-    calm_numbered request waits number = calm (logged (moved (ordered world c request) c (state_after waits number)) (Numbered c number)) (Numbered c number) refl refl refl refl
+    calm_numbered : (command : Change) (waits : Bool) (number : ℕ) → IsTruthful (logged (moved (ordered world c command) c (state_after waits number)) (Numbered c number))
+    calm_numbered command waits number = calm (logged (moved (ordered world c command) c (state_after waits number)) (Numbered c number)) (Numbered c number) refl refl refl refl
         (λ is. is) tt (due_put c (state_after waits number) (λ is. absurd (after_unlike waits number is)))
 
     memory_unlike : NoMemory ≡ Io → ⊥
@@ -221,11 +222,11 @@ module _ (world : World) (true_so_far : IsTruthful world) where
     space_unlike : NoSpace ≡ Io → ⊥
     space_unlike is = cc
 
-    calm_accepted : (failure : Failure) (request : Message) → IsTruthful (accepted failure world c request)
-    calm_accepted OutOfMemory request = calm_ready NoMemory (λ is. absurd (memory_unlike is))
-    calm_accepted Nothing request = calm_numbered request _ _
-    calm_accepted DeviceFailure request = calm_numbered request _ _
-    calm_accepted (Misread image) request = calm_numbered request _ _
+    calm_accepted : (failure : Failure) (request : Message) (command : Change) → IsTruthful (accepted failure world c request command)
+    calm_accepted OutOfMemory request command = calm_ready NoMemory (λ is. absurd (memory_unlike is))
+    calm_accepted Nothing request command = calm_numbered command _ _
+    calm_accepted DeviceFailure request command = calm_numbered command _ _
+    calm_accepted (Misread image) request command = calm_numbered command _ _
 
     shown_unlike : (image : Image) (head : RequestHead) → Ready (shown_by image head) ≡ Ready (Refused Io) → ⊥
     shown_unlike image head = of_either (λ (outcome : Answer). Ready outcome ≡ Ready (Refused Io) → ⊥) (head.kind == 0) _ _ (λ read is. cc) (λ status is. cc)
@@ -261,7 +262,7 @@ module _ (world : World) (true_so_far : IsTruthful world) where
         (λ other. of_either IsTruthful (request.head.kind == 0) _ _ (λ read. calm_read failure request)
         (λ no_read. of_either IsTruthful (request.head.kind == 7) _ _ (λ status. calm_status failure request)
         (λ no_status. of_either IsTruthful (last_number world == 18446744073709551615) _ _ (λ full. calm_ready NoSpace (λ is. absurd (space_unlike is)))
-        (λ left. of_either IsTruthful (has_room world (command_of request)) _ _ (λ room. calm_accepted failure request) (λ none. calm_held))))))
+        (λ left. of_either IsTruthful (has_room world (command_of request)) _ _ (λ room. calm_accepted failure request (command_of request)) (λ none. calm_held))))))
 
     calm_judged : (result : Result Action Errno) → (result ≡ Err Io → ⊥) → (failure : Failure) (request : Message) → IsTruthful (judged result failure world c request)
     calm_judged (Ok End) unlike failure request = calm_moved Closed Took tt (λ is. cc)

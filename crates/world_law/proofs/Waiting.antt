@@ -11,6 +11,7 @@ use Rattle.world.specs.declared.connection.Connection.TheVariants.{Idle, Request
 use Rattle.world.specs.declared.step.Step.{Step}
 use Rattle.world.specs.declared.step.Step.TheVariants as steps
 use Rattle.image_model.specs.Bodies.{bodies_bytes}
+use Rattle.image_model.specs.Change.{Change}
 use Rattle.world.specs.Log.{command_of, is_flush, waits_for_store}
 use Rattle.world.specs.Run.{IsReached, Fresh, After}
 use Rattle.world.specs.Serve.{Failure, Nothing, OutOfMemory, DeviceFailure, accepted, answer, judged, passed, serve, state_after, Misread, image_shown, shown, read_served, status_served}
@@ -66,19 +67,19 @@ module _ (world : World) (all : AllWait world) where
   state_within false last number le = tt
 
   -- a command gets the next number
-  wait_ordered : (c : ℕ) (request : Message) (d : ℕ)
-      → WaitsWithin (world.stage.setting.opening + length (world.stage.order ++ command_of request ∷ []))
+  wait_ordered : (c : ℕ) (request : Message) (command : Change) (d : ℕ)
+      → WaitsWithin (world.stage.setting.opening + length (world.stage.order ++ command ∷ []))
       (put world.connections c (state_after (waits_for_store world.stage.setting.mode request) (last_number world + 1)) d)
-  wait_ordered c request =
-      let more = length-append world.stage.order (command_of request ∷ []) in
-      wait_put c (world.stage.setting.opening + length (world.stage.order ++ command_of request ∷ [])) (state_after (waits_for_store world.stage.setting.mode request) (last_number world + 1)) (omega (arith, more))
+  wait_ordered c request command =
+      let more = length-append world.stage.order (command ∷ []) in
+      wait_put c (world.stage.setting.opening + length (world.stage.order ++ command ∷ [])) (state_after (waits_for_store world.stage.setting.mode request) (last_number world + 1)) (omega (arith, more))
       (state_within (waits_for_store world.stage.setting.mode request) _ (last_number world + 1) (omega (arith, more)))
 
-  wait_accepted : (failure : Failure) (c : ℕ) (request : Message) → AllWait (accepted failure world c request)
-  wait_accepted OutOfMemory c request = wait_moved c (Ready (Refused NoMemory)) tt
-  wait_accepted Nothing c request = wait_ordered c request
-  wait_accepted DeviceFailure c request = wait_ordered c request
-  wait_accepted (Misread image) c request = wait_ordered c request
+  wait_accepted : (failure : Failure) (c : ℕ) (request : Message) (command : Change) → AllWait (accepted failure world c request command)
+  wait_accepted OutOfMemory c request command = wait_moved c (Ready (Refused NoMemory)) tt
+  wait_accepted Nothing c request command = wait_ordered c request command
+  wait_accepted DeviceFailure c request command = wait_ordered c request command
+  wait_accepted (Misread image) c request command = wait_ordered c request command
 
   wait_shown : (image : Image) (c : ℕ) (request : Message) → AllWait (shown image world c request)
   wait_shown image c request = wait_moved c (Ready (shown_by image request.head)) tt
@@ -101,7 +102,7 @@ module _ (world : World) (all : AllWait world) where
       (λ other. of_either AllWait (request.head.kind == 0) _ _ (λ read. wait_read failure c request)
       (λ no_read. of_either AllWait (request.head.kind == 7) _ _ (λ status. wait_status failure c request)
       (λ no_status. of_either AllWait (last_number world == 18446744073709551615) _ _ (λ full. wait_moved c (Ready (Refused NoSpace)) tt)
-      (λ left. of_either AllWait (has_room world (command_of request)) _ _ (λ room. wait_accepted failure c request) (λ none. all))))))
+      (λ left. of_either AllWait (has_room world (command_of request)) _ _ (λ room. wait_accepted failure c request (command_of request)) (λ none. all))))))
 
   wait_judged : (given : Result Action Errno) (failure : Failure) (c : ℕ) (request : Message) → AllWait (judged given failure world c request)
   wait_judged (Ok End) failure c request = wait_moved c Closed tt

@@ -24,11 +24,12 @@ pub struct Shape {
 fn body(commands: &[Command]) -> usize {
     let mut sum = 0usize;
     for command in commands {
-        let data = match command {
-            Command::Put { bytes, .. } => bytes.len(),
-            Command::Clear { .. } => 0,
+        let own = match command {
+            Command::Put { bytes, .. } => bytes.len().saturating_add(13),
+            Command::Clear { .. } => 13,
+            Command::Edged { bytes, .. } => bytes.len().saturating_add(14),
         };
-        sum = sum.saturating_add(data).saturating_add(13);
+        sum = sum.saturating_add(own);
     }
     sum
 }

@@ -143,6 +143,8 @@ fn is_inside(image: u64, command: &Command) -> bool
             blocks,
             kind,
         } => *kind != Kind::Data && is_range(image, *first, *blocks as u64),
+        // No bench offers one.
+        Command::Edged { .. } => false,
     }
 }
 

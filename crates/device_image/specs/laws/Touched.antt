@@ -1,16 +1,19 @@
 -- What the last touch of a block by a list can be: one of a block of the image, and a put's bytes stand in the list.
-use Rattle.std.proofs.Common.{◌≡◌, ℕ, ◌+◌, ◌-◌, ◌*◌, ◌/◌, ◌≤◌, ◌<◌, Bool, true, false, if◌then◌else◌, Option, Some, None, List, [], ◌∷◌, length, sym, refl, subst, arith, length-append}
+use Rattle.std.proofs.Common.{◌≡◌, ℕ, ◌+◌, ◌-◌, ◌*◌, ◌/◌, ◌≤◌, ◌<◌, Bool, true, false, if◌then◌else◌, Option, Some, None, List, [], ◌∷◌, length, sym, refl, ap, subst, arith, length-append}
 use Rattle.std.specs.List.{flat_map}
+use Rattle.std.specs.Option.{is_some}
+use Rattle.std.proofs.lemmas.Bool.{both_ways}
 use Rattle.std.proofs.lemmas.Bool.Decides.{nat_tests}
 use Rattle.std.proofs.lemmas.List.Sums.{sum_by-cons}
-use Rattle.image_model.specs.Change.{Change, Written, Cleared, IsChange, IsCleared, AreChanges}
-use Rattle.image_model.specs.Image.{covers}
+use Rattle.image_model.specs.declared.command.Kind.{Kind}
+use Rattle.image_model.specs.Change.{Change, Written, Cleared, Edged, IsChange, IsCleared, AreChanges}
+use Rattle.image_model.specs.Image.{data_of, kind_given, slot, touches, writes}
 use Rattle.group_list.specs.declared.touch.Touch.{Touch}
 use Rattle.group_list.specs.declared.touch.Touch.TheVariants.{Put, Clear}
 use Rattle.group_list.specs.GroupList.{Stand, number_behind, size_of, sizes_of}
-use Rattle.group_list.specs.Spelling.{StoredGroup, change_bytes, change_head}
-use Rattle.group_list.specs.Touches.{last_touch, later, touch_in, touched_by, touched_by_changes, touched_by_groups}
-use Rattle.group_list.specs.laws.LastTouches.{last_touch-append}
+use Rattle.group_list.specs.Spelling.{StoredGroup, change_bytes, change_head, clear_byte, edged_byte, edges_byte}
+use Rattle.group_list.specs.Touches.{data_place, last_touch, later, touched_by, touched_by_changes, touched_by_groups}
+use Rattle.group_list.specs.laws.LastTouches.{last_touch-append, slot_inside, touch_of, touches_told}
 use Rattle.group_list.specs.laws.Spelled.{length-change_head}
 
 abbrev pub IsSoundTouch : ℕ → ℕ → ℕ → ℕ → Option Touch → Type 0
@@ -23,31 +26,62 @@ module _ (limit from end block : ℕ) where
   later_sound a None first second = first
   later_sound a (Some touch) first second = second
 
-  sound_if : (test : Bool) (touch : Touch) → (test ≡ true → IsSoundTouch limit from end block (Some touch)) → IsSoundTouch limit from end block (if test then Some touch else None)
-  sound_if true touch sound = sound refl
-  sound_if false touch sound = tt
+  told_sound : (test : Bool) (place : ℕ) (at : Option ℕ) (kind : Kind) → (test ≡ true → block < limit) → ((found : ℕ) → at ≡ Some found → (from ≤ place + found) × (place + found + 4096 ≤ end))
+      → (test ≡ true → at ≡ None → IsCleared kind) → IsSoundTouch limit from end block (if test then Some (touch_of place at kind) else None)
+  told_sound true place None kind inside stored cleared = (inside refl, cleared refl refl)
+  told_sound true place (Some at) kind inside stored cleared = (inside refl, (stored at refl).0, (stored at refl).1)
+  told_sound false place at kind inside stored cleared = tt
 
-  change_sound : (place : ℕ) (change : Change) → IsChange limit change → from ≤ place → place + length (change_bytes change) ≤ end → IsSoundTouch limit from end block (touch_in block (touched_by place change))
-  unfolding change_bytes
-  change_sound place (Written first bytes) is low high =
-      sound_if (covers first (length bytes / 4096) block) (Put (place + 13 + 4096 * (block - first))) (λ covered.
-      let above : first ≤ block = grind (arith, nat_tests, covered) in
-      let below : block < first + length bytes / 4096 = grind (arith, nat_tests, covered) in
-      let long = length-append (change_head 1 first (length bytes / 4096)) bytes in
-      let head = length-change_head 1 first (length bytes / 4096) in
-      (omega (arith, is.1, is.4, below), omega (arith, low), omega (arith, is.1, high, long, head, above, below)))
-  change_sound place (Cleared first blocks kind) is low high =
-      sound_if (covers first blocks block) (Clear kind) (λ covered.
+  -- a change touches blocks of the image alone, and clears to no data
+  touched_inside : (change : Change) → IsChange limit change → touches block change ≡ true → block < limit
+  touched_inside (Written first bytes) is covered =
+      let below : block < first + (length bytes + 4095) / 4096 = grind (arith, nat_tests, covered) in
+      omega (arith, is.1, is.4, below)
+  touched_inside (Cleared first blocks kind) is covered =
       let below : block < first + blocks = grind (arith, nat_tests, covered) in
-      (omega (arith, is.1, below), is.3))
+      omega (arith, is.1, below)
+  touched_inside (Edged first blocks kind edges bytes) is covered =
+      let below : block < first + blocks = grind (arith, nat_tests, covered) in
+      omega (arith, is.1, below)
+
+  touched_cleared : (change : Change) → IsChange limit change → touches block change ≡ true → slot block change ≡ None → IsCleared (kind_given change)
+  touched_cleared (Written first bytes) is covered none = absurd (both_ways (writes block (Written first bytes)) (ap is_some none) (ap (λ (test : Bool). is_some {T = ℕ} (if test then Some (4096 * (block - first)) else None)) covered))
+  touched_cleared (Cleared first blocks kind) is covered none = is.3
+  touched_cleared (Edged first blocks kind edges bytes) is covered none = is.3
+
+  -- the data of a change end where it does
+  data_end : (place : ℕ) (change : Change) → data_place place change + length (data_of change) ≡ place + length (change_bytes change)
+  unfolding change_bytes
+  data_end place (Written first bytes) =
+      omega (arith, length-append (change_head 1 first (length bytes / 4096)) bytes, length-change_head 1 first (length bytes / 4096))
+  data_end place (Cleared first blocks kind) = omega (arith, length-change_head (clear_byte kind) first blocks)
+  data_end place (Edged first blocks kind edges bytes) =
+      omega (arith, length-append (change_head (edged_byte kind) first blocks) (edges_byte edges ∷ bytes), length-change_head (edged_byte kind) first blocks)
+
+  data_low : (place : ℕ) (change : Change) → place ≤ data_place place change
+  data_low place (Written first bytes) = omega arith
+  data_low place (Cleared first blocks kind) = omega arith
+  data_low place (Edged first blocks kind edges bytes) = omega arith
+
+  change_sound : (place : ℕ) (change : Change) → IsChange limit change → from ≤ place → place + length (change_bytes change) ≤ end → IsSoundTouch limit from end block (last_touch block (touched_by place change))
+  change_sound place change is low high = subst (IsSoundTouch limit from end block) (sym (touches_told limit block place change is))
+      (told_sound (touches block change) (data_place place change) (slot block change) (kind_given change)
+      (touched_inside change is)
+      (λ found at.
+      let inside = slot_inside limit block change found is at in
+      let ends = data_end place change in
+      let begins = data_low place change in
+      (omega (arith, low, begins), omega (arith, ends, inside, high)))
+      (touched_cleared change is))
 
   changes_sound : (place : ℕ) (changes : List Change) → AreChanges limit changes → from ≤ place → place + length (flat_map change_bytes changes) ≤ end → IsSoundTouch limit from end block (last_touch block (touched_by_changes place changes))
   changes_sound place [] are low high = tt
   changes_sound place (change ∷ changes) are low high =
       let long = length-append (change_bytes change) (flat_map change_bytes changes) in
-      later_sound (touch_in block (touched_by place change)) (last_touch block (touched_by_changes (place + length (change_bytes change)) changes))
+      subst (IsSoundTouch limit from end block) (sym (last_touch-append block (touched_by place change) (touched_by_changes (place + length (change_bytes change)) changes)))
+      (later_sound (last_touch block (touched_by place change)) (last_touch block (touched_by_changes (place + length (change_bytes change)) changes))
       (change_sound place change are.0 low (omega (arith, long, high)))
-      (changes_sound (place + length (change_bytes change)) changes are.1 (omega (arith, low)) (omega (arith, long, high)))
+      (changes_sound (place + length (change_bytes change)) changes are.1 (omega (arith, low)) (omega (arith, long, high))))
 
   pub groups_sound : (content : List ℕ) (place next : ℕ) (groups : List StoredGroup) → Stand limit content place next groups → from ≤ place → place + sizes_of groups ≤ end
       → IsSoundTouch limit from end block (last_touch block (touched_by_groups place groups))

@@ -2,16 +2,18 @@
 use Rattle.std.proofs.Common.{◌≤◌, ◌≡◌, ℕ, ◌+◌, ◌-◌, ◌*◌, ◌/◌, Bool, true, false, ◌&&◌, ◌||◌, if◌then◌else◌, Option, Some, None, List, [], ◌∷◌, ◌++◌, length, refl, sym, ◌∙◌, ap, arith}
 use Rattle.std.specs.Option.{is_some}
 use Rattle.std.specs.List.{list_any}
-use Rattle.image_model.specs.Change.{Change, Written, Cleared, IsChange, AreChanges}
-use Rattle.image_model.specs.Dirty.{is_write, last_write, touches}
-use Rattle.image_model.specs.Image.{covers}
+use Rattle.image_model.specs.Change.{Change, Written, Cleared, Edged, IsChange, AreChanges}
+use Rattle.image_model.specs.Dirty.{last_write}
+use Rattle.image_model.specs.Image.{kind_given, slot, touches, writes}
+use Rattle.image_model.specs.laws.Slots.{touched_and_written}
 use Rattle.group_list.specs.GroupList.{Stand, changes_of, number_behind, size_of}
 use Rattle.group_list.specs.Spelling.{StoredGroup, change_bytes}
-use Rattle.group_list.specs.Touches.{last_touch, later, touched_by, touched_by_changes, touched_by_groups}
+use Rattle.group_list.specs.Touches.{data_place, last_touch, later, touched_by, touched_by_changes, touched_by_groups}
+use Rattle.image_model.specs.declared.command.Kind.{Kind}
 use Rattle.group_list.specs.declared.touch.Touch.{Touch}
 use Rattle.group_list.specs.declared.touch.Touch.TheVariants.{Put, Clear}
 use Rattle.group_list.specs.declared.touch.TouchedRange.{TouchedRange}
-use Rattle.group_list.specs.laws.LastTouches.{last_touch-append}
+use Rattle.group_list.specs.laws.LastTouches.{last_touch-append, touch_of, touches_told}
 use Rattle.device_image.specs.Holds.{is_written}
 use Rattle.device_image.specs.Keeper.{is_put}
 use Rattle.device_image.specs.Remembers.{TellOf}
@@ -20,7 +22,7 @@ use Rattle.std.proofs.lemmas.Bool.Decides.{nat_tests}
 -- whether the last of the commands that touches the block writes it
 abbrev pub ends_written : ℕ → List Change → Bool
 ends_written block [] = false
-ends_written block (change ∷ changes) = if list_any (touches block) changes then ends_written block changes else (touches block change && is_write change)
+ends_written block (change ∷ changes) = if list_any (touches block) changes then ends_written block changes else writes block change
 
 if_some : (any : Bool) (last : Option ℕ) (this ends : Bool) (number : ℕ) → is_some last ≡ ends
     → is_some (if any then last else (if this then Some number else None)) ≡ (if any then ends else this)
@@ -31,7 +33,7 @@ if_some false last false ends number same = refl
 pub last_write_is : (block last : ℕ) (changes : List Change) → is_some (last_write block last changes) ≡ ends_written block changes
 last_write_is block last [] = refl
 last_write_is block last (change ∷ changes) =
-    if_some (list_any (touches block) changes) (last_write block (last + 1) changes) (touches block change && is_write change) (ends_written block changes) (last + 1)
+    if_some (list_any (touches block) changes) (last_write block (last + 1) changes) (writes block change) (ends_written block changes) (last + 1)
     (last_write_is block (last + 1) changes)
 
 -- What touched a block, and whether that was a write, is the same of ranges and of commands.
@@ -62,7 +64,10 @@ ends_append block [] ys = none block ys
   where
     none : (block : ℕ) (ys : List Change) → ends_written block ys ≡ (if list_any (touches block) ys then ends_written block ys else false)
     none block [] = refl
-    none block (y ∷ ys) = both (list_any (touches block) ys) (touches block y) (is_write y) (ends_written block ys)
+    none block (y ∷ ys) =
+        ap (λ (put : Bool). if list_any (touches block) ys then ends_written block ys else put) (sym (touched_and_written block y))
+        ∙ both (list_any (touches block) ys) (touches block y) (writes block y) (ends_written block ys)
+        ∙ ap (λ (put : Bool). if touches block y || list_any (touches block) ys then (if list_any (touches block) ys then ends_written block ys else put) else false) (touched_and_written block y)
       where
         both : (any touched write ends : Bool) → (if any then ends else (touched && write)) ≡ (if (touched || any) then (if any then ends else (touched && write)) else false)
         both true true write ends = refl
@@ -70,9 +75,9 @@ ends_append block [] ys = none block ys
         both false true write ends = refl
         both false false write ends = refl
 ends_append block (x ∷ xs) ys =
-    ap (λ b. if b then ends_written block (xs ++ ys) else (touches block x && is_write x)) (any_append block xs ys)
-    ∙ ap (λ b. if (list_any (touches block) xs || list_any (touches block) ys) then b else (touches block x && is_write x)) (ends_append block xs ys)
-    ∙ three (list_any (touches block) xs) (list_any (touches block) ys) (ends_written block xs) (ends_written block ys) (touches block x && is_write x)
+    ap (λ b. if b then ends_written block (xs ++ ys) else (writes block x)) (any_append block xs ys)
+    ∙ ap (λ b. if (list_any (touches block) xs || list_any (touches block) ys) then b else (writes block x)) (ends_append block xs ys)
+    ∙ three (list_any (touches block) xs) (list_any (touches block) ys) (ends_written block xs) (ends_written block ys) (writes block x)
   where
     three : (first second one two this : Bool) → (if (first || second) then (if second then two else one) else this) ≡ (if second then two else (if first then one else this))
     three true true one two this = refl
@@ -95,37 +100,28 @@ append_touched block ranges more changes others first second = record {
       ∙ sym (ends_append block changes others);
 }
 
-one_some : (test : Bool) (touch : Touch) → is_some (if test then Some touch else None) ≡ (test || false)
-one_some true touch = refl
-one_some false touch = refl
+told_some : (test : Bool) (touch : Touch) → is_some (if test then Some touch else None) ≡ (test || false)
+told_some true touch = refl
+told_some false touch = refl
 
-one_put : (test : Bool) (place : ℕ) → is_put (if test then Some (Put place) else None) ≡ (test && true)
-one_put true place = refl
-one_put false place = refl
+told_put : (test : Bool) (place : ℕ) (at : Option ℕ) (kind : Kind) → is_put (if test then Some (touch_of place at kind) else None) ≡ (test && is_some at)
+told_put true place None kind = refl
+told_put true place (Some at) kind = refl
+told_put false place at kind = refl
 
-one_clear : (test : Bool) (kind : _) → is_put (if test then Some (Clear kind) else None) ≡ (test && false)
-one_clear true kind = refl
-one_clear false kind = refl
-
-change_touched : (limit block place : ℕ) (change : Change) → IsChange limit change → AreTouchedBy block (touched_by place change ∷ []) (change ∷ [])
-change_touched limit block place (Written first bytes) is =
-    let same : length bytes / 4096 ≡ (length bytes + 4095) / 4096 = omega (arith, is.1) in
-    let both : (blocks : ℕ) → (is_some (if covers first blocks block then Some (Put (place + 13 + 4096 * (block - first))) else None) ≡ (covers first blocks block || false))
-    × (is_put (if covers first blocks block then Some (Put (place + 13 + 4096 * (block - first))) else None) ≡ (covers first blocks block && true)) =
-    λ blocks. (one_some (covers first blocks block) _, one_put (covers first blocks block) _) in
-    record {
-      any = ap (λ (blocks : ℕ). is_some (if covers first blocks block then Some (Put (place + 13 + 4096 * (block - first))) else None)) same ∙ (both ((length bytes + 4095) / 4096)).0;
-      put = ap (λ (blocks : ℕ). is_put (if covers first blocks block then Some (Put (place + 13 + 4096 * (block - first))) else None)) same ∙ (both ((length bytes + 4095) / 4096)).1;
-    }
-change_touched limit block place (Cleared first blocks kind) is = record {
-  any = one_some (covers first blocks block) (Clear kind);
-  put = one_clear (covers first blocks block) kind;
+change_touched : (limit block place : ℕ) (change : Change) → IsChange limit change → AreTouchedBy block (touched_by place change) (change ∷ [])
+change_touched limit block place change is = record {
+  any = ap is_some (touches_told limit block place change is)
+      ∙ told_some (touches block change) (touch_of (data_place place change) (slot block change) (kind_given change));
+  put = ap is_put (touches_told limit block place change is)
+      ∙ told_put (touches block change) (data_place place change) (slot block change) (kind_given change)
+      ∙ touched_and_written block change;
 }
 
 pub changes_touched : (limit block place : ℕ) (changes : List Change) → AreChanges limit changes → AreTouchedBy block (touched_by_changes place changes) changes
 changes_touched limit block place [] are = record { any = refl; put = refl }
 changes_touched limit block place (change ∷ changes) are =
-    append_touched block (touched_by place change ∷ []) (touched_by_changes (place + length (change_bytes change)) changes) (change ∷ []) changes
+    append_touched block (touched_by place change) (touched_by_changes (place + length (change_bytes change)) changes) (change ∷ []) changes
     (change_touched limit block place change are.0) (changes_touched limit block (place + length (change_bytes change)) changes are.1)
 
 pub groups_touched : (limit block : ℕ) (content : List ℕ) (place next : ℕ) (groups : List StoredGroup) → Stand limit content place next groups → AreTouchedBy block (touched_by_groups place groups) (changes_of groups)
@@ -135,18 +131,16 @@ groups_touched limit block content place next (group ∷ groups) stand =
     (changes_touched limit block (place + 17) group.changes stand.2.changes) (groups_touched limit block content (place + size_of group) (number_behind group) groups stand.3)
 
 -- a block that no command writes was last touched by none that does
-if_none : (any this write ends more : Bool) → ((this && write) || more) ≡ false → (more ≡ false → ends ≡ false) → (if any then ends else (this && write)) ≡ false
-if_none true true true ends more none rest = cc
-if_none true true false ends more none rest = rest none
-if_none true false write ends more none rest = rest none
-if_none false true true ends more none rest = none
-if_none false true false ends more none rest = refl
-if_none false false write ends more none rest = refl
+if_none : (any this ends more : Bool) → (this || more) ≡ false → (more ≡ false → ends ≡ false) → (if any then ends else this) ≡ false
+if_none true true ends more none rest = cc
+if_none true false ends more none rest = rest none
+if_none false true ends more none rest = none
+if_none false false ends more none rest = refl
 
 pub never_written : (block : ℕ) (changes : List Change) → is_written block changes ≡ false → ends_written block changes ≡ false
 never_written block [] none = refl
 never_written block (change ∷ changes) none =
-    if_none (list_any (touches block) changes) (touches block change) (is_write change) (ends_written block changes) (is_written block changes) none (never_written block changes)
+    if_none (list_any (touches block) changes) (writes block change) (ends_written block changes) (is_written block changes) none (never_written block changes)
 
 -- a block that no command touches is written by none
 both_none : (touched write more any : Bool) → (touched || any) ≡ false → (any ≡ false → more ≡ false) → ((touched && write) || more) ≡ false
@@ -156,11 +150,12 @@ both_none false write more any none rest = rest none
 pub untouched_unwritten : (block : ℕ) (changes : List Change) → list_any (touches block) changes ≡ false → is_written block changes ≡ false
 untouched_unwritten block [] none = refl
 untouched_unwritten block (change ∷ changes) none =
-    both_none (touches block change) (is_write change) (is_written block changes) (list_any (touches block) changes) none (untouched_unwritten block changes)
+    ap (λ (put : Bool). put || is_written block changes) (sym (touched_and_written block change))
+    ∙ both_none (touches block change) (writes block change) (is_written block changes) (list_any (touches block) changes) none (untouched_unwritten block changes)
 
 pub written_append : (block : ℕ) (xs ys : List Change) → is_written block (xs ++ ys) ≡ (is_written block xs || is_written block ys)
 written_append block [] ys = refl
-written_append block (x ∷ xs) ys = ap (λ b. (touches block x && is_write x) || b) (written_append block xs ys) ∙ or_or (touches block x && is_write x) _ _
+written_append block (x ∷ xs) ys = ap (λ b. (writes block x) || b) (written_append block xs ys) ∙ or_or (writes block x) _ _
   where
     or_or : (a b c : Bool) → (a || (b || c)) ≡ ((a || b) || c)
     or_or true b c = refl
@@ -179,6 +174,9 @@ past_change limit block (Written first bytes) is above =
     let end : first + (length bytes + 4095) / 4096 ≤ block = omega (arith, is.1, is.4, above) in
     grind (arith, nat_tests, end)
 past_change limit block (Cleared first blocks kind) is above =
+    let end : first + blocks ≤ block = omega (arith, is.1, above) in
+    grind (arith, nat_tests, end)
+past_change limit block (Edged first blocks kind edges bytes) is above =
     let end : first + blocks ≤ block = omega (arith, is.1, above) in
     grind (arith, nat_tests, end)
 

@@ -5,10 +5,10 @@ use Rattle.std.proofs.lemmas.List.{append-nil}
 use Rattle.std.proofs.lemmas.List.Sums.{sum_by-cons}
 use Rattle.byteorder.specs.Endian.{big_from, big_bytes}
 use Rattle.byteorder.specs.Numbers.{big_number-reads_back}
-use Rattle.image_model.specs.Change.{Change, Written, Cleared}
+use Rattle.image_model.specs.Change.{Change, Written, Cleared, Edged}
 use Rattle.group_list.specs.declared.touch.TouchedRange.{TouchedRange}
 use Rattle.group_list.specs.Touches.{touched_by_changes, touched_by_groups}
-use Rattle.group_list.specs.Spelling.{StoredGroup, clear_byte, change_head, change_bytes, body_of_group, group_head, group_bytes}
+use Rattle.group_list.specs.Spelling.{StoredGroup, clear_byte, edged_byte, edges_byte, change_head, change_bytes, body_of_group, group_head, group_bytes}
 use Rattle.group_list.specs.GroupList.{StandsAt, IsOpen, size_of, sizes_of, number_behind, next_behind, IsNextGroup, Lead, Stand, IsList, IsDamaged, HoldsList}
 use Rattle.group_list.specs.Area.{AreaState}
 use Rattle.disk_model.specs.Disk.{State, IsSyncedIn}
@@ -34,6 +34,8 @@ count_within (change ∷ changes) = omega (arith, count_within changes, at_least
     at_least : (change : Change) → 13 ≤ length (change_bytes change)
     at_least (Written first bytes) = omega (arith, length-append (change_head 1 first (length bytes / 4096)) bytes, length-change_head 1 first (length bytes / 4096))
     at_least (Cleared first blocks kind) = omega (arith, length-change_head (clear_byte kind) first blocks)
+    at_least (Edged first blocks kind edges bytes) =
+        omega (arith, length-append (change_head (edged_byte kind) first blocks) (edges_byte edges ∷ bytes), length-change_head (edged_byte kind) first blocks)
 
 -- the three parts of a group's head
 record HasParts (body first count : ℕ) (group : StoredGroup) : Type 0 where

@@ -18,7 +18,7 @@ use Rattle.group_list.specs.laws.Spelled.{length-body}
 
 -- one command more
 pub noted_more : (place here : ℕ) (commands : List Command) (index : ℕ) (command : Command) → index < length commands → command ≡ get_or commands index command → here ≡ place + sum_by body_of (take index commands)
-    → touched_by_changes place (map change_of (take (index + 1) commands)) ≡ touched_by_changes place (map change_of (take index commands)) ++ touched_by here (change_of command) ∷ []
+    → touched_by_changes place (map change_of (take (index + 1) commands)) ≡ touched_by_changes place (map change_of (take index commands)) ++ touched_by here (change_of command)
 noted_more place here commands index command below is here_is =
     let front = take index commands in
     let taken : take (index + 1) commands ≡ front ++ command ∷ [] = take_more commands index command below ∙ ap (λ (c : Command). front ++ c ∷ []) (sym is) in
@@ -26,7 +26,7 @@ noted_more place here commands index command below is here_is =
     ap (λ (l : List Command). touched_by_changes place (map change_of l)) taken
     ∙ ap (λ l. touched_by_changes place l) (map-append change_of front (command ∷ []))
     ∙ touched-push place (map change_of front) (change_of command)
-    ∙ ap (λ (p : ℕ). touched_by_changes place (map change_of front) ++ touched_by p (change_of command) ∷ []) at
+    ∙ ap (λ (p : ℕ). touched_by_changes place (map change_of front) ++ touched_by p (change_of command)) at
 
 -- what was noted of the first commands ends in time
 pub noted_within : (from end place : ℕ) (commands : List Command) (index : ℕ) (old new : List TouchedRange) → from ≤ place → place + bodies_of commands ≤ end → new ≡ old ++ touched_by_changes place (map change_of (take index commands))

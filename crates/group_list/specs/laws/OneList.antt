@@ -1,15 +1,17 @@
 -- The bytes of an area hold at most one list of groups.
-use Rattle.std.proofs.Common.{◌≡◌, ℕ, ◌+◌, ◌/◌, ◌^◌, ◌<◌, List, [], ◌∷◌, ◌++◌, length, slice_index, get_or, take, drop, sym, ◌∙◌, ap, subst, refl, arith, append_assoc, length-append}
+use Rattle.std.proofs.Common.{◌≡◌, ℕ, ◌+◌, ◌*◌, ◌/◌, ◌^◌, ◌<◌, ◌≤◌, List, [], ◌∷◌, ◌++◌, length, slice_index, get_or, take, drop, sym, ◌∙◌, ap, subst, refl, arith, append_assoc, length-append}
 use Rattle.std.specs.List.{flat_map}
 use Rattle.std.proofs.lemmas.List.Sums.{sum_by-cons}
-use Rattle.std.proofs.lemmas.List.{ext_get_or, get_or_append_left, get_or-append-add, take_at, drop_at}
+use Rattle.std.proofs.lemmas.List.{append-nil, ext_get_or, get_or_append_left, get_or-append-add, take_at, drop_at}
 use Rattle.byteorder.specs.Endian.{big_from, big_bytes}
 use Rattle.byteorder.specs.Numbers.{big_number-reads_back}
 use Rattle.image_model.specs.declared.command.Kind.{Kind}
 use Rattle.image_model.specs.declared.command.Kind.TheVariants.{Data, Zero, Hole}
 use Rattle.image_model.specs.Command.{IsCleared}
-use Rattle.image_model.specs.Change.{Change, Written, Cleared, IsChange, AreChanges}
-use Rattle.group_list.specs.Spelling.{StoredGroup, clear_byte, change_head, change_bytes, body_of_group, group_head, group_bytes}
+use Rattle.image_model.specs.declared.command.Edges.{Edges}
+use Rattle.image_model.specs.declared.command.Edges.TheVariants.{Head, Tail, Both}
+use Rattle.image_model.specs.Change.{Change, Written, Cleared, Edged, IsChange, AreChanges, edge_count}
+use Rattle.group_list.specs.Spelling.{StoredGroup, clear_byte, edged_byte, edges_byte, change_head, change_bytes, body_of_group, group_head, group_bytes}
 use Rattle.group_list.specs.Area.{AreaState}
 use Rattle.group_list.specs.GroupList.{StandsAt, size_of, sizes_of, number_behind, next_behind, IsNextGroup, Stand, Lead, IsList, IsDamaged}
 use Rattle.group_list.specs.laws.Spelled.{length-change_head, length-group_head}
@@ -65,6 +67,41 @@ same_kind Hole Data cleared also same = absurd also
 same_kind Hole Zero cleared also same = absurd (omega (arith, same))
 same_kind Hole Hole cleared also same = refl
 
+edged_not_put : (kind : Kind) → edged_byte kind ≡ 1 → ⊥
+edged_not_put Data is = omega (arith, is)
+edged_not_put Zero is = omega (arith, is)
+edged_not_put Hole is = omega (arith, is)
+
+edged_above : (kind : Kind) → 4 ≤ edged_byte kind
+edged_above Data = omega arith
+edged_above Zero = omega arith
+edged_above Hole = omega arith
+
+clear_below : (kind : Kind) → clear_byte kind < 4
+clear_below Data = omega arith
+clear_below Zero = omega arith
+clear_below Hole = omega arith
+
+same_edged_kind : (kind other : Kind) → IsCleared kind → IsCleared other → edged_byte kind ≡ edged_byte other → kind ≡ other
+same_edged_kind Data other cleared also same = absurd cleared
+same_edged_kind Zero Data cleared also same = absurd also
+same_edged_kind Zero Zero cleared also same = refl
+same_edged_kind Zero Hole cleared also same = absurd (omega (arith, same))
+same_edged_kind Hole Data cleared also same = absurd also
+same_edged_kind Hole Zero cleared also same = absurd (omega (arith, same))
+same_edged_kind Hole Hole cleared also same = refl
+
+same_edges : (edges other : Edges) → edges_byte edges ≡ edges_byte other → edges ≡ other
+same_edges Head Head same = refl
+same_edges Head Tail same = absurd (omega (arith, same))
+same_edges Head Both same = absurd (omega (arith, same))
+same_edges Tail Head same = absurd (omega (arith, same))
+same_edges Tail Tail same = refl
+same_edges Tail Both same = absurd (omega (arith, same))
+same_edges Both Head same = absurd (omega (arith, same))
+same_edges Both Tail same = absurd (omega (arith, same))
+same_edges Both Both same = refl
+
 -- the three parts of heads of commands
 pub record SameHeads (k f n k' f' n' : ℕ) : Type 0 where
   pub kind : k ≡ k'
@@ -82,37 +119,112 @@ same_heads k f n k' f' n' r s f_fits n_fits f'_fits n'_fits same =
       parts.1,
     )
 
+-- a change as its head and what stands behind it
+record Parts (image : ℕ) (change : Change) : Type 0 where
+  kind : ℕ
+  first : ℕ
+  blocks : ℕ
+  rest : List ℕ
+  spelled : change_bytes change ≡ change_head kind first blocks ++ rest
+  first_fits : first < 256 ^ 8
+  blocks_fit : blocks < 256 ^ 4
+
 module _ (image : ℕ) (fits : image < 2 ^ 64) where
-  same_change : (x y : Change) (r s : List ℕ) → IsChange image x → IsChange image y → change_bytes x ++ r ≡ change_bytes y ++ s → (x ≡ y) × (r ≡ s)
+  parts_of : (x : Change) → IsChange image x → Parts image x
   unfolding change_bytes
+  parts_of (Written first bytes) is = record {
+    kind = 1;
+    first = first;
+    blocks = length bytes / 4096;
+    rest = bytes;
+    spelled = refl;
+    first_fits = omega (arith, is.4, fits);
+    blocks_fit = omega (arith, is.1, is.3);
+  }
+  parts_of (Cleared first blocks kind) is = record {
+    kind = clear_byte kind;
+    first = first;
+    blocks = blocks;
+    rest = [];
+    spelled = sym (append-nil (change_head (clear_byte kind) first blocks));
+    first_fits = omega (arith, is.1, fits);
+    blocks_fit = omega (arith, is.2);
+  }
+  parts_of (Edged first blocks kind edges bytes) is = record {
+    kind = edged_byte kind;
+    first = first;
+    blocks = blocks;
+    rest = edges_byte edges ∷ bytes;
+    spelled = refl;
+    first_fits = omega (arith, is.1, fits);
+    blocks_fit = omega (arith, is.2);
+  }
+
+  -- what two changes have in common that are spelled alike
+  same_parts : (x y : Change) (r s : List ℕ) (is : IsChange image x) (is' : IsChange image y) → change_bytes x ++ r ≡ change_bytes y ++ s
+      → SameHeads (parts_of x is).kind (parts_of x is).first (parts_of x is).blocks (parts_of y is').kind (parts_of y is').first (parts_of y is').blocks
+      × ((parts_of x is).rest ++ r ≡ (parts_of y is').rest ++ s)
+  same_parts x y r s is is' same =
+      let one = parts_of x is in
+      let other = parts_of y is' in
+      same_heads one.kind one.first one.blocks other.kind other.first other.blocks (one.rest ++ r) (other.rest ++ s)
+      one.first_fits one.blocks_fit other.first_fits other.blocks_fit
+      (sym (append_assoc (change_head one.kind one.first one.blocks) one.rest r)
+      ∙ ap (λ (l : List ℕ). l ++ r) (sym one.spelled)
+      ∙ same
+      ∙ ap (λ (l : List ℕ). l ++ s) other.spelled
+      ∙ append_assoc (change_head other.kind other.first other.blocks) other.rest s)
+
+  same_change : (x y : Change) (r s : List ℕ) → IsChange image x → IsChange image y → change_bytes x ++ r ≡ change_bytes y ++ s → (x ≡ y) × (r ≡ s)
+  unfolding parts_of
   same_change (Written f bytes) (Written f' bytes') r s is is' same =
-      let assoc = sym (append_assoc (change_head 1 f (length bytes / 4096)) bytes r) ∙ same ∙ append_assoc (change_head 1 f' (length bytes' / 4096)) bytes' s in
-      let heads = same_heads 1 f (length bytes / 4096) 1 f' (length bytes' / 4096) (bytes ++ r) (bytes' ++ s)
-      (omega (arith, is.4, fits)) (omega (arith, is.1, is.3)) (omega (arith, is'.4, fits)) (omega (arith, is'.1, is'.3)) assoc in
+      let heads = same_parts (Written f bytes) (Written f' bytes') r s is is' same in
       let tails = same_split bytes bytes' r s (omega (arith, heads.0.blocks, is.1, is'.1)) heads.1 in
       (ap (λ (first : ℕ). Written first bytes) heads.0.first ∙ ap (λ (b : List ℕ). Written f' b) tails.0, tails.1)
   same_change (Written f bytes) (Cleared f' n' kind') r s is is' same =
-      let assoc = sym (append_assoc (change_head 1 f (length bytes / 4096)) bytes r) ∙ same in
-      let heads = same_heads 1 f (length bytes / 4096) (clear_byte kind') f' n' (bytes ++ r) s
-      (omega (arith, is.4, fits)) (omega (arith, is.1, is.3)) (omega (arith, is'.1, fits)) (omega (arith, is'.2)) assoc in
-      absurd (cleared_not_put kind' (sym heads.0.kind))
+      absurd (cleared_not_put kind' (sym (same_parts (Written f bytes) (Cleared f' n' kind') r s is is' same).0.kind))
+  same_change (Written f bytes) (Edged f' n' kind' edges' bytes') r s is is' same =
+      absurd (edged_not_put kind' (sym (same_parts (Written f bytes) (Edged f' n' kind' edges' bytes') r s is is' same).0.kind))
   same_change (Cleared f n kind) (Written f' bytes') r s is is' same =
-      let assoc = same ∙ append_assoc (change_head 1 f' (length bytes' / 4096)) bytes' s in
-      let heads = same_heads (clear_byte kind) f n 1 f' (length bytes' / 4096) r (bytes' ++ s)
-      (omega (arith, is.1, fits)) (omega (arith, is.2)) (omega (arith, is'.4, fits)) (omega (arith, is'.1, is'.3)) assoc in
-      absurd (cleared_not_put kind heads.0.kind)
+      absurd (cleared_not_put kind (same_parts (Cleared f n kind) (Written f' bytes') r s is is' same).0.kind)
   same_change (Cleared f n kind) (Cleared f' n' kind') r s is is' same =
-      let heads = same_heads (clear_byte kind) f n (clear_byte kind') f' n' r s
-      (omega (arith, is.1, fits)) (omega (arith, is.2)) (omega (arith, is'.1, fits)) (omega (arith, is'.2)) same in (
+      let heads = same_parts (Cleared f n kind) (Cleared f' n' kind') r s is is' same in (
         ap (λ (first : ℕ). Cleared first n kind) heads.0.first ∙ ap (λ (blocks : ℕ). Cleared f' blocks kind) heads.0.blocks
             ∙ ap (λ (k : Kind). Cleared f' n' k) (same_kind kind kind' is.3 is'.3 heads.0.kind),
         heads.1,
+      )
+  same_change (Cleared f n kind) (Edged f' n' kind' edges' bytes') r s is is' same =
+      let kinds = (same_parts (Cleared f n kind) (Edged f' n' kind' edges' bytes') r s is is' same).0.kind in
+      absurd (omega (arith, kinds, clear_below kind, edged_above kind'))
+  same_change (Edged f n kind edges bytes) (Written f' bytes') r s is is' same =
+      absurd (edged_not_put kind (same_parts (Edged f n kind edges bytes) (Written f' bytes') r s is is' same).0.kind)
+  same_change (Edged f n kind edges bytes) (Cleared f' n' kind') r s is is' same =
+      let kinds = (same_parts (Edged f n kind edges bytes) (Cleared f' n' kind') r s is is' same).0.kind in
+      absurd (omega (arith, kinds, clear_below kind', edged_above kind))
+  same_change (Edged f n kind edges bytes) (Edged f' n' kind' edges' bytes') r s is is' same =
+      let heads = same_parts (Edged f n kind edges bytes) (Edged f' n' kind' edges' bytes') r s is is' same in
+      let bytes_alike : edges_byte edges ≡ edges_byte edges' = ap (λ (l : List ℕ). get_or l 0 0) heads.1 in
+      let edges_alike : edges ≡ edges' = same_edges edges edges' bytes_alike in
+      let counts : edge_count edges ≡ edge_count edges' = ap edge_count edges_alike in
+      let behind : bytes ++ r ≡ bytes' ++ s = ap (λ (l : List ℕ). drop 1 l) heads.1 in
+      let tails = same_split bytes bytes' r s (omega (arith, counts, is.4, is'.4)) behind in (
+        ap (λ (first : ℕ). Edged first n kind edges bytes) heads.0.first ∙ ap (λ (blocks : ℕ). Edged f' blocks kind edges bytes) heads.0.blocks
+            ∙ ap (λ (k : Kind). Edged f' n' k edges bytes) (same_edged_kind kind kind' is.3 is'.3 heads.0.kind)
+            ∙ ap (λ (e : Edges). Edged f' n' kind' e bytes) edges_alike ∙ ap (λ (b : List ℕ). Edged f' n' kind' edges' b) tails.0,
+        tails.1,
       )
 
   some_bytes : (x : Change) (xs : List Change) → [] ≡ flat_map change_bytes (x ∷ xs) → ⊥
   unfolding change_bytes
   some_bytes (Written f bytes) xs same = omega (arith, ap length same, length-append (change_head 1 f (length bytes / 4096) ++ bytes) (flat_map change_bytes xs), length-append (change_head 1 f (length bytes / 4096)) bytes, length-change_head 1 f (length bytes / 4096))
   some_bytes (Cleared f n kind) xs same = omega (arith, ap length same, length-append (change_head (clear_byte kind) f n) (flat_map change_bytes xs), length-change_head (clear_byte kind) f n)
+  some_bytes (Edged f n kind edges bytes) xs same = omega (
+    arith,
+    ap length same,
+    length-append (change_head (edged_byte kind) f n ++ edges_byte edges ∷ bytes) (flat_map change_bytes xs),
+    length-append (change_head (edged_byte kind) f n) (edges_byte edges ∷ bytes),
+    length-change_head (edged_byte kind) f n,
+  )
 
   same_changes : (xs ys : List Change) → AreChanges image xs → AreChanges image ys → flat_map change_bytes xs ≡ flat_map change_bytes ys → xs ≡ ys
   same_changes [] [] are are' same = refl

@@ -5,11 +5,11 @@ use Rattle.std.proofs.lemmas.List.{length-map}
 use Rattle.std.proofs.lemmas.List.Folds.{flat_map-map}
 use Rattle.std.proofs.lemmas.List.Sums.{sum_by-cons}
 use Rattle.image_model.specs.declared.command.Command.{Command}
-use Rattle.image_model.specs.declared.command.Command.TheVariants.{Put, Clear}
+use Rattle.image_model.specs.declared.command.Command.TheVariants as command
 use Rattle.image_model.specs.Command.{body_of, bodies_of}
 use Rattle.image_model.specs.Change.{change_of}
 use Rattle.group_list.specs.Group.{Numbered}
-use Rattle.group_list.specs.Spelling.{StoredGroup, stored_of, clear_byte, change_head, change_bytes, body_of_group, group_head, group_bytes}
+use Rattle.group_list.specs.Spelling.{StoredGroup, stored_of, clear_byte, edged_byte, edges_byte, change_head, change_bytes, body_of_group, group_head, group_bytes}
 use Rattle.group_list.specs.GroupList.{size_of, sizes_of, number_behind, next_behind}
 
 pub length-change_head : (kind first blocks : ℕ) → length (change_head kind first blocks) ≡ 13
@@ -22,8 +22,10 @@ length-group_head body first count = refl
 
 pub length-change : (command : Command) → length (change_bytes (change_of command)) ≡ body_of command
 unfolding change_bytes
-length-change (Put first bytes) = omega (arith, length-append (change_head 1 first (length bytes.items / 4096)) bytes.items, length-change_head 1 first (length bytes.items / 4096))
-length-change (Clear first blocks kind) = length-change_head (clear_byte kind) first blocks
+length-change (command.Put first bytes) = omega (arith, length-append (change_head 1 first (length bytes.items / 4096)) bytes.items, length-change_head 1 first (length bytes.items / 4096))
+length-change (command.Clear first blocks kind) = length-change_head (clear_byte kind) first blocks
+length-change (command.Edged first blocks kind edges bytes) =
+    omega (arith, length-append (change_head (edged_byte kind) first blocks) (edges_byte edges ∷ bytes.items), length-change_head (edged_byte kind) first blocks)
 
 pub length-body : (commands : List Command) → length (flat_map change_bytes (map change_of commands)) ≡ bodies_of commands
 length-body [] = refl

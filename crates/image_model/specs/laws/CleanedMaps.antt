@@ -6,7 +6,8 @@ use Rattle.std.specs.FinMap.{empty, get, get-empty, get-retain_keys, same_map, n
 use Rattle.std.proofs.lemmas.Bool.{lt-ltb, ltb-true}
 use Rattle.std.proofs.lemmas.Bool.Decides.{nat_tests}
 use Rattle.image_model.specs.Change.{Change}
-use Rattle.image_model.specs.Dirty.{Dirty, is_above, clean_through, dirty_after, dirty_from, dirty_blocks, touches, is_write}
+use Rattle.image_model.specs.Image.{touches, writes}
+use Rattle.image_model.specs.Dirty.{Dirty, is_above, clean_through, dirty_after, dirty_from, dirty_blocks}
 use Rattle.image_model.specs.laws.DirtyMaps.{given, get-dirty_after, dirty_from-append}
 
 -- a number where it is above this one
@@ -39,9 +40,9 @@ none_of_empty number q = ap (is_above number) (get-empty nat_cmp q)
 clean_empty : (number : ℕ) → clean_through empty number ≡ empty
 clean_empty number = none_stays empty number (none_of_empty number)
 
-above_given : (number own : ℕ) (change : Change) → number < own → above number (given own change) ≡ given own change
-above_given number own change later =
-    elim (is_write change) as (λ w. above number (if w then Some own else None) ≡ (if w then Some own else None)) [
+above_given : (number own q : ℕ) (change : Change) → number < own → above number (given own q change) ≡ given own q change
+above_given number own q change later =
+    elim (writes q change) as (λ w. above number (if w then Some own else None) ≡ (if w then Some own else None)) [
       | true ↦ ap (λ (b : Bool). cond b (Some own) None) (lt-ltb number own later)
       | false ↦ refl
     ]
@@ -56,9 +57,9 @@ pub cleaned-after : (dirty : Dirty) (number own : ℕ) (change : Change) → num
 cleaned-after dirty number own change later = same_dirty _ _ (λ q.
     get-clean_through (dirty_after dirty own change) number q
     ∙ ap (above number) (get-dirty_after dirty own change q)
-    ∙ above_cases number (touches q change) (given own change) (get dirty q) (above_given number own change later)
+    ∙ above_cases number (touches q change) (given own q change) (get dirty q) (above_given number own q change later)
     ∙ sym (get-dirty_after (clean_through dirty number) own change q
-    ∙ ap (cond (touches q change) (given own change)) (get-clean_through dirty number q)))
+    ∙ ap (cond (touches q change) (given own q change)) (get-clean_through dirty number q)))
 
 -- and so do later commands, one after another
 pub cleaned-from : (dirty : Dirty) (number last : ℕ) (changes : List Change) → number ≤ last
@@ -88,10 +89,10 @@ cleaned-again dirty number more within = same_dirty _ _ (λ q.
     twice None = refl
     twice (Some own) = lower own (nat_lt number own) (nat_lt more own) refl refl
 
-none_of : (number own : ℕ) (change : Change) (b : Bool) (was : Option ℕ) → own ≤ number → is_above number was ≡ false → is_above number (cond b (given own change) was) ≡ false
-none_of number own change false was within none = none
-none_of number own change true was within none =
-    elim (is_write change) as (λ w. is_above number (if w then Some own else None) ≡ false) [
+none_of : (number own q : ℕ) (change : Change) (b : Bool) (was : Option ℕ) → own ≤ number → is_above number was ≡ false → is_above number (cond b (given own q change) was) ≡ false
+none_of number own q change false was within none = none
+none_of number own q change true was within none =
+    elim (writes q change) as (λ w. is_above number (if w then Some own else None) ≡ false) [
       | true ↦ grind (arith, nat_tests, within)
       | false ↦ refl
     ]
@@ -110,7 +111,7 @@ none_above dirty last (change ∷ changes) none = λ q.
     after : NoneAbove (last + 1) (dirty_after dirty (last + 1) change)
     after q =
         ap (is_above (last + 1)) (get-dirty_after dirty (last + 1) change q)
-        ∙ none_of (last + 1) (last + 1) change (touches q change) (get dirty q) (omega arith) (none_later last (last + 1) (get dirty q) (omega arith) (none q))
+        ∙ none_of (last + 1) (last + 1) q change (touches q change) (get dirty q) (omega arith) (none_later last (last + 1) (get dirty q) (omega arith) (none q))
 
 -- cleaned through the last of some commands, the dirty blocks are those of the commands behind them
 pub cleaned-blocks : (last : ℕ) (changes more : List Change)

@@ -1,5 +1,5 @@
 -- how many blocks are dirty
-use Rattle.std.proofs.Common.{◌≡◌, ◌⊎◌, inl, inr, ℕ, zero, suc, ◌+◌, ◌-◌, ◌<◌, ◌≤◌, Bool, true, false, cond, if◌then◌else◌, ◌&&◌, Option, Some, None, List, [], ◌∷◌, length, drop, sym, ap, ◌∙◌, refl, arith}
+use Rattle.std.proofs.Common.{◌≡◌, ◌⊎◌, inl, inr, ℕ, zero, suc, ◌+◌, ◌-◌, ◌<◌, ◌≤◌, Bool, true, false, cond, if◌then◌else◌, Option, Some, None, List, [], ◌∷◌, length, drop, sym, ap, ◌∙◌, refl, arith}
 use Rattle.std.proofs.lemmas.Bool.{both_ways, cases_Bool, cases_eq, eq-eqb, ne_eqb}
 use Rattle.std.specs.Option.{is_some}
 use Rattle.std.specs.List.{list_any}
@@ -7,7 +7,8 @@ use Rattle.std.specs.Ordering.{nat_cmp, eq_by_cmp}
 use Rattle.std.specs.Cmp.{nat_cmp_total, unsigned_tied}
 use Rattle.std.specs.FinMap.{entries, find, get, len, remove, get-empty, get-entries, get-remove, len-entries, len-remove, empty_of_len, same_map, nat_cmp-IsAntisymmetric}
 use Rattle.image_model.specs.Change.{Change}
-use Rattle.image_model.specs.Dirty.{Dirty, dirty_blocks, touches, is_write, last_write}
+use Rattle.image_model.specs.Image.{touches, writes}
+use Rattle.image_model.specs.Dirty.{Dirty, dirty_blocks, last_write}
 use Rattle.image_model.specs.laws.DirtyMaps.{get-dirty_blocks}
 use Rattle.image_model.specs.laws.DirtyTails.{dirty_behind_more, dirty_behind_few}
 
@@ -116,7 +117,7 @@ both_some false false this other here there same = refl
 
 written_alike : (q last other : ℕ) (changes : List Change) → is_some (last_write q last changes) ≡ is_some (last_write q other changes)
 written_alike q last other [] = refl
-written_alike q last other (change ∷ later) = both_some (list_any (touches q) later) (touches q change && is_write change)
+written_alike q last other (change ∷ later) = both_some (list_any (touches q) later) (writes q change)
     (last_write q (last + 1) later) (last_write q (other + 1) later) (last + 1) (other + 1) (written_alike q (last + 1) (other + 1) later)
 
 -- how many blocks are dirty doesn't depend on the commands' numbers

@@ -1,18 +1,19 @@
 -- the dirty blocks of the last of some commands, among those of all of them
-use Rattle.std.proofs.Common.{◌≡◌, ◌⊎◌, inl, inr, ℕ, ◌+◌, ◌-◌, ◌<◌, ◌≤◌, Bool, true, false, cond, if◌then◌else◌, ◌&&◌, Some, None, List, [], ◌∷◌, ◌++◌, length, length-drop, take, drop, sym, ap, ◌∙◌, subst, arith}
+use Rattle.std.proofs.Common.{◌≡◌, ◌⊎◌, inl, inr, ℕ, ◌+◌, ◌-◌, ◌<◌, ◌≤◌, Bool, true, false, cond, if◌then◌else◌, Some, None, List, [], ◌∷◌, ◌++◌, length, length-drop, take, drop, sym, ap, ◌∙◌, subst, arith}
 use Rattle.std.proofs.lemmas.Bool.{cases_Bool}
 use Rattle.std.proofs.lemmas.List.{drop-append-le, drop-drop, length-take, take-append-drop}
 use Rattle.std.specs.List.{list_any}
 use Rattle.std.specs.FinMap.{empty, get}
 use Rattle.image_model.specs.Change.{Change}
-use Rattle.image_model.specs.Dirty.{dirty_after, dirty_blocks, touches, is_write, last_write}
+use Rattle.image_model.specs.Image.{touches, writes}
+use Rattle.image_model.specs.Dirty.{dirty_after, dirty_blocks, last_write}
 use Rattle.image_model.specs.laws.DirtyMaps.{dirty_blocks-push, dirty_from-append, get-dirty_blocks, get-dirty_from, untouched}
 
 -- a write has the number of one of the commands
 last_write_within : (q last : ℕ) (changes : List Change) (number : ℕ) → last_write q last changes ≡ Some number → (last < number) × (number ≤ last + length changes)
 last_write_within q last [] number is = cc
 last_write_within q last (change ∷ later) number is =
-    by_touch (list_any (touches q) later) (touches q change && is_write change) (last_write_within q (last + 1) later number) is
+    by_touch (list_any (touches q) later) (writes q change) (last_write_within q (last + 1) later number) is
   where
     by_touch : (again put : Bool) → (last_write q (last + 1) later ≡ Some number → (last + 1 < number) × (number ≤ last + 1 + length later))
         → (if again then last_write q (last + 1) later else (if put then Some (last + 1) else None)) ≡ Some number

@@ -28,6 +28,16 @@ count_next first offset count s below =
     ap (λ (n : ℕ). count_missing (first + offset) n s) longer
     ∙ ap (λ (at : ℕ). (if is_dirty (first + offset) s then 0 else 1) + count_missing at (count - (offset + 1)) s) further
 
+-- one block counts as one at most
+pub one_at_most : (b : Bool) → (if b then 0 else 1) ≤ 1
+one_at_most true = omega arith
+one_at_most false = omega arith
+
+-- no more blocks are counted than there are
+pub missing_at_most : (first count : ℕ) (s : BlocksState) → count_missing first count s ≤ count
+missing_at_most first zero s = omega arith
+missing_at_most first (suc count) s = omega (arith, one_at_most (is_dirty first s), missing_at_most (first + 1) count s)
+
 -- a put more
 pub puts_next : (number first : ℕ) (blocks : List (List ℕ)) (bytes : List ℕ) (s : BlocksState)
     → with_puts number first (blocks ++ bytes ∷ []) s ≡ with_put number (first + length blocks) bytes (with_puts number first blocks s)
@@ -314,10 +324,6 @@ none_covered first count held is gone =
     dirty_out first count pool blocks [] out = refl
     dirty_out first count pool blocks (h ∷ dirty) out =
         rw (out h.frame (omega (arith, times_head h.frame (frames_of dirty)))) (dirty_out first count pool blocks dirty (λ frame there. out frame (omega (arith, there))))
-
-pub one_at_most : (b : Bool) → (if b then 0 else 1) ≤ 1
-one_at_most true = omega arith
-one_at_most false = omega arith
 
 -- one put more of a list of them
 pub puts_step : (number first offset : ℕ) (blocks : List (List ℕ)) (d : List ℕ) (old s new : BlocksState) → offset < length blocks

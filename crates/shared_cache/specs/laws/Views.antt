@@ -23,7 +23,7 @@ abbrev pub Keeps : ℕ → BlocksState → BlocksState → ℕ → Type 0
 Keeps count old new block =
     (bytes_of block new ≡ bytes_of block old) ⊎ ((is_dirty block old ≡ false) × (old.free < count) × (bytes_of block new ≡ None))
 
-true_false : true ≡ false → ⊥
+pub true_false : true ≡ false → ⊥
 true_false e = cc
 
 covers_inside : (first count other : ℕ) → covers first count other ≡ true → (first ≤ other) × (other < first + count)
@@ -50,13 +50,13 @@ put_dirty number block bytes s = at_end block (dirty_outside (λ b. b == block) 
         elim (cases_Bool (eqb held.block block)) [ inl e ↦ rw e refl | inr e ↦ rw e (at_end block dirty last is) ]
 
 -- the blocks that are left where a put lets go of its own, and what is left of them where a frame is taken
-abbrev left_of : ℕ → BlocksState → BlocksState
+abbrev pub left_of : ℕ → BlocksState → BlocksState
 left_of block s = without (λ b. b == block) s
 
-abbrev base_of : BlocksState → List CleanBlock
+abbrev pub base_of : BlocksState → List CleanBlock
 base_of s = drop (1 - s.free) s.clean ++ map as_clean s.dirty
 
-held_put : (number block : ℕ) (bytes : List ℕ) (s : BlocksState)
+pub held_put : (number block : ℕ) (bytes : List ℕ) (s : BlocksState)
     → all_held (with_put number block bytes s) ≡ base_of (left_of block s) ++ record { block = block; bytes = bytes } ∷ []
 held_put number block bytes s =
     let left = left_of block s in
@@ -64,7 +64,7 @@ held_put number block bytes s =
     ∙ sym (append_assoc (drop (1 - left.free) left.clean) (map as_clean left.dirty) (record { block = block; bytes = bytes } ∷ []))
 
 -- what is left of some blocks where a frame is taken
-base_times : (block : ℕ) (s : BlocksState) → times_in block (all_held s) ≤ 1 → times_in block (base_of s) ≤ times_in block (all_held s)
+pub base_times : (block : ℕ) (s : BlocksState) → times_in block (all_held s) ≤ 1 → times_in block (base_of s) ≤ times_in block (all_held s)
 base_times block s once = (dropped block (1 - s.free) s.clean (map as_clean s.dirty) (omega arith) once).0
 
 base_keeps : (block : ℕ) (s : BlocksState) → times_in block (all_held s) ≤ 1
@@ -76,7 +76,7 @@ base_keeps block s once =
     ]
 
 -- the blocks without one: how often another is held, its bytes, and whether it's dirty
-left_times : (block other : ℕ) (s : BlocksState) → other ≢ block → times_in other (all_held (left_of block s)) ≡ times_in other (all_held s)
+pub left_times : (block other : ℕ) (s : BlocksState) → other ≢ block → times_in other (all_held (left_of block s)) ≡ times_in other (all_held s)
 left_times block other s ne =
     ap (times_in other) (all_held-without (λ b. b == block) s) ∙ out_times (λ b. b == block) other (all_held s) (ne_eqb other block ne)
 
@@ -92,7 +92,7 @@ without_bytes inside block s beyond =
     ∙ sym (bytes_of-all block s)
 
 -- a put of one block: each block is held once still, the block has its bytes, and another one keeps its own
-put_once : (number block : ℕ) (bytes : List ℕ) (s : BlocksState) → IsOnce s → IsOnce (with_put number block bytes s)
+pub put_once : (number block : ℕ) (bytes : List ℕ) (s : BlocksState) → IsOnce s → IsOnce (with_put number block bytes s)
 put_once number block bytes s is = record {
   once = λ other.
       let left = left_of block s in
@@ -336,7 +336,7 @@ keeps_seen count old new block same keeps =
 data_seen : (cache : CacheState) (block : ℕ) → state_at cache.states block ≡ Data → bytes_seen cache block ≡ bytes_of block cache.blocks
 data_seen cache block is = ap (λ (kind : Kind). bytes_for kind (bytes_of block cache.blocks)) is
 
-zero_seen : (cache : CacheState) (block : ℕ) (kind : Kind) → kind ≢ Data → state_at cache.states block ≡ kind → bytes_seen cache block ≡ Some (replicate 4096 0)
+pub zero_seen : (cache : CacheState) (block : ℕ) (kind : Kind) → kind ≢ Data → state_at cache.states block ≡ kind → bytes_seen cache block ≡ Some (replicate 4096 0)
 zero_seen cache block Data other is = absurd (other refl)
 zero_seen cache block Zero other is = ap (λ (kind : Kind). bytes_for kind (bytes_of block cache.blocks)) is
 zero_seen cache block Hole other is = ap (λ (kind : Kind). bytes_for kind (bytes_of block cache.blocks)) is

@@ -32,18 +32,18 @@ no_answer log c place d answer request other outcome is_open is =
     let same = one_sender log place d c other request is.sent is_open.sent in
     is_open.unanswered answer outcome is.later (subst (λ (e : ℕ). StandsAt log answer (Answered e outcome)) same is.answered)
 
-module _ (world : World) (c : ℕ) (request : Message) (sound : IsSound world) (is_open : IsOpen world.log c (world.places c) request)
-    (unpaired : IsUnpaired world.stage.order world.paired (world.places c)) (write : is_write request ≡ true) where
+module _ (world : World) (c : ℕ) (request : Message) (added : Change) (sound : IsSound world) (is_open : IsOpen world.log c (world.places c) request)
+    (unpaired : IsUnpaired world.stage.order world.paired (world.places c)) (write : is_write request ≡ true) (asked : command_of request ≡ added) where
   -- the number of commands before, and which one of those after a command is
-  below_more : (k : ℕ) → k < length (world.stage.order ++ command_of request ∷ []) → (k < length world.stage.order) ⊎ (k ≡ length world.stage.order)
+  below_more : (k : ℕ) → k < length (world.stage.order ++ added ∷ []) → (k < length world.stage.order) ⊎ (k ≡ length world.stage.order)
   below_more k below = by_case (cases_eq k (length world.stage.order))
     where
       by_case : (k ≡ length world.stage.order) ⊎ (k ≡ length world.stage.order → ⊥) → (k < length world.stage.order) ⊎ (k ≡ length world.stage.order)
       by_case (inl is) = inr is
-      by_case (inr other) = inl (omega (arith, length-append world.stage.order (command_of request ∷ []), below, other))
+      by_case (inr other) = inl (omega (arith, length-append world.stage.order (added ∷ []), below, other))
 
-  more_below : (k : ℕ) → k < length world.stage.order → k < length (world.stage.order ++ command_of request ∷ [])
-  more_below k below = omega (arith, length-append world.stage.order (command_of request ∷ []), below)
+  more_below : (k : ℕ) → k < length world.stage.order → k < length (world.stage.order ++ added ∷ [])
+  more_below k below = omega (arith, length-append world.stage.order (added ∷ []), below)
 
   old_pair : (k : ℕ) → k < length world.stage.order → put world.paired (length world.stage.order) (world.places c) k ≡ world.paired k
   old_pair k below = put_other world.paired (length world.stage.order) (world.places c) k (λ is. omega (arith, is, below))
@@ -58,9 +58,9 @@ module _ (world : World) (c : ℕ) (request : Message) (sound : IsSound world) (
       no_answer world.log c (world.places c) d answer request other outcome is_open
       (subst (λ (place : ℕ). IsAnswered world.log d place other answer outcome) (new_pair k is) answered)
 
-  pub legal_ordered : IsLegal world.log (world.stage.order ++ command_of request ∷ []) (put world.paired (length world.stage.order) (world.places c))
+  pub legal_ordered : IsLegal world.log (world.stage.order ++ added ∷ []) (put world.paired (length world.stage.order) (world.places c))
   legal_ordered = record {
-    own = λ k command at. own k command (get_split world.stage.order (command_of request) k command at);
+    own = λ k command at. own k command (get_split world.stage.order (added) k command at);
     apart = λ k m before below. apart k m before (below_more m below);
     done = λ d place answer other is other_write. let found = sound.legal.done d place answer other is other_write in
         (found.0, more_below found.0 found.1, old_pair found.0 found.1 ∙ found.2);
@@ -69,11 +69,11 @@ module _ (world : World) (c : ℕ) (request : Message) (sound : IsSound world) (
     one_open = sound.legal.one_open;
   }
     where
-      own : (k : ℕ) (command : Change) → (slice_get world.stage.order k ≡ Some command) ⊎ ((k ≡ length world.stage.order) × (command ≡ command_of request))
+      own : (k : ℕ) (command : Change) → (slice_get world.stage.order k ≡ Some command) ⊎ ((k ≡ length world.stage.order) × (command ≡ added))
           → IsPaired world.log command (put world.paired (length world.stage.order) (world.places c) k)
       own k command (inl at) = subst (IsPaired world.log command) (sym (old_pair k (slice_get_within world.stage.order k command at))) (sound.legal.own k command at)
       own k command (inr last) = subst (IsPaired world.log command) (sym (new_pair k last.0))
-          (record { connection = c; request = request; sent = is_open.sent; write = write; own = sym last.1 })
+          (record { connection = c; request = request; sent = is_open.sent; write = write; own = asked ∙ sym last.1 })
 
       apart : (k m : ℕ) → k < m → (m < length world.stage.order) ⊎ (m ≡ length world.stage.order)
           → put world.paired (length world.stage.order) (world.places c) k ≢ put world.paired (length world.stage.order) (world.places c) m
@@ -99,7 +99,7 @@ module _ (world : World) (c : ℕ) (request : Message) (sound : IsSound world) (
       in_order d answer k m other outcome is before (inl k_below) (inr m_is) = omega (arith, k_below, m_is)
       in_order d answer k m other outcome is before (inr k_is) m_case = absurd (new_unanswered k d answer other outcome k_is is)
 
-  pub durable_ordered : (k : ℕ) → k < length (world.stage.order ++ command_of request ∷ [])
+  pub durable_ordered : (k : ℕ) → k < length (world.stage.order ++ added ∷ [])
       → IsCovered world.stage.setting.mode world.log (put world.paired (length world.stage.order) (world.places c) k) → k < world.stage.durable
   durable_ordered k below covered = by_case (below_more k below) covered
     where
@@ -113,7 +113,7 @@ module _ (world : World) (c : ℕ) (request : Message) (sound : IsSound world) (
 
   -- another connection's open request isn't paired with the new command
   unpaired_more : (d place : ℕ) (other : Message) → (d ≡ c → ⊥) → IsOpen world.log d place other → IsUnpaired world.stage.order world.paired place
-      → IsUnpaired (world.stage.order ++ command_of request ∷ []) (put world.paired (length world.stage.order) (world.places c)) place
+      → IsUnpaired (world.stage.order ++ added ∷ []) (put world.paired (length world.stage.order) (world.places c)) place
   unpaired_more d place other unlike their_open theirs k below = by_case (below_more k below)
     where
       by_case : (k < length world.stage.order) ⊎ (k ≡ length world.stage.order) → put world.paired (length world.stage.order) (world.places c) k ≢ place
@@ -123,13 +123,13 @@ module _ (world : World) (c : ℕ) (request : Message) (sound : IsSound world) (
 
   -- another connection's state stays right
   pub right_ordered : (d place : ℕ) (state : Connection) → (d ≡ c → ⊥)
-      → IsRight (facts_of world) d place state → IsRight (facts_of (ordered world c request)) d place state
+      → IsRight (facts_of world) d place state → IsRight (facts_of (ordered world c added)) d place state
   right_ordered d place Idle unlike all = all
   right_ordered d place (Requested other) unlike is = (is.0, unpaired_more d place other unlike is.0 is.1)
   right_ordered d place (Waiting number) unlike is = (is.0, is.1, awaits_more is.2)
     where
       awaits_more : AwaitsItself (facts_of world) place number is.0 ⊎ AwaitsOthers (facts_of world) place number is.0
-          → AwaitsItself (facts_of (ordered world c request)) place number is.0 ⊎ AwaitsOthers (facts_of (ordered world c request)) place number is.0
+          → AwaitsItself (facts_of (ordered world c added)) place number is.0 ⊎ AwaitsOthers (facts_of (ordered world c added)) place number is.0
       awaits_more (inl itself) = inl (record {
         write = itself.write;
         k = itself.k;
@@ -153,16 +153,16 @@ module _ (world : World) (c : ℕ) (request : Message) (sound : IsSound world) (
   right_ordered d place (Ready (States runs)) unlike is = is
   right_ordered d place Closed unlike is = tt
 
-  pub sound_ordered : (state : Connection) → IsRight (facts_of (ordered world c request)) c (world.places c) state
-      → IsSound (moved (ordered world c request) c state)
+  pub sound_ordered : (state : Connection) → IsRight (facts_of (ordered world c added)) c (world.places c) state
+      → IsSound (moved (ordered world c added) c state)
   sound_ordered state right = record {
     legal = legal_ordered;
     durable = durable_ordered;
     right = λ d. by_place d (cases_eq d c);
   }
     where
-      by_place : (d : ℕ) → (d ≡ c) ⊎ (d ≡ c → ⊥) → IsRight (facts_of (ordered world c request)) d (world.places d) (put world.connections c state d)
-      by_place d (inl is) = subst (λ (e : ℕ). IsRight (facts_of (ordered world c request)) e (world.places e) (put world.connections c state e)) (sym is)
-          (subst (λ (s : Connection). IsRight (facts_of (ordered world c request)) c (world.places c) s) (sym (put_same world.connections c state)) right)
-      by_place d (inr other) = subst (λ (s : Connection). IsRight (facts_of (ordered world c request)) d (world.places d) s) (sym (put_other world.connections c state d other))
+      by_place : (d : ℕ) → (d ≡ c) ⊎ (d ≡ c → ⊥) → IsRight (facts_of (ordered world c added)) d (world.places d) (put world.connections c state d)
+      by_place d (inl is) = subst (λ (e : ℕ). IsRight (facts_of (ordered world c added)) e (world.places e) (put world.connections c state e)) (sym is)
+          (subst (λ (s : Connection). IsRight (facts_of (ordered world c added)) c (world.places c) s) (sym (put_same world.connections c state)) right)
+      by_place d (inr other) = subst (λ (s : Connection). IsRight (facts_of (ordered world c added)) d (world.places d) s) (sym (put_other world.connections c state d other))
           (right_ordered d (world.places d) (world.connections d) other (sound.right d))

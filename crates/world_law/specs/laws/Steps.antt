@@ -20,6 +20,7 @@ use Rattle.nbd_wire.specs.declared.message.Answer.TheVariants.{Done, Refused, By
 use Rattle.world.specs.declared.step.Step.{Step}
 use Rattle.world.specs.declared.step.Step.TheVariants as steps
 use Rattle.image_model.specs.Bodies.{bodies_bytes, body_limit, longest}
+use Rattle.image_model.specs.Change.{Change}
 use Rattle.world.specs.Log.{command_of, is_write, is_write_type, is_flush, waits_for_store, IsAnswered}
 use Rattle.world.specs.Serve.{Failure, Nothing, OutOfMemory, DeviceFailure, logged, held, moved, ready, ordered, state_after, accepted, write_served, passed, judged, serve, answer, staged, faulted, Misread, image_shown, shown, read_served, status_served}
 use Rattle.world.specs.Checkpoint.{can_rotate, can_copy, can_map, can_finish, can_clean, is_full, rotated, finished}
@@ -125,39 +126,39 @@ module _ (world : World) (c : ℕ) (sound : IsSound world) where
     sound_ready : (errno : Errno) → IsSound (ready world c (Refused errno))
     sound_ready errno = sound_quiet (moved world c (Ready (Refused errno))) Took quiet_took (sound_moved world c (Ready (Refused errno)) sound (request, right.0, right.1))
 
-    new_below : length world.stage.order < length (world.stage.order ++ command_of request ∷ [])
-    new_below = omega (arith, length-append world.stage.order (command_of request ∷ []))
+    new_below : (command : Change) → length world.stage.order < length (world.stage.order ++ command ∷ [])
+    new_below command = omega (arith, length-append world.stage.order (command ∷ []))
 
-    right_after : (waits : Bool) → waits_for_store world.stage.setting.mode request ≡ waits → is_write request ≡ true
-        → IsRight (facts_of (ordered world c request)) c (world.places c) (state_after waits (last_number world + 1))
-    right_after true waits write = (
+    right_after : (command : Change) (waits : Bool) → waits_for_store world.stage.setting.mode request ≡ waits → is_write request ≡ true
+        → IsRight (facts_of (ordered world c command)) c (world.places c) (state_after waits (last_number world + 1))
+    right_after command true waits write = (
       request,
       right.0,
       inl (record {
         write = write;
         k = length world.stage.order;
-        below = new_below;
+        below = new_below command;
         own = put_same world.paired (length world.stage.order) (world.places c);
         reached = omega arith;
       }),
     )
-    right_after false waits write = (request, right.0, write, waits, (length world.stage.order, new_below, put_same world.paired (length world.stage.order) (world.places c)))
+    right_after command false waits write = (request, right.0, write, waits, (length world.stage.order, new_below command, put_same world.paired (length world.stage.order) (world.places c)))
 
-    sound_numbered : is_write request ≡ true → IsSound (logged (moved (ordered world c request) c (state_after (waits_for_store world.stage.setting.mode request) (last_number world + 1))) (Numbered c (last_number world + 1)))
-    sound_numbered write = sound_quiet _ (Numbered c (last_number world + 1)) (quiet_numbered c (last_number world + 1))
-        (sound_ordered world c request sound right.0 right.1 write (state_after (waits_for_store world.stage.setting.mode request) (last_number world + 1))
-        (right_after (waits_for_store world.stage.setting.mode request) refl write))
+    sound_numbered : (command : Change) → is_write request ≡ true → command_of request ≡ command → IsSound (logged (moved (ordered world c command) c (state_after (waits_for_store world.stage.setting.mode request) (last_number world + 1))) (Numbered c (last_number world + 1)))
+    sound_numbered command write asked = sound_quiet _ (Numbered c (last_number world + 1)) (quiet_numbered c (last_number world + 1))
+        (sound_ordered world c request command sound right.0 right.1 write asked (state_after (waits_for_store world.stage.setting.mode request) (last_number world + 1))
+        (right_after command (waits_for_store world.stage.setting.mode request) refl write))
 
-    sound_accepted : (failure : Failure) → is_write request ≡ true → IsSound (accepted failure world c request)
-    sound_accepted OutOfMemory write = sound_ready NoMemory
-    sound_accepted Nothing write = sound_numbered write
-    sound_accepted DeviceFailure write = sound_numbered write
-    sound_accepted (Misread image) write = sound_numbered write
+    sound_accepted : (failure : Failure) (command : Change) → is_write request ≡ true → command_of request ≡ command → IsSound (accepted failure world c request command)
+    sound_accepted OutOfMemory command write asked = sound_ready NoMemory
+    sound_accepted Nothing command write asked = sound_numbered command write asked
+    sound_accepted DeviceFailure command write asked = sound_numbered command write asked
+    sound_accepted (Misread image) command write asked = sound_numbered command write asked
 
-    sound_write : (failure : Failure) → is_write request ≡ true → IsSound (write_served failure world c request)
-    sound_write failure write = of_either IsSound (last_number world == 18446744073709551615) _ _
+    sound_write : (failure : Failure) (command : Change) → is_write request ≡ true → command_of request ≡ command → IsSound (write_served failure world c request command)
+    sound_write failure command write asked = of_either IsSound (last_number world == 18446744073709551615) _ _
         (λ full. sound_ready NoSpace)
-        (λ left. of_either IsSound (has_room world (command_of request)) _ _ (λ room. sound_accepted failure write) (λ none. sound_held world sound))
+        (λ left. of_either IsSound (has_room world command) _ _ (λ room. sound_accepted failure command write asked) (λ none. sound_held world sound))
 
     others_before : is_flush request ≡ true → AwaitsOthers (facts_of world) (world.places c) (last_number world) request
     others_before flush = record {
@@ -208,7 +209,7 @@ module _ (world : World) (c : ℕ) (sound : IsSound world) where
         (sound_moved world c (Waiting (last_number world)) sound (request, right.0, inr (others_before flush))))
         (λ other. of_either IsSound (request.head.kind == 0) _ _ (λ read. sound_read failure)
         (λ no_read. of_either IsSound (request.head.kind == 7) _ _ (λ status. sound_status failure)
-        (λ no_status. sound_write failure (writes other no_read no_status)))))
+        (λ no_status. sound_write failure (command_of request) (writes other no_read no_status) refl))))
 
     sound_judged : (result : Result Action Errno) → (result ≡ Ok Serve → AsksToWrite) → (failure : Failure) → IsSound (judged result failure world c request)
     sound_judged (Ok End) writes failure = sound_quiet (moved world c Closed) Took quiet_took (sound_moved world c Closed sound tt)

@@ -166,11 +166,11 @@ module _ (world : World) (within : IsWithin world) where
   within_send failure c request (Ready outcome) = within_elsewhere _ _ _ _ _
   within_send failure c request Closed = within_elsewhere _ _ _ _ _
 
-  within_accepted : (failure : Failure) (c : ℕ) (request : Message) → IsWithin (accepted failure world c request)
-  within_accepted OutOfMemory c request = within_elsewhere _ _ _ _ _
-  within_accepted Nothing c request = within_ordered _ _ _ _
-  within_accepted DeviceFailure c request = within_ordered _ _ _ _
-  within_accepted (Misread image) c request = within_ordered _ _ _ _
+  within_accepted : (failure : Failure) (c : ℕ) (request : Message) (command : Change) → IsWithin (accepted failure world c request command)
+  within_accepted OutOfMemory c request command = within_elsewhere _ _ _ _ _
+  within_accepted Nothing c request command = within_ordered _ _ _ _
+  within_accepted DeviceFailure c request command = within_ordered _ _ _ _
+  within_accepted (Misread image) c request command = within_ordered _ _ _ _
 
   within_read : (failure : Failure) (c : ℕ) (request : Message) → IsWithin (read_served failure world c request)
   within_read OutOfMemory c request = within_elsewhere _ _ _ _ _
@@ -190,7 +190,7 @@ module _ (world : World) (within : IsWithin world) where
       (λ other. of_either IsWithin (request.head.kind == 0) _ _ (λ read. within_read failure c request)
       (λ no_read. of_either IsWithin (request.head.kind == 7) _ _ (λ status. within_status failure c request)
       (λ no_status. of_either IsWithin (last_number world == 18446744073709551615) _ _ (λ full. within_elsewhere _ _ _ _ _)
-      (λ left. of_either IsWithin (has_room world (command_of request)) _ _ (λ room. within_accepted failure c request) (λ none. within_elsewhere _ _ _ _ _))))))
+      (λ left. of_either IsWithin (has_room world (command_of request)) _ _ (λ room. within_accepted failure c request (command_of request)) (λ none. within_elsewhere _ _ _ _ _))))))
 
   within_judged : (given : Result Action Errno) (failure : Failure) (c : ℕ) (request : Message) → IsWithin (judged given failure world c request)
   within_judged (Ok End) failure c request = within_elsewhere _ _ _ _ _

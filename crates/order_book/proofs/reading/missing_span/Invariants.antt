@@ -9,4 +9,7 @@ invariant-loop-block l = record {
   order : l.from ≤ l.end;
   end : l.end ≤ l.block;
   all : (block : ℕ) → l.first ≤ block → block < l.block → bytes_seen l.cache block ≡ None → (l.from ≤ block) × (block < l.end);
+  found : l.first < l.end → l.from < l.end;
+  begins : l.from < l.end → bytes_seen l.cache l.from ≡ None;
+  ends : (block : ℕ) → l.from ≤ block → block + 1 ≡ l.end → bytes_seen l.cache block ≡ None;
 }

@@ -23,6 +23,7 @@ accept-requires g c =
     let offset = ap (λ (head : RequestHead). head.offset) c.into_parts-bytes.ensures.head in
     let most = served.most_written c.requires.kind in
     let whole : vec_len c.into_parts-bytes.result.1 ≡ c.args.request.head.length = grind (arith, common_steps) in
+    let counted = c.into_parts-bytes.result.1.ok.0 in
     (c.args.request.head.length / 4096, omega arith, omega arith, omega arith, omega arith)
 
 -- the command is that of the request, and one that the image takes

@@ -1,8 +1,8 @@
-use Rattle.std.proofs.Common.{◌+◌, ◌∙◌, ◌∷◌, [], List, sym, subst, refl, arith}
+use Rattle.std.proofs.Common.{◌+◌, ◌∙◌, List, sym, subst, refl, arith}
 use Rattle.group_list.specs.declared.touch.TouchedRange.{TouchedRange}
-use Rattle.group_list.specs.Touches.{AreWithin}
+use Rattle.group_list.specs.Touches.{AreWithin, ranges_of}
 use Rattle.group_list.specs.laws.Chained.{none_read, reads_on}
-use Rattle.group_list.specs.laws.Found.{found_none, left_none, found_more, left_more, none_next, within_append, range_within}
+use Rattle.group_list.specs.laws.Found.{found_none, left_none, found_more, left_more, none_next, within_append, within_more}
 use Rattle.group_list.specs.laws.Noted.{passed_on}
 use Rattle.group_list.proofs.scan.Place.commands.Goals as goal
 
@@ -34,8 +34,8 @@ loop-preserved g c =
       order = read.inside.1;
       within = λ within.
           subst (AreWithin area.from (area.from + area.bytes)) (sym {A = List TouchedRange} c.in_ok-note.ensures.ok)
-          (within_append area.from (area.from + area.bytes) c.loop.touched.items (c.in_ok-found.found.range ∷ []) (loop.within within)
-          (range_within area.from (area.from + c.in_ok-found.found.end) area.from (area.from + area.bytes) (omega arith) (omega (arith, read.inside.1, c.requires.inside)) c.in_ok-found.found.range read.within, tt));
+          (within_append area.from (area.from + area.bytes) c.loop.touched.items (ranges_of c.in_ok-found.found.touch) (loop.within within)
+          (within_more area.from (area.from + c.in_ok-found.found.end) (area.from + area.bytes) (omega (arith, read.inside.1, c.requires.inside)) (ranges_of c.in_ok-found.found.touch) read.within));
       read_as = λ honest content known. read.read_as (loop.honest.1 honest) content (loop.read_as honest content known);
       found = λ honest content known. found_more area.blocks content (area.from + c.args.from) _ _ _ _ _ _ _ (loop.found honest content known) (read.found (loop.honest.1 honest) content (loop.read_as honest content known)) c.in_ok-note.ensures.ok;
       left = λ honest content known. left_more area.blocks area.blocks_fit content (area.from + c.args.from) _ _ _ _ (loop.left honest content known) _ _ (read.found (loop.honest.1 honest) content (loop.read_as honest content known)) c.loop-test.true;

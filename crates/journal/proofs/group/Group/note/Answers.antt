@@ -1,4 +1,4 @@
-use Rattle.std.proofs.Common.{◌≡◌, ◌∙◌, ◌++◌, ◌∷◌, [], ◌<◌, List, length, get_or, map, take, ap, sym, append_assoc, arith}
+use Rattle.std.proofs.Common.{◌≡◌, ◌∙◌, ◌++◌, ◌<◌, List, length, get_or, map, take, ap, sym, append_assoc, arith}
 use Rattle.std.proofs.lemmas.List.Sums.{sum_by_more}
 use Rattle.image_model.specs.declared.command.Command.{Command}
 use Rattle.image_model.specs.Change.{change_of}
@@ -24,9 +24,9 @@ loop-command-preserved c =
     record {
       place = omega (arith, loop.place, c.body_bytes-place.ensures, sum_by_more body_of commands index command below, ap body_of is);
       noted = c.in_ok-note.ensures.ok
-          ∙ ap (λ (r : TouchedRange). c.loop-command.touched.items ++ r ∷ []) c.touched_by.ensures
-          ∙ ap (λ (l : List TouchedRange). l ++ touched_by c.loop-command.place (change_of command) ∷ []) loop.noted
-          ∙ append_assoc c.args.touched.now.items (touched_by_changes c.args.place (map change_of (take index commands))) (touched_by c.loop-command.place (change_of command) ∷ [])
+          ∙ ap (λ (l : List TouchedRange). c.loop-command.touched.items ++ l) c.touched_by.ensures
+          ∙ ap (λ (l : List TouchedRange). l ++ touched_by c.loop-command.place (change_of command)) loop.noted
+          ∙ append_assoc c.args.touched.now.items (touched_by_changes c.args.place (map change_of (take index commands))) (touched_by c.loop-command.place (change_of command))
           ∙ ap (λ (l : List TouchedRange). c.args.touched.now.items ++ l) (sym (noted_more c.args.place c.loop-command.place commands index command below is loop.place));
     }
 

@@ -1,7 +1,20 @@
-use Rattle.std.proofs.Common.{ap}
+use Rattle.std.proofs.Common.{refl, ap, ◌∙◌, arith}
+use Rattle.std.proofs.lemmas.Bool.{le-leb}
+use Rattle.shared_cache.specs.Blocks.{at_hand}
 use Rattle.shared_cache.specs.Cache.{CacheState}
+use Rattle.shared_cache.specs.laws.Ranges.{missing_at_most}
 use Rattle.shared_cache.specs.laws.Views.{once_seen}
 use Rattle.shared_cache.proofs.cache.Cache.has_frames.Goals as goal
 
-pub returns-clause-once : goal.returns-clause-once
-returns-clause-once c = once_seen c.self.inside.held _ c.self.invariant.held_kept (ap (λ (cache : CacheState). cache.blocks) c.self.view_is)
+pub returns-then-count-at_hand-clause-enough : goal.returns-then-count-at_hand-clause-enough
+returns-then-count-at_hand-clause-enough c =
+    let found = c.at_hand-at_hand.ensures ∙ ap (λ (cache : CacheState). at_hand cache.blocks) c.self.view_is in
+    let most = missing_at_most c.args.first c.args.count c.args.self.now.blocks in
+    let below = c.if-count-at_hand.true in
+    (λ is. omega (arith, found, most, below), λ fits. rw (le-leb c.args.count c.at_hand-at_hand.result below) refl)
+
+pub returns-then-count-at_hand-clause-once : goal.returns-then-count-at_hand-clause-once
+returns-then-count-at_hand-clause-once c = once_seen c.self.inside.held _ c.self.invariant.held_kept (ap (λ (cache : CacheState). cache.blocks) c.self.view_is)
+
+pub returns-else-count-at_hand-clause-once : goal.returns-else-count-at_hand-clause-once
+returns-else-count-at_hand-clause-once c = once_seen c.self.inside.held _ c.self.invariant.held_kept (ap (λ (cache : CacheState). cache.blocks) c.self.view_is)

@@ -11,5 +11,5 @@ invariant-loop-offset l = record {
   frames : count_missing (l.first + l.offset) (length l.blocks - l.offset) (blocks_of l.self.pool l.self.blocks) ≤ at_hand (blocks_of l.self.pool l.self.blocks);
   order : All (λ (held : DirtyFrame). held.number ≤ l.number) l.self.pool.dirty;
   held : IsHeld l.self;
-  room : length l.blocks - l.offset ≤ l.self.spare;
+  room : l.initial.self.spare ≤ l.self.spare + l.offset;
 }

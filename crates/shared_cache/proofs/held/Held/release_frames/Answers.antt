@@ -19,6 +19,7 @@ loop-frame-preserved c = record {
       c.index-block.ensures)
       c.release_inside.ensures.missing;
   kept = c.release_inside.ensures.kept ∙ c.loop-frame.invariant.kept;
+  spare = omega (arith, c.release_inside.ensures.spare, c.loop-frame.invariant.spare);
   held = c.release_inside.ensures.held;
 }
 

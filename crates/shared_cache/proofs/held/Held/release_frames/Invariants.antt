@@ -1,4 +1,4 @@
-use Rattle.std.proofs.Common.{◌≡◌, ◌<◌, ℕ, true}
+use Rattle.std.proofs.Common.{◌≡◌, ◌<◌, ◌≤◌, ℕ, true}
 use Rattle.image_model.specs.Image.{covers}
 use Rattle.shared_cache.specs.Blocks.{without}
 use Rattle.shared_cache.specs.Held.{IsHeld, IsMissing, block_at, blocks_of}
@@ -9,5 +9,6 @@ invariant-loop-frame l = record {
   left : without (covers l.first l.count) (blocks_of l.self.pool l.self.blocks) ≡ without (covers l.first l.count) (blocks_of l.initial.self.pool l.initial.self.blocks);
   gone : (frame : ℕ) → frame < l.frame → covers l.first l.count (block_at l.self.blocks frame) ≡ true → IsMissing (block_at l.self.blocks frame) l.self;
   kept : l.self.blocks ≡ l.initial.self.blocks;
+  spare : l.initial.self.spare ≤ l.self.spare;
   held : IsHeld l.self;
 }
