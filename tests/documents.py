@@ -8,7 +8,7 @@
 - The shell block of README.md, a first served image, runs to its end, where its client is installed.
 - The man page, docs/nbdj.1: its synopsis, and of each command the texts, arguments, options, names of values, defaults and values, as
   the command's `--help` has them.
-- docs/DESIGN.md has each crate with what it stands on, as crates.txt has it.
+- docs/DESIGN.md has the table of the crates that tools/crate-table makes of crates.txt.
 - Prose wraps at 100 columns.
 """
 import glob
@@ -158,15 +158,9 @@ def check_man_page(program):
 
 
 def check_design():
-    stands = {}
-    for line in read(f"{TOP}/crates.txt").splitlines():
-        head, _, names = line.partition("#")[0].partition(":")
-        if head.split():
-            stands[head.split()[0]] = names.split()
-    wanted = {crate: sorted(it for it in names if it in stands) for crate, names in stands.items()}
-    part = read(f"{TOP}/docs/DESIGN.md")
-    rows = re.findall(r"^\| `(\w+)` \|[^|]*\|([^|]*)\|$", part, re.M)
-    check("the crates of the design", wanted, {crate: sorted(re.findall(r"`(\w+)`", names)) for crate, names in rows})
+    wanted = subprocess.run([f"{TOP}/tools/crate-table"], capture_output=True, text=True, check=True).stdout
+    found = re.search(r"^\| Crate \|.*?\n(?=\n)", read(f"{TOP}/docs/DESIGN.md"), re.M | re.S)
+    check("the crates of the design", wanted, found and found[0])
 
 
 def check_columns():

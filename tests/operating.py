@@ -208,10 +208,10 @@ def told(folder):
 
 
 def copied(folder):
-    """A checkpoint that is told: the third write takes more than two thirds of the frames, and of an area."""
+    """A checkpoint that is told: the second write takes half of the frames, and of an area."""
     with Server(folder, "copied", 1, "--verbose") as server:
         with server.shaken() as client:
-            for cookie in (0, 1, 2):
+            for cookie in (0, 1):
                 check("copied: a write", True, write(client, cookie, MIB // 2))
                 client.sendall(request(FLUSH, 9, 0, 0))
                 check("copied: a flush", reply(9), take(client, 16))
@@ -219,7 +219,7 @@ def copied(folder):
             late.start()
             line = next((it for it in server.process.stderr if "checkpoint" in it), "")
             late.cancel()
-        check("copied: what is told", "nbdj: checkpoint of 384 blocks in T s\n", re.sub(r"\d+\.\d{3} s$", "T s", line, flags=re.M))
+        check("copied: what is told", "nbdj: checkpoint of 256 blocks in T s\n", re.sub(r"\d+\.\d{3} s$", "T s", line, flags=re.M))
 
 
 def main():

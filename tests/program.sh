@@ -343,18 +343,54 @@ for row in 'a body longer than the area|8193|00800000' 'a body longer than a gro
     'a body one byte below its command|8193|0000000c' 'a body one byte above its command|8193|0000000e' \
     'a body that ends within the head of a command|8193|00000005' 'an empty body|8193|00000000' \
     'another first number|8197|0000000000000002' 'one command more than there are|8205|00000002' \
-    'a command of kind 0|8209|00' 'a command of kind 4|8209|04' 'a first block of 2^64 - 1|8210|ffffffffffffffff' \
-    'a command of no blocks|8218|00000000' 'one block past the image|8218|00000011'; do
+    'a command of kind 0|8209|00' 'a command of kind 4 without its edges|8209|04' 'a command of kind 6|8209|06' \
+    'a first block of 2^64 - 1|8210|ffffffffffffffff' 'one block past the image|8218|00000011'; do
     cp stored.img d.img
     patch d.img "$(printf '%s' "$row" | cut -d '|' -f 2)" "${row##*|}"
     unchanged "${row%%|*}" 'nbdj: damaged group (12)'
 done
+# grouped COMMAND COUNT: d.img has an image of 16 holes, and as its only group this command, in hex, with so many bytes of data behind it
+grouped() {
+    fresh 16 2097152
+    patch d.img 8192 "01 $(printf %08x $((${#1} / 2 + $2))) 0000000000000001 00000001 $1"
+    differing "$2" 3 >data
+    dd if=data of=d.img bs=1 seek=$((8209 + ${#1} / 2)) conv=notrunc 2>/dev/null
+}
+for row in 'no edges|04000000000000000000000002 00|0' 'edges 4|04000000000000000000000002 04|4096' \
+    'a tail of one block|05000000000000000000000001 02|4096' 'a head and a tail of one block|05000000000000000000000001 03|8192' \
+    'edges of no block|04000000000000000000000000 01|4096' 'a put of no block|01000000000000000000000000|0' \
+    'a clear to zero of no block|03000000000000000000000000|0' 'a trim of no block behind the end|02000000000000001100000000|0' \
+    'an edge of 2,048 bytes|04000000000000000000000002 01|2048' 'edges past the image|04000000000000000f00000002 01|4096' \
+    'a tail where the body ends|05000000000000000e00000002 03|4096'; do
+    command=${row#*|}
+    grouped "$(printf '%s' "${command%|*}" | tr -d ' ')" "${row##*|}"
+    unchanged "${row%%|*}" 'nbdj: damaged group (12)'
+done
+# (a row ends in the blocks that are data afterwards, zero, and holes)
+for row in 'a trim of no block|02000000000000000f00000000|0|0 0 16' 'a trim of no block at the end|02000000000000001000000000|0|0 0 16' \
+    'a clear to zero with a head and a tail|05000000000000000d00000003 03|8192|2 1 13' \
+    'a clear with two edges alone|05000000000000000e00000002 03|8192|2 0 14' 'a clear with a tail|04000000000000000e00000002 02|4096|1 0 15' \
+    'a clear of one block that is its head|05000000000000000f00000001 01|4096|1 0 15'; do
+    command=${row#*|}
+    count=${command#*|}
+    count=${count%|*}
+    grouped "$(printf '%s' "${command%%|*}" | tr -d ' ')" "$count"
+    checks "check of ${row%%|*}" 16 0 0 1 ${row##*|}
+    ends "${row%%|*}" 0 "$(text 'commands 1')" '' recover d.img
+    checks "check of ${row%%|*}, recovered" 16 0 1 1 ${row##*|}
+    # (the image's blocks are the end of the file)
+    is "the last block behind ${row%%|*}" "$(if [ "$count" -gt 0 ]; then tail -c 4096 data; else head -c 4096 /dev/zero; fi | hex)" "$(tail -c 4096 d.img | hex)"
+done
+# The head of three blocks stands in the first of them.
+grouped 05000000000000000d0000000303 8192
+ends 'a clear whose head is recovered' 0 "$(text 'commands 1')" '' recover d.img
+is 'the block of the head' "$(head -c 4096 data | hex)" "$(tail -c 12288 d.img | head -c 4096 | hex)"
 # A put of the most blocks that a command may have, and of one more, inside the image.
 fresh 300 2097152
-patch d.img 8192 '01 0010000d 0000000000000001 00000001 01 0000000000000000 00000100'
-checks 'check of a put of 256 blocks' 300 0 0 1 256 0 44
 patch d.img 8192 '01 0010100d 0000000000000001 00000001 01 0000000000000000 00000101'
-unchanged 'a put of 257 blocks' 'nbdj: damaged group (12)'
+checks 'check of a put of 257 blocks' 300 0 0 1 257 0 43
+patch d.img 8192 '01 0010200d 0000000000000001 00000001 01 0000000000000000 00000102'
+unchanged 'a put of 258 blocks' 'nbdj: damaged group (12)'
 # The last number, and one past it.
 fresh 16 2097152
 patch d.img 32 fffffffffffffffe

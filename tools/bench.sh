@@ -2,8 +2,9 @@
 # Measures `nbdj serve`, by the program NBDJ, beside nbdkit's file plugin, the same behind nbdkit's cache filter, and qemu-nbd: one run on
 # one machine, over Unix sockets, each server with an image of 512 MiB of its own that is filled before. Prints a table in Markdown, with
 # nbdj's ratio to the best of the others. It is part of no gate.
-# A second table has nbdj and nbdkit's file plugin with syncs that take SLOW_SYNCS microseconds more (0 1000 5000), by a preload that sleeps
-# in them: READs alone and beside 4 connections that write and flush, and such connections.
+# A second table has what writers, a flusher and a reader get beside one another. A third one has nbdj and nbdkit's file plugin with syncs
+# that take SLOW_SYNCS microseconds more (0 1000 5000), by a preload that sleeps in them: READs alone and beside 4 connections that write and
+# flush, and such connections.
 # It needs cc and Debian's libnbd-dev, nbdkit and qemu-utils. ROUNDS (1) says how often each is measured, the servers in turn; the median
 # counts. BENCH_SECONDS (4) is the time of each measurement, BENCH_FOLDER where the images are, TMPDIR otherwise. After the time each
 # client waits for the answers that are due.
@@ -73,14 +74,16 @@ while [ $round -lt "$rounds" ]; do
         serve $it
         ./client fill "nbd+unix:///?socket=$folder/$it.sock" $blocks
         # (what the one has left unstored the next would pay for)
-        for row in 'sequential 1' 'flushed 8' 'fua 8' 'write 1' 'write 4'; do
+        for row in 'sequential 1' 'flushed 8' 'fua 8' 'write 1' 'write 4' 'mixed 4'; do
             measure $it $row $blocks >>"$it.$(echo "$row" | tr ' ' .)"
             sync
         done
         # Reads that hit: of blocks that were written last, fewer than the frames.
         ./client fill "nbd+unix:///?socket=$folder/$it.sock" $hot
-        measure $it read 1 $hot >>$it.read.1
-        measure $it read-long 1 $blocks >>$it.read-long.1
+        for row in 'read 1' 'read 4' 'read-long 1' 'read-64k 1'; do measure $it $row $hot >>"$it.hit.$(echo "$row" | tr ' ' .)"; done
+        for row in 'read-long 1' 'read-64k 1'; do measure $it $row $blocks >>"$it.$(echo "$row" | tr ' ' .)"; done
+        sync
+        timeout 100 ./client stall "nbd+unix:///?socket=$folder/$it.sock" "$seconds" $blocks >>$it.stall
         stop
     done
     round=$((round + 1))
@@ -114,12 +117,29 @@ row 'WRITE 4 KiB at random, 4 connections' '1/s' 1.0 write.4
 row 'WRITE 4 KiB and FLUSH, 8 connections' '1/s' 1.5 flushed.8
 row 'WRITE 4 KiB with FUA, 8 connections' '1/s' 1.0 fua.8
 row 'WRITE 1 MiB in sequence, once over the image, FLUSH at the end' 'MiB/s' 0.6 sequential.1
-row 'READ 4 KiB at random that hits' '1/s' 0.8 read.1
-row 'READ 1 MiB' 'MiB/s' 0.6 read-long.1
+row 'READ 4 KiB at random that hits, 1 connection' '1/s' 1.0 hit.read.1
+row 'READ 4 KiB at random that hits, 4 connections' '1/s' 1.0 hit.read.4
+row '7 READs of 4 KiB to 3 WRITEs at random, 4 connections' '1/s' 0.9 mixed.4
+row 'READ 1 MiB in sequence that hits' 'MiB/s' 0.9 hit.read-long.1
+row 'READ 1 MiB in sequence that misses' 'MiB/s' 0.9 read-long.1
+row 'READ 64 KiB in sequence that hits' '1/s' 0.9 hit.read-64k.1
+row 'READ 64 KiB in sequence that misses' '1/s' 0.9 read-64k.1
 echo "| start until the greeting | ms | $(cat nbdj.ms) | $(cat nbdkit.ms) | $(cat cache.ms) | $(cat qemu.ms) | | 20 at most |"
 # The map of the image has two bits a block.
 most=$((frames * 4096 + blocks / 4 + 8388608))
 echo "| resident after the start | bytes | $(cat nbdj.bytes) | $(cat nbdkit.bytes) | $(cat cache.bytes) | $(cat qemu.bytes) | | $most at most |"
+
+# part NAME FIELD: the median of a field of what was measured
+part() { cut -d ' ' -f "$2" <"$1" | median; }
+
+echo
+echo '| 4 connections that write, one that writes and flushes, one that reads | nbdj | nbdkit file | nbdkit cache, file | qemu-nbd |'
+echo '|---|---|---|---|---|'
+stalls() { echo "| $1 | $(part nbdj.stall "$2") | $(part nbdkit.stall "$2") | $(part cache.stall "$2") | $(part qemu.stall "$2") |"; }
+stalls 'WRITEs of 4 KiB a second' 1
+stalls 'the longest, us' 2
+stalls 'a WRITE with a FLUSH, p99, us' 3
+stalls 'a READ of 4 KiB, p99, us' 4
 
 # Syncs that take long. Each server has its life for each time of a sync, in each round.
 slow_syncs=${SLOW_SYNCS:-0 1000 5000}
@@ -141,8 +161,6 @@ while [ $round -lt "$rounds" ]; do
     round=$((round + 1))
 done
 
-# part NAME FIELD: the median of a field of what was measured
-part() { cut -d ' ' -f "$2" <"$1" | median; }
 echo
 echo '| Syncs take more | Workload | nbdj, 1/s | p50, p99, longest, us | nbdkit file, 1/s | p50, p99, longest, us | Ratio |'
 echo '|---|---|---|---|---|---|---|'

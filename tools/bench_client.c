@@ -9,12 +9,17 @@
  *         sequential all blocks once, 1 MiB one behind the other, 4 on their way, and a FLUSH at the end, which counts: however long
  *         read       4 KiB at random places, 16 on their way
  *         read-long  1 MiB one behind the other, 4 on their way
+ *         read-64k 64 KiB one behind the other, 4 on their way
+ *         mixed      4 KiB at random places, 7 of 10 read and the others written, 16 on their way
  * bench_client fill URI BLOCKS
  *     Writes all those blocks, and a FLUSH.
  * bench_client beside URI LENGTH FLUSHERS SECONDS BLOCKS
  *     Sends READs of so many bytes, at random places in the first so many blocks, one after another, while as many connections as
  *     FLUSHERS says write and flush as `flushed` does. Prints how many READs were answered a second, the median of their times, the
  *     99th of a hundred and the longest, in microseconds, and how many FLUSHes were answered a second.
+ * bench_client stall URI SECONDS BLOCKS
+ *     4 connections write as `write` does, one writes and flushes as `flushed` does, and one reads 4 KiB, one after another. Prints how many
+ *     WRITEs were answered a second, the longest of them, the 99th of a hundred of a write and FLUSH, and of a READ, in microseconds.
  * bench_client start SOCKET COMMAND...
  *     Runs the server of a Unix socket, and prints after how many milliseconds it greeted a client, and how many bytes were resident
  *     then; kills it.
@@ -41,16 +46,18 @@
 struct kind {
     const char *name;
     unsigned blocks, depth;
-    int is_read, is_random, flushes, has_fua, is_one_pass;
+    int is_read, is_random, flushes, has_fua, is_one_pass, is_mixed;
 };
 
 static const struct kind kinds[] = {
-    {"write", 1, 16, 0, 1, 0, 0, 0},
-    {"flushed", 1, 1, 0, 1, 1, 0, 0},
-    {"fua", 1, 1, 0, 1, 0, 1, 0},
-    {"sequential", LONG_BLOCKS, 4, 0, 0, 0, 0, 1},
-    {"read", 1, 16, 1, 1, 0, 0, 0},
-    {"read-long", LONG_BLOCKS, 4, 1, 0, 0, 0, 0},
+    {"write", 1, 16, 0, 1, 0, 0, 0, 0},
+    {"flushed", 1, 1, 0, 1, 1, 0, 0, 0},
+    {"fua", 1, 1, 0, 1, 0, 1, 0, 0},
+    {"sequential", LONG_BLOCKS, 4, 0, 0, 0, 0, 1, 0},
+    {"read", 1, 16, 1, 1, 0, 0, 0, 0},
+    {"read-long", LONG_BLOCKS, 4, 1, 0, 0, 0, 0, 0},
+    {"read-64k", 16, 4, 1, 0, 0, 0, 0, 0},
+    {"mixed", 1, 16, 0, 1, 0, 0, 0, 1},
 };
 
 struct connection;
@@ -58,6 +65,7 @@ struct connection;
 struct slot {
     struct connection *connection;
     int is_busy;
+    double begun;
     char *data;
 };
 
@@ -66,7 +74,8 @@ struct connection {
     const struct kind *kind;
     pthread_t thread;
     uint64_t random, next, blocks, answered, number;
-    double end;
+    double end, longest;
+    double *times; /* of each write and FLUSH, or none are kept */
     struct slot slots[MOST_DEPTH];
 };
 
@@ -107,6 +116,8 @@ static int completed(void *data, int *error) {
         errno = *error;
         fail("an answer");
     }
+    double took = now() - slot->begun;
+    if (took > slot->connection->longest) slot->connection->longest = took;
     slot->is_busy = 0;
     slot->connection->answered++;
     return 1;
@@ -117,7 +128,8 @@ static void ask(struct connection *it, struct slot *slot) {
     size_t length = (size_t)it->kind->blocks * BLOCK;
     int64_t cookie;
     slot->is_busy = 1;
-    if (it->kind->is_read) {
+    slot->begun = now();
+    if (it->kind->is_read || (it->kind->is_mixed && any(it) % 10 < 7)) {
         cookie = nbd_aio_pread(it->nbd, slot->data, length, place(it), done, 0);
     } else {
         mark(it, slot->data);
@@ -143,13 +155,18 @@ static void ask_many(struct connection *it) {
     }
 }
 
+#define MOST_TIMES 4000000
+
 static void ask_in_turn(struct connection *it) {
     char *data = it->slots[0].data;
-    while (now() < it->end) {
+    for (double from = now(); from < it->end;) {
         mark(it, data);
         if (nbd_pwrite(it->nbd, data, BLOCK, place(it), it->kind->has_fua ? LIBNBD_CMD_FLAG_FUA : 0) == -1) fail("a write");
         if (it->kind->flushes && nbd_flush(it->nbd, 0) == -1) fail("a flush");
+        double to = now();
+        if (it->times && it->answered < MOST_TIMES) it->times[it->answered] = to - from;
         it->answered++;
+        from = to;
     }
 }
 
@@ -228,8 +245,6 @@ static int longer(const void *one, const void *other) {
     return (left > right) - (left < right);
 }
 
-#define MOST_TIMES 4000000
-
 static void beside(const char *uri, unsigned length, unsigned flushers, double seconds, uint64_t blocks) {
     static struct connection connections[MOST_CONNECTIONS], reader;
     double *times = malloc(MOST_TIMES * sizeof *times);
@@ -266,6 +281,50 @@ static void beside(const char *uri, unsigned length, unsigned flushers, double s
            times[answered - 1] * 1e6, flushed / took);
     free(times);
     free(data);
+}
+
+#define WRITERS 4
+
+static void stall(const char *uri, double seconds, uint64_t blocks) {
+    static struct connection connections[WRITERS], flusher, reader;
+    static char data[BLOCK];
+    double *times = malloc(MOST_TIMES * sizeof *times);
+    size_t read = 0;
+    uint64_t written = 0;
+    double longest = 0;
+    for (unsigned k = 0; k < WRITERS; k++) prepare(&connections[k], uri, &kinds[0], k, blocks);
+    prepare(&flusher, uri, &kinds[1], WRITERS, blocks);
+    prepare(&reader, uri, &kinds[4], WRITERS + 1, blocks);
+    flusher.times = malloc(MOST_TIMES * sizeof *times);
+    if (!times || !flusher.times) fail("memory");
+    double begun = now();
+    flusher.end = begun + seconds;
+    if (pthread_create(&flusher.thread, NULL, serve_thread, &flusher)) fail("a thread");
+    for (unsigned k = 0; k < WRITERS; k++) {
+        connections[k].end = begun + seconds;
+        if (pthread_create(&connections[k].thread, NULL, serve_thread, &connections[k])) fail("a thread");
+    }
+    for (double from = now(); from < begun + seconds && read < MOST_TIMES; read++) {
+        if (nbd_pread(reader.nbd, data, BLOCK, any(&reader) % blocks * BLOCK, 0) == -1) fail("a read");
+        double to = now();
+        times[read] = to - from;
+        from = to;
+    }
+    for (unsigned k = 0; k < WRITERS; k++) {
+        pthread_join(connections[k].thread, NULL);
+        written += connections[k].answered;
+        if (connections[k].longest > longest) longest = connections[k].longest;
+        finish(&connections[k]);
+    }
+    pthread_join(flusher.thread, NULL);
+    double took = now() - begun;
+    qsort(times, read, sizeof *times, longer);
+    qsort(flusher.times, flusher.answered, sizeof *times, longer);
+    printf("%.0f %.0f %.0f %.0f\n", written / took, longest * 1e6, flusher.times[flusher.answered * 99 / 100] * 1e6, times[read * 99 / 100] * 1e6);
+    finish(&flusher);
+    finish(&reader);
+    free(flusher.times);
+    free(times);
 }
 
 static long resident(pid_t pid) {
@@ -322,6 +381,8 @@ int main(int argc, char **argv) {
         fill(argv[2], strtoull(argv[3], NULL, 10));
     } else if (argc == 7 && strcmp(argv[1], "beside") == 0) {
         beside(argv[2], (unsigned)atoi(argv[3]), (unsigned)atoi(argv[4]), atof(argv[5]), strtoull(argv[6], NULL, 10));
+    } else if (argc == 5 && strcmp(argv[1], "stall") == 0) {
+        stall(argv[2], atof(argv[3]), strtoull(argv[4], NULL, 10));
     } else if (argc > 3 && strcmp(argv[1], "start") == 0) {
         start(argv[2], argv + 3);
     } else {
