@@ -117,13 +117,13 @@ fn is_range(image: u64, first: u64, blocks: u64) -> bool
 // How many blocks the bytes fill, where these are whole and no more than a command has.
 fn whole_blocks(bytes: &[u8]) -> Option<u64>
     ensures whole { IfSome result (λ blocks. length bytes.now ≡ 4096 * blocks) }
-    ensures few { IfSome result (λ blocks. blocks ≤ 256) }
+    ensures few { IfSome result (λ blocks. blocks ≤ 257) }
 {
     let blocks = bytes.len() as u64 / BLOCK_BYTES;
     if bytes.len() as u64 != BLOCK_BYTES * blocks {
         return None;
     }
-    if blocks > 256 {
+    if blocks > 257 {
         return None;
     }
     Some(blocks)
