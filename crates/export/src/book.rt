@@ -77,6 +77,8 @@ impl<B: ExportName> Drop for Book<B> {
 impl<B: ExportName> Book<B> {
     pub(crate) fn new(order: Order<B>, frames: u32, passes: usize, settled: u64) -> Book<B>
         requires { length order.cache.states ≡ B.geometry.blocks }
+        ensures order { result.order ≡ order }
+        ensures settled { result.settled ≡ settled }
     {
         Book {
             order,
@@ -108,6 +110,7 @@ impl<B: ExportName> Book<B> {
         ensures fits { IfOk result (λ served. FitsServed terms.geometry terms.flags request served) }
         ensures handed_back { IfErr result (λ back. back.0 ≡ request) }
         ensures unchanged { OnErr result (pass.new ≡ pass.old) }
+        ensures settled { self.new.settled ≡ self.old.settled }
     {
         serve_held(alloc, request, &mut self.order, board, pass, terms)
     }
@@ -151,6 +154,12 @@ impl<B: ExportName> Book<B> {
 
         // Nothing is served of bytes that were read before frames were let go.
         ensures let_go { planned.settled ≢ self.old.settled → IsErr result }
+
+        // Where the bytes come back the order is as it was, and the rest of the book is always.
+        ensures unchanged { OnErr result (self.new.order ≡ self.old.order) }
+        ensures rest { (self.new.frames ≡ self.old.frames) × (self.new.passes ≡ self.old.passes) × (self.new.wanted ≡ self.old.wanted)
+            × (self.new.crowd ≡ self.old.crowd) × (self.new.is_full ≡ self.old.is_full) × (self.new.lacks_room ≡ self.old.lacks_room)
+            × (self.new.wish ≡ self.old.wish) × (self.new.is_flushed ≡ self.old.is_flushed) × (self.new.patience ≡ self.old.patience) }
     {
         if planned.settled != self.settled {
             return Err(bytes);
@@ -182,6 +191,7 @@ impl<B: ExportName> Book<B> {
         ensures fits { FitsServed terms.geometry terms.flags request result }
         ensures geometry { keeper.new.geometry ≡ keeper.old.geometry }
         ensures count { keeper.new.count ≡ keeper.old.count }
+        ensures settled { self.new.settled ≡ self.old.settled }
     {
         serve_with_keeper(alloc, request, &mut self.order, keeper, board, pass, terms)
     }
