@@ -43,7 +43,7 @@ const MOST_BACKLOG_BYTES: u64 = 67_108_864;
 const BYTES_ROUND_BODY: u64 = 18;
 
 /// A span of more blocks that was read with no lock held isn't kept in memory: it would push out as many.
-const MOST_KEPT: u64 = 32;
+const MOST_KEPT: u64 = 8;
 
 /// The order in which write commands count, under the name of the board that shows its last number.
 pub struct Order<B: BoardName> {
