@@ -114,7 +114,7 @@ row() {
 }
 row 'WRITE 4 KiB at random, 1 connection' '1/s' 1.0 write.1
 row 'WRITE 4 KiB at random, 4 connections' '1/s' 1.0 write.4
-row 'WRITE 4 KiB and FLUSH, 8 connections' '1/s' 1.5 flushed.8
+row 'WRITE 4 KiB and FLUSH, 8 connections' '1/s' 1.0 flushed.8
 row 'WRITE 4 KiB with FUA, 8 connections' '1/s' 1.0 fua.8
 row 'WRITE 1 MiB in sequence, once over the image, FLUSH at the end' 'MiB/s' 0.6 sequential.1
 row 'READ 4 KiB at random that hits, 1 connection' '1/s' 1.0 hit.read.1
