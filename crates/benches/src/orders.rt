@@ -1,7 +1,8 @@
 //! What the order of commands costs: accepts of 4 KiB puts a second, by the number of dirty blocks, reads from memory,
-//! letting go of frames, and accepts by threads through one lock.
+//! letting go of frames, edits of blocks and of parts of blocks, and accepts by threads through one lock.
 ghost use Rattle.std.specs.Prelude.{◌≡◌, ◌<◌, ◌≤◌, ◌^◌};
 
+mod edits;
 mod limits;
 mod load;
 mod reads;
@@ -180,6 +181,27 @@ fn measure_threads<R: Threads + Wait + Sync + Clock + Print>(
     Ok(())
 }
 
+// Edits of blocks that are all dirty: of so many bytes from this one on.
+fn measure_edits<B: BoardName>(
+    rt: &HostRuntime,
+    alloc: Global,
+    desk: &mut Desk<B>,
+    keeper: &mut Keeper<SimDisk>,
+) -> Result<()> {
+    for (name, batches, offset, count) in [
+        ("4 KiB", 100, 0, 4_096),
+        ("512 bytes", 100, 1_024, 512),
+        ("4 KiB from byte 512 on", 100, 512, 4_096),
+        ("1 MiB", 2, 0, 1_048_576),
+        ("1 MiB from byte 1 on", 2, 1, 1_048_576),
+    ] {
+        let time = edits::timed_puts(rt, alloc, desk, keeper, batches, offset, count)?;
+        let each = time.as_nanos() / u128::from(edits::edits_in(batches).max(1));
+        println!(rt; "a put of {name}: {each} ns")?;
+    }
+    Ok(())
+}
+
 // Looks at a board, reads from its order, and a clean of it.
 fn measure_desk<B: BoardName>(
     rt: &HostRuntime,
@@ -190,6 +212,7 @@ fn measure_desk<B: BoardName>(
     measure_looks(rt, desk)?;
     measure_read(rt, alloc, &desk.order, 1)?;
     measure_read(rt, alloc, &desk.order, 256)?;
+    measure_edits(rt, alloc, desk, keeper)?;
     load::checkpoint(keeper)?;
     measure_clean(rt, &mut desk.order, keeper)
 }

@@ -19,8 +19,9 @@ use Rattle.nbd_wire.specs.declared.message.Run.{Run}
 use Rattle.nbd_wire.specs.declared.message.SessionFlags.{SessionFlags}
 use Rattle.order_book.specs.Order.{OrderState}
 use Rattle.request_core.specs.Outcomes.{IsPassed, IsServedBy, IsServedHere}
+use Rattle.order_book.specs.Shown.{ShowsImage}
 use Rattle.order_book.specs.declared.span.Span.{Span}
-use Rattle.request_core.specs.Reading.{IsReadOverServed, IsStatusServed}
+use Rattle.request_core.specs.Reading.{IsKnownBy, IsReadOverServed, IsStatusServed}
 use Rattle.request_core.specs.Serving.{IsWriteServed, ready_for, served_after}
 use Rattle.request_core.specs.declared.serving.Served.{Served}
 use Rattle.world.specs.Log.{is_flush, is_write, is_write_type, waits_for_store}
@@ -84,6 +85,13 @@ three_else kind is = (λ same. absurd (apart (sym (ap (λ (k : ℕ). k == 3) sam
     apart : false ≡ true → ⊥
     apart is = cc
 
+-- a write command is none of the others
+write_else : (kind : ℕ) → is_write_type kind ≡ true → ((kind == 3) ≡ false) × (kind ≢ 0) × (kind ≢ 7)
+write_else kind write = (grind (arith, nat_tests), λ is. unlike 0 (λ same. cc) is, λ is. unlike 7 (λ same. cc) is)
+  where
+    unlike : (other : ℕ) → (is_write_type other ≡ true → ⊥) → kind ≡ other → ⊥
+    unlike other apart is = apart (sym (ap is_write_type is) ∙ write)
+
 -- a READ or a BLOCK_STATUS is no FLUSH
 shows_three : (kind : ℕ) → (kind ≡ 0) ⊎ (kind ≡ 7) → (kind == 3) ≡ false
 shows_three kind (inl is) = ap (λ (k : ℕ). k == 3) is
@@ -143,14 +151,14 @@ module _ (request : Message) (geometry : Geometry) (flags : SessionFlags) where
         let agreed = agreed request.head geometry flags passes kind in
         shown passes (record { blocks = 0; byte = λ place. 0; kind = state_at old.cache.states }) request.head.cookie result (inr (kind, agreed.0, agreed.1)) (image_shows _ (λ block. refl))
 
-    write_fits : verdict request.head geometry flags ≡ Ok Serve → is_flush request ≡ false → request.head.kind ≢ 0 → request.head.kind ≢ 7 → IsWriteServed request geometry kept old new result
+    write_fits : (own : Image → Type 0) → verdict request.head geometry flags ≡ Ok Serve → is_flush request ≡ false → request.head.kind ≢ 0 → request.head.kind ≢ 7 → IsWriteServed request geometry kept own old new result
         → FitsServed geometry flags request result
-    write_fits passes other reads tells (inl full) =
+    write_fits own passes other reads tells (inl full) =
         refused request.head.cookie NoSpace result (judged passes (Refused NoSpace) (inr (inr (inl (other, reads, tells, refl))))) full.2
-    write_fits passes other reads tells (inr (command, change, takes, left, inl room)) = subst (λ (r : Served). FitsServed geometry flags request r) (sym room.2) tt
-    write_fits passes other reads tells (inr (command, change, takes, left, inr (inl none))) = lacked passes request.head.cookie result other none.2
-    write_fits passes other reads tells (inr (command, change, takes, left, inr (inr same))) =
-        numbered passes (waits_for_store kept request) request.head.cookie (old.mark + 1) result reads tells same.2
+    write_fits own passes other reads tells (inr (left, image, inl room)) = subst (λ (r : Served). FitsServed geometry flags request r) (sym room.2) tt
+    write_fits own passes other reads tells (inr (left, image, inr (inl none))) = lacked passes request.head.cookie result other none.2
+    write_fits own passes other reads tells (inr (left, image, inr (inr (taken, same)))) =
+        numbered passes (waits_for_store kept request) request.head.cookie (old.mark + 1) result reads tells same
 
     passed_fits : verdict request.head geometry flags ≡ Ok Serve → IsPassed request geometry kept old new result → FitsServed geometry flags request result
     passed_fits passes (inl stopped) = failed passes request.head.cookie result stopped.2
@@ -158,7 +166,7 @@ module _ (request : Message) (geometry : Geometry) (flags : SessionFlags) where
         let none = three_else request.head.kind flush.1 in
         subst (λ (r : Served). FitsServed geometry flags request r) (sym flush.3) (record { passes = passes; reads_none = none.0; tells_none = none.1 })
     passed_fits passes (inr (inr (inl status))) = status_fits passes status.1 status.3
-    passed_fits passes (inr (inr (inr write))) = write_fits passes write.1 write.2 write.3 write.4
+    passed_fits passes (inr (inr (inr write))) = write_fits (λ image. ShowsImage image old.cache) passes write.1 write.2 write.3 write.4
 
     pub here_fits : (given : Result Action Errno) → verdict request.head geometry flags ≡ given → IsServedHere given request geometry kept old new result → FitsServed geometry flags request result
     here_fits (Ok End) is here = absurd here
@@ -171,9 +179,13 @@ module _ (request : Message) (geometry : Geometry) (flags : SessionFlags) where
         → IsServedBy state faults honest given request geometry kept old new keeper left result → FitsServed geometry flags request result
     with_fits state faults honest keeper left (Ok End) is by = absurd by
     with_fits state faults honest keeper left (Ok Serve) is (inl by) = passed_fits is by.1
-    with_fits state faults honest keeper left (Ok Serve) is (inr (works, kind, inl none)) = lacked is request.head.cookie result (shows_three request.head.kind (inl kind)) none.2
-    with_fits state faults honest keeper left (Ok Serve) is (inr (works, kind, inr (inl read))) = shown is read.image request.head.cookie result (inl kind) read.answer
-    with_fits state faults honest keeper left (Ok Serve) is (inr (works, kind, inr (inr unread))) = failed is request.head.cookie result unread.answer
+    with_fits state faults honest keeper left (Ok Serve) is (inr (inl (works, kind, inl none))) = lacked is request.head.cookie result (shows_three request.head.kind (inl kind)) none.2
+    with_fits state faults honest keeper left (Ok Serve) is (inr (inl (works, kind, inr (inl read)))) = shown is read.image request.head.cookie result (inl kind) read.answer
+    with_fits state faults honest keeper left (Ok Serve) is (inr (inl (works, kind, inr (inr unread)))) = failed is request.head.cookie result unread.answer
+    with_fits state faults honest keeper left (Ok Serve) is (inr (inr (works, write, inl edit))) =
+        let others = write_else request.head.kind write in
+        write_fits (IsKnownBy state honest keeper old) is others.0 others.1 others.2 edit.served
+    with_fits state faults honest keeper left (Ok Serve) is (inr (inr (works, write, inr edit))) = failed is request.head.cookie result edit.unread.answer
     with_fits state faults honest keeper left (Err errno) is by = refused request.head.cookie errno result (subst (λ (given : Result Action Errno). IsJudged given request (Refused errno)) (sym is) refl) by.2
 
 -- the same of a request that may need the keeper

@@ -19,8 +19,9 @@ use Rattle.nbd_wire.specs.declared.message.Answer.TheVariants.{Bytes, Done, Refu
 use Rattle.nbd_wire.specs.declared.message.Run.{Run}
 use Rattle.order_book.specs.Order.{OrderState}
 use Rattle.request_core.specs.Outcomes.{IsPassed, IsServedBy, IsServedHere}
+use Rattle.order_book.specs.Shown.{ShowsImage}
 use Rattle.order_book.specs.declared.span.Span.{Span}
-use Rattle.request_core.specs.Reading.{IsReadOverServed, IsStatusServed}
+use Rattle.request_core.specs.Reading.{IsKnownBy, IsReadOverServed, IsStatusServed}
 use Rattle.request_core.specs.Serving.{IsPassServed, IsWriteServed, accepted_for, ready_for, served_after}
 use Rattle.request_core.specs.declared.serving.Served.{Served}
 use Rattle.request_core.specs.declared.serving.Served.TheVariants as served
@@ -63,7 +64,7 @@ module _ (request : Message) (kept : Mode) (pass next : PassState) where
   quiet before after cookie answer result undone same is passed =
       let at : IsPassServed request before after (ready_for cookie answer) pass next = subst (λ (r : Served). IsPassServed request before after r pass next) is passed in
       let none : nat_lt before after ≡ false = ap (nat_lt before) same ∙ no_less before in
-      let left : next ≡ pass = subst (λ (b : Bool). MatchBool b ((known pass < after) × (next ≡ accepted_for request after pass)) (next ≡ pass)) none at in
+      let left : next ≡ pass = subst (λ (b : Bool). MatchBool b ((known pass < after) × (image : Image) × (next ≡ accepted_for request image after pass)) (next ≡ pass)) none at in
       unanswered cookie answer result undone left is
 
   -- the same where the order is as it was
@@ -72,34 +73,34 @@ module _ (request : Message) (kept : Mode) (pass next : PassState) where
   as_it_was old new cookie answer result undone same = quiet old.mark new.mark cookie answer result undone (ap (λ (o : OrderState). o.mark) same)
 
   waiting : (before after number : ℕ) (result : Served) → result ≡ served.Wait number → IsPassServed request before after result pass next
-      → MatchBool (is_flush request) ((known pass ≤ number) × (next ≡ record pass { accepted = number })) ((known pass < number) × (next ≡ accepted_for request number pass))
+      → MatchBool (is_flush request) ((known pass ≤ number) × (next ≡ record pass { accepted = number })) ((known pass < number) × (image : Image) × (next ≡ accepted_for request image number pass))
   waiting before after number result is passed = subst (λ (r : Served). IsPassServed request before after r pass next) is passed
 
   flush_served : (before after number : ℕ) (result : Served) → is_flush request ≡ true → result ≡ served.Wait number → IsPassServed request before after result pass next
       → IsServedFor request kept pass next result
   flush_served before after number result flush is passed =
-      let at = subst (λ (b : Bool). MatchBool b ((known pass ≤ number) × (next ≡ record pass { accepted = number })) ((known pass < number) × (next ≡ accepted_for request number pass))) flush (waiting before after number result is passed) in
+      let at = subst (λ (b : Bool). MatchBool b ((known pass ≤ number) × (next ≡ record pass { accepted = number })) ((known pass < number) × (image : Image) × (next ≡ accepted_for request image number pass))) flush (waiting before after number result is passed) in
       subst (λ (r : Served). IsServedFor request kept pass next r) (sym is) (λ same. (at.0, ap (λ (p : PassState). p.own) at.1), λ other. absurd (true≢false (sym flush ∙ other)))
 
-  own_of : (number : ℕ) → (known pass < number) → next ≡ accepted_for request number pass → IsAccepted request number pass next
-  own_of number above is = record { above = above; own = ap (λ (p : PassState). p.own) is }
+  own_of : (number : ℕ) → (known pass < number) → (image : Image) → next ≡ accepted_for request image number pass → IsAccepted request number pass next
+  own_of number above image is = record { above = above; image = image; own = ap (λ (p : PassState). p.own) is }
 
   -- a command that got the next number
   numbered : (before after cookie : ℕ) (result : Served) (waits : Bool) → waits_for_store kept request ≡ waits → is_flush request ≡ false → is_write request ≡ true → after ≡ before + 1
       → result ≡ served_after waits cookie (before + 1) → IsPassServed request before after result pass next → IsServedFor request kept pass next result
   numbered before after cookie result true waits other write grown is passed =
-      let at = subst (λ (b : Bool). MatchBool b ((known pass ≤ before + 1) × (next ≡ record pass { accepted = before + 1 })) ((known pass < before + 1) × (next ≡ accepted_for request (before + 1) pass))) other (waiting before after (before + 1) result is passed) in
-      subst (λ (r : Served). IsServedFor request kept pass next r) (sym is) (λ flush. absurd (true≢false (sym flush ∙ other)), λ same. (write, own_of (before + 1) at.0 at.1))
+      let at = subst (λ (b : Bool). MatchBool b ((known pass ≤ before + 1) × (next ≡ record pass { accepted = before + 1 })) ((known pass < before + 1) × (image : Image) × (next ≡ accepted_for request image (before + 1) pass))) other (waiting before after (before + 1) result is passed) in
+      subst (λ (r : Served). IsServedFor request kept pass next r) (sym is) (λ flush. absurd (true≢false (sym flush ∙ other)), λ same. (write, own_of (before + 1) at.0 at.1 at.2))
   numbered before after cookie result false waits other write grown is passed =
       let at : IsPassServed request before after (ready_for cookie Done) pass next = subst (λ (r : Served). IsPassServed request before after r pass next) is passed in
       let more : nat_lt before after ≡ true = ap (nat_lt before) grown ∙ less_next before in
-      let own = subst (λ (b : Bool). MatchBool b ((known pass < after) × (next ≡ accepted_for request after pass)) (next ≡ pass)) more at in
+      let own = subst (λ (b : Bool). MatchBool b ((known pass < after) × (image : Image) × (next ≡ accepted_for request image after pass)) (next ≡ pass)) more at in
       subst (λ (r : Served). IsServedFor request kept pass next r) (sym is)
       (record {
-        written = λ done write. (after, own_of after own.0 own.1, λ stored. absurd (true≢false (sym stored ∙ waits)));
+        written = λ done write. (after, own_of after own.0 own.1 own.2, λ stored. absurd (true≢false (sym stored ∙ waits)));
         flushed = λ done flush. absurd (true≢false (sym flush ∙ other));
         refused = λ errno is_errno. absurd (refused_undone errno (sym is_errno));
-        own = inr (write, after, own_of after own.0 own.1);
+        own = inr (write, after, own_of after own.0 own.1 own.2);
       })
 
   module _ (geometry : Geometry) (old new : OrderState) (result : Served) (passed : IsPassServed request old.mark new.mark result pass next) where
@@ -109,19 +110,19 @@ module _ (request : Message) (kept : Mode) (pass next : PassState) where
         let image : Image = record { blocks = 0; byte = λ place. 0; kind = state_at old.cache.states } in
         as_it_was old new request.head.cookie _ result (shown_undone image request.head) same (shows image (λ block. refl)) passed
 
-    write_served : is_flush request ≡ false → is_write request ≡ true → IsWriteServed request geometry kept old new result → IsServedFor request kept pass next result
-    write_served other write (inl full) = as_it_was old new request.head.cookie _ result (refused_undone NoSpace) full.1 full.2 passed
-    write_served other write (inr (command, change, takes, left, inl room)) =
+    write_served : (own : Image → Type 0) → is_flush request ≡ false → is_write request ≡ true → IsWriteServed request geometry kept own old new result → IsServedFor request kept pass next result
+    write_served own other write (inl full) = as_it_was old new request.head.cookie _ result (refused_undone NoSpace) full.1 full.2 passed
+    write_served own other write (inr (left, image, inl room)) =
         subst (λ (r : Served). IsServedFor request kept pass next r) (sym room.2) (subst (λ (r : Served). IsPassServed request old.mark new.mark r pass next) room.2 passed, refl)
-    write_served other write (inr (command, change, takes, left, inr (inl none))) = as_it_was old new request.head.cookie _ result (refused_undone NoMemory) none.1 none.2 passed
-    write_served other write (inr (command, change, takes, left, inr (inr done))) =
-        numbered old.mark new.mark request.head.cookie result (waits_for_store kept request) refl other write (ap (λ (o : OrderState). o.mark) done.1) done.2 passed
+    write_served own other write (inr (left, image, inr (inl none))) = as_it_was old new request.head.cookie _ result (refused_undone NoMemory) none.1 none.2 passed
+    write_served own other write (inr (left, image, inr (inr (taken, done)))) =
+        numbered old.mark new.mark request.head.cookie result (waits_for_store kept request) refl other write (ap (λ (o : OrderState). o.mark) taken.more.2) done passed
 
     passed_for : (request.head.kind ≢ 0 → request.head.kind ≢ 7 → is_flush request ≡ false → is_write request ≡ true) → IsPassed request geometry kept old new result → IsServedFor request kept pass next result
     passed_for writes (inl stopped) = as_it_was old new request.head.cookie _ result (refused_undone Io) stopped.1 stopped.2 passed
     passed_for writes (inr (inl flush)) = flush_served old.mark new.mark old.mark result flush.1 flush.3 passed
     passed_for writes (inr (inr (inl status))) = status_served status.2 status.3
-    passed_for writes (inr (inr (inr write))) = write_served write.1 (writes write.2 write.3 write.1) write.4
+    passed_for writes (inr (inr (inr write))) = write_served (λ image. ShowsImage image old.cache) write.1 (writes write.2 write.3 write.1) write.4
 
     pub served_for : (given : Result Action Errno) → (given ≡ Ok Serve → request.head.kind ≢ 0 → request.head.kind ≢ 7 → is_flush request ≡ false → is_write request ≡ true)
         → IsServedHere given request geometry kept old new result → IsServedFor request kept pass next result
@@ -136,11 +137,15 @@ module _ (request : Message) (kept : Mode) (pass next : PassState) where
         → IsServedBy state faults honest given request geometry kept old new keeper left result → IsServedFor request kept pass next result
     served_with state faults honest keeper left (Ok End) writes by = absurd by
     served_with state faults honest keeper left (Ok Serve) writes (inl by) = passed_for (writes refl) by.1
-    served_with state faults honest keeper left (Ok Serve) writes (inr (works, kind, inl none)) = as_it_was old new request.head.cookie _ result (refused_undone NoMemory) none.0 none.2 passed
-    served_with state faults honest keeper left (Ok Serve) writes (inr (works, kind, inr (inl read))) =
+    served_with state faults honest keeper left (Ok Serve) writes (inr (inl (works, kind, inl none))) = as_it_was old new request.head.cookie _ result (refused_undone NoMemory) none.0 none.2 passed
+    served_with state faults honest keeper left (Ok Serve) writes (inr (inl (works, kind, inr (inl read)))) =
         quiet old.mark new.mark request.head.cookie _ result (shown_undone read.image request.head) (ap (λ (o : OrderState). o.mark) read.order) read.answer passed
-    served_with state faults honest keeper left (Ok Serve) writes (inr (works, kind, inr (inr unread))) =
+    served_with state faults honest keeper left (Ok Serve) writes (inr (inl (works, kind, inr (inr unread)))) =
         quiet old.mark new.mark request.head.cookie _ result (refused_undone Io) (ap (λ (o : OrderState). o.mark) unread.order) unread.answer passed
+    served_with state faults honest keeper left (Ok Serve) writes (inr (inr (works, write, inl edit))) =
+        write_served (IsKnownBy state honest keeper old) (write_flushes_none request.head.kind write) write edit.served
+    served_with state faults honest keeper left (Ok Serve) writes (inr (inr (works, write, inr edit))) =
+        quiet old.mark new.mark request.head.cookie _ result (refused_undone Io) (ap (λ (o : OrderState). o.mark) edit.unread.order) edit.unread.answer passed
     served_with state faults honest keeper left (Err errno) writes by = as_it_was old new request.head.cookie _ result (refused_undone errno) by.1 by.2 passed
 
 -- the same of a request that may need the keeper
@@ -167,7 +172,7 @@ module _ (request : Message) (kept : Mode) (old mid new : PassState) (number : �
     (served : (is_flush request ≡ true → (known old ≤ number) × (mid.own ≡ old.own)) × (is_flush request ≡ false → (is_write request ≡ true) × IsAccepted request number old mid))
     (waited : IsWaitedFor number mid new answer) where
   accepted : is_flush request ≡ false → IsAccepted request number old new
-  accepted other = record { above = (served.1 other).1.above; own = waited.own ∙ (served.1 other).1.own }
+  accepted other = record { above = (served.1 other).1.above; image = (served.1 other).1.image; own = waited.own ∙ (served.1 other).1.own }
 
   own_by : (b : Bool) → is_flush request ≡ b → (new.own ≡ old.own) ⊎ ((is_write request ≡ true) × (number : ℕ) × IsAccepted request number old new)
   own_by true is = inl (waited.own ∙ (served.0 is).1)

@@ -1,5 +1,6 @@
 -- what a pass knows once a request was served for it, and once it was answered
 use Rattle.std.specs.Prelude.{ℕ, ◌≡◌, ◌≢◌, ◌<◌, ◌≤◌, ◌⊎◌, true, false, Some, Result, Ok, Err}
+use Rattle.image_model.specs.Edit.{becomes}
 use Rattle.image_model.specs.Image.{Image}
 use Rattle.image_model.specs.declared.geometry.Geometry.{Geometry}
 use Rattle.marks.specs.Known.{PassState, known}
@@ -12,17 +13,18 @@ use Rattle.nbd_wire.specs.declared.message.Answer.TheVariants.{Done, Refused}
 use Rattle.nbd_wire.specs.declared.message.SessionFlags.{SessionFlags}
 use Rattle.request_core.specs.declared.serving.Served.{Served}
 use Rattle.request_core.specs.declared.serving.Served.TheVariants as served
-use Rattle.world.specs.Log.{command_of, is_flush, is_write, waits_for_store}
+use Rattle.world.specs.Log.{edit_asked, is_flush, is_write, waits_for_store}
 use Rattle.world.specs.Shown.{shown_by}
 use Rattle.world.specs.Verdict.{verdict}
 use Rattle.world.specs.declared.action.Action.{Action}
 use Rattle.world.specs.declared.action.Action.TheVariants.{End, Serve}
 use Rattle.world.specs.declared.step.Mode.{Mode}
 
--- the pass's own command is the request's, under a number above all that it knew before
+-- the pass's own command is what the request's edit becomes over an image, under a number above all that it knew before
 pub record IsAccepted (request : Message) (number : ℕ) (old new : PassState) : Type 0 where
   pub above : known old < number
-  pub own : new.own ≡ Some (record { number = number; change = command_of request })
+  pub image : Image
+  pub own : new.own ≡ Some (record { number = number; change = becomes (edit_asked request) image })
 
 -- A write command that is answered Ok has a number above all that its pass knew, and it is durable where the answer waits for that.
 -- A FLUSH that is answered Ok: all that its pass knew before is durable, whichever connection's it was. An error other than EIO

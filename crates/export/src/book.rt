@@ -1,7 +1,9 @@
 //! What lies under the order's lock.
-ghost use Rattle.std.specs.Prelude.{◌≡◌, ◌≢◌, IfErr, IfOk, IfSome, IsErr, OnErr, length, vec_len};
+ghost use Rattle.std.specs.Prelude.{◌≡◌, ◌≢◌, ◌*◌, IfErr, IfOk, IfSome, IsErr, OnErr, length, vec_len};
 ghost use Rattle.export.specs.Submits.{FitsServed, IsServedFor};
+ghost use Rattle.image_model.specs.Edit.{blocks_met};
 ghost use Rattle.marks.specs.Known.{PassState};
+ghost use Rattle.order_book.specs.Order.{with_clean};
 ghost use Rattle.request_core.specs.Reading.{IsPlanned, IsReadOverServed};
 
 use crate::gathering::Crowd;
@@ -145,10 +147,10 @@ impl<B: ExportName> Book<B> {
     ) -> Result<Served, Vec<u8>>
         requires planned { IsPlanned request.now.head terms.now.geometry terms.now.flags planned.span }
         requires geometry { terms.now.geometry ≡ B.geometry }
-        requires size { vec_len bytes ≡ request.now.head.length }
+        requires size { vec_len bytes ≡ 4096 * blocks_met request.now.head.offset request.now.head.length }
         ensures served { (pass : PassState) → IfOk result (λ served. IsServedFor request.now terms.now.mode pass pass served) }
         ensures fits { IfOk result (λ served. FitsServed terms.now.geometry terms.now.flags request.now served) }
-        ensures size { IfErr result (λ back. vec_len back ≡ request.now.head.length) }
+        ensures size { IfErr result (λ back. vec_len back ≡ 4096 * blocks_met request.now.head.offset request.now.head.length) }
         ensures settled { self.new.settled ≡ self.old.settled }
         ensures over { IfOk result (λ served. IsReadOverServed request.now.head planned.span bytes.items self.old.order self.new.order served) }
 
@@ -202,29 +204,38 @@ impl<B: ExportName> Book<B> {
     }
 
     /// Refuses commands from now on.
-    pub(crate) fn stop(&mut self) {
+    pub(crate) fn stop(&mut self)
+        ensures { self.new.settled ≡ self.old.settled }
+    {
         self.order.stop();
     }
 
     /// A pass has left.
-    pub(crate) fn leave(&mut self) {
+    pub(crate) fn leave(&mut self)
+        ensures { self.new.settled ≡ self.old.settled }
+    {
         self.passes = self.passes.saturating_sub(1);
     }
 
     /// No group will be stored any more.
-    pub(crate) fn end(&mut self) {
+    pub(crate) fn end(&mut self)
+        ensures { self.new.settled ≡ self.old.settled }
+    {
         self.is_flushed = true;
     }
 
     /// Somebody waits for a number.
     pub(crate) fn want(&mut self, number: u64)
-        ensures { self.new.settled ≡ self.old.settled }
+        ensures settled { self.new.settled ≡ self.old.settled }
+        ensures order { self.new.order ≡ self.old.order }
     {
         self.wanted = self.wanted.max(number);
     }
 
     /// Somebody begins to wait until a number is durable, which it isn't.
-    pub(crate) fn begin_wait(&mut self, number: u64) {
+    pub(crate) fn begin_wait(&mut self, number: u64)
+        ensures { self.new.settled ≡ self.old.settled }
+    {
         let is_sealed = number <= self.order.sealed();
         self.crowd.join(is_sealed);
         self.want(number);
@@ -237,14 +248,17 @@ impl<B: ExportName> Book<B> {
     }
 
     /// A command has no room.
-    pub(crate) fn miss_room(&mut self) {
+    pub(crate) fn miss_room(&mut self)
+        ensures { self.new.settled ≡ self.old.settled }
+    {
         self.lacks_room = true;
         self.wish_checkpoint();
     }
 
     /// Wants a checkpoint, which frees what is accepted by now.
     pub(crate) fn wish_checkpoint(&mut self)
-        ensures { self.new.settled ≡ self.old.settled }
+        ensures settled { self.new.settled ≡ self.old.settled }
+        ensures order { self.new.order ≡ self.old.order }
     {
         if self.wish.is_none() {
             let through = self.order.mark();
@@ -254,7 +268,9 @@ impl<B: ExportName> Book<B> {
     }
 
     /// Wants a checkpoint where half of the frames are dirty; whether it is wanted since now.
-    pub(crate) fn look_at_frames(&mut self) -> bool {
+    pub(crate) fn look_at_frames(&mut self) -> bool
+        ensures { self.new.settled ≡ self.old.settled }
+    {
         if self.wish.is_some() || !self.has_few_frames() {
             return false;
         }
@@ -274,7 +290,9 @@ impl<B: ExportName> Book<B> {
 
     /// What there is to do once a request was served: for the flusher, where much is pending or it counts the time
     /// from now on, and for the checkpointer, where a checkpoint is wanted since now.
-    pub(crate) fn next_work(&mut self) -> (bool, bool) {
+    pub(crate) fn next_work(&mut self) -> (bool, bool)
+        ensures { self.new.settled ≡ self.old.settled }
+    {
         let turn = self.look_at_frames();
         let first = self.is_pending() && self.patience.tell_first();
         (turn || first || self.has_much_pending(), turn)
@@ -286,7 +304,9 @@ impl<B: ExportName> Book<B> {
     }
 
     /// Has what is pending by now stored.
-    pub(crate) fn want_pending(&mut self) {
+    pub(crate) fn want_pending(&mut self)
+        ensures { self.new.settled ≡ self.old.settled }
+    {
         let mark = self.order.mark();
         self.want(mark);
     }
@@ -329,7 +349,9 @@ impl<B: ExportName> Book<B> {
     }
 
     /// Takes the longest beginning of what is pending as a group.
-    pub(crate) fn seal(&mut self) -> Result<Option<Group>, OrderFault> {
+    pub(crate) fn seal(&mut self) -> Result<Option<Group>, OrderFault>
+        ensures { self.new.settled ≡ self.old.settled }
+    {
         let sealed = self.order.seal()?;
         if self.order.sealed() == self.order.mark() {
             self.crowd.seal();
@@ -338,7 +360,9 @@ impl<B: ExportName> Book<B> {
     }
 
     /// Makes a group pending again, which the area had no room for or the device didn't take.
-    pub(crate) fn take_back(&mut self, group: Group) {
+    pub(crate) fn take_back(&mut self, group: Group)
+        ensures { self.new.settled ≡ self.old.settled }
+    {
         self.crowd.put_back();
         if self.order.is_in_hand(&group) {
             self.order.put_back(group);
@@ -349,18 +373,24 @@ impl<B: ExportName> Book<B> {
     }
 
     /// A group doesn't fit the area.
-    pub(crate) fn find_full(&mut self) {
+    pub(crate) fn find_full(&mut self)
+        ensures { self.new.settled ≡ self.old.settled }
+    {
         self.is_full = true;
         self.wish_checkpoint();
     }
 
     /// Another area has been taken into use.
-    pub(crate) fn find_empty(&mut self) {
+    pub(crate) fn find_empty(&mut self)
+        ensures { self.new.settled ≡ self.old.settled }
+    {
         self.is_full = false;
     }
 
     /// Makes durable what is stored.
-    pub(crate) fn publish<D: Disk>(&mut self, board: &Board<B>, store: &mut Store<B, D>) {
+    pub(crate) fn publish<D: Disk>(&mut self, board: &Board<B>, store: &mut Store<B, D>)
+        ensures { self.new.settled ≡ self.old.settled }
+    {
         store.publish(board, &mut self.order);
         self.crowd.publish();
     }
@@ -368,7 +398,8 @@ impl<B: ExportName> Book<B> {
     /// Lets the frames go whose blocks the image holds. A checkpoint that was wanted is done, and is wanted again where the area
     /// is full.
     pub(crate) fn clean<D: Disk>(&mut self, keeper: &Keeper<D>)
-        ensures { self.new.settled ≡ keeper.now.base }
+        ensures settled { self.new.settled ≡ keeper.now.base }
+        ensures order { self.new.order ≡ with_clean self.old.order keeper.now.base }
     {
         self.order.clean(keeper);
         self.settled = keeper.base();
@@ -377,7 +408,8 @@ impl<B: ExportName> Book<B> {
 
     /// The checkpoint that was wanted is done.
     pub(crate) fn forget_wish(&mut self)
-        ensures { self.new.settled ≡ self.old.settled }
+        ensures settled { self.new.settled ≡ self.old.settled }
+        ensures order { self.new.order ≡ self.old.order }
     {
         self.lacks_room = false;
         self.wish = None;

@@ -19,7 +19,7 @@ use marks::{Pass, Told};
 use nbd_wire::{Answer, Errno, Reply, Request, SessionFlags};
 use order_book::Span;
 use regions::Regions;
-use request_core::{NeedsKeeper, Served, Terms};
+use request_core::{Blocks, NeedsKeeper, Served, Terms};
 use std::sync::Wait;
 
 /// So often a READ tries to be read beside the locks, before it waits for the keeper.
@@ -135,7 +135,8 @@ impl<B: ExportName, D: Disk, H: ReadBeside> Export<B, D, H> {
                     match self.serve_missing(rt, pass, back, planned, terms) {
                         Served::Ready(reply) => return Outcome::Answered(reply.answer),
                         Served::Wait(number) => return Outcome::Waits(number),
-                        // There was no room for it; so it is no READ, and is served anew.
+                        // There was no room for it; so it is no READ, and is served anew: with no room it doesn't need the
+                        // keeper.
                         Served::NoRoom(back) => request = back,
                     }
                 }
@@ -201,10 +202,11 @@ impl<B: ExportName, D: Disk, H: ReadBeside> Export<B, D, H> {
     {
         let handle = self.beside.as_ref()?;
         let head = request.head();
-        let mut bytes = self.room(rt, head.length as usize)?;
+        let blocks = Blocks::of(&head);
+        let mut bytes = self.room(rt, blocks.bytes())?;
         let mut planned = planned;
         for _ in 0..MOST_TRIES {
-            self.read_span(handle, head.offset / BLOCK_BYTES, planned.span, &mut bytes)
+            self.read_span(handle, blocks.first, planned.span, &mut bytes)
                 .ok()?;
             let mut book = self.book.lock(rt);
             match book.serve_over(self.alloc, request, planned, bytes, terms) {
@@ -270,7 +272,12 @@ impl<B: ExportName, D: Disk, H: ReadBeside> Export<B, D, H> {
         let served = store.serve(&mut book, self.alloc, request, &self.board, pass, terms);
         if book.stopped() {
             self.tell_all();
+            return served;
         }
+        let (work, turn) = book.next_work();
+        drop(book);
+        drop(store);
+        self.signal(work, turn);
         served
     }
 

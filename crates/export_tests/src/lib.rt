@@ -14,6 +14,8 @@ mod load_tests;
 #[cfg(test)]
 mod memory_file;
 #[cfg(test)]
+mod part_tests;
+#[cfg(test)]
 mod pass_tests;
 #[cfg(test)]
 mod plain_tests;

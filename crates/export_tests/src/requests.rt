@@ -82,6 +82,28 @@ fn write_of(alloc: Global, block: u64, round: u64) -> Option<Request>
     ))
 }
 
+// The byte that is written alone.
+const CHANGED: u8 = 0x5a;
+
+// A WRITE of one byte of a block.
+fn write_of_byte(alloc: Global, block: u64, place: u64) -> Option<Request>
+    requires block { block < 2 ^ 24 }
+    requires place { place < 4096 }
+    ensures { IfSome result (λ request. request.head.kind ≢ 2) }
+{
+    let bytes = vec![in alloc; CHANGED; 1].ok()?;
+    Some(Request::new(
+        RequestHead {
+            flags: 0,
+            kind: WRITE,
+            cookie: block,
+            offset: 4096 * block + place,
+            length: 1,
+        },
+        bytes,
+    ))
+}
+
 // A TRIM of one block.
 fn trim_of(alloc: Global, block: u64) -> Request
     requires { block < 2 ^ 24 }
@@ -152,6 +174,24 @@ pub fn write_block<B: ExportName, D: Disk, H: ReadBeside, R: Wait>(
     requires { block < 2 ^ 24 }
 {
     let Some(request) = write_of(alloc, block, round) else {
+        return false;
+    };
+    is_done(&export.submit(rt, pass, request, &PLAIN).answer)
+}
+
+// Writes one byte of a block; whether it was answered Ok.
+pub fn write_byte<B: ExportName, D: Disk, H: ReadBeside, R: Wait>(
+    rt: &R,
+    alloc: Global,
+    export: &Export<B, D, H>,
+    pass: &mut Pass<B>,
+    block: u64,
+    place: u64,
+) -> bool
+    requires block { block < 2 ^ 24 }
+    requires place { place < 4096 }
+{
+    let Some(request) = write_of_byte(alloc, block, place) else {
         return false;
     };
     is_done(&export.submit(rt, pass, request, &PLAIN).answer)
@@ -229,4 +269,51 @@ pub fn has_block(keeper: &mut Keeper<SimDisk>, block: u64, first: u64, last: u64
         }
     }
     false
+}
+
+// Whether these are the bytes of a block in round 1 but for the one that was written alone.
+fn are_changed(block: u64, changed: u64, bytes: &[u8]) -> bool {
+    for place in 0..bytes.len() {
+        let wanted = if place as u64 == changed {
+            CHANGED
+        } else {
+            byte_at(block, 1, place)
+        };
+        if bytes[place] != wanted {
+            return false;
+        }
+    }
+    bytes.len() == 4096
+}
+
+// Whether a READ of a block gives its bytes of round 1 but for that one.
+pub fn reads_changed<B: ExportName, D: Disk, H: ReadBeside, R: Wait>(
+    rt: &R,
+    alloc: Global,
+    export: &Export<B, D, H>,
+    pass: &mut Pass<B>,
+    block: u64,
+    changed: u64,
+) -> bool
+    requires { block < 2 ^ 24 }
+{
+    match export
+        .submit(rt, pass, read_of(alloc, block), &PLAIN)
+        .answer
+    {
+        Answer::Bytes(read) => are_changed(block, changed, read.bytes()),
+        _ => false,
+    }
+}
+
+// Whether the image of an opened device has a block's bytes of round 1 but for that one.
+pub fn has_changed_block(keeper: &mut Keeper<SimDisk>, block: u64, changed: u64) -> bool {
+    if block >= keeper.geometry().blocks {
+        return false;
+    }
+    let mut into = [0; 4096];
+    let Ok(()) = keeper.read_base(block, &mut into) else {
+        return false;
+    };
+    are_changed(block, changed, &into)
 }

@@ -1,33 +1,58 @@
 use nbd_wire::SessionFlags;
-use negotiation::{Next, answer_data, refuse_option};
+use negotiation::{Agreed, Next, answer_data, refuse_option};
 use option_wire::{
     ABORT, EXPORT_NAME, GO, INFO, LIST, LIST_META_CONTEXT, OptionError, SET_META_CONTEXT, STARTTLS,
     STRUCTURED_REPLY,
 };
-use std::alloc::Global;
+use std::alloc::{AllocError, Global};
 use std::process::Abort;
 use std::test::Fail;
 use stream_fakes::bytes_of;
 
-const PLAIN: SessionFlags = SessionFlags {
-    structured: false,
-    context: false,
+const PLAIN: Agreed = Agreed {
+    flags: SessionFlags {
+        structured: false,
+        context: false,
+    },
+    no_zeroes: false,
 };
 
-const STRUCTURED: SessionFlags = SessionFlags {
-    structured: true,
-    context: false,
+const STRUCTURED: Agreed = Agreed {
+    flags: SessionFlags {
+        structured: true,
+        context: false,
+    },
+    no_zeroes: false,
 };
 
-const SELECTED: SessionFlags = SessionFlags {
-    structured: true,
-    context: true,
+const SELECTED: Agreed = Agreed {
+    flags: SessionFlags {
+        structured: true,
+        context: true,
+    },
+    no_zeroes: false,
+};
+
+// The same with NO_ZEROES on both sides.
+const PLAIN_WITHOUT_ZEROES: Agreed = Agreed {
+    no_zeroes: true,
+    ..PLAIN
+};
+
+const STRUCTURED_WITHOUT_ZEROES: Agreed = Agreed {
+    no_zeroes: true,
+    ..STRUCTURED
+};
+
+const SELECTED_WITHOUT_ZEROES: Agreed = Agreed {
+    no_zeroes: true,
+    ..SELECTED
 };
 
 // What is agreed on behind an option, and what comes.
 #[derive(Clone, Copy, PartialEq, Eq)]
 struct Wanted {
-    flags: SessionFlags,
+    agreed: Agreed,
     next: Next,
 }
 
@@ -35,16 +60,16 @@ struct Wanted {
 fn answers(
     alloc: Global,
     option: (u32, &str),
-    flags: SessionFlags,
-    written: &str,
+    agreed: Agreed,
+    written: &[u8],
 ) -> Result<Option<Wanted>, Fail> {
     let (code, data) = option;
-    let answer = answer_data(alloc, code, &bytes_of(alloc, data)?, flags, 65536)?;
+    let answer = answer_data(alloc, code, &bytes_of(alloc, data)?, agreed, 65536)?;
     let mut out = Vec::new(alloc);
     answer.encode(code, &mut out)?;
-    let same = out.as_slice() == bytes_of(alloc, written)?.as_slice();
+    let same = out.as_slice() == written;
     let told = Wanted {
-        flags: answer.flags(),
+        agreed: answer.agreed(),
         next: answer.next(),
     };
     Ok(if same { Some(told) } else { None })
@@ -54,12 +79,13 @@ fn answers(
 fn all_answer(
     rt: &impl Abort,
     alloc: Global,
-    rows: &[(u32, &str, SessionFlags, &str, SessionFlags, Next)],
+    rows: &[(u32, &str, Agreed, &str, Agreed, Next)],
 ) -> Result<(), Fail> {
-    for (code, data, before, written, flags, next) in rows {
-        let told = answers(alloc, (*code, data), *before, written)?;
+    for (code, data, before, written, agreed, next) in rows {
+        let written = bytes_of(alloc, written)?;
+        let told = answers(alloc, (*code, data), *before, &written)?;
         let wanted = Wanted {
-            flags: *flags,
+            agreed: *agreed,
             next: *next,
         };
         assert!(rt; told == Some(wanted), "option {code} with {data}");
@@ -73,8 +99,7 @@ const EXPORTS: &str =
     "0003e889045565a9 00000003 00000002 00000004 00000000 0003e889045565a9 00000003 00000001 00000000";
 
 // Options that ask for nothing more.
-const NOTHING_MORE: [(u32, &str, SessionFlags, &str, SessionFlags, Next); 8] = [
-    (EXPORT_NAME, "", PLAIN, "", PLAIN, Next::Fault),
+const NOTHING_MORE: [(u32, &str, Agreed, &str, Agreed, Next); 8] = [
     (
         ABORT,
         "07",
@@ -117,6 +142,14 @@ const NOTHING_MORE: [(u32, &str, SessionFlags, &str, SessionFlags, Next); 8] = [
         Next::Option,
     ),
     (
+        STRUCTURED_REPLY,
+        "",
+        PLAIN_WITHOUT_ZEROES,
+        STRUCTURED_ACK,
+        STRUCTURED_WITHOUT_ZEROES,
+        Next::Option,
+    ),
+    (
         11,
         "ff",
         SELECTED,
@@ -131,17 +164,74 @@ fn options_that_ask_for_nothing_more(rt: HostRuntime) -> Result<(), Fail> {
     all_answer(&rt, rt.alloc(), &NOTHING_MORE)
 }
 
+// Names of an EXPORT_NAME: what was agreed on, what is written, how many zeroes stand behind that, and what comes.
+const NAMES: [(&str, Agreed, &str, usize, Next); 7] = [
+    ("", PLAIN, "0000000000010000 016d", 124, Next::Transmission),
+    (
+        "",
+        STRUCTURED,
+        "0000000000010000 01ed",
+        124,
+        Next::Transmission,
+    ),
+    (
+        "",
+        SELECTED,
+        "0000000000010000 01ed",
+        124,
+        Next::Transmission,
+    ),
+    (
+        "",
+        PLAIN_WITHOUT_ZEROES,
+        "0000000000010000 016d",
+        0,
+        Next::Transmission,
+    ),
+    (
+        "",
+        STRUCTURED_WITHOUT_ZEROES,
+        "0000000000010000 01ed",
+        0,
+        Next::Transmission,
+    ),
+    ("61", PLAIN, "", 0, Next::Fault),
+    ("00000000", PLAIN_WITHOUT_ZEROES, "", 0, Next::Fault),
+];
+
+// Bytes written by hand, and so many zeroes behind them.
+fn with_zeroes(alloc: Global, row: &str, zeroes: usize) -> Result<Vec<u8>, AllocError> {
+    let mut bytes = bytes_of(alloc, row)?;
+    bytes.extend_from_slice(&vec![in alloc; 0; zeroes]?)?;
+    Ok(bytes)
+}
+
+#[test]
+fn an_export_is_begun_by_its_name(rt: HostRuntime) -> Result<(), Fail> {
+    let alloc = rt.alloc();
+    for (name, agreed, row, zeroes, next) in NAMES {
+        let written = with_zeroes(alloc, row, zeroes)?;
+        let told = answers(alloc, (EXPORT_NAME, name), agreed, &written)?;
+        assert!(rt; told == Some(Wanted { agreed, next }), "{name} {row}");
+    }
+    Ok(())
+}
+
 const GO_TOLD: &str =
-    "0003e889045565a9 00000007 00000003 0000000c 0000 0000000000010000 01ed 0003e889045565a9 00000007 00000003 0000000e 0003 00001000 00001000 00100000 0003e889045565a9 00000007 00000001 00000000";
+    "0003e889045565a9 00000007 00000003 0000000c 0000 0000000000010000 01ed 0003e889045565a9 00000007 00000003 0000000e 0003 00000001 00001000 00100000 0003e889045565a9 00000007 00000001 00000000";
 
 const INFO_TOLD: &str =
-    "0003e889045565a9 00000006 00000003 0000000c 0000 0000000000010000 016d 0003e889045565a9 00000006 00000003 0000000e 0003 00001000 00001000 00100000 0003e889045565a9 00000006 00000001 00000000";
+    "0003e889045565a9 00000006 00000003 0000000c 0000 0000000000010000 016d 0003e889045565a9 00000006 00000003 0000000e 0003 00000001 00001000 00100000 0003e889045565a9 00000006 00000001 00000000";
 
-const SIZES_REQUIRED: &str =
-    "0003e889045565a9 00000007 00000003 0000000e 0003 00001000 00001000 00100000 0003e889045565a9 00000007 80000008 00000000";
+// What is told where nobody asks for the sizes of blocks.
+const GO_WITHOUT_SIZES: &str =
+    "0003e889045565a9 00000007 00000003 0000000c 0000 0000000000010000 01ed 0003e889045565a9 00000007 00000001 00000000";
+
+const INFO_WITHOUT_SIZES: &str =
+    "0003e889045565a9 00000006 00000003 0000000c 0000 0000000000010000 016d 0003e889045565a9 00000006 00000001 00000000";
 
 // Options that ask for information, and one that begins transmission.
-const GOES: [(u32, &str, SessionFlags, &str, SessionFlags, Next); 5] = [
+const GOES: [(u32, &str, Agreed, &str, Agreed, Next); 6] = [
     (
         GO,
         "00000000 0001 0003",
@@ -161,9 +251,17 @@ const GOES: [(u32, &str, SessionFlags, &str, SessionFlags, Next); 5] = [
     (
         GO,
         "00000000 0002 0000 0001",
-        SELECTED,
-        SIZES_REQUIRED,
-        SELECTED,
+        SELECTED_WITHOUT_ZEROES,
+        GO_WITHOUT_SIZES,
+        SELECTED_WITHOUT_ZEROES,
+        Next::Transmission,
+    ),
+    (
+        INFO,
+        "00000000 0000",
+        PLAIN,
+        INFO_WITHOUT_SIZES,
+        PLAIN,
         Next::Option,
     ),
     (
@@ -201,7 +299,7 @@ const SELECTION_INVALID: &str = "0003e889045565a9 0000000a 80000003 00000000";
 const SELECTION_UNKNOWN: &str = "0003e889045565a9 0000000a 80000006 00000000";
 
 // Selections of contexts.
-const SELECTIONS: [(u32, &str, SessionFlags, &str, SessionFlags, Next); 7] = [
+const SELECTIONS: [(u32, &str, Agreed, &str, Agreed, Next); 7] = [
     (
         SET_META_CONTEXT,
         SELECT_ALLOCATION,
@@ -273,7 +371,7 @@ const LISTING_ACK: &str = "0003e889045565a9 00000009 00000001 00000000";
 const LISTING_INVALID: &str = "0003e889045565a9 00000009 80000003 00000000";
 
 // Lists of contexts.
-const LISTINGS: [(u32, &str, SessionFlags, &str, SessionFlags, Next); 4] = [
+const LISTINGS: [(u32, &str, Agreed, &str, Agreed, Next); 4] = [
     (
         LIST_META_CONTEXT,
         "00000000 00000000",
@@ -314,7 +412,7 @@ fn contexts_are_listed(rt: HostRuntime) -> Result<(), Fail> {
 }
 
 // Options whose data are too long.
-const TOO_LONG: [(u32, SessionFlags, &str); 2] = [
+const TOO_LONG: [(u32, Agreed, &str); 2] = [
     (
         LIST,
         SELECTED,
@@ -327,18 +425,21 @@ const TOO_LONG: [(u32, SessionFlags, &str); 2] = [
     ),
 ];
 
-// Whether an option is refused so, and nothing but these flags is agreed on then.
-fn is_too_long(alloc: Global, code: u32, flags: SessionFlags, written: &str) -> Result<bool, Fail> {
+// Whether an option is refused so, and nothing but this is agreed on then.
+fn is_too_long(alloc: Global, code: u32, agreed: Agreed, written: &str) -> Result<bool, Fail> {
     let answer = refuse_option(alloc, code, SELECTED, OptionError::TooBig)?;
     let mut out = Vec::new(alloc);
     answer.encode(code, &mut out)?;
-    Ok(answer.flags() == flags && out.as_slice() == bytes_of(alloc, written)?.as_slice())
+    Ok(answer.agreed() == agreed && out.as_slice() == bytes_of(alloc, written)?.as_slice())
 }
 
 #[test]
 fn data_that_are_too_long_are_refused(rt: HostRuntime) -> Result<(), Fail> {
-    for (code, flags, row) in TOO_LONG {
-        assert!(rt; is_too_long(rt.alloc(), code, flags, row)?, "option {code}");
+    for (code, agreed, row) in TOO_LONG {
+        assert!(rt;
+            is_too_long(rt.alloc(), code, agreed, row)?,
+            "option {code}"
+        );
     }
     Ok(())
 }

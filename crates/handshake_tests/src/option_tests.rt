@@ -39,6 +39,7 @@ fn client_flags_are_kept_and_judged(rt: HostRuntime) {
             flags.contains(ClientFlags::NO_ZEROES) == (bits & 2 == 2),
             "{bits}"
         );
+        assert!(rt; flags.omits_zeroes() == (bits & 2 == 2), "{bits}");
     }
 }
 

@@ -2,8 +2,9 @@ ghost use Rattle.std.specs.Prelude.{◌<◌, ◌^◌, length};
 ghost use Rattle.option_wire.specs.Reply.{reply_data};
 
 use option_wire::{
-    GO, INFO, Information, LIST, LIST_META_CONTEXT, Malformed, OptionError, OptionFault,
-    OptionReply, SET_META_CONTEXT, STRUCTURED_REPLY, Text, encode_option_reply,
+    ExportAnswer, GO, INFO, Information, LIST, LIST_META_CONTEXT, Malformed, OptionError,
+    OptionFault, OptionReply, SET_META_CONTEXT, STRUCTURED_REPLY, Text, encode_export_answer,
+    encode_option_reply,
 };
 use std::alloc::Global;
 use std::test::Fail;
@@ -69,6 +70,28 @@ fn export_is_told(rt: HostRuntime) -> Result<(), Fail> {
     });
     let row = "0003e889045565a9 00000007 00000003 0000000c 0000 0000000000010000 01ed";
     assert!(rt; appends(rt.alloc(), GO, &reply, row)?);
+    Ok(())
+}
+
+// Whether an export is appended as these bytes and so many zeroes, behind what stands there.
+fn begins(alloc: Global, zeroes: bool, row: &str, count: usize) -> Result<bool, Fail> {
+    let export = ExportAnswer {
+        size: 0x0102_0304_0506_0708,
+        flags: 0x090a,
+        zeroes,
+    };
+    let mut out = bytes_of(alloc, "0708")?;
+    encode_export_answer(&export, &mut out)?;
+    let mut wanted = bytes_of(alloc, row)?;
+    wanted.extend_from_slice(&vec![in alloc; 0; count]?)?;
+    Ok(out.as_slice() == wanted.as_slice())
+}
+
+#[test]
+fn an_export_name_is_answered_without_a_head(rt: HostRuntime) -> Result<(), Fail> {
+    let row = "0708 0102030405060708 090a";
+    assert!(rt; begins(rt.alloc(), false, row, 0)?);
+    assert!(rt; begins(rt.alloc(), true, row, 124)?);
     Ok(())
 }
 

@@ -189,7 +189,7 @@ fn abort_ends_a_session_and_nothing_is_read_behind_it(rt: HostRuntime) -> Result
 
 // Names that can't be refused.
 const NAMES: [(&str, &str, Came); 4] = [
-    ("00000003 49484156454f5054 00000001 00000000", "", BROKEN),
+    ("00000001 49484156454f5054 00000001 00000001 61", "", BROKEN),
     ("00000003 49484156454f5054 00000001 00000001 61", "", BROKEN),
     // One that is too long isn't waited for.
     ("00000003 49484156454f5054 00000001 00010001", "", BROKEN),
@@ -201,25 +201,96 @@ fn names_that_cannot_be_refused_end_a_session(rt: HostRuntime) -> Result<(), Fai
     all_hear(&rt, rt.alloc(), &NAMES)
 }
 
+// A session that begins by an EXPORT_NAME: three requests with simple replies, and its end.
+const NAMED: Came = Came {
+    same: true,
+    requests: 3,
+    flags: PLAIN,
+    ended: true,
+    fault: None,
+};
+
+// An EXPORT_NAME with the empty name, a READ, a WRITE, a FLUSH and a DISC.
+const NAMED_SENT: &str = "49484156454f5054 00000001 00000000
+     25609513 0000 0000 0000000000000002 0000000000000000 00000001
+     25609513 0000 0001 0000000000000003 0000000000000fff 00000002 4142
+     25609513 0000 0003 0000000000000005 0000000000000000 00000000
+     25609513 0000 0002 0000000000000007 0000000000000000 00000000";
+
+// The client's flags, what is written behind the greeting, how many zeroes stand behind that, and what comes.
+const FLAGS: [(&str, &str, usize, Came); 4] = [
+    ("00000000", "", 0, BROKEN),
+    ("00000001", "0000000000010000 016d", 124, NAMED),
+    ("00000002", "", 0, BROKEN),
+    ("00000003", "0000000000010000 016d", 0, NAMED),
+];
+
+// What is sent, and what is written behind the greeting.
+fn named(alloc: Global, flags: &str, row: &str, zeroes: usize) -> Result<[Vec<u8>; 2], AllocError> {
+    let mut sent = bytes_of(alloc, flags)?;
+    sent.extend_from_slice(&bytes_of(alloc, NAMED_SENT)?)?;
+    let mut written = bytes_of(alloc, row)?;
+    written.extend_from_slice(&vec![in alloc; 0; zeroes]?)?;
+    Ok([sent, written])
+}
+
+#[test]
+fn zeroes_stand_behind_an_export_name_unless_both_sides_omit_them(
+    rt: HostRuntime,
+) -> Result<(), Fail> {
+    let alloc = rt.alloc();
+    for (flags, row, zeroes, came) in FLAGS {
+        let [sent, written] = named(alloc, flags, row, zeroes)?;
+        for cut in 0..=sent.len() {
+            let (first, rest) = sent.split_at(cut);
+            let told = hears(alloc, &[first, rest], &written)?;
+            assert!(rt; told == came, "{flags} {cut} {told:?}");
+        }
+    }
+    Ok(())
+}
+
+// Structured replies before an EXPORT_NAME.
+const STRUCTURED_NAME: [(&str, &str, Came); 1] = [(
+    "00000003 49484156454f5054 00000008 00000000 49484156454f5054 00000001 00000000",
+    "0003e889045565a9 00000008 00000001 00000000 0000000000010000 01ed",
+    STRUCTURED,
+)];
+
+#[test]
+fn structured_replies_go_on_behind_an_export_name(rt: HostRuntime) -> Result<(), Fail> {
+    all_hear(&rt, rt.alloc(), &STRUCTURED_NAME)
+}
+
+// A session that was asked for one request.
+const ASKED: Came = Came {
+    same: true,
+    requests: 1,
+    flags: PLAIN,
+    ended: false,
+    fault: None,
+};
+
 // A GO that doesn't ask for the sizes of blocks.
 const GO_WITHOUT_SIZES: [(&str, &str, Came); 1] = [
     // Name length 5 in 6 bytes, and an INFO that asks for the sizes, which doesn't count for the GO behind it.
     (
         "00000003 49484156454f5054 00000007 00000006 00000005 6162
          49484156454f5054 00000006 00000008 00000000 0001 0003
-         49484156454f5054 00000007 00000006 00000000 0000",
+         49484156454f5054 00000007 00000006 00000000 0000
+         25609513 0000 0000 0000000000000002 0000000000000000 00000001",
         "0003e889045565a9 00000007 80000003 00000000
          0003e889045565a9 00000006 00000003 0000000c 0000 0000000000010000 016d
-         0003e889045565a9 00000006 00000003 0000000e 0003 00001000 00001000 00100000
+         0003e889045565a9 00000006 00000003 0000000e 0003 00000001 00001000 00100000
          0003e889045565a9 00000006 00000001 00000000
-         0003e889045565a9 00000007 00000003 0000000e 0003 00001000 00001000 00100000
-         0003e889045565a9 00000007 80000008 00000000",
-        GOES_ON,
+         0003e889045565a9 00000007 00000003 0000000c 0000 0000000000010000 016d
+         0003e889045565a9 00000007 00000001 00000000",
+        ASKED,
     ),
 ];
 
 #[test]
-fn go_without_the_sizes_of_blocks_is_refused(rt: HostRuntime) -> Result<(), Fail> {
+fn a_go_without_the_sizes_of_blocks_begins_transmission(rt: HostRuntime) -> Result<(), Fail> {
     all_hear(&rt, rt.alloc(), &GO_WITHOUT_SIZES)
 }
 
@@ -228,7 +299,7 @@ const SECOND_GO: [(&str, &str, Came); 1] = [(
     "00000003 49484156454f5054 00000007 00000008 00000000 0001 0003
      49484156454f5054 00000007 00000008 00000000 0001 0003 00000000",
     "0003e889045565a9 00000007 00000003 0000000c 0000 0000000000010000 016d
-     0003e889045565a9 00000007 00000003 0000000e 0003 00001000 00001000 00100000
+     0003e889045565a9 00000007 00000003 0000000e 0003 00000001 00001000 00100000
      0003e889045565a9 00000007 00000001 00000000",
     BROKEN,
 )];
@@ -302,7 +373,7 @@ fn whole_handshake(alloc: Global) -> Result<Vec<u8>, AllocError> {
         alloc,
         "0003e889045565a9 00000008 00000001 00000000
          0003e889045565a9 00000007 00000003 0000000c 0000 0000000000010000 01ed
-         0003e889045565a9 00000007 00000003 0000000e 0003 00001000 00001000 00100000
+         0003e889045565a9 00000007 00000003 0000000e 0003 00000001 00001000 00100000
          0003e889045565a9 00000007 00000001 00000000",
     )
 }

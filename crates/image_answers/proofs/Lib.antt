@@ -1,4 +1,5 @@
 mod Bytes
+mod Cuts
 mod Joined
 mod Parts
 mod Stretches

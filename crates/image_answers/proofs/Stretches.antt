@@ -120,6 +120,20 @@ runs_within states block to limit (stretch ∷ found) are =
     weaker [] all = tt
     weaker (other ∷ list) all = let most = all.0 in (omega (arith, most), weaker list all.1)
 
+-- none of them is empty
+pub runs_some : (states : List Kind) (block to limit : ℕ) (found : List Stretch) → AreRuns states block to limit found
+    → AllByRecursion (λ stretch. 0 < stretch.blocks) found
+runs_some states block to limit [] are = tt
+runs_some states block to limit (stretch ∷ found) are =
+    let some = are.1.some in
+    (omega (arith, some), runs_some states (block + stretch.blocks) to (limit - 1) found are.2)
+
+pub one_some : (found : List Stretch) (i : ℕ) (other : Stretch) → AllByRecursion (λ stretch. 0 < stretch.blocks) found → i < length found
+    → 0 < (get_or found i other).blocks
+one_some [] i other all below = absurd (omega (arith, below))
+one_some (stretch ∷ found) zero other all below = all.0
+one_some (stretch ∷ found) (suc i) other all below = one_some found i other all.1 (omega (arith, below))
+
 -- one of them
 pub one_within : (most : ℕ) (found : List Stretch) (i : ℕ) (other : Stretch) → AllByRecursion (λ stretch. stretch.blocks ≤ most) found → i < length found
     → (get_or found i other).blocks ≤ most

@@ -1,12 +1,11 @@
-ghost use Rattle.std.specs.Prelude.{◌≡◌, ◌≢◌, ◌+◌, ◌*◌, ◌/◌, ◌%◌, ◌<◌, ◌≤◌, ℕ, IfOk, length, slice_index, vec_len};
+ghost use Rattle.std.specs.Prelude.{◌≡◌, ◌≢◌, ◌+◌, ◌*◌, ◌/◌, ◌<◌, ◌≤◌, ℕ, IfOk, length, slice_index, vec_len};
 ghost use Rattle.alloc_map.specs.Codes.{state_at};
 ghost use Rattle.image_model.specs.Image.{Image};
 ghost use Rattle.image_model.specs.declared.command.Kind.TheVariants.{Data};
-ghost use Rattle.world.specs.Shown.{most_runs, read_status_of, runs_from, shown_by};
+ghost use Rattle.world.specs.Shown.{cut_to, most_runs, read_status_of, runs_met, shown_by};
 
 use crate::runs::status_runs;
 use bitflags::Flags;
-use image_model::BLOCK_BYTES;
 use marks::BoardName;
 use nbd_wire::{Answer, CommandFlags, ReadBytes, RequestHead, Run, States};
 use order_book::Order;
@@ -25,15 +24,14 @@ pub fn bytes_answer<B: BoardName>(
     requires kind { head.now.kind ≡ 0 }
     requires some { 0 < head.now.length }
     requires most { head.now.length ≤ 1048576 }
-    requires whole { head.now.length % 4096 ≡ 0 }
     requires few { length order.now.cache.states ≤ 16777216 }
     requires inside { head.now.offset + head.now.length ≤ 4096 * length order.now.cache.states }
     requires size { vec_len bytes ≡ head.now.length }
-    requires runs { runs.items ≡ runs_from (λ block. read_status_of (state_at order.now.cache.states block)) (head.now.offset / 4096) (head.now.length / 4096) }
+    requires runs { runs.items ≡ cut_to head.now.offset head.now.length (runs_met (λ block. read_status_of (state_at order.now.cache.states block)) head.now.offset head.now.length) }
 
     // What isn't data is zero.
-    requires zero { (j k : ℕ) → 4096 * j < vec_len bytes → k < 4096 → state_at order.now.cache.states (head.now.offset / 4096 + j) ≢ Data
-        → slice_index bytes.items (4096 * j + k) ≡ 0 }
+    requires zero { (k : ℕ) → k < vec_len bytes → state_at order.now.cache.states ((head.now.offset + k) / 4096) ≢ Data
+        → slice_index bytes.items k ≡ 0 }
     ensures { (image : Image) → ((block : ℕ) → image.kind block ≡ state_at order.now.cache.states block)
         → ((k : ℕ) → k < head.now.length → slice_index bytes.items k ≡ image.byte (head.now.offset + k)) → result ≡ shown_by image head.now }
 {
@@ -48,20 +46,11 @@ pub fn status_answer<B: BoardName>(
 ) -> Result<Answer, AllocError>
     requires kind { head.now.kind ≢ 0 }
     requires some { 0 < head.now.length }
-    requires from { head.now.offset % 4096 ≡ 0 }
-    requires whole { head.now.length % 4096 ≡ 0 }
     requires few { length order.now.cache.states ≤ 16777216 }
     requires inside { head.now.offset + head.now.length ≤ 4096 * length order.now.cache.states }
     ensures { IfOk result (λ answer. (image : Image) → ((block : ℕ) → image.kind block ≡ state_at order.now.cache.states block) → answer ≡ shown_by image head.now) }
 {
-    let blocks = head.length as u64 / BLOCK_BYTES;
-    let runs = status_runs(
-        alloc,
-        order,
-        head.offset / BLOCK_BYTES,
-        blocks,
-        most_runs(head),
-    )?;
+    let runs = status_runs(alloc, order, head.offset, head.length, most_runs(head))?;
     Ok(Answer::States(States::new(runs)))
 }
 

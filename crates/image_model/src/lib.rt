@@ -13,6 +13,6 @@ pub use command::{Command, Edges, Kind};
 pub use edit::Edit;
 pub use gate::{CLOSED, OPEN};
 pub use geometry::{AREAS, BLOCK_BYTES, Geometry, LEAST_AREA_BYTES, MOST_AREA_BYTES, MOST_BLOCKS};
-pub use laws::{edits_become_commands, whole_edits_become_commands};
+pub use laws::{edits_become_commands, puts_become_commands, whole_edits_become_commands};
 pub use plain_image::{OutOfRange, PlainImage};
 pub use side::Side;

@@ -211,7 +211,7 @@ module _ (world : World) (within : IsWithin world) (takes : AreChanges world.sta
   sealed_more_as OutOfMemory level = inl (λ event log. sym (last_same world.log (Failed fault.NoMemory) event log))
   sealed_more_as Nothing level = inr (record { durable = refl; works_on = works; above = omega (arith, level, sealed_some level) })
   sealed_more_as DeviceFailure level = inr (record { durable = refl; works_on = works; above = omega (arith, level, sealed_some level) })
-  sealed_more_as (Misread image) level = inr (record { durable = refl; works_on = works; above = omega (arith, level, sealed_some level) })
+  sealed_more_as (Misread given image) level = inr (record { durable = refl; works_on = works; above = omega (arith, level, sealed_some level) })
 
   sealed_as : (failure : Failure) → IsSealedAs (seal failure world)
   sealed_as failure = of_test IsSealedAs (nat_lt world.stage.sealed (length world.stage.order) && (world.stage.sealed == world.stage.durable)) _ _
@@ -239,7 +239,7 @@ module _ (world : World) (within : IsWithin world) (takes : AreChanges world.sta
     stored_as OutOfMemory = inl (λ event log. sym (last_same sealed.log (Failed fault.NoMemory) event log))
     stored_as Nothing = inr (inr (inl (record { durable = is_sealed.durable; stored = is_sealed.above })))
     stored_as DeviceFailure = inr (inl (refl, λ event log. sym (last_same sealed.log (Failed fault.DeviceFault) event log)))
-    stored_as (Misread image) = inr (inr (inl (record { durable = is_sealed.durable; stored = is_sealed.above })))
+    stored_as (Misread given image) = inr (inr (inl (record { durable = is_sealed.durable; stored = is_sealed.above })))
 
     appended_as : (failure : Failure) → IsAppendedAs (append failure sealed)
     appended_as failure = of_test IsAppendedAs (nat_lt sealed.stage.stored sealed.stage.sealed) _ _

@@ -1,5 +1,5 @@
 -- what a checkpoint, step by step, makes of the world of an export
-use Rattle.std.proofs.Common.{◌≡◌, ◌⊎◌, inl, inr, ℕ, zero, suc, ◌+◌, ◌-◌, ◌<◌, ◌≤◌, ◌==◌, ◌&&◌, ◌/◌, not, Bool, cond, true, false, nat_le, nat_lt, List, [], ◌∷◌, ◌++◌, length, drop, take, replicate, Result, Ok, Err, MatchResult, OnOk, append-nil, refl, sym, ap, subst, ◌∙◌, arith}
+use Rattle.std.proofs.Common.{◌≡◌, ◌⊎◌, inl, inr, ℕ, zero, suc, ◌+◌, ◌-◌, ◌*◌, ◌<◌, ◌≤◌, ◌==◌, ◌&&◌, ◌/◌, not, Bool, cond, true, false, nat_le, nat_lt, List, [], ◌∷◌, ◌++◌, length, length-append, drop, take, replicate, Result, Ok, Err, MatchResult, OnOk, append-nil, min, refl, sym, ap, subst, ◌∙◌, arith}
 use Rattle.std.specs.Cmp.{nat_cmp_total}
 use Rattle.std.specs.FinMap.{contains_key, insert, len, len-empty, len-insert}
 use Rattle.std.specs.Ordering.{nat_cmp}
@@ -7,8 +7,15 @@ use Rattle.std.proofs.lemmas.List.{drop_all}
 use Rattle.std.proofs.lemmas.List.Sums.{sum_by-append}
 use Rattle.std.proofs.lemmas.Bool.{and_from, both_ways, le-leb, eqb-false, leb-false, leb-true, ltb-false}
 use Rattle.image_model.specs.Bodies.{bodies_bytes, body_bytes, body_limit, longest}
-use Rattle.image_model.specs.Change.{Change, Written, Cleared}
-use Rattle.image_model.specs.Dirty.{Dirty, dirty_after, dirty_blocks, with_blocks}
+use Rattle.image_model.specs.declared.command.Edges.{Edges}
+use Rattle.image_model.specs.declared.command.Edges.TheVariants.{Head, Tail, Both}
+use Rattle.image_model.specs.declared.command.Kind.{Kind}
+use Rattle.image_model.specs.declared.command.Kind.TheVariants.{Hole}
+use Rattle.image_model.specs.Change.{Change, Written, Cleared, Edged}
+use Rattle.image_model.specs.Dirty.{Dirty, dirty_blocks, frames_suffice, with_blocks, with_edges}
+use Rattle.image_model.specs.Edit.{ByteEdit, BytesPut, BytesTrimmed, BytesZeroed, apply_edit, becomes, blocks_met, bytes_of, cleared_within, end_spanned, first_spanned, is_partial_data}
+use Rattle.image_model.specs.Image.{Image, last_of}
+use Rattle.image_model.specs.laws.Becoming.{length-bytes_of}
 use Rattle.nbd_wire.specs.Request.{Message}
 use Rattle.device_image.specs.Keeper.{KeeperState}
 use Rattle.disk_model.specs.Disk.{State}
@@ -23,9 +30,9 @@ use Rattle.world.specs.declared.event.StepFault.TheVariants as fault
 use Rattle.world.specs.declared.step.Step.{Step}
 use Rattle.world.specs.declared.step.Step.TheVariants as steps
 use Rattle.world.specs.Checkpoint.{can_clean, can_copy, can_finish, can_map, can_rotate, finished, is_full, is_turned, last_turned, rotated}
-use Rattle.world.specs.Log.{cleared_as, command_of}
+use Rattle.world.specs.Log.{cleared_as, edit_asked}
 use Rattle.world.specs.Run.{IsReached, IsRun}
-use Rattle.world.specs.Serve.{Failure, Nothing, OutOfMemory, DeviceFailure, Misread}
+use Rattle.world.specs.Serve.{Failure, Nothing, OutOfMemory, DeviceFailure, Misread, image_shown}
 use Rattle.world.specs.Step.{after_step, clean, copy_block, finish, in_time, rotate, seal, sealed_more, with_generation, without_memory, write_map, written}
 use Rattle.world.specs.World.{Setting, Stage, World, dirty_behind, has_room, last_number}
 use Rattle.world_law.specs.Law.{Grows, IsRising, IsWithin}
@@ -111,7 +118,7 @@ module _ (world : World) (event : Event) where
   ends_written OutOfMemory is_time stage now = λ log fine. absurd (fine.0 (sym (last_same world.log (Failed fault.NoMemory) event log)))
   ends_written Nothing is_time stage now = λ log fine. inr (inl (now, sym (last_same world.log Took event log), refl))
   ends_written DeviceFailure is_time stage now = λ log fine. inl refl
-  ends_written (Misread image) is_time stage now = λ log fine. inr (inl (now, sym (last_same world.log Took event log), refl))
+  ends_written (Misread given image) is_time stage now = λ log fine. inr (inl (now, sym (last_same world.log Took event log), refl))
 
   ends_header : (is_time : Bool) (stage : Stage) (next : World) → Ends is_time stage next → Ends is_time stage (with_generation world next)
   ends_header is_time stage next is = of_test (Ends is_time stage) (is_full world.stage) _ _ (λ full log fine. absurd (fine.1 (sym (last_same world.log (Failed fault.NumbersFull) event log)))) (λ left. is)
@@ -375,7 +382,7 @@ empty_takes world failure empty level = of_test (λ (w : World). HasFullArea w �
     more OutOfMemory full = none full.hand
     more Nothing full = too_large full.full
     more DeviceFailure full = too_large full.full
-    more (Misread image) full = too_large full.full
+    more (Misread given image) full = too_large full.full
 
 -- a write of so many blocks makes so many dirty at most
 len_with : (dirty : Dirty) (number first count : ℕ) → len (with_blocks dirty number first count) ≤ len dirty + count
@@ -390,14 +397,80 @@ len_with dirty number first (suc count) =
     one_more true old new fits is = omega (arith, fits, is)
     one_more false old new fits is = omega (arith, fits, is)
 
--- behind a checkpoint of all that was ordered there is room for any command of at most 256 blocks
+-- where no block is dirty and nothing waits to be durable there is room for all that an edit becomes
+module _ (frames : ℕ) (dirty : Dirty) (number waiting : ℕ) (enough : 512 ≤ frames) (none_dirty : len dirty ≡ 0) (none_waits : waiting ≡ 0) where
+  abbrev HasRoom : Change → Type 0
+  HasRoom change = (frames_suffice frames dirty number change && nat_le (waiting + body_bytes change) 67108864) ≡ true
+
+  put_room : (first : ℕ) (bytes : List ℕ) → length bytes ≤ 1052672 → HasRoom (Written first bytes)
+  put_room first bytes few =
+      let most = len_with dirty number first ((length bytes + 4095) / 4096) in
+      let blocks : (length bytes + 4095) / 4096 ≤ 257 = omega (arith, few) in
+      and_from (nat_le (len (with_blocks dirty number first ((length bytes + 4095) / 4096))) frames) (nat_le (waiting + (13 + length bytes)) 67108864)
+      (le-leb (len (with_blocks dirty number first ((length bytes + 4095) / 4096))) frames (omega (arith, most, blocks, none_dirty, enough)))
+      (le-leb (waiting + (13 + length bytes)) 67108864 (omega (arith, none_waits, few)))
+
+  edges_few : (first blocks : ℕ) (edges : Edges) → len (with_edges dirty number first blocks edges) ≤ 2
+  edges_few first blocks Head = let one = len_with dirty number first (min 1 blocks) in omega (arith, one, none_dirty)
+  edges_few first blocks Tail = let one = len_with dirty number (last_of first blocks) (min 1 blocks) in omega (arith, one, none_dirty)
+  edges_few first blocks Both =
+      let one = len_with dirty number first (min 1 blocks) in
+      let more = len_with (with_blocks dirty number first (min 1 blocks)) number (last_of first blocks) (min 1 blocks) in
+      omega (arith, one, more, none_dirty)
+
+  edged_room : (first blocks : ℕ) (kind : Kind) (edges : Edges) (bytes : List ℕ) → length bytes ≤ 8192 → HasRoom (Edged first blocks kind edges bytes)
+  edged_room first blocks kind edges bytes few =
+      let most = edges_few first blocks edges in
+      and_from (nat_le (len (with_edges dirty number first blocks edges)) frames) (nat_le (waiting + (14 + length bytes)) 67108864)
+      (le-leb (len (with_edges dirty number first blocks edges)) frames (omega (arith, most, enough)))
+      (le-leb (waiting + (14 + length bytes)) 67108864 (omega (arith, none_waits, few)))
+
+  cleared_room : (first blocks : ℕ) (kind : Kind) → HasRoom (Cleared first blocks kind)
+  cleared_room first blocks kind = and_from true (nat_le (waiting + 13) 67108864) refl (le-leb (waiting + 13) 67108864 (omega (arith, none_waits)))
+
+  within_room : (first blocks : ℕ) (kind : Kind) (head tail : Bool) (front back : List ℕ) → length front ≡ 4096 * 1 → length back ≡ 4096 * 1
+      → HasRoom (cleared_within first blocks kind head tail front back)
+  within_room first blocks kind true true front back own other = edged_room first blocks kind Both (front ++ back) (omega (arith, length-append front back, own, other))
+  within_room first blocks kind true false front back own other = edged_room first blocks kind Head front (omega (arith, own))
+  within_room first blocks kind false true front back own other = edged_room first blocks kind Tail back (omega (arith, other))
+  within_room first blocks kind false false front back own other = cleared_room first blocks kind
+
+  pub edit_room : (request : Message) (image : Image) → length request.bytes ≤ 1048576 → HasRoom (becomes (edit_asked request) image)
+  edit_room request image few = of_test (λ (edit : ByteEdit). HasRoom (becomes edit image)) (request.head.kind == 1) _ _ (λ put. by_put)
+      (λ other. of_test (λ (edit : ByteEdit). HasRoom (becomes edit image)) (request.head.kind == 6) _ _ (λ zeroes. by_zeroes) (λ trim. by_trim))
+    where
+      offset : ℕ
+      offset = request.head.offset
+
+      count : ℕ
+      count = request.head.length
+
+      by_put : HasRoom (becomes (BytesPut offset request.bytes) image)
+      by_put =
+          let blocks : blocks_met offset (length request.bytes) ≤ 257 = omega (arith, few) in
+          let long = length-bytes_of (apply_edit (BytesPut offset request.bytes) image) (offset / 4096) (blocks_met offset (length request.bytes)) in
+          put_room (offset / 4096) (bytes_of (apply_edit (BytesPut offset request.bytes) image) (offset / 4096) (blocks_met offset (length request.bytes))) (omega (arith, long, blocks))
+
+      by_zeroes : HasRoom (becomes (BytesZeroed offset count (cleared_as request.head)) image)
+      by_zeroes =
+          let after = apply_edit (BytesZeroed offset count (cleared_as request.head)) image in
+          let first = offset / 4096 in
+          let last = last_of first (blocks_met offset count) in
+          within_room first (blocks_met offset count) (cleared_as request.head) (is_partial_data offset count first (image.kind first))
+          (not (last == first) && is_partial_data offset count last (image.kind last))
+          (bytes_of after first 1) (bytes_of after last 1) (length-bytes_of after first 1) (length-bytes_of after last 1)
+
+      by_trim : HasRoom (becomes (BytesTrimmed offset count) image)
+      by_trim = of_test HasRoom (nat_lt (first_spanned offset) (end_spanned offset count)) _ _
+          (λ some. cleared_room (first_spanned offset) (end_spanned offset count - first_spanned offset) Hole)
+          (λ none. cleared_room (offset / 4096) 0 Hole)
+
+-- so it is behind a checkpoint of all that was ordered
 pub emptied_has_room : (first world : World) (request : Message) → IsWithin first → IsEmptied first.stage world.stage → first.stage.durable ≡ length first.stage.order → length request.bytes ≤ 1048576 → 512 ≤ world.stage.setting.frames
     → LacksRoom world request → ⊥
-emptied_has_room first world request within emptied durable few frames lacks = both_ways (has_room world (command_of request)) lacks.full
-    (of_test (λ (command : Change). has_room world command ≡ true) (request.head.kind == 1) (Written (request.head.offset / 4096) request.bytes) (Cleared (request.head.offset / 4096) (request.head.length / 4096) (cleared_as request.head))
-    (λ is. and_from (nat_le (len (dirty_after dirty (last_number world + 1) (Written (request.head.offset / 4096) request.bytes))) world.stage.setting.frames) (nat_le (waiting + (13 + length request.bytes)) 67108864)
-    (le-leb (len (dirty_after dirty (last_number world + 1) (Written (request.head.offset / 4096) request.bytes))) world.stage.setting.frames enough) (le-leb (waiting + (13 + length request.bytes)) 67108864 (omega (arith, none, few))))
-    (λ is. and_from true (nat_le (waiting + 13) 67108864) refl (le-leb (waiting + 13) 67108864 (omega (arith, none)))))
+emptied_has_room first world request within emptied durable few frames lacks =
+    both_ways (has_room world (becomes (edit_asked request) (image_shown lacks.failure world.stage))) lacks.full
+    (edit_room world.stage.setting.frames dirty (last_number world + 1) waiting frames (omega (arith, none_dirty, emptied.clean)) none request (image_shown lacks.failure world.stage) few)
   where
     dirty : Dirty
     dirty = dirty_behind world.stage.cleaned world.stage
@@ -413,12 +486,6 @@ emptied_has_room first world request within emptied durable few frames lacks = b
 
     none_dirty : len (dirty_behind world.stage.base world.stage) ≡ 0
     none_dirty = ap (λ (commands : List Change). len (dirty_blocks (world.stage.setting.opening + world.stage.base) commands)) (drop_all world.stage.base world.stage.order (omega (arith, all))) ∙ len-empty nat_cmp ℕ
-
-    enough : len (dirty_after dirty (last_number world + 1) (Written (request.head.offset / 4096) request.bytes)) ≤ world.stage.setting.frames
-    enough =
-        let own = len_with dirty (last_number world + 1) (request.head.offset / 4096) ((length request.bytes + 4095) / 4096) in
-        let blocks : (length request.bytes + 4095) / 4096 ≤ 256 = omega (arith, few) in
-        omega (arith, own, blocks, none_dirty, emptied.clean, frames)
 
 -- what a request is judged to be stays so as long as the device isn't opened again
 pub judged_as : (request : Message) (outcome : Result (Unit {0}) Refusal) (old new : Setting) (state : Connection) → new ≡ old → OnOk outcome (IsJudged request.head (verdict_on request.head new.geometry new.flags) state)

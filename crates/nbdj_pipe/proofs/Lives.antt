@@ -20,7 +20,7 @@ use Rattle.order_book.specs.Shown.{ShowsImage}
 use Rattle.request_core.specs.Bench.{ConnectionsState, new_connections}
 use Rattle.request_core.specs.Life.{LeadsLaw, Trusts, first_world}
 use Rattle.request_core.specs.Parts.{IsExportOf, StandsAfter}
-use Rattle.world.specs.Fits.{ReadsFit}
+use Rattle.world.specs.Fits.{EditsFit, ReadsFit}
 use Rattle.world.specs.Log.{StandsAt}
 use Rattle.world.specs.Run.{IsReached, Fresh}
 use Rattle.world.specs.World.{Setting, World}
@@ -81,6 +81,7 @@ starved_opening state keeper before found opening =
 
 module _ {D : Type 0} (state : D → State) (faults : D → ℕ) (honest : D → Type 0) (law : LeadsLaw state faults honest) (truth : (world : World) → IsReached world → TellsTruth world) (within : (world : World) → IsReached world → IsWithin world)
     (fits_law : (world : World) → IsReached world → world.stage.setting.trusted ≡ true → ReadsFit world.log world.stage.order world.paired world.shown world.stage.setting.image)
+    (edits_law : (world : World) → IsReached world → world.stage.setting.trusted ≡ true → EditsFit world.log world.stage.order world.paired world.stage.setting.image)
     (fresh_law : (trusted : Bool) (keeper : KeeperState D) (found : Image) (states : List Kind) (frames connections : ℕ) (flags : SessionFlags) (mode : Mode) → IsRecovered keeper → length states ≡ keeper.geometry.blocks → keeper.count < 18446744073709551616
     → (Trusts trusted (honest keeper.disk) → Keeps keeper (state keeper.disk) found keeper.count)
     → (Trusts trusted (honest keeper.disk) → ShowsImage found (new_order states keeper.count frames keeper.geometry.area).cache) → (trusted ≡ true → honest keeper.disk)
@@ -217,6 +218,8 @@ module _ {D : Type 0} (state : D → State) (faults : D → ℕ) (honest : D →
       cause = shown settled.2;
       shows = λ is. subst (ReadsFit next.log next.stage.order next.paired next.shown) (ap (λ (s : Setting). s.image) whole.setting)
           (fits_law next whole.leads.of_export.reached (ap (λ (s : Setting). s.trusted) whole.setting ∙ is));
+      edits = λ is. subst (EditsFit next.log next.stage.order next.paired) (ap (λ (s : Setting). s.image) whole.setting)
+          (edits_law next whole.leads.of_export.reached (ap (λ (s : Setting). s.trusted) whole.setting ∙ is));
       found = found_of trusted given;
       leaves = all_reached;
       durable = λ is. law.durable first next trusted whole.steps order'' keeper'' connections'' keeper.disk (Fresh first.stage.setting) whole.leads (trusts_of trusted is given);

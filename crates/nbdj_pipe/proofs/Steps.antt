@@ -8,11 +8,13 @@ use Rattle.nbd_wire.specs.declared.error.Errno.TheVariants.{Io, Invalid, NoMemor
 use Rattle.nbd_wire.specs.declared.head.RequestHead.{RequestHead}
 use Rattle.nbd_wire.specs.declared.message.SessionFlags.{SessionFlags}
 use Rattle.image_model.specs.declared.geometry.Geometry.{Geometry}
-use Rattle.world.specs.Verdict.{allowed_flags, first_of_rules, is_known, is_unaligned, past_end}
+use Rattle.world.specs.Verdict.{allowed_flags, first_of_rules, is_known, past_end}
 use Rattle.std.proofs.lemmas.Bool.{both_ways, eqb-false, eqb-true, leb-false}
 use Rattle.nbd_wire.specs.declared.message.Answer.{Answer}
 use Rattle.nbd_wire.specs.declared.message.Answer.TheVariants.{Done, Refused, States}
 use Rattle.nbd_wire.specs.declared.message.Run.{Run}
+use Rattle.image_model.specs.Change.{Change}
+use Rattle.image_model.specs.Edit.{becomes}
 use Rattle.image_model.specs.Image.{Image}
 use Rattle.order_book.specs.Order.{OrderState}
 use Rattle.request_core.specs.Bench.{ConnectionsState}
@@ -27,8 +29,8 @@ use Rattle.world.specs.declared.event.Event.TheVariants.{Sent, Answered, Numbere
 use Rattle.world.specs.declared.step.Step.{Step}
 use Rattle.world.specs.declared.step.Step.TheVariants as steps
 use Rattle.world.specs.declared.step.Step.TheVariants.{Send, Serve, Seal, Append, Publish, Rotate, Copy, Map, Finish, Clean}
-use Rattle.world.specs.Log.{command_of, is_flush, is_write}
-use Rattle.world.specs.Serve.{Failure, Nothing, OutOfMemory, DeviceFailure, Misread, accepted, answer, answered, held, image_shown, judged, logged, moved, ordered, passed, read_served, ready, shown, state_after, status_served}
+use Rattle.world.specs.Log.{edit_asked, is_flush, is_write}
+use Rattle.world.specs.Serve.{Failure, Nothing, OutOfMemory, DeviceFailure, Misread, accepted, answer, answered, held, image_shown, judged, logged, moved, ordered, passed, read_served, ready, shown, state_after, status_served, takes_old_bytes}
 use Rattle.world.specs.Shown.{bytes_from, shown_by}
 use Rattle.world.specs.Step.{after_step, append, publish, seal, sealed_more, stored_more, clean, in_time, with_generation, without_memory, written}
 use Rattle.world.specs.World.{World, fits, has_room, last_number, put, Stage}
@@ -121,7 +123,7 @@ module _ (world : World) where
   still_sealed OutOfMemory = (refl, (_, refl, refl))
   still_sealed Nothing = (refl, (Took, refl, refl))
   still_sealed DeviceFailure = (refl, (Took, refl, refl))
-  still_sealed (Misread image) = (refl, (Took, refl, refl))
+  still_sealed (Misread given image) = (refl, (Took, refl, refl))
 
   still_seal : (failure : Failure) → IsStill (seal failure world)
   still_seal failure = of_test IsStill (nat_lt world.stage.sealed (length world.stage.order) && (world.stage.sealed == world.stage.durable)) _ _ (λ is. still_sealed failure) (λ is. still_held)
@@ -130,7 +132,7 @@ module _ (world : World) where
   still_stored OutOfMemory = (refl, (_, refl, refl))
   still_stored Nothing = (refl, (Took, refl, refl))
   still_stored DeviceFailure = (refl, (_, refl, refl))
-  still_stored (Misread image) = (refl, (Took, refl, refl))
+  still_stored (Misread given image) = (refl, (Took, refl, refl))
 
   still_append : (failure : Failure) → IsStill (append failure world)
   still_append failure = of_test IsStill (nat_lt world.stage.stored world.stage.sealed) _ _
@@ -145,7 +147,7 @@ module _ (world : World) where
   still_written OutOfMemory stage = (refl, (_, refl, refl))
   still_written Nothing stage = (refl, (Took, refl, refl))
   still_written DeviceFailure stage = (refl, (_, refl, refl))
-  still_written (Misread image) stage = (refl, (Took, refl, refl))
+  still_written (Misread given image) stage = (refl, (Took, refl, refl))
 
   still_in_time : (is_time : Bool) (next : World) → IsStill next → IsStill (in_time is_time world next)
   still_in_time is_time next is = of_test IsStill world.stage.stopped _ _ (λ stopped. (refl, (_, refl, refl))) (λ works. of_test IsStill is_time _ _ (λ now. is) (λ late. still_held))
@@ -171,7 +173,8 @@ module _ (world : World) where
 
   -- what serving a request comes to: nothing, where there is no room for its command, or what the verdict on it says
   abbrev pub IsServedAs : Message → Result Action Errno → World → Type 0
-  IsServedAs request given next = ((next ≡ held world) × (given ≡ Ok Action.Serve) × (world.stage.stopped ≡ false) × (is_write request ≡ true) × (has_room world (command_of request) ≡ false))
+  IsServedAs request given next = ((next ≡ held world) × (given ≡ Ok Action.Serve) × (world.stage.stopped ≡ false) × (is_write request ≡ true)
+      × (failure : Failure) × (has_room world (becomes (edit_asked request) (image_shown failure world.stage)) ≡ false))
       ⊎ (IsJudged request.head given (next.connections 0) × ((event : Event) × (next.log ≡ world.log ++ event ∷ []) × (spoken (event ∷ []) ≡ []) × (event ≡ Held → ⊥)))
 
   put_here : (state : Connection) → put world.connections 0 state 0 ≡ state
@@ -183,19 +186,21 @@ module _ (world : World) where
   numbered_apart : (c number : ℕ) → Numbered c number ≡ Held → ⊥
   numbered_apart c number is = cc
 
-  served_waits : (request : Message) (waits : Bool) (number : ℕ) → IsAnswerOf request.head Done
-      → IsServedAs request (Ok Action.Serve) (logged (moved (ordered world 0 (command_of request)) 0 (state_after waits number)) (Numbered 0 number))
-  served_waits request true number done = inr (done, (Numbered 0 number, refl, refl, numbered_apart 0 number))
-  served_waits request false number done = inr (done, (Numbered 0 number, refl, refl, numbered_apart 0 number))
+  served_waits : (request : Message) (command : Change) (waits : Bool) (number : ℕ) → IsAnswerOf request.head Done
+      → IsServedAs request (Ok Action.Serve) (logged (moved (ordered world 0 command) 0 (state_after waits number)) (Numbered 0 number))
+  served_waits request command true number done = inr (done, (Numbered 0 number, refl, refl, numbered_apart 0 number))
+  served_waits request command false number done = inr (done, (Numbered 0 number, refl, refl, numbered_apart 0 number))
 
   served_refused : (request : Message) (errno : Errno) → IsServedAs request (Ok Action.Serve) (ready world 0 (Refused errno))
   served_refused request errno = inr (tt, (Took, refl, refl, took_apart))
 
-  served_accepted : (failure : Failure) (request : Message) → IsAnswerOf request.head Done → IsServedAs request (Ok Action.Serve) (accepted failure world 0 request (command_of request))
-  served_accepted OutOfMemory request done = served_refused request NoMemory
-  served_accepted Nothing request done = served_waits request _ _ done
-  served_accepted DeviceFailure request done = served_waits request _ _ done
-  served_accepted (Misread image) request done = served_waits request _ _ done
+  served_accepted : (failure : Failure) (image : Image) (request : Message) → IsAnswerOf request.head Done → IsServedAs request (Ok Action.Serve) (accepted failure image world 0 request)
+  served_accepted OutOfMemory image request done = served_refused request NoMemory
+  served_accepted Nothing image request done = served_waits request _ _ _ done
+  served_accepted DeviceFailure image request done = of_test (IsServedAs request (Ok Action.Serve)) (takes_old_bytes (edit_asked request) image) _ _
+      (λ takes. inr (tt, (Took, refl, refl, took_apart)))
+      (λ none. served_waits request _ _ _ done)
+  served_accepted (Misread given other) image request done = served_accepted given image request done
 
   served_shown : (image : Image) (request : Message) → (request.head.kind ≡ 0) ⊎ (request.head.kind ≡ 7) → IsServedAs request (Ok Action.Serve) (shown image world 0 request)
   served_shown image request kind = inr (shown_fits image request.head kind, (Took, refl, refl, took_apart))
@@ -204,13 +209,13 @@ module _ (world : World) where
   served_read OutOfMemory request kind = served_refused request NoMemory
   served_read DeviceFailure request kind = inr (tt, (Took, refl, refl, took_apart))
   served_read Nothing request kind = served_shown (image_shown Nothing world.stage) request (inl kind)
-  served_read (Misread image) request kind = served_shown (image_shown (Misread image) world.stage) request (inl kind)
+  served_read (Misread given image) request kind = served_shown (image_shown (Misread given image) world.stage) request (inl kind)
 
   served_status : (failure : Failure) (request : Message) → request.head.kind ≡ 7 → IsServedAs request (Ok Action.Serve) (status_served failure world 0 request)
   served_status OutOfMemory request kind = served_refused request NoMemory
   served_status Nothing request kind = served_shown (image_shown Nothing world.stage) request (inr kind)
   served_status DeviceFailure request kind = served_shown (image_shown DeviceFailure world.stage) request (inr kind)
-  served_status (Misread image) request kind = served_shown (image_shown (Misread image) world.stage) request (inr kind)
+  served_status (Misread given image) request kind = served_shown (image_shown (Misread given image) world.stage) request (inr kind)
 
   served_flush : (request : Message) → request.head.kind ≡ 3 → IsServedAs request (Ok Action.Serve) (logged (moved world 0 (Waiting (last_number world))) Took)
   served_flush request kind = inr ((λ read. unlike 0 (λ is. cc) read, λ status. unlike 7 (λ is. cc) status), (Took, refl, refl, took_apart))
@@ -230,9 +235,9 @@ module _ (world : World) where
       (λ other. of_test Served (request.head.kind == 0) _ _ (λ read. served_read failure request (eqb-true request.head.kind 0 read))
       (λ no_read. of_test Served (request.head.kind == 7) _ _ (λ status. served_status failure request (eqb-true request.head.kind 7 status))
       (λ no_status. of_test Served (last_number world == 18446744073709551615) _ _ (λ full. served_refused request NoSpace)
-      (λ left. of_test Served (has_room world (command_of request)) _ _
-      (λ room. served_accepted failure request (eqb-false request.head.kind 0 no_read, eqb-false request.head.kind 7 no_status))
-      (λ none. inl (refl, refl, works, writes other no_read no_status, none)))))))
+      (λ left. of_test Served (has_room world (becomes (edit_asked request) (image_shown failure world.stage))) _ _
+      (λ room. served_accepted failure (image_shown failure world.stage) request (eqb-false request.head.kind 0 no_read, eqb-false request.head.kind 7 no_status))
+      (λ none. inl (refl, refl, works, writes other no_read no_status, failure, none)))))))
 
   pub served_as : (failure : Failure) (request : Message) (given : Result Action Errno) → (given ≡ Ok Action.Serve → AsksElse request) → IsServedAs request given (judged given failure world 0 request)
   served_as failure request (Ok End) writes = inr (refl, (Took, refl, refl, took_apart))
@@ -290,20 +295,20 @@ past_served true rest is = absurd (apart is)
     apart is = cc
 past_served false rest is = is
 
-no_end : (disc unknown flagged empty flush context unaligned long beyond : Bool) (errno : Errno) → disc ≡ false
+no_end : (disc unknown flagged empty flush context none long beyond : Bool) (errno : Errno) → disc ≡ false
     → first_of_rules ((disc, Ok End) ∷ (unknown, Err Invalid) ∷ (flagged, Err Invalid) ∷ (empty, Ok Action.Serve) ∷ (flush, Err Invalid) ∷ (context, Err Invalid) ∷ [])
-    (first_of_rules ((unaligned, Err Invalid) ∷ (long, Err Invalid) ∷ (beyond, Err errno) ∷ []) (Ok Action.Serve)) ≡ Ok End → ⊥
-no_end true unknown flagged empty flush context unaligned long beyond errno no_disc is = absurd (apart no_disc)
+    (first_of_rules ((none, Err Invalid) ∷ (long, Err Invalid) ∷ (beyond, Err errno) ∷ []) (Ok Action.Serve)) ≡ Ok End → ⊥
+no_end true unknown flagged empty flush context none long beyond errno no_disc is = absurd (apart no_disc)
   where
     apart : true ≡ false → ⊥
     apart is = cc
-no_end false unknown flagged empty flush context unaligned long beyond errno no_disc is =
+no_end false unknown flagged empty flush context none long beyond errno no_disc is =
     let b = past_error unknown Invalid _ is in
     let c = past_error flagged Invalid _ b in
     let d = past_served empty _ c in
     let e = past_error flush Invalid _ d in
     let f = past_error context Invalid _ e in
-    let g = past_error unaligned Invalid _ f in
+    let g = past_error none Invalid _ f in
     let h = past_error long Invalid _ g in
     serve_apart (past_error beyond errno _ h)
   where
@@ -320,7 +325,7 @@ end_kind head geometry flags is = by_kind (head.kind == 2) refl
     by_kind false at =
         absurd (no_end (head.kind == 2) (not (is_known head.kind)) (not (bit_and head.flags (allowed_flags head.kind flags.structured) == head.flags))
         ((head.kind == 3) && (head.offset == 0) && (head.length == 0)) (head.kind == 3) ((head.kind == 7) && not (flags.structured && flags.context))
-        (is_unaligned head) (((head.kind == 0) || (head.kind == 1)) && nat_lt 1048576 head.length) (nat_lt (4096 * geometry.blocks) (head.offset + head.length))
+        (head.length == 0) (((head.kind == 0) || (head.kind == 1)) && nat_lt 1048576 head.length) (nat_lt (4096 * geometry.blocks) (head.offset + head.length))
         (past_end head.kind) at is)
 
 -- the rules of judgement refuse a request whose context wasn't agreed on

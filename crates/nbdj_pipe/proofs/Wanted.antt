@@ -45,13 +45,13 @@ module _ (world : World) where
   by_written Nothing stage = took
   by_written OutOfMemory stage = starved
   by_written DeviceFailure stage = faulty
-  by_written (Misread image) stage = took
+  by_written (Misread given image) stage = took
 
   by_seal : (failure : Failure) → Shows (sealed_more failure world)
   by_seal Nothing = took
   by_seal OutOfMemory = starved
   by_seal DeviceFailure = took
-  by_seal (Misread image) = took
+  by_seal (Misread given image) = took
 
   by_append : (failure : Failure) → Shows (append_in_hand failure world)
   by_append failure = of_test Shows world.stage.stopped _ _ (λ is. failed_before) (λ is. of_test Shows (fits world) _ _ (λ here. by_written failure (record world.stage { stored = world.stage.sealed; at = world.stage.at + 17 + bodies_bytes (in_hand world) })) (λ late. held_so))

@@ -1,11 +1,13 @@
 -- Why a session ends before its input does, by a world that its run passes (docs/FORMATS.md, "Refusals").
 use Rattle.std.specs.Prelude.{◌≡◌, ◌⊎◌, true, false, List, Ok}
+use Rattle.image_model.specs.Edit.{becomes}
 use Rattle.nbd_wire.specs.Request.{Message}
 use Rattle.world.specs.declared.action.Action.TheVariants.{Serve}
 use Rattle.world.specs.declared.step.Step.{Step}
-use Rattle.world.specs.Log.{command_of, is_write}
+use Rattle.world.specs.Log.{edit_asked, is_write}
 use Rattle.world.specs.Run.{IsRun}
 use Rattle.world.specs.Checkpoint.{can_finish, can_rotate, is_full}
+use Rattle.world.specs.Serve.{Failure, image_shown}
 use Rattle.world.specs.World.{World, has_room}
 use Rattle.nbdj_pipe.specs.Talk.{verdict_on}
 use Rattle.nbdj_pipe.specs.declared.refusal.Refusal.{Refusal}
@@ -26,12 +28,13 @@ pub record HasNoGeneration (world : World) : Type 0 where
   pub wanted : (can_rotate world.stage ≡ true) ⊎ (can_finish world.stage ≡ true)
   pub full : is_full world.stage ≡ true
 
--- The device works, and there is no room for the command of this request, which passes judgement and asks for one.
+-- The device works, and there is no room for what the edit of this request becomes, which passes judgement and asks for one.
 pub record LacksRoom (world : World) (request : Message) : Type 0 where
   pub works : world.stage.stopped ≡ false
   pub judged : verdict_on request.head world.stage.setting.geometry world.stage.setting.flags ≡ Ok Serve
   pub write : is_write request ≡ true
-  pub full : has_room world (command_of request) ≡ false
+  pub failure : Failure
+  pub full : has_room world (becomes (edit_asked request) (image_shown failure world.stage)) ≡ false
 
 -- What a run says of a refusal that ends its session: that a header was wanted and no generation is left for it. No area stays
 -- full, for no command is there no room in the end, and storing never fails to come to an end. Of the others it says nothing.

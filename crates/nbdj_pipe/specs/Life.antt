@@ -12,7 +12,7 @@ use Rattle.nbd_wire.specs.declared.error.Errno.TheVariants.{Io}
 use Rattle.nbd_wire.specs.declared.message.Answer.TheVariants.{Refused}
 use Rattle.request_core.specs.Life.{IsDurable}
 use Rattle.request_core.specs.Parts.{StandsAfter}
-use Rattle.world.specs.Fits.{ReadsFit}
+use Rattle.world.specs.Fits.{EditsFit, ReadsFit}
 use Rattle.world.specs.Run.{IsRun}
 use Rattle.world.specs.World.{Setting, World, fresh}
 use Rattle.world.specs.declared.step.Mode.{Mode}
@@ -72,6 +72,8 @@ pub record IsLife {D : Type 0} (state : D → State) (faults : D → ℕ) (frame
   pub cause : IfErr outcome (λ refusal. HasCause refusal (fresh setting) next)
   -- on an honest device: each READ is answered the bytes of the image after some first commands of the order
   pub shows : trusted ≡ true → ReadsFit next.log next.stage.order next.paired next.shown setting.image
+  -- and each command is what its request's edit becomes over the image after those before it
+  pub edits : trusted ≡ true → EditsFit next.log next.stage.order next.paired setting.image
   pub found : trusted ≡ true → IsFound setting (state start) (state opened)
   pub durable : trusted ≡ true → IsDurable (fresh setting) next (state opened) (state end)
   -- whatever a crash at the end may leave reaches all that is durable by then, covered or not

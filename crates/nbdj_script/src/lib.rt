@@ -14,4 +14,4 @@ pub use ending::{End, exit_status, failed, print};
 pub use lines::Schedule;
 pub use playing::{Played, Trouble};
 pub use rehearsing::script;
-pub use script_line::{BlockRange, BlockWrite, Cleared, Setup, StepLine};
+pub use script_line::{Clearing, Filling, Range, Setup, StepLine};

@@ -12,7 +12,7 @@ ghost use Rattle.request_core.specs.Bench.{new_bench};
 ghost use Rattle.request_core.specs.Life.{IsRehearsed};
 ghost use Rattle.world.specs.World.{World};
 
-use crate::script_line::{BlockRange, BlockWrite, CONNECTIONS, Cleared, Setup};
+use crate::script_line::{CONNECTIONS, Clearing, Filling, Range, Setup};
 use bitflags::Flags;
 use checkpoint::{Keeper, KeeperFault};
 use device_image::keeper_laws;
@@ -302,25 +302,22 @@ pub fn flush(alloc: Global, cookie: u64) -> Request {
 }
 
 /// A WRITE; the data of a long one aren't kept.
-pub fn write(alloc: Global, cookie: u64, put: BlockWrite) -> Result<Request, AllocError> {
-    let length = (put.blocks * BLOCK_BYTES) as u32;
-    let kept = if length <= MAX_PAYLOAD { length } else { 0 };
-    let flags = if put.fua { CommandFlags::FUA.bits() } else { 0 };
-    let head = RequestHead {
-        flags,
-        kind: WRITE,
-        cookie,
-        offset: put.first * BLOCK_BYTES,
-        length,
+pub fn write(alloc: Global, cookie: u64, filling: Filling) -> Result<Request, AllocError> {
+    let head = head_of(cookie, WRITE, 0, filling.range);
+    let kept = if head.length <= MAX_PAYLOAD {
+        head.length
+    } else {
+        0
     };
-    Ok(Request::new(head, filled(alloc, put.byte, kept as usize)?))
+    Ok(Request::new(head, filled(alloc, filling.byte, kept as usize)?))
 }
 
-/// A TRIM, or a WRITE_ZEROES with NO_HOLE.
-pub fn clear(alloc: Global, cookie: u64, cleared: Cleared, range: BlockRange) -> Request {
-    match cleared {
-        Cleared::Hole => ranged(alloc, cookie, TRIM, 0, range),
-        Cleared::Zero => {
+/// A TRIM or a WRITE_ZEROES.
+pub fn clear(alloc: Global, cookie: u64, clearing: Clearing, range: Range) -> Request {
+    match clearing {
+        Clearing::Trim => ranged(alloc, cookie, TRIM, 0, range),
+        Clearing::Holes => ranged(alloc, cookie, WRITE_ZEROES, 0, range),
+        Clearing::Zeroes => {
             let no_hole = CommandFlags::NO_HOLE.bits();
             ranged(alloc, cookie, WRITE_ZEROES, no_hole, range)
         }
@@ -328,32 +325,38 @@ pub fn clear(alloc: Global, cookie: u64, cleared: Cleared, range: BlockRange) ->
 }
 
 /// A READ.
-pub fn read(alloc: Global, cookie: u64, range: BlockRange) -> Request {
+pub fn read(alloc: Global, cookie: u64, range: Range) -> Request {
     ranged(alloc, cookie, READ, 0, range)
 }
 
 /// A BLOCK_STATUS.
-pub fn status(alloc: Global, cookie: u64, range: BlockRange) -> Request {
+pub fn status(alloc: Global, cookie: u64, range: Range) -> Request {
     ranged(alloc, cookie, BLOCK_STATUS, 0, range)
 }
 
 // A request that carries no data, with these flags besides FUA.
-fn ranged(alloc: Global, cookie: u64, kind: u16, flags: u16, range: BlockRange) -> Request
+fn ranged(alloc: Global, cookie: u64, kind: u16, flags: u16, range: Range) -> Request
     requires { kind ≢ 1 }
+{
+    Request::new(head_of(cookie, kind, flags, range), Vec::new(alloc))
+}
+
+// The head of a request, with these flags besides FUA.
+fn head_of(cookie: u64, kind: u16, flags: u16, range: Range) -> RequestHead
+    ensures kind { result.kind ≡ kind }
 {
     let fua = if range.fua {
         CommandFlags::FUA.bits()
     } else {
         0
     };
-    let head = RequestHead {
+    RequestHead {
         flags: fua | flags,
         kind,
         cookie,
-        offset: range.first * BLOCK_BYTES,
-        length: (range.blocks * BLOCK_BYTES) as u32,
-    };
-    Request::new(head, Vec::new(alloc))
+        offset: range.offset,
+        length: range.length,
+    }
 }
 
 fn filled(alloc: Global, byte: u8, count: usize) -> Result<Vec<u8>, AllocError>

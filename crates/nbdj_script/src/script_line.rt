@@ -1,7 +1,7 @@
-ghost use Rattle.std.specs.Prelude.{◌≡◌, ◌≤◌, ◌<◌, ◌*◌, ◌^◌, IfSome};
+ghost use Rattle.std.specs.Prelude.{◌≡◌, ◌≤◌, ◌<◌, IfSome};
 
 use disk_model::{CallKind, CrashChoice};
-use image_model::Geometry;
+use image_model::{BLOCK_BYTES, Geometry};
 use nbdj_pipe::PipeOptions;
 use request_core::Mode;
 use std::alloc::{AllocError, Global};
@@ -10,11 +10,8 @@ use std::str;
 /// The most connections of a script, which name them from 1 on.
 pub const CONNECTIONS: usize = 16;
 
-// The most blocks that a WRITE may announce, of the 33,554,432 bytes that a server reads.
-const MOST_BLOCKS: u64 = 8192;
-
-// The most blocks that any request may name, whose length has 32 bits.
-const MOST_NAMED: u64 = 1_048_575;
+// The most bytes that a WRITE may announce: so many a server reads.
+const MOST_WRITTEN: u32 = 33_554_432;
 
 /// A line of a script, by `docs/SCRIPTS.md`.
 #[derive(Clone, Copy, Debug)]
@@ -34,13 +31,13 @@ pub enum Line {
 #[derive(Clone, Copy, Debug)]
 pub enum StepLine {
     /// A connection sends a WRITE.
-    Put(usize, BlockWrite),
-    /// A connection sends a TRIM, or a WRITE_ZEROES with NO_HOLE.
-    Clear(usize, Cleared, BlockRange),
+    Put(usize, Filling),
+    /// A connection sends a TRIM or a WRITE_ZEROES.
+    Clear(usize, Clearing, Range),
     /// A connection sends a READ.
-    Read(usize, BlockRange),
+    Read(usize, Range),
     /// A connection sends a BLOCK_STATUS.
-    Status(usize, BlockRange),
+    Status(usize, Range),
     /// A connection sends a FLUSH.
     Flush(usize),
     Serve(usize),
@@ -66,34 +63,30 @@ pub struct Setup {
     ghost frames_few: { frames ≤ 65536 },
 }
 
-/// A WRITE of blocks that all have the same bytes.
+/// The range that a request names, in bytes, and whether it has FUA.
 #[derive(Clone, Copy, Debug)]
-pub struct BlockWrite {
-    pub first: u64,
-    pub blocks: u64,
+pub struct Range {
+    pub offset: u64,
+    pub length: u32,
+    pub fua: bool,
+}
+
+/// A WRITE of bytes that are all the same.
+#[derive(Clone, Copy, Debug)]
+pub struct Filling {
+    pub range: Range,
     pub byte: u8,
-    pub fua: bool,
-    ghost first_fits: { first * 4096 < 2 ^ 64 },
-    ghost blocks_fit: { blocks ≤ 8192 },
 }
 
-/// A range of blocks, of a request that carries no data.
-#[derive(Clone, Copy, Debug)]
-pub struct BlockRange {
-    pub first: u64,
-    pub blocks: u64,
-    pub fua: bool,
-    ghost first_fits: { first * 4096 < 2 ^ 64 },
-    ghost blocks_fit: { blocks ≤ 1048575 },
-}
-
-/// What becomes of blocks that are cleared.
+/// By which request bytes are made zero.
 #[derive(Clone, Copy, Debug, PartialEq, Eq)]
-pub enum Cleared {
-    /// Holes, by a TRIM.
-    Hole,
-    /// Allocated zero, by a WRITE_ZEROES with NO_HOLE.
-    Zero,
+pub enum Clearing {
+    /// A TRIM.
+    Trim,
+    /// A WRITE_ZEROES, which may leave holes.
+    Holes,
+    /// A WRITE_ZEROES with NO_HOLE.
+    Zeroes,
 }
 
 /// The line that a text is; none where it is no step.
@@ -120,39 +113,7 @@ fn line_of(words: &[&str]) -> Option<Line> {
 
 fn step_of(words: &[&str]) -> Option<StepLine> {
     match words {
-        ["send", connection, "put", first, blocks, byte] => {
-            let write = write_of(first, blocks, byte, false)?;
-            Some(StepLine::Put(connection_of(connection)?, write))
-        }
-        ["send", connection, "put", first, blocks, byte, "fua"] => {
-            let write = write_of(first, blocks, byte, true)?;
-            Some(StepLine::Put(connection_of(connection)?, write))
-        }
-        ["send", connection, "clear", kind, first, blocks] => {
-            let range = range_of(first, blocks, false)?;
-            clear_of(connection, kind, range)
-        }
-        ["send", connection, "clear", kind, first, blocks, "fua"] => {
-            let range = range_of(first, blocks, true)?;
-            clear_of(connection, kind, range)
-        }
-        ["send", connection, "read", first, blocks] => {
-            let range = range_of(first, blocks, false)?;
-            Some(StepLine::Read(connection_of(connection)?, range))
-        }
-        ["send", connection, "read", first, blocks, "fua"] => {
-            let range = range_of(first, blocks, true)?;
-            Some(StepLine::Read(connection_of(connection)?, range))
-        }
-        ["send", connection, "status", first, blocks] => {
-            let range = range_of(first, blocks, false)?;
-            Some(StepLine::Status(connection_of(connection)?, range))
-        }
-        ["send", connection, "status", first, blocks, "fua"] => {
-            let range = range_of(first, blocks, true)?;
-            Some(StepLine::Status(connection_of(connection)?, range))
-        }
-        ["send", connection, "flush"] => Some(StepLine::Flush(connection_of(connection)?)),
+        ["send", connection, ..] => sent(connection_of(connection)?, &words[2..]),
         ["serve", connection] => Some(StepLine::Serve(connection_of(connection)?)),
         ["answer", connection] => Some(StepLine::Answer(connection_of(connection)?)),
         ["seal"] => Some(StepLine::Seal),
@@ -168,6 +129,52 @@ fn step_of(words: &[&str]) -> Option<StepLine> {
     }
 }
 
+// What a connection sends. A last word sets FUA of all but a FLUSH.
+fn sent(connection: usize, words: &[&str]) -> Option<StepLine> {
+    match words {
+        ["flush"] => Some(StepLine::Flush(connection)),
+        [.., "fua"] => ranged(connection, &words[..words.len() - 1], true),
+        _ => ranged(connection, words, false),
+    }
+}
+
+// A request that names a range, of blocks or of bytes.
+fn ranged(connection: usize, words: &[&str], fua: bool) -> Option<StepLine> {
+    match words {
+        ["put", first, blocks, byte] => put(connection, blocks_of(first, blocks, fua)?, byte),
+        ["bytes", offset, length, byte] => put(connection, bytes_of(offset, length, fua)?, byte),
+        ["clear", "hole", first, blocks] => {
+            let range = blocks_of(first, blocks, fua)?;
+            Some(StepLine::Clear(connection, Clearing::Trim, range))
+        }
+        ["clear", "zero", first, blocks] => {
+            let range = blocks_of(first, blocks, fua)?;
+            Some(StepLine::Clear(connection, Clearing::Zeroes, range))
+        }
+        ["zeroes", offset, length, "hole"] => {
+            let range = bytes_of(offset, length, fua)?;
+            Some(StepLine::Clear(connection, Clearing::Holes, range))
+        }
+        ["zeroes", offset, length, "zero"] => {
+            let range = bytes_of(offset, length, fua)?;
+            Some(StepLine::Clear(connection, Clearing::Zeroes, range))
+        }
+        ["trim", offset, length] => {
+            let range = bytes_of(offset, length, fua)?;
+            Some(StepLine::Clear(connection, Clearing::Trim, range))
+        }
+        ["read", first, blocks] => {
+            let range = blocks_of(first, blocks, fua)?;
+            Some(StepLine::Read(connection, range))
+        }
+        ["status", first, blocks] => {
+            let range = blocks_of(first, blocks, fua)?;
+            Some(StepLine::Status(connection, range))
+        }
+        _ => None,
+    }
+}
+
 fn format(blocks: &str, area: &str, frames: &str, mode: Mode) -> Option<Line> {
     let area = u32::try_from(number_of(area)?).ok()?;
     let geometry = Geometry::new(number_of(blocks)?, area)?;
@@ -179,36 +186,35 @@ fn format(blocks: &str, area: &str, frames: &str, mode: Mode) -> Option<Line> {
     }))
 }
 
-fn write_of(first: &str, blocks: &str, byte: &str, fua: bool) -> Option<BlockWrite> {
-    let first = number_of(first)?;
-    let blocks = number_of(blocks)?;
-    if first >= 1 << 52 || blocks > MOST_BLOCKS {
+// A WRITE, if it isn't longer than what a server reads.
+fn put(connection: usize, range: Range, byte: &str) -> Option<StepLine> {
+    if range.length > MOST_WRITTEN {
         return None;
     }
-    Some(BlockWrite {
-        first,
-        blocks,
-        byte: byte_of(byte)?,
+    let byte = byte_of(byte)?;
+    Some(StepLine::Put(connection, Filling { range, byte }))
+}
+
+// A range of whole blocks.
+fn blocks_of(first: &str, blocks: &str, fua: bool) -> Option<Range> {
+    let offset = number_of(first)?.checked_mul(BLOCK_BYTES)?;
+    let length = number_of(blocks)?.checked_mul(BLOCK_BYTES)?;
+    ranging(offset, length, fua)
+}
+
+// A range of bytes.
+fn bytes_of(offset: &str, length: &str, fua: bool) -> Option<Range> {
+    ranging(number_of(offset)?, number_of(length)?, fua)
+}
+
+// The range, if its length has 32 bits.
+fn ranging(offset: u64, length: u64, fua: bool) -> Option<Range> {
+    let length = u32::try_from(length).ok()?;
+    Some(Range {
+        offset,
+        length,
         fua,
     })
-}
-
-fn clear_of(connection: &str, kind: &str, range: BlockRange) -> Option<StepLine> {
-    let cleared = match kind {
-        "hole" => Cleared::Hole,
-        "zero" => Cleared::Zero,
-        _ => return None,
-    };
-    Some(StepLine::Clear(connection_of(connection)?, cleared, range))
-}
-
-fn range_of(first: &str, blocks: &str, fua: bool) -> Option<BlockRange> {
-    let first = number_of(first)?;
-    let blocks = number_of(blocks)?;
-    if first >= 1 << 52 || blocks > MOST_NAMED {
-        return None;
-    }
-    Some(BlockRange { first, blocks, fua })
 }
 
 // A number in decimal digits, without a sign.

@@ -28,9 +28,11 @@ pub fn carry_out<B: BoardName>(
 // The step of a line.
 fn step_of(alloc: Global, line: StepLine, cookie: u64) -> Result<Step, AllocError> {
     Ok(match line {
-        StepLine::Put(connection, put) => Step::Send(connection, write(alloc, cookie, put)?),
-        StepLine::Clear(connection, cleared, range) => {
-            Step::Send(connection, clear(alloc, cookie, cleared, range))
+        StepLine::Put(connection, filling) => {
+            Step::Send(connection, write(alloc, cookie, filling)?)
+        }
+        StepLine::Clear(connection, clearing, range) => {
+            Step::Send(connection, clear(alloc, cookie, clearing, range))
         }
         StepLine::Read(connection, range) => Step::Send(connection, read(alloc, cookie, range)),
         StepLine::Status(connection, range) => {

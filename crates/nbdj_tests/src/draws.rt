@@ -1,4 +1,4 @@
-ghost use Rattle.std.specs.Prelude.{◌<◌};
+ghost use Rattle.std.specs.Prelude.{◌≤◌, ◌<◌};
 
 // Numbers that look random, and are the same in every run.
 #[derive(Clone, Copy)]
@@ -20,5 +20,18 @@ impl Draws {
         self.state ^= self.state >> 7;
         self.state ^= self.state << 17;
         (self.state >> 20) % limit
+    }
+
+    // A place in a block of 4,096 bytes, or behind it: often where the block begins or ends, or beside that.
+    pub fn place_in_block(&mut self) -> u64
+        ensures { result ≤ 4096 }
+    {
+        match self.below(6) {
+            0 => 0,
+            1 => 1,
+            2 => 4095,
+            3 => 4096,
+            _ => self.below(4096),
+        }
     }
 }

@@ -1,9 +1,9 @@
-//! Scripts drawn at random, of all commands, checkpoints and crashes, against plain blocks.
-ghost use Rattle.std.specs.Prelude.{◌≤◌, ◌<◌, ◌+◌};
+//! Scripts drawn at random, of all commands, checkpoints and crashes, against an image of plain bytes.
+ghost use Rattle.std.specs.Prelude.{◌≡◌, ◌≤◌, ◌<◌, ◌+◌, ◌*◌, vec_len};
 
 use crate::draws::Draws;
 use nbdj_script::script;
-use std::alloc::Global;
+use std::alloc::{AllocError, Global};
 use std::fmt::Display;
 use std::io;
 use std::io::Write;
@@ -12,24 +12,121 @@ use std::test::Fail;
 
 const BLOCKS: usize = 24;
 
-// A block by its status in `base:allocation` and its first byte.
-#[derive(Clone, Copy, PartialEq, Eq)]
-struct Block {
-    status: u8,
-    byte: u8,
+const BLOCK: usize = 4096;
+
+const SIZE: usize = BLOCK * BLOCKS;
+
+const DATA: u8 = 0;
+
+const ZERO: u8 = 2;
+
+const HOLE: u8 = 3;
+
+// The bytes of an image, and the status of each block in `base:allocation`.
+struct Image {
+    bytes: Vec<u8>,
+    states: [u8; BLOCKS],
+    ghost whole: { vec_len bytes ≡ 98304 },
 }
 
-const HOLE: Block = Block { status: 3, byte: 0 };
+// Written out, it is proved once, and not again in each function that lets such a value go.
+impl Drop for Image {
+    fn drop(self) {
+        let Image {
+            bytes: _,
+            states: _,
+        } = self;
+    }
+}
 
-const ZERO: Block = Block { status: 2, byte: 0 };
+impl Image {
+    fn new(alloc: Global) -> Result<Image, AllocError> {
+        Ok(Image {
+            bytes: vec![in alloc; 0; SIZE]?,
+            states: [HOLE; BLOCKS],
+        })
+    }
+
+    // Becomes the other one.
+    fn restore(&mut self, from: &Image) {
+        for place in 0..SIZE {
+            self.bytes[place] = from.bytes[place];
+        }
+        self.states = from.states;
+    }
+
+    // Gives each byte of a range this value.
+    fn fill(&mut self, range: Range, byte: u8) {
+        for place in range.from..range.behind {
+            self.bytes[place] = byte;
+        }
+    }
+
+    // The first byte of a block.
+    fn first_byte(&self, block: usize) -> u8
+        requires { block < 24 }
+    {
+        self.bytes[BLOCK * block]
+    }
+
+    // Whether two blocks are shown as one run.
+    fn is_alike(&self, one: usize, other: usize) -> bool
+        requires { (one < 24) × (other < 24) }
+    {
+        self.states[one] == self.states[other] && self.first_byte(one) == self.first_byte(other)
+    }
+}
+
+// A range of bytes that isn't empty: its first one and the one behind it.
+#[derive(Clone, Copy)]
+struct Range {
+    from: usize,
+    behind: usize,
+    ghost some: { from < behind },
+    ghost inside: { behind ≤ 98304 },
+}
+
+impl Range {
+    fn of_blocks(first: usize, behind: usize) -> Range
+        requires { (first < behind) × (behind ≤ 24) }
+    {
+        Range {
+            from: BLOCK * first,
+            behind: BLOCK * behind,
+        }
+    }
+
+    // Over at most five blocks; it often begins or ends at the border of a block, or beside it.
+    fn of_bytes(draws: &mut Draws) -> Range {
+        let (first, behind) = drawn_blocks(draws);
+        let from = BLOCK * first + (draws.place_in_block() as usize).min(BLOCK - 1);
+        let last = BLOCK * (behind - 1) + draws.place_in_block() as usize;
+        Range {
+            from,
+            behind: last.max(from + 1),
+        }
+    }
+
+    fn touches(self, block: usize) -> bool
+        requires { block < 24 }
+    {
+        self.from < BLOCK * block + BLOCK && BLOCK * block < self.behind
+    }
+
+    fn covers(self, block: usize) -> bool
+        requires { block < 24 }
+    {
+        self.from <= BLOCK * block && BLOCK * block + BLOCK <= self.behind
+    }
+}
 
 // A script, what it has to print, and what the device then holds.
 struct Expected {
     script: Vec<u8>,
     printed: Vec<u8>,
     // The image with all commands, and with those that are stored.
-    blocks: [Block; BLOCKS],
-    stored: [Block; BLOCKS],
+    image: Image,
+    stored: Image,
     // How many commands there are, are stored, and are in map and data.
     count: u64,
     durable: u64,
@@ -44,7 +141,7 @@ impl Drop for Expected {
         let Expected {
             script: _,
             printed: _,
-            blocks: _,
+            image: _,
             stored: _,
             count: _,
             durable: _,
@@ -54,13 +151,18 @@ impl Drop for Expected {
     }
 }
 
-// A range of at most five blocks: its first one and the one behind it.
-fn range(draws: &mut Draws) -> (usize, usize)
-    ensures { result.0 < result.1 }
+// At most five blocks: the first one and the one behind them.
+fn drawn_blocks(draws: &mut Draws) -> (usize, usize)
+    ensures { (result.0 < result.1) × (result.1 ≤ 24) }
 {
     let first = draws.below(BLOCKS as u64 - 1) as usize;
     let most = (BLOCKS - first).min(5) as u64;
     (first, first + 1 + draws.below(most) as usize)
+}
+
+// The last word of a write command.
+fn word_of(fua: bool) -> &'static str {
+    if fua { " fua" } else { "" }
 }
 
 fn letter(status: u8) -> char {
@@ -72,17 +174,17 @@ fn letter(status: u8) -> char {
 }
 
 impl Expected {
-    fn new(alloc: Global) -> Expected {
-        Expected {
+    fn new(alloc: Global) -> Result<Expected, AllocError> {
+        Ok(Expected {
             script: Vec::new(alloc),
             printed: Vec::new(alloc),
-            blocks: [HOLE; BLOCKS],
-            stored: [HOLE; BLOCKS],
+            image: Image::new(alloc)?,
+            stored: Image::new(alloc)?,
             count: 0,
             durable: 0,
             base: 0,
             written: [false; BLOCKS],
-        }
+        })
     }
 
     // Adds a line, and what it prints.
@@ -104,12 +206,38 @@ impl Expected {
         writeln!(self.printed, "answer {connection} ok")
     }
 
-    // Gives the blocks of a range a state, by a command.
-    fn change(&mut self, first: usize, behind: usize, block: Block) {
-        for place in 0..BLOCKS {
-            if first <= place && place < behind {
-                self.blocks[place] = block;
-                self.written[place] = block.status == 0;
+    // A range is written.
+    fn write(&mut self, range: Range, byte: u8) {
+        self.image.fill(range, byte);
+        for block in 0..BLOCKS {
+            if range.touches(block) {
+                self.image.states[block] = DATA;
+                self.written[block] = true;
+            }
+        }
+        self.count = self.count.wrapping_add(1);
+    }
+
+    // A range becomes zero: what it touches gets this state, but for data that it covers in part.
+    fn zero(&mut self, range: Range, state: u8) {
+        self.image.fill(range, 0);
+        for block in 0..BLOCKS {
+            if range.touches(block) {
+                let is_edge = self.image.states[block] == DATA && !range.covers(block);
+                self.image.states[block] = if is_edge { DATA } else { state };
+                self.written[block] = is_edge;
+            }
+        }
+        self.count = self.count.wrapping_add(1);
+    }
+
+    // The whole blocks of a range become holes.
+    fn trim(&mut self, range: Range) {
+        for block in 0..BLOCKS {
+            if range.covers(block) {
+                self.image.fill(Range::of_blocks(block, block + 1), 0);
+                self.image.states[block] = HOLE;
+                self.written[block] = false;
             }
         }
         self.count = self.count.wrapping_add(1);
@@ -126,7 +254,7 @@ impl Expected {
         self.line("append", done)?;
         self.line("publish", done)?;
         self.durable = self.count;
-        self.stored = self.blocks;
+        self.stored.restore(&self.image);
         Ok(())
     }
 
@@ -149,29 +277,66 @@ impl Expected {
     }
 
     fn put(&mut self, connection: u64, draws: &mut Draws, fua: bool) -> io::Result<()> {
-        let (first, behind) = range(draws);
+        let (first, behind) = drawn_blocks(draws);
         let byte = draws.below(256) as u8;
-        let word = if fua { " fua" } else { "" };
+        let word = word_of(fua);
         let blocks = behind - first;
         self.ask(
             connection,
             format_args!("put {first} {blocks} {byte:02x}{word}"),
         )?;
-        self.change(first, behind, Block { status: 0, byte });
+        self.write(Range::of_blocks(first, behind), byte);
         self.write_answered(connection, fua)
     }
 
     fn clear(&mut self, connection: u64, draws: &mut Draws, fua: bool) -> io::Result<()> {
-        let (first, behind) = range(draws);
+        let (first, behind) = drawn_blocks(draws);
         let zero = draws.below(2) == 0;
         let kind = if zero { "zero" } else { "hole" };
-        let word = if fua { " fua" } else { "" };
+        let word = word_of(fua);
         let blocks = behind - first;
         self.ask(
             connection,
             format_args!("clear {kind} {first} {blocks}{word}"),
         )?;
-        self.change(first, behind, if zero { ZERO } else { HOLE });
+        let state = if zero { ZERO } else { HOLE };
+        self.zero(Range::of_blocks(first, behind), state);
+        self.write_answered(connection, fua)
+    }
+
+    fn put_bytes(&mut self, connection: u64, draws: &mut Draws, fua: bool) -> io::Result<()> {
+        let range = Range::of_bytes(draws);
+        let byte = draws.below(256) as u8;
+        let word = word_of(fua);
+        let (offset, length) = (range.from, range.behind - range.from);
+        self.ask(
+            connection,
+            format_args!("bytes {offset} {length} {byte:02x}{word}"),
+        )?;
+        self.write(range, byte);
+        self.write_answered(connection, fua)
+    }
+
+    fn zero_bytes(&mut self, connection: u64, draws: &mut Draws, fua: bool) -> io::Result<()> {
+        let range = Range::of_bytes(draws);
+        let zero = draws.below(2) == 0;
+        let kind = if zero { "zero" } else { "hole" };
+        let word = word_of(fua);
+        let (offset, length) = (range.from, range.behind - range.from);
+        self.ask(
+            connection,
+            format_args!("zeroes {offset} {length} {kind}{word}"),
+        )?;
+        self.zero(range, if zero { ZERO } else { HOLE });
+        self.write_answered(connection, fua)
+    }
+
+    fn trim_bytes(&mut self, connection: u64, draws: &mut Draws, fua: bool) -> io::Result<()> {
+        let range = Range::of_bytes(draws);
+        let word = word_of(fua);
+        let (offset, length) = (range.from, range.behind - range.from);
+        self.ask(connection, format_args!("trim {offset} {length}{word}"))?;
+        self.trim(range);
         self.write_answered(connection, fua)
     }
 
@@ -181,28 +346,28 @@ impl Expected {
     }
 
     fn read(&mut self, connection: u64, draws: &mut Draws) -> io::Result<()> {
-        let (first, behind) = range(draws);
+        let (first, behind) = drawn_blocks(draws);
         let blocks = behind - first;
         self.ask(connection, format_args!("read {first} {blocks}"))?;
         write!(self.printed, "answer {connection} bytes")?;
         for place in 0..BLOCKS {
             if first <= place && place < behind {
-                write!(self.printed, " {:02x}", self.blocks[place].byte)?;
+                write!(self.printed, " {:02x}", self.image.first_byte(place))?;
             }
         }
         writeln!(self.printed)
     }
 
     fn status(&mut self, connection: u64, draws: &mut Draws) -> io::Result<()> {
-        let (first, _) = range(draws);
+        let (first, _) = drawn_blocks(draws);
         let blocks = BLOCKS - first.min(BLOCKS);
         self.ask(connection, format_args!("status {first} {blocks}"))?;
         write!(self.printed, "answer {connection} runs")?;
         let mut length = 0u64;
         for place in first..BLOCKS {
             length = length.wrapping_add(1);
-            let status = self.blocks[place].status;
-            if place == BLOCKS - 1 || self.blocks[place + 1].status != status {
+            let status = self.image.states[place];
+            if place == BLOCKS - 1 || self.image.states[place + 1] != status {
                 write!(self.printed, " {length}:{status}")?;
                 length = 0;
             }
@@ -239,7 +404,7 @@ impl Expected {
             1 => writeln!(self.script, "crash new")?,
             _ => writeln!(self.script, "crash {:02x}", draws.below(256))?,
         }
-        self.blocks = self.stored;
+        self.image.restore(&self.stored);
         self.count = self.durable;
         self.base = self.durable;
         self.written = [false; BLOCKS];
@@ -250,16 +415,15 @@ impl Expected {
     fn print_runs(&mut self) -> io::Result<()> {
         let mut first = 0;
         for place in 0..BLOCKS {
-            let block = self.blocks[place];
-            if place == BLOCKS - 1 || self.blocks[place + 1] != block {
+            if place == BLOCKS - 1 || !self.image.is_alike(place, place + 1) {
                 let (letter, length) = (
-                    letter(block.status),
+                    letter(self.image.states[place]),
                     place.wrapping_sub(first).wrapping_add(1),
                 );
                 writeln!(
                     self.printed,
                     "run {first} {length} {letter} {:02x}",
-                    block.byte
+                    self.image.first_byte(place)
                 )?;
                 first = place + 1;
             }
@@ -274,24 +438,27 @@ impl Expected {
         if self.count.wrapping_sub(self.base) > 60 {
             self.checkpoint(connection, draws)?;
         }
-        match draws.below(40) {
+        match draws.below(50) {
             0 => self.crash(draws),
             1 => self.checkpoint(connection, draws),
             2 => self.store(),
             3 => self.flush(connection),
-            4..=9 => self.clear(connection, draws, fua),
-            10..=19 => self.put(connection, draws, fua),
-            20..=29 => self.status(connection, draws),
+            4..=7 => self.clear(connection, draws, fua),
+            8..=13 => self.put(connection, draws, fua),
+            14..=20 => self.put_bytes(connection, draws, fua),
+            21..=26 => self.zero_bytes(connection, draws, fua),
+            27..=30 => self.trim_bytes(connection, draws, fua),
+            31..=39 => self.status(connection, draws),
             _ => self.read(connection, draws),
         }
     }
 }
 
 #[test]
-fn random_scripts_show_what_plain_blocks_hold(rt: HostRuntime) -> Result<(), Fail> {
+fn random_scripts_show_what_plain_bytes_hold(rt: HostRuntime) -> Result<(), Fail> {
     let alloc = rt.alloc();
     let mut draws = Draws::new(0xb10c_5747);
-    let mut expected = Expected::new(alloc);
+    let mut expected = Expected::new(alloc)?;
     expected.line(format_args!("format {BLOCKS} 2097152 512"), "done")?;
     for _ in 0..1500 {
         expected.turn(&mut draws)?;

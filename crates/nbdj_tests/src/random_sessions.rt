@@ -33,13 +33,29 @@ impl Drop for Session {
     }
 }
 
-// A range of at most eight blocks of the image, in bytes.
+// A range of the image over at most eight blocks: whole ones, or from a place in the first to one in the last.
 fn range(draws: &mut Draws) -> (u64, u64)
     ensures few { result.1 ≤ 32768 }
 {
     let first = draws.below(BLOCKS);
     let blocks = 1 + draws.below(8.min(BLOCKS - first));
-    (first * BLOCK, blocks * BLOCK)
+    let (offset, length) = (first * BLOCK, blocks * BLOCK);
+    if draws.below(2) == 0 {
+        return (offset, length);
+    }
+    let front = draws.place_in_block().min(length - 1);
+    let back = draws.place_in_block().min(length - 1 - front);
+    (offset + front, length - front - back)
+}
+
+// The whole blocks of a range; none is empty.
+fn whole_blocks(offset: u64, length: u64) -> (u64, u64)
+    requires { length ≤ 32768 }
+    ensures few { result.1 ≤ length }
+{
+    let front = (BLOCK - offset % BLOCK) % BLOCK;
+    let rest = length.saturating_sub(front);
+    (offset.wrapping_add(front), rest - rest % BLOCK)
 }
 
 // So many bytes that differ from place to place.
@@ -55,11 +71,9 @@ fn drawn(alloc: Global, draws: &mut Draws, count: usize) -> Result<Vec<u8>, Allo
 
 // Puts bytes into the image, from a place on.
 fn put(image: &mut [u8], from: u64, bytes: &[u8]) {
-    for place in 0..image.len() {
-        if let Some(back) = (place as u64).checked_sub(from) {
-            if let Some(byte) = bytes.get(back as usize) {
-                image[place] = *byte;
-            }
+    for place in 0..bytes.len() {
+        if let Some(byte) = image.get_mut((from as usize).wrapping_add(place)) {
+            *byte = bytes[place];
         }
     }
 }
@@ -91,10 +105,16 @@ impl Session {
         flags: u16,
     ) -> Result<(), AllocError> {
         let (offset, length) = range(draws);
-        let zeroes = vec![in alloc; 0; length as usize]?;
-        let length = length as u32;
-        ask(&mut self.stream, kind, flags, self.cookie, offset, length)?;
-        put(&mut self.image, offset, &zeroes);
+        let asked = length as u32;
+        ask(&mut self.stream, kind, flags, self.cookie, offset, asked)?;
+        // A TRIM leaves the parts of blocks as they are.
+        let (from, count) = if kind == TRIM {
+            whole_blocks(offset, length)
+        } else {
+            (offset, length)
+        };
+        let zeroes = vec![in alloc; 0; count as usize]?;
+        put(&mut self.image, from, &zeroes);
         owe(&mut self.replies, 0, self.cookie, &[])
     }
 

@@ -19,6 +19,7 @@ fn check(rt: &impl Abort, alloc: Global, disk: SimDisk, stream: &[u8], replies: 
 const REFUSED: [(u16, u16, u64, u32); 8] = [
     // Past the end.
     (READ, 0, 61_440, 8_192),
+    (READ, 0, 65_535, 2),
     (READ, 0, 65_536, 4_096),
     // Offset and length are 2^64 together.
     (READ, 0, 0xffff_ffff_ffff_f000, 4_096),
@@ -26,8 +27,7 @@ const REFUSED: [(u16, u16, u64, u32); 8] = [
     (READ, 4, 0, 4_096),
     // Longer than 1 MiB.
     (READ, 0, 0, 1_052_672),
-    (READ, 0, 0, 0),
-    (READ, 0, 512, 4_096),
+    (READ, 0, 512, 0),
     // No context was agreed on.
     (BLOCK_STATUS, 0, 0, 4_096),
 ];

@@ -54,9 +54,9 @@ fn first_run(rt: HostRuntime) -> Result<(), Fail> {
     Ok(())
 }
 
-// The replies to a FLUSH, and to a WRITE that isn't aligned.
+// The replies to a FLUSH, and to a WRITE that goes past the end.
 const CUT_REPLIES: [u8; 32] =
-    *b"\x67\x44\x66\x98\0\0\0\0\0\0\0\0\0\0\0\x01\x67\x44\x66\x98\0\0\0\x16\0\0\0\0\0\0\0\x02";
+    *b"\x67\x44\x66\x98\0\0\0\0\0\0\0\0\0\0\0\x01\x67\x44\x66\x98\0\0\0\x1c\0\0\0\0\0\0\0\x02";
 
 // Cut in two at this place the stream has the same replies.
 fn check_cut(rt: &impl Abort, alloc: Global, disk: SimDisk, stream: &[u8], cut: usize) -> SimDisk {
@@ -91,7 +91,7 @@ fn cut_at_every_place(rt: HostRuntime) -> Result<(), Fail> {
     let mut disk = formatted(&rt, alloc, 16, 2_097_152)?;
     let mut stream = Vec::new(alloc);
     send(&mut stream, FLUSH, 0, 1, 0, &[])?;
-    send(&mut stream, WRITE, 0, 2, 1, &BLOCK[..100])?;
+    send(&mut stream, WRITE, 0, 2, 65_437, &BLOCK[..100])?;
     send(&mut stream, DISCONNECT, 0, 3, 0, &[])?;
     for cut in 0..stream.len() {
         disk = check_cut(&rt, alloc, disk, &stream, cut);

@@ -2,7 +2,7 @@
 use Rattle.std.proofs.Common.{ℕ, List, [], Option, refl, ap}
 use Rattle.std.specs.Option.{option_map}
 use Rattle.nbd_wire.specs.Stream.{Fills as FillsReader, Reader}
-use Rattle.nbd_wire.specs.declared.message.SessionFlags.{SessionFlags}
+use Rattle.negotiation.specs.declared.answer.Agreed.{Agreed}
 use Rattle.negotiation.specs.Dialog.{Standing, in_requests}
 use Rattle.negotiation.specs.Ends.{end_for}
 use Rattle.negotiation.specs.Session.{Fills, HandsNone}
@@ -22,12 +22,12 @@ hands_filled old new input left count fills = record {
   end = fills.end;
 }
 
-pub fills_session : (size : ℕ) (flags : SessionFlags) (old new : Standing) (input left : Option (List ℕ)) (count : ℕ) → HandsNone old input left count new → Fills (session_at size flags old) input left count (session_at size flags new)
-fills_session size flags old new input left count fills = record {
+pub fills_session : (size : ℕ) (agreed : Agreed) (old new : Standing) (input left : Option (List ℕ)) (count : ℕ) → HandsNone old input left count new → Fills (session_at size agreed old) input left count (session_at size agreed new)
+fills_session size agreed old new input left count fills = record {
   piece = fills.piece;
   len = fills.len;
   read = fills.read;
-  feeds = fed_behind size flags old new [] [] fills.piece [] fills.was refl fills.hands;
+  feeds = fed_behind size agreed old new [] [] fills.piece [] fills.was refl fills.hands;
   size = refl;
   said = fills.said;
   going = fills.going;

@@ -7,17 +7,17 @@ use Rattle.nbd_wire.specs.Request.{Message}
 use Rattle.nbd_wire.specs.Stream.{Reader, end_of as end_of_requests, failed, in_data as keeps_data, in_discard as keeps_count, in_head as keeps_head, reading, starved}
 use Rattle.nbd_wire.specs.declared.error.WireFault.{WireFault}
 use Rattle.nbd_wire.specs.declared.error.WireFault.TheVariants as faults
-use Rattle.nbd_wire.specs.declared.message.SessionFlags.{SessionFlags}
+use Rattle.negotiation.specs.declared.answer.Agreed.{Agreed}
 use Rattle.option_wire.specs.Handshake.{client_flags_bytes, greeting_bytes}
 use Rattle.option_wire.specs.Head.{option_head}
 use Rattle.option_wire.specs.declared.head.OptionHead.{OptionHead}
 use Rattle.option_wire.specs.declared.reply.OptionError.TheVariants as errors
-use Rattle.negotiation.specs.Answered.{Answered, IsAnswered, refusal_of, replies_bytes}
+use Rattle.negotiation.specs.Answered.{Answered, IsAnswered, answer_bytes, refusal_of}
 use Rattle.negotiation.specs.declared.end.End.{End}
 use Rattle.negotiation.specs.declared.end.End.TheVariants.{NoMemory}
 use Rattle.negotiation.specs.declared.stage.Stage.{Stage}
 use Rattle.negotiation.specs.declared.stage.Stage.TheVariants as stages
-use Rattle.negotiation.specs.Dialog.{IsNoOption, IsTooLong, Leaves, Standing, Turn, broken, ended, exhausted, in_discard, in_flags, in_head, in_option, in_requests, kept_limit, most_bytes, replies_text, silent}
+use Rattle.negotiation.specs.Dialog.{IsNoOption, IsTooLong, Leaves, Standing, Turn, broken, ended, exhausted, in_discard, in_flags, in_head, in_option, in_requests, kept_limit, most_bytes, answers_text, silent}
 use Rattle.negotiation.specs.Ends.{end_for}
 use Rattle.negotiation.specs.Session.{Advances, Feeds, Greets, Hands, HearsOn, IsBehind, IsData, IsGreeted, IsLongPart, IsSaid, Runs, SessionState, Settles, Step, end_of, greeting_due, handed, held_by, standing_of, state_of, wanted_of}
 use Rattle.negotiation.specs.declared.stage.Talk.{Talk}
@@ -47,25 +47,25 @@ greeted ended between new before after greets said = greets.1 ∙ sym (append-ni
 greeted broken between new before after greets said = greets.1 ∙ sym (append-nil before)
 greeted exhausted between new before after greets said = greets.1 ∙ sym (append-nil before)
 
-stays : (size : ℕ) (flags : SessionFlags) (old new : Standing) → new ≡ old → HearsOn (session_at size flags old) [] [] [] (session_at size flags new)
-stays size flags old new same =
-    subst (λ (s : Standing). HearsOn (session_at size flags old) [] [] [] (session_at size flags s)) (sym same) (hears_none (session_at size flags old))
+stays : (size : ℕ) (agreed : Agreed) (old new : Standing) → new ≡ old → HearsOn (session_at size agreed old) [] [] [] (session_at size agreed new)
+stays size agreed old new same =
+    subst (λ (s : Standing). HearsOn (session_at size agreed old) [] [] [] (session_at size agreed s)) (sym same) (hears_none (session_at size agreed old))
 
 -- what was read is the same
-pub greets_hears : (size : ℕ) (flags : SessionFlags) (old new : Standing) (before after : List ℕ) → Greets old new before after → HearsOn (session_at size flags old) [] [] [] (session_at size flags new)
-greets_hears size flags silent new before after greets =
-    subst (λ (s : Standing). HearsOn (session_at size flags silent) [] [] [] (session_at size flags s)) (sym greets.0)
-    (hears_on size [] [] [] flags flags silent (in_flags [])
+pub greets_hears : (size : ℕ) (agreed : Agreed) (old new : Standing) (before after : List ℕ) → Greets old new before after → HearsOn (session_at size agreed old) [] [] [] (session_at size agreed new)
+greets_hears size agreed silent new before after greets =
+    subst (λ (s : Standing). HearsOn (session_at size agreed silent) [] [] [] (session_at size agreed s)) (sym greets.0)
+    (hears_on size [] [] [] agreed agreed silent (in_flags [])
     (record { leaves = λ text p. absurd p; asks = λ text asked p. absurd p; ends = λ e. cc; breaks = λ e. cc })
-    (λ text p e. inl (record { none = refl; requests = refl; flags = e; leaves = (omega arith, append-nil text ∙ p) })))
-greets_hears size flags (in_flags bytes) new before after greets = stays size flags (in_flags bytes) new greets.0
-greets_hears size flags (in_head bytes) new before after greets = stays size flags (in_head bytes) new greets.0
-greets_hears size flags (in_option code length bytes) new before after greets = stays size flags (in_option code length bytes) new greets.0
-greets_hears size flags (in_discard code missing) new before after greets = stays size flags (in_discard code missing) new greets.0
-greets_hears size flags (in_requests reader) new before after greets = stays size flags (in_requests reader) new greets.0
-greets_hears size flags ended new before after greets = stays size flags ended new greets.0
-greets_hears size flags broken new before after greets = stays size flags broken new greets.0
-greets_hears size flags exhausted new before after greets = stays size flags exhausted new greets.0
+    (λ text p e. inl (record { none = refl; requests = refl; agreed = e; leaves = (omega arith, append-nil text ∙ p) })))
+greets_hears size agreed (in_flags bytes) new before after greets = stays size agreed (in_flags bytes) new greets.0
+greets_hears size agreed (in_head bytes) new before after greets = stays size agreed (in_head bytes) new greets.0
+greets_hears size agreed (in_option code length bytes) new before after greets = stays size agreed (in_option code length bytes) new greets.0
+greets_hears size agreed (in_discard code missing) new before after greets = stays size agreed (in_discard code missing) new greets.0
+greets_hears size agreed (in_requests reader) new before after greets = stays size agreed (in_requests reader) new greets.0
+greets_hears size agreed ended new before after greets = stays size agreed ended new greets.0
+greets_hears size agreed broken new before after greets = stays size agreed broken new greets.0
+greets_hears size agreed exhausted new before after greets = stays size agreed exhausted new greets.0
 
 -- ---- what stays as it is
 
@@ -91,12 +91,12 @@ hands_broken piece = record {
   parts = sym (append-nil piece);
   said = tt;
   behind = λ b. tt;
-  hears = λ size flags. hears_on size piece [] [] flags flags broken broken
+  hears = λ size agreed. hears_on size piece [] [] agreed agreed broken broken
       (record { leaves = λ text p. (refl, refl, broken_stays text piece p); asks = λ text asked p. absurd p; ends = λ e. cc; breaks = λ e. (refl, (refl, refl, refl)) })
       (λ text p e. inl (record {
         none = refl;
         requests = refl;
-        flags = e;
+        agreed = e;
         leaves = (p.0, p.1 ++ piece, p.2, p.3, ap (λ (t : List ℕ). t ++ piece) p.4 ∙ append_assoc (client_flags_bytes p.0) p.1 piece);
       }));
   whole = inr (refl, refl);
@@ -110,7 +110,7 @@ hands_ended piece = record {
   parts = sym (append-nil piece);
   said = tt;
   behind = λ b. tt;
-  hears = λ size flags. hears_on size piece [] [] flags flags ended ended
+  hears = λ size agreed. hears_on size piece [] [] agreed agreed ended ended
       (record {
         leaves = λ text p. absurd p;
         asks = λ text asked p. (
@@ -139,7 +139,7 @@ hands_nothing standing piece said none = record {
   parts = none;
   said = said;
   behind = λ b. b;
-  hears = λ size flags. hears_none (session_at size flags standing);
+  hears = λ size agreed. hears_none (session_at size agreed standing);
   whole = inr (refl, refl);
 }
 
@@ -151,7 +151,7 @@ hands_exhausted piece = record {
   parts = refl;
   said = tt;
   behind = λ b. tt;
-  hears = λ size flags. hears_none (session_at size flags exhausted);
+  hears = λ size agreed. hears_none (session_at size agreed exhausted);
   whole = inl (refl, inl refl);
 }
 
@@ -211,25 +211,25 @@ held_still stages.Exhausted sound other = omega arith
 pub most_at_least : (code : ℕ) → kept_limit ≤ most_bytes code
 most_at_least code = elim (eqb code 1) as (λ b. 65536 ≤ cond b 65536 33554432) [ true ↦ omega arith | false ↦ omega arith ]
 
-module _ (flags : SessionFlags) (size code : ℕ) (fits : code < 2 ^ 32) (before after : List ℕ) where
-  one_reply : (answer : Answered) (talk : Talk) → Settles code answer before after talk → after ≡ before ++ replies_text (record { code = code; answer = answer } ∷ [])
-  one_reply answer talk settles = settles.written ∙ ap (λ (t : List ℕ). before ++ t) (sym (append-nil (replies_bytes code answer.replies)))
+module _ (agreed : Agreed) (size code : ℕ) (fits : code < 2 ^ 32) (before after : List ℕ) where
+  one_reply : (answer : Answered) (talk : Talk) → Settles code answer before after talk → after ≡ before ++ answers_text (record { code = code; answer = answer } ∷ [])
+  one_reply answer talk settles = settles.written ∙ ap (λ (t : List ℕ). before ++ t) (sym (append-nil (answer_bytes code answer)))
 
   -- an option whose data were kept
-  pub closed : (content : List ℕ) (answer : Answered) → length content ≤ kept_limit → IsAnswered flags size code content answer → (talk : Talk) → Settles code answer before after talk
-      → Step flags size (IsData code content) before after talk
+  pub closed : (content : List ℕ) (answer : Answered) → length content ≤ kept_limit → IsAnswered agreed size code content answer → (talk : Talk) → Settles code answer before after talk
+      → Step agreed size (IsData code content) before after talk
   closed content answer short is talk settles = record {
     turns = record { code = code; answer = answer } ∷ [];
     takes = λ text whole. (
       record { content = content; code_fits = fits; bound = omega (arith, short, most_at_least code); whole = whole; told = inl (short, is) },
-      settles.flags,
+      settles.agreed,
       settles.standing,
     );
     written = one_reply answer talk settles;
   }
 
   -- one whose data were thrown away
-  pub discarded : (answer : Answered) (left : ℕ) → left ≡ 0 → answer ≡ refusal_of flags code errors.TooBig → (talk : Talk) → Settles code answer before after talk → Step flags size (IsLongPart code left) before after talk
+  pub discarded : (answer : Answered) (left : ℕ) → left ≡ 0 → answer ≡ refusal_of agreed code errors.TooBig → (talk : Talk) → Settles code answer before after talk → Step agreed size (IsLongPart code left) before after talk
   discarded answer left none is talk settles = record {
     turns = record { code = code; answer = answer } ∷ [];
     takes = λ text p.
@@ -241,7 +241,7 @@ module _ (flags : SessionFlags) (size code : ℕ) (fits : code < 2 ^ 32) (before
             whole = p.3 ∙ ap (λ (n : ℕ). option_head code n ++ p.0) all;
             told = inr (omega (arith, p.1, all), is);
           },
-          settles.flags,
+          settles.agreed,
           settles.standing,
         );
     written = one_reply answer talk settles;
@@ -309,17 +309,17 @@ not_greeted session new piece before after is same end = record {
   whole = inl (end, inl refl);
 }
 
-module _ (size : ℕ) (flags : SessionFlags) (old greeting : Standing) (before middle after piece behind : List ℕ) (between : Talk) (greets : Greets old greeting before middle) (sound : IsGreeted between.stage)
-    (runs : Runs (session_at size flags greeting) piece behind middle after (state_of size between)) (not : IsBehind old → ⊥) where
-  hears_to : HearsOn (session_at size flags old) runs.taken runs.turns [] (state_of size between)
-  hears_to = hears_then (session_at size flags old) (session_at size flags greeting) (state_of size between) [] runs.taken [] runs.turns [] [] refl (greets_hears size flags old greeting before middle greets) runs.hears
+module _ (size : ℕ) (agreed : Agreed) (old greeting : Standing) (before middle after piece behind : List ℕ) (between : Talk) (greets : Greets old greeting before middle) (sound : IsGreeted between.stage)
+    (runs : Runs (session_at size agreed greeting) piece behind middle after (state_of size between)) (not : IsBehind old → ⊥) where
+  hears_to : HearsOn (session_at size agreed old) runs.taken runs.turns [] (state_of size between)
+  hears_to = hears_then (session_at size agreed old) (session_at size agreed greeting) (state_of size between) [] runs.taken [] runs.turns [] [] refl (greets_hears size agreed old greeting before middle greets) runs.hears
 
-  written_to : (new : Standing) → IsSaid new → after ≡ before ++ (greeting_due old new ++ replies_text runs.turns)
+  written_to : (new : Standing) → IsSaid new → after ≡ before ++ (greeting_due old new ++ answers_text runs.turns)
   written_to new said =
-      runs.written ∙ ap (λ (t : List ℕ). t ++ replies_text runs.turns) (greeted old greeting new before middle greets said) ∙ append_assoc before (greeting_due old new) (replies_text runs.turns)
+      runs.written ∙ ap (λ (t : List ℕ). t ++ answers_text runs.turns) (greeted old greeting new before middle greets said) ∙ append_assoc before (greeting_due old new) (answers_text runs.turns)
 
   -- memory ran out in the handshake
-  pub cut_short : (new : SessionState) → end_of new.standing ≡ Some NoMemory → Feeds (session_at size flags old) piece before after [] new
+  pub cut_short : (new : SessionState) → end_of new.standing ≡ Some NoMemory → Feeds (session_at size agreed old) piece before after [] new
   cut_short new end = record {
     turns = runs.turns;
     first = runs.taken;
@@ -333,19 +333,19 @@ module _ (size : ℕ) (flags : SessionFlags) (old greeting : Standing) (before m
     whole = inl (end, inl refl);
   }
 
-  pub fed : (new : Standing) (requests : List Message) → Hands (standing_of between.stage) behind requests new → Feeds (session_at size flags old) piece before after requests (session_at size between.flags new)
+  pub fed : (new : Standing) (requests : List Message) → Hands (standing_of between.stage) behind requests new → Feeds (session_at size agreed old) piece before after requests (session_at size between.agreed new)
   fed new requests hands = record {
     turns = runs.turns;
     first = runs.taken ++ hands.first;
     rest = hands.rest;
-    between = session_at size between.flags hands.between;
+    between = session_at size between.agreed hands.between;
     parts = runs.parts ∙ ap (λ (t : List ℕ). runs.taken ++ t) hands.parts ∙ sym (append_assoc runs.taken hands.first hands.rest);
-    hears = subst (λ (turns : List Turn). HearsOn (session_at size flags old) (runs.taken ++ hands.first) turns requests (session_at size between.flags hands.between)) (append-nil runs.turns)
-        (hears_then (session_at size flags old) (state_of size between) (session_at size between.flags hands.between) runs.taken hands.first runs.turns [] [] requests refl hears_to (hands.hears size between.flags));
+    hears = subst (λ (turns : List Turn). HearsOn (session_at size agreed old) (runs.taken ++ hands.first) turns requests (session_at size between.agreed hands.between)) (append-nil runs.turns)
+        (hears_then (session_at size agreed old) (state_of size between) (session_at size between.agreed hands.between) runs.taken hands.first runs.turns [] [] requests refl hears_to (hands.hears size between.agreed));
     written = written_to hands.between hands.said;
     said = λ b. hands.said;
     behind = λ b. absurd (not b);
-    whole = elim hands.whole [ inl end ↦ inl (end.0, elim end.1 [ inl none ↦ inl none | inr b ↦ inr (refl, b) ]) | inr both ↦ inr (both.0, ap (session_at size between.flags) both.1) ];
+    whole = elim hands.whole [ inl end ↦ inl (end.0, elim end.1 [ inl none ↦ inl none | inr b ↦ inr (refl, b) ]) | inr both ↦ inr (both.0, ap (session_at size between.agreed) both.1) ];
   }
 
 -- ---- behind the handshake
@@ -394,19 +394,19 @@ no_greeting ended new b = refl
 no_greeting broken new b = refl
 no_greeting exhausted new b = refl
 
-pub fed_behind : (size : ℕ) (flags : SessionFlags) (old new : Standing) (before after piece : List ℕ) (requests : List Message) → IsBehind old → after ≡ before → Hands old piece requests new
-    → Feeds (session_at size flags old) piece before after requests (session_at size flags new)
-fed_behind size flags old new before after piece requests b same hands = record {
+pub fed_behind : (size : ℕ) (agreed : Agreed) (old new : Standing) (before after piece : List ℕ) (requests : List Message) → IsBehind old → after ≡ before → Hands old piece requests new
+    → Feeds (session_at size agreed old) piece before after requests (session_at size agreed new)
+fed_behind size agreed old new before after piece requests b same hands = record {
   turns = [];
   first = hands.first;
   rest = hands.rest;
-  between = session_at size flags hands.between;
+  between = session_at size agreed hands.between;
   parts = hands.parts;
-  hears = hands.hears size flags;
+  hears = hands.hears size agreed;
   written = same ∙ sym (append-nil before) ∙ ap (λ (t : List ℕ). before ++ (t ++ [])) (sym (no_greeting old hands.between b));
   said = λ was. hands.said;
   behind = λ was. (refl, refl, hands.behind was);
-  whole = elim hands.whole [ inl end ↦ inl (end.0, elim end.1 [ inl none ↦ inl none | inr b ↦ inr (refl, b) ]) | inr both ↦ inr (both.0, ap (session_at size flags) both.1) ];
+  whole = elim hands.whole [ inl end ↦ inl (end.0, elim end.1 [ inl none ↦ inl none | inr b ↦ inr (refl, b) ]) | inr both ↦ inr (both.0, ap (session_at size agreed) both.1) ];
 }
 
 pub handed_error : (result : Result (Vec Message) End) → IsErr result → handed result ≡ []

@@ -1,10 +1,12 @@
 -- What an option is answered, by what the session has agreed on (docs/FORMATS.md, "Answers to options").
-use Rattle.std.specs.Prelude.{◌≡◌, ◌⊎◌, ℕ, ◌<◌, ◌^◌, Bool, true, false, ◌==◌, ◌||◌, if◌then◌else◌, List, [], ◌∷◌, length, codes}
+use Rattle.std.specs.Prelude.{◌≡◌, ◌⊎◌, ℕ, ◌<◌, ◌^◌, Bool, true, false, not, ◌==◌, ◌||◌, if◌then◌else◌, List, [], ◌∷◌, ◌++◌, length, codes, Option, Some, None}
 use Rattle.std.specs.List.{AllByRecursion, flat_map, list_any}
 use Rattle.std.specs.Str.{bytes_eq}
 use Rattle.nbd_wire.specs.declared.message.SessionFlags.{SessionFlags}
+use Rattle.option_wire.specs.Export.{export_bytes}
 use Rattle.option_wire.specs.Field.{ContextAsked, InfoAsked}
 use Rattle.option_wire.specs.Options.{IsOption}
+use Rattle.option_wire.specs.declared.export.ExportAnswer.{ExportAnswer}
 use Rattle.option_wire.specs.declared.option.ClientOption.{ClientOption}
 use Rattle.option_wire.specs.declared.option.ClientOption.TheVariants as options
 use Rattle.option_wire.specs.declared.reply.Information.TheVariants as informations
@@ -13,21 +15,24 @@ use Rattle.option_wire.specs.declared.reply.OptionError.TheVariants as errors
 use Rattle.option_wire.specs.declared.reply.OptionReply.{OptionReply}
 use Rattle.option_wire.specs.declared.reply.OptionReply.TheVariants as messages
 use Rattle.option_wire.specs.Reply.{reply_bytes, reply_data}
+use Rattle.negotiation.specs.declared.answer.Agreed.{Agreed}
 use Rattle.negotiation.specs.declared.answer.Next.{Next}
 use Rattle.negotiation.specs.declared.answer.Next.TheVariants as behind
 
--- the replies to an option, what is agreed on from then on, and what comes behind it
+-- What an option is answered: replies, and where an EXPORT_NAME begins transmission the export; what is agreed on from then on,
+-- and what comes behind it.
 pub record Answered : Type 0 where
   pub replies : List OptionReply
-  pub flags : SessionFlags
+  pub export : Option ExportAnswer
+  pub agreed : Agreed
   pub next : Next
 
 -- another option comes
-abbrev pub goes_on : List OptionReply → SessionFlags → Answered
-goes_on replies flags = record { replies = replies; flags = flags; next = behind.Option }
+abbrev pub goes_on : List OptionReply → Agreed → Answered
+goes_on replies agreed = record { replies = replies; export = None; agreed = agreed; next = behind.Option }
 
-abbrev pub refused : OptionError → SessionFlags → Answered
-refused error flags = goes_on (messages.Refused error ∷ []) flags
+abbrev pub refused : OptionError → Agreed → Answered
+refused error agreed = goes_on (messages.Refused error ∷ []) agreed
 
 -- the context that there is, and the namespace that it is alone in
 abbrev pub allocation_name : List ℕ
@@ -41,24 +46,43 @@ context_reply id = messages.MetaContext id allocation_name
 
 -- the sizes of blocks: minimum, preferred, and the longest READ or WRITE
 abbrev pub size_reply : OptionReply
-size_reply = messages.Info (informations.BlockSize 4096 4096 1048576)
+size_reply = messages.Info (informations.BlockSize 1 4096 1048576)
+
+-- the transmission flags of the export
+abbrev pub export_flags : SessionFlags → ℕ
+export_flags flags = if flags.structured then 0x01ed else 0x016d
 
 -- the size of the export in bytes, and its transmission flags
-abbrev pub export_reply : ℕ → SessionFlags → OptionReply
-export_reply size flags = messages.Info (informations.Export size (if flags.structured then 0x01ed else 0x016d))
+abbrev pub export_reply : ℕ → Agreed → OptionReply
+export_reply size agreed = messages.Info (informations.Export size (export_flags agreed.flags))
+
+-- the same for an EXPORT_NAME, with zeroes behind it unless both sides set NO_ZEROES
+abbrev pub export_answer : ℕ → Agreed → ExportAnswer
+export_answer size agreed = record { size = size; flags = export_flags agreed.flags; zeroes = not agreed.no_zeroes }
 
 -- the name of the only export is empty
 abbrev pub is_export : List ℕ → Bool
 is_export name = length name == 0
 
--- An INFO, or a GO, which next comes behind. Who doesn't ask for the sizes of blocks is told them, and refused.
-abbrev pub informed : SessionFlags → ℕ → InfoAsked → Next → Answered
-informed flags size asked next =
+-- The name of an EXPORT_NAME can't be refused: one of no export ends the session.
+abbrev pub named : Agreed → ℕ → List ℕ → Answered
+named agreed size name =
+    if is_export name then
+    record { replies = []; export = Some (export_answer size agreed); agreed = agreed; next = behind.Transmission }
+    else record { replies = []; export = None; agreed = agreed; next = behind.Fault }
+
+-- An INFO, or a GO, which next comes behind. Who asks for the sizes of blocks is told them.
+abbrev pub informed : Agreed → ℕ → InfoAsked → Next → Answered
+informed agreed size asked next =
     if is_export asked.name then
-    (if list_any (λ kind. kind == 3) asked.types then
-    record { replies = export_reply size flags ∷ size_reply ∷ messages.Ack ∷ []; flags = flags; next = next }
-    else goes_on (size_reply ∷ messages.Refused errors.BlockSizeRequired ∷ []) flags)
-    else refused errors.Unknown flags
+    record {
+      replies = export_reply size agreed
+          ∷ (if list_any (λ kind. kind == 3) asked.types then size_reply ∷ messages.Ack ∷ [] else messages.Ack ∷ []);
+      export = None;
+      agreed = agreed;
+      next = next;
+    }
+    else refused errors.Unknown agreed
 
 abbrev pub asks_for : List ℕ → List (List ℕ) → Bool
 asks_for name queries = list_any (λ query. bytes_eq query name) queries
@@ -67,50 +91,55 @@ asks_for name queries = list_any (λ query. bytes_eq query name) queries
 abbrev pub is_listed : List (List ℕ) → Bool
 is_listed queries = (length queries == 0) || (asks_for namespace_name queries || asks_for allocation_name queries)
 
-abbrev pub listed : SessionFlags → ContextAsked → Answered
-listed flags asked =
-    if flags.structured then
+abbrev pub listed : Agreed → ContextAsked → Answered
+listed agreed asked =
+    if agreed.flags.structured then
     (if is_export asked.name then
-    goes_on (if is_listed asked.queries then context_reply 0 ∷ messages.Ack ∷ [] else messages.Ack ∷ []) flags
-    else refused errors.Unknown flags)
-    else refused errors.Invalid flags
+    goes_on (if is_listed asked.queries then context_reply 0 ∷ messages.Ack ∷ [] else messages.Ack ∷ []) agreed
+    else refused errors.Unknown agreed)
+    else refused errors.Invalid agreed
 
-abbrev pub with_context : Bool → SessionFlags → SessionFlags
-with_context context flags = record { structured = flags.structured; context = context }
+abbrev pub with_context : Bool → Agreed → Agreed
+with_context context agreed =
+    record { flags = record { structured = agreed.flags.structured; context = context }; no_zeroes = agreed.no_zeroes }
+
+abbrev pub with_structured : Agreed → Agreed
+with_structured agreed =
+    record { flags = record { structured = true; context = agreed.flags.context }; no_zeroes = agreed.no_zeroes }
 
 -- A selection takes the place of the earlier one; where it is refused none is selected.
-abbrev pub selected : SessionFlags → ContextAsked → Answered
-selected flags asked =
-    if flags.structured then
+abbrev pub selected : Agreed → ContextAsked → Answered
+selected agreed asked =
+    if agreed.flags.structured then
     (if is_export asked.name then
     (if asks_for allocation_name asked.queries then
-    goes_on (context_reply 1 ∷ messages.Ack ∷ []) (with_context true flags)
-    else goes_on (messages.Ack ∷ []) (with_context false flags))
-    else refused errors.Unknown (with_context false flags))
-    else refused errors.Invalid (with_context false flags)
+    goes_on (context_reply 1 ∷ messages.Ack ∷ []) (with_context true agreed)
+    else goes_on (messages.Ack ∷ []) (with_context false agreed))
+    else refused errors.Unknown (with_context false agreed))
+    else refused errors.Invalid (with_context false agreed)
 
-abbrev pub answer_of : SessionFlags → ℕ → ClientOption → Answered
-answer_of flags size (options.ExportName name) = record { replies = []; flags = flags; next = behind.Fault }
-answer_of flags size options.Abort = record { replies = messages.Ack ∷ []; flags = flags; next = behind.End }
-answer_of flags size options.ListExports = goes_on (messages.Server [] ∷ messages.Ack ∷ []) flags
-answer_of flags size options.StartTls = refused errors.Unsupported flags
-answer_of flags size (options.Info asked) = informed flags size asked behind.Option
-answer_of flags size (options.Go asked) = informed flags size asked behind.Transmission
-answer_of flags size options.StructuredReply =
-    goes_on (messages.Ack ∷ []) (record { structured = true; context = flags.context })
-answer_of flags size (options.ListMetaContext asked) = listed flags asked
-answer_of flags size (options.SetMetaContext asked) = selected flags asked
-answer_of flags size (options.Unknown code) = refused errors.Unsupported flags
+abbrev pub answer_of : Agreed → ℕ → ClientOption → Answered
+answer_of agreed size (options.ExportName name) = named agreed size name
+answer_of agreed size options.Abort =
+    record { replies = messages.Ack ∷ []; export = None; agreed = agreed; next = behind.End }
+answer_of agreed size options.ListExports = goes_on (messages.Server [] ∷ messages.Ack ∷ []) agreed
+answer_of agreed size options.StartTls = refused errors.Unsupported agreed
+answer_of agreed size (options.Info asked) = informed agreed size asked behind.Option
+answer_of agreed size (options.Go asked) = informed agreed size asked behind.Transmission
+answer_of agreed size options.StructuredReply = goes_on (messages.Ack ∷ []) (with_structured agreed)
+answer_of agreed size (options.ListMetaContext asked) = listed agreed asked
+answer_of agreed size (options.SetMetaContext asked) = selected agreed asked
+answer_of agreed size (options.Unknown code) = refused errors.Unsupported agreed
 
 -- an option whose data aren't read; a selection that is refused leaves none
-abbrev pub refusal_of : SessionFlags → ℕ → OptionError → Answered
-refusal_of flags code error = refused error (if code == 10 then with_context false flags else flags)
+abbrev pub refusal_of : Agreed → ℕ → OptionError → Answered
+refusal_of agreed code error = refused error (if code == 10 then with_context false agreed else agreed)
 
 -- The answer to an option of this number with these data: malformed data are refused as invalid.
-abbrev pub IsAnswered : SessionFlags → ℕ → ℕ → List ℕ → Answered → Type 0
-IsAnswered flags size code content answer =
-    ((option : ClientOption) × IsOption code content option × (answer ≡ answer_of flags size option))
-    ⊎ (((option : ClientOption) → IsOption code content option → ⊥) × (answer ≡ refusal_of flags code errors.Invalid))
+abbrev pub IsAnswered : Agreed → ℕ → ℕ → List ℕ → Answered → Type 0
+IsAnswered agreed size code content answer =
+    ((option : ClientOption) × IsOption code content option × (answer ≡ answer_of agreed size option))
+    ⊎ (((option : ClientOption) → IsOption code content option → ⊥) × (answer ≡ refusal_of agreed code errors.Invalid))
 
 -- replies whose data have room for their length
 abbrev pub AreShort : List OptionReply → Type 0
@@ -119,3 +148,11 @@ AreShort replies = AllByRecursion (λ reply. length (reply_data reply) < 2 ^ 32)
 -- the replies to the option of this number, one behind the other
 abbrev pub replies_bytes : ℕ → List OptionReply → List ℕ
 replies_bytes code replies = flat_map (reply_bytes code) replies
+
+abbrev pub export_text : Option ExportAnswer → List ℕ
+export_text None = []
+export_text (Some export) = export_bytes export
+
+-- what is written for the option of this number
+abbrev pub answer_bytes : ℕ → Answered → List ℕ
+answer_bytes code answer = replies_bytes code answer.replies ++ export_text answer.export

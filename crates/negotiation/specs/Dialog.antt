@@ -4,12 +4,12 @@ use Rattle.std.specs.Prelude.{◌≡◌, ◌≢◌, ◌⊎◌, ℕ, ◌+◌, ◌
 use Rattle.std.specs.List.{before_first, flat_map, list_any}
 use Rattle.nbd_wire.specs.Request.{Message}
 use Rattle.nbd_wire.specs.Stream.{Begins, Reader, Reads, reading, starved}
-use Rattle.nbd_wire.specs.declared.message.SessionFlags.{SessionFlags}
-use Rattle.option_wire.specs.Handshake.{client_bits, client_flags_bytes, greeting_bytes}
+use Rattle.option_wire.specs.Handshake.{client_bits, client_flags_bytes, greeting_bytes, omits_zeroes}
 use Rattle.option_wire.specs.Head.{option_head, option_magic}
 use Rattle.option_wire.specs.declared.handshake.ClientFlags.{ClientFlags}
 use Rattle.option_wire.specs.declared.reply.OptionError.TheVariants as errors
-use Rattle.negotiation.specs.Answered.{Answered, IsAnswered, refusal_of, replies_bytes}
+use Rattle.negotiation.specs.Answered.{Answered, IsAnswered, answer_bytes, refusal_of}
+use Rattle.negotiation.specs.declared.answer.Agreed.{Agreed}
 use Rattle.negotiation.specs.declared.answer.Next.{Next}
 use Rattle.negotiation.specs.declared.answer.Next.TheVariants as behind
 
@@ -30,13 +30,13 @@ pub record Turn : Type 0 where
   pub answer : Answered
 
 -- data that are too long to be kept are thrown away, and refused
-abbrev pub IsTold : SessionFlags → ℕ → ℕ → List ℕ → Answered → Type 0
+abbrev pub IsTold : Agreed → ℕ → ℕ → List ℕ → Answered → Type 0
 IsTold agreed size code content answer =
     ((length content ≤ kept_limit) × IsAnswered agreed size code content answer)
     ⊎ ((kept_limit < length content) × (answer ≡ refusal_of agreed code errors.TooBig))
 
 -- these bytes are an option, and this is its answer in a session that has agreed on so much, over an export of this size
-pub record IsTurn (agreed : SessionFlags) (size : ℕ) (text : List ℕ) (turn : Turn) : Type 0 where
+pub record IsTurn (agreed : Agreed) (size : ℕ) (text : List ℕ) (turn : Turn) : Type 0 where
   pub content : List ℕ
   pub code_fits : turn.code < 2 ^ 32
   pub bound : length content ≤ most_bytes turn.code
@@ -116,33 +116,37 @@ Asks stream requests exhausted = ⊥
 -- what was handed out of a stream, what is agreed on, and what is left of it
 pub record Outcome : Type 0 where
   pub requests : List Message
-  pub flags : SessionFlags
+  pub agreed : Agreed
   pub standing : Standing
 
 -- behind the last option nothing was read
-abbrev pub IsOver : SessionFlags → Outcome → Standing → Type 0
+abbrev pub IsOver : Agreed → Outcome → Standing → Type 0
 IsOver agreed outcome standing =
-    (outcome.requests ≡ []) × (outcome.flags ≡ agreed) × (outcome.standing ≡ standing)
+    (outcome.requests ≡ []) × (outcome.agreed ≡ agreed) × (outcome.standing ≡ standing)
 
 -- what follows an option, by what its answer says of it; `options` are the further options
-abbrev pub Follows : Next → SessionFlags → List ℕ → List Turn → Outcome → Type 0 → Type 0
+abbrev pub Follows : Next → Agreed → List ℕ → List Turn → Outcome → Type 0 → Type 0
 Follows behind.Option agreed rest turns outcome options = options
 Follows behind.Transmission agreed rest turns outcome options =
-    (turns ≡ []) × (outcome.flags ≡ agreed) × Asks rest outcome.requests outcome.standing
+    (turns ≡ []) × (outcome.agreed ≡ agreed) × Asks rest outcome.requests outcome.standing
 Follows behind.End agreed rest turns outcome options = (turns ≡ []) × IsOver agreed outcome ended
 Follows behind.Fault agreed rest turns outcome options = (turns ≡ []) × IsOver agreed outcome broken
 
 -- Behind the client's flags stand these options, one after another, and behind them perhaps requests.
-abbrev pub Negotiates : ℕ → SessionFlags → List ℕ → List Turn → Outcome → Type 0
+abbrev pub Negotiates : ℕ → Agreed → List ℕ → List Turn → Outcome → Type 0
 Negotiates size agreed stream [] outcome =
-    (outcome.requests ≡ []) × (outcome.flags ≡ agreed) × Leaves outcome.standing stream
+    (outcome.requests ≡ []) × (outcome.agreed ≡ agreed) × Leaves outcome.standing stream
 Negotiates size agreed stream (turn ∷ turns) outcome =
     (text rest : List ℕ) × IsTurn agreed size text turn × (stream ≡ text ++ rest)
-    × Follows turn.answer.next turn.answer.flags rest turns outcome (Negotiates size turn.answer.flags rest turns outcome)
+    × Follows turn.answer.next turn.answer.agreed rest turns outcome (Negotiates size turn.answer.agreed rest turns outcome)
 
 -- nothing is agreed on at first
-abbrev pub plain : SessionFlags
-plain = record { structured = false; context = false }
+abbrev pub plain : Agreed
+plain = record { flags = record { structured = false; context = false }; no_zeroes = false }
+
+-- what is agreed on by the client's flags: the greeting sets NO_ZEROES, so the client decides
+abbrev pub agreed_with : ClientFlags → Agreed → Agreed
+agreed_with client agreed = record { flags = agreed.flags; no_zeroes = omits_zeroes client }
 
 -- the flags of a client with which a session goes on
 abbrev pub IsAccepted : ClientFlags → Type 0
@@ -166,7 +170,7 @@ LeavesFlags exhausted text = ⊥
 pub record IsFlagless (stream : List ℕ) (turns : List Turn) (outcome : Outcome) : Type 0 where
   pub none : turns ≡ []
   pub requests : outcome.requests ≡ []
-  pub flags : outcome.flags ≡ plain
+  pub agreed : outcome.agreed ≡ plain
   pub leaves : LeavesFlags outcome.standing stream
 
 -- the client's flags, and what stands behind them
@@ -175,19 +179,19 @@ pub record IsNegotiated (size : ℕ) (stream : List ℕ) (turns : List Turn) (ou
   pub rest : List ℕ
   pub accepted : IsAccepted client
   pub whole : stream ≡ client_flags_bytes client ++ rest
-  pub negotiates : Negotiates size plain rest turns outcome
+  pub negotiates : Negotiates size (agreed_with client plain) rest turns outcome
 
 -- A session over an export of so many bytes has read this stream: these options were answered, and this came of it.
 abbrev pub Hears : ℕ → List ℕ → List Turn → Outcome → Type 0
 Hears size stream turns outcome = IsFlagless stream turns outcome ⊎ IsNegotiated size stream turns outcome
 
--- the replies to options, one option after another
-abbrev pub replies_text : List Turn → List ℕ
-replies_text turns = flat_map (λ turn. replies_bytes turn.code turn.answer.replies) turns
+-- the answers to options, one option after another
+abbrev pub answers_text : List Turn → List ℕ
+answers_text turns = flat_map (λ turn. answer_bytes turn.code turn.answer) turns
 
--- the text of a handshake: the greeting, and the replies to options
+-- the text of a handshake: the greeting, and the answers to options
 abbrev pub handshake_text : List Turn → List ℕ
-handshake_text turns = greeting_bytes ++ replies_text turns
+handshake_text turns = greeting_bytes ++ answers_text turns
 
 -- Two hearings of one stream are one: the same options were answered, the same requests handed out, and the same is left. Only of
 -- an empty stream it is open whether anything was said yet.
@@ -195,5 +199,5 @@ abbrev pub OneHearing : Type 0
 OneHearing =
     (size : ℕ) (stream : List ℕ) (turns others : List Turn) (outcome other : Outcome) → Hears size stream turns outcome
     → Hears size stream others other
-    → (turns ≡ others) × (outcome.requests ≡ other.requests) × (outcome.flags ≡ other.flags)
+    → (turns ≡ others) × (outcome.requests ≡ other.requests) × (outcome.agreed ≡ other.agreed)
     × (stream ≢ [] → outcome.standing ≡ other.standing)

@@ -5,11 +5,11 @@ use Rattle.std.specs.Io.KnownBytes.{Consumes, IsAtEnd}
 use Rattle.std.specs.Option.{option_map}
 use Rattle.nbd_wire.specs.Request.{Message}
 use Rattle.nbd_wire.specs.Stream.{fresh, held, end_of as end_of_requests, room_of as room_of_reader}
-use Rattle.nbd_wire.specs.declared.message.SessionFlags.{SessionFlags}
 use Rattle.option_wire.specs.Handshake.{client_flags_bytes, greeting_bytes}
 use Rattle.option_wire.specs.Head.{option_head}
 use Rattle.option_wire.specs.declared.handshake.ClientFlags.{ClientFlags}
-use Rattle.negotiation.specs.Answered.{Answered, replies_bytes}
+use Rattle.negotiation.specs.Answered.{Answered, answer_bytes}
+use Rattle.negotiation.specs.declared.answer.Agreed.{Agreed}
 use Rattle.negotiation.specs.declared.answer.Next.{Next}
 use Rattle.negotiation.specs.declared.answer.Next.TheVariants as behind
 use Rattle.negotiation.specs.declared.end.End.{End}
@@ -18,17 +18,17 @@ use Rattle.negotiation.specs.declared.stage.Stage.{Stage}
 use Rattle.negotiation.specs.declared.stage.Talk.{Talk}
 use Rattle.negotiation.specs.declared.stage.Stage.TheVariants as stages
 use Rattle.negotiation.specs.Ends.{end_for}
-use Rattle.negotiation.specs.Dialog.{Hears, IsAccepted, IsTurn, Leaves, LeavesFlags, Outcome, Standing, Turn, broken, ended, exhausted, in_discard, in_flags, in_head, in_option, in_requests, kept_limit, most_bytes, replies_text, silent}
+use Rattle.negotiation.specs.Dialog.{Hears, IsAccepted, IsTurn, Leaves, LeavesFlags, Outcome, Standing, Turn, agreed_with, answers_text, broken, ended, exhausted, in_discard, in_flags, in_head, in_option, in_requests, kept_limit, most_bytes, silent}
 
 -- the size of the export, what is agreed on, and what was read last
 pub record SessionState : Type 0 where
   pub size : ℕ
-  pub flags : SessionFlags
+  pub agreed : Agreed
   pub standing : Standing
 
 -- what came of the stream, with the requests that were handed out
 abbrev pub outcome_of : List Message → SessionState → Outcome
-outcome_of requests session = record { requests = requests; flags = session.flags; standing = session.standing }
+outcome_of requests session = record { requests = requests; agreed = session.agreed; standing = session.standing }
 
 -- what a stage of a session is
 abbrev pub standing_of : Stage → Standing
@@ -79,26 +79,26 @@ standing_behind behind.Fault = broken
 
 -- a session over an export of so many bytes
 abbrev pub state_of : ℕ → Talk → SessionState
-state_of size talk = record { size = size; flags = talk.flags; standing = standing_of talk.stage }
+state_of size talk = record { size = size; agreed = talk.agreed; standing = standing_of talk.stage }
 
 -- What a text that begins with an option comes to: it is whole, and answered, or this is left of it.
-abbrev pub Takes : SessionFlags → ℕ → List ℕ → List Turn → SessionFlags → Standing → Type 0
-Takes agreed size text [] flags standing = (flags ≡ agreed) × Leaves standing text
-Takes agreed size text (turn ∷ []) flags standing =
-    IsTurn agreed size text turn × (flags ≡ turn.answer.flags) × (standing ≡ standing_behind turn.answer.next)
-Takes agreed size text (turn ∷ other ∷ turns) flags standing = ⊥
+abbrev pub Takes : Agreed → ℕ → List ℕ → List Turn → Agreed → Standing → Type 0
+Takes agreed size text [] new standing = (new ≡ agreed) × Leaves standing text
+Takes agreed size text (turn ∷ []) new standing =
+    IsTurn agreed size text turn × (new ≡ turn.answer.agreed) × (standing ≡ standing_behind turn.answer.next)
+Takes agreed size text (turn ∷ other ∷ turns) new standing = ⊥
 
--- any text of this kind was read, and the reply to the option, if it is whole, was written
-pub record Step (agreed : SessionFlags) (size : ℕ) (IsText : List ℕ → Type 0) (before after : List ℕ) (talk : Talk) : Type 0 where
+-- any text of this kind was read, and the answer to the option, if it is whole, was written
+pub record Step (agreed : Agreed) (size : ℕ) (IsText : List ℕ → Type 0) (before after : List ℕ) (talk : Talk) : Type 0 where
   pub turns : List Turn
-  pub takes : (text : List ℕ) → IsText text → Takes agreed size text turns talk.flags (standing_of talk.stage)
-  pub written : after ≡ before ++ replies_text turns
+  pub takes : (text : List ℕ) → IsText text → Takes agreed size text turns talk.agreed (standing_of talk.stage)
+  pub written : after ≡ before ++ answers_text turns
 
 -- an option was answered
 pub record Settles (code : ℕ) (answer : Answered) (before after : List ℕ) (talk : Talk) : Type 0 where
-  pub flags : talk.flags ≡ answer.flags
+  pub agreed : talk.agreed ≡ answer.agreed
   pub standing : standing_of talk.stage ≡ standing_behind answer.next
-  pub written : after ≡ before ++ replies_bytes code answer.replies
+  pub written : after ≡ before ++ answer_bytes code answer
 
 -- the text of an option with these data
 abbrev pub IsData : ℕ → List ℕ → List ℕ → Type 0
@@ -115,9 +115,11 @@ IsLongPart code missing text =
     × (text ≡ option_head code (length sent + missing) ++ sent)
 
 -- what comes of the client's flags
-abbrev pub TakesFlags : List ℕ → Standing → Type 0
-TakesFlags text standing =
-    LeavesFlags standing text ⊎ ((client : ClientFlags) × IsAccepted client × (text ≡ client_flags_bytes client) × (standing ≡ in_head []))
+abbrev pub TakesFlags : Agreed → List ℕ → Agreed → Standing → Type 0
+TakesFlags agreed text new standing =
+    ((new ≡ agreed) × LeavesFlags standing text)
+    ⊎ ((client : ClientFlags) × IsAccepted client × (text ≡ client_flags_bytes client) × (new ≡ agreed_with client agreed)
+    × (standing ≡ in_head []))
 
 -- A session that had read any stream up to here has read the stream and the piece, with these further options and requests.
 abbrev pub HearsOn : SessionState → List ℕ → List Turn → List Message → SessionState → Type 0
@@ -165,7 +167,7 @@ IsBehind broken = Unit {0}
 IsBehind exhausted = Unit {0}
 
 -- A piece was read, to its end but where memory ran out, and this was written for it: the greeting, where it is due, and the
--- replies to the options that it ends; none of it behind the handshake.
+-- answers to the options that it ends; none of it behind the handshake.
 pub record Feeds (old : SessionState) (piece before after : List ℕ) (requests : List Message) (new : SessionState) : Type 0 where
   pub turns : List Turn
   pub first : List ℕ
@@ -173,10 +175,10 @@ pub record Feeds (old : SessionState) (piece before after : List ℕ) (requests 
   pub between : SessionState
   pub parts : piece ≡ first ++ rest
   pub hears : HearsOn old first turns requests between
-  pub written : after ≡ before ++ (greeting_due old.standing between.standing ++ replies_text turns)
+  pub written : after ≡ before ++ (greeting_due old.standing between.standing ++ answers_text turns)
   pub said : IsSaid old.standing → IsSaid between.standing
-  pub behind : IsBehind old.standing → (turns ≡ []) × (between.flags ≡ old.flags) × IsBehind between.standing
-  pub whole : ((end_of new.standing ≡ Some NoMemory) × ((requests ≡ []) ⊎ ((new.flags ≡ between.flags) × IsBehind between.standing))) ⊎ ((rest ≡ []) × (new ≡ between))
+  pub behind : IsBehind old.standing → (turns ≡ []) × (between.agreed ≡ old.agreed) × IsBehind between.standing
+  pub whole : ((end_of new.standing ≡ Some NoMemory) × ((requests ≡ []) ⊎ ((new.agreed ≡ between.agreed) × IsBehind between.standing))) ⊎ ((rest ≡ []) × (new ≡ between))
 
 -- how many bytes are still to come of a request's data that are kept
 abbrev pub room_of : Standing → ℕ
@@ -211,7 +213,7 @@ Greets old new before after = (new ≡ old) × (after ≡ before)
 pub record Advances (old : SessionState) (front before after : List ℕ) (new : SessionState) : Type 0 where
   pub turns : List Turn
   pub hears : HearsOn old front turns [] new
-  pub written : after ≡ before ++ replies_text turns
+  pub written : after ≡ before ++ answers_text turns
 
 -- What was left of the piece behind the handshake was read, to its end but where memory ran out.
 pub record Hands (old : Standing) (piece : List ℕ) (requests : List Message) (new : Standing) : Type 0 where
@@ -221,8 +223,8 @@ pub record Hands (old : Standing) (piece : List ℕ) (requests : List Message) (
   pub parts : piece ≡ first ++ rest
   pub said : IsSaid between
   pub behind : IsBehind old → IsBehind between
-  pub hears : (size : ℕ) (flags : SessionFlags) → HearsOn (record { size = size; flags = flags; standing = old }) first [] requests
-      (record { size = size; flags = flags; standing = between })
+  pub hears : (size : ℕ) (agreed : Agreed) → HearsOn (record { size = size; agreed = agreed; standing = old }) first [] requests
+      (record { size = size; agreed = agreed; standing = between })
   pub whole : ((end_of new ≡ Some NoMemory) × ((requests ≡ []) ⊎ IsBehind between)) ⊎ ((rest ≡ []) × (new ≡ between))
 
 -- so many bytes were read off a stream, as a piece behind the handshake that ends no request
@@ -236,13 +238,13 @@ pub record HandsNone (old : Standing) (input left : Option (List ℕ)) (count : 
   pub going : IsOpen new
   pub end : count ≡ 0 → IsAtEnd left
 
--- some first part of the piece was read, and the replies to the options in it were written
+-- some first part of the piece was read, and the answers to the options in it were written
 pub record Runs (old : SessionState) (piece behind before after : List ℕ) (new : SessionState) : Type 0 where
   pub turns : List Turn
   pub taken : List ℕ
   pub parts : piece ≡ taken ++ behind
   pub hears : HearsOn old taken turns [] new
-  pub written : after ≡ before ++ replies_text turns
+  pub written : after ≡ before ++ answers_text turns
 
 -- the requests that are handed out
 abbrev pub handed : Result (Vec Message) End → List Message

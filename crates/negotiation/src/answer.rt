@@ -1,11 +1,21 @@
-ghost use Rattle.std.specs.Prelude.{◌≡◌, [], ◌∷◌, ◌++◌, List, ℕ, IfOk, OnOk, OnErr};
-ghost use Rattle.negotiation.specs.Answered.{AreShort, replies_bytes};
+ghost use Rattle.std.specs.Prelude.{◌≡◌, [], ◌∷◌, ◌++◌, List, ℕ, Some, None, IfOk, OnOk, OnErr};
+ghost use Rattle.negotiation.specs.Answered.{AreShort, answer_bytes, replies_bytes};
+ghost use Rattle.negotiation.specs.declared.answer.Next.TheVariants.{Transmission};
 ghost use Rattle.option_wire.specs.declared.reply.OptionReply.{OptionReply};
 
 use nbd_wire::SessionFlags;
-use option_wire::{OptionReply, encode_option_reply};
+use option_wire::{ExportAnswer, OptionReply, encode_export_answer, encode_option_reply};
 use std::alloc::{AllocError, Global};
 use std::marker::Model;
+
+/// What a session has agreed on.
+#[derive(Clone, Copy, Debug, PartialEq, Eq)]
+pub struct Agreed {
+    /// What the replies to requests go by.
+    pub flags: SessionFlags,
+    /// Whether both sides set NO_ZEROES.
+    pub no_zeroes: bool,
+}
 
 /// What comes behind an option.
 #[derive(Clone, Copy, Debug, PartialEq, Eq)]
@@ -24,7 +34,8 @@ pub enum Next {
 #[derive(Debug, Drop)]
 pub struct OptionAnswer {
     replies: Vec<OptionReply>,
-    flags: SessionFlags,
+    export: Option<ExportAnswer>,
+    agreed: Agreed,
     next: Next,
 }
 
@@ -33,18 +44,31 @@ impl Model for OptionAnswer {
 
     ghost Value = { Answered };
 
-    ghost view = { λ answer. record { replies = answer.replies.items; flags = answer.flags; next = answer.next } };
+    ghost view = { λ answer. record { replies = answer.replies.items; export = answer.export; agreed = answer.agreed; next = answer.next } };
 }
 
 impl OptionAnswer {
     /// The answer with these replies, in their order.
-    pub fn new(replies: Vec<OptionReply>, flags: SessionFlags, next: Next) -> OptionAnswer
-        ensures { result ≡ record { replies = replies.items; flags = flags; next = next } }
+    pub fn new(replies: Vec<OptionReply>, agreed: Agreed, next: Next) -> OptionAnswer
+        ensures { result ≡ record { replies = replies.items; export = None; agreed = agreed; next = next } }
     {
         OptionAnswer {
             replies,
-            flags,
+            export: None,
+            agreed,
             next,
+        }
+    }
+
+    /// That of an EXPORT_NAME which begins transmission: it is told the export, and gets no reply.
+    pub fn begin(alloc: Global, export: ExportAnswer, agreed: Agreed) -> OptionAnswer
+        ensures { result ≡ record { replies = []; export = Some export; agreed = agreed; next = Transmission } }
+    {
+        OptionAnswer {
+            replies: Vec::new(alloc),
+            export: Some(export),
+            agreed,
+            next: Next::Transmission,
         }
     }
 
@@ -55,18 +79,32 @@ impl OptionAnswer {
         &self.replies
     }
 
-    /// Appends the replies, to the option of this number. Refusal 0 (no memory): then none of them is there.
+    /// Appends the replies to the option of this number, or the export that an EXPORT_NAME is told. Refusal 0 (no memory): then
+    /// nothing of it is there.
     pub fn encode(&self, option: u32, out: &mut Vec<u8>) -> Result<(), AllocError>
         requires { AreShort self.now.replies }
-        ensures ok { OnOk result (out.new.items ≡ out.old.items ++ replies_bytes option self.now.replies) }
+        ensures ok { OnOk result (out.new.items ≡ out.old.items ++ answer_bytes option self.now) }
         ensures err { OnErr result (out.new.items ≡ out.old.items) }
     {
         let len = out.len();
-        let encoded = self.encode_each(option, out);
+        let encoded = self.encode_all(option, out);
         if encoded.is_err() {
             out.truncate(len);
         }
         encoded
+    }
+
+    // Appends it. Where memory runs out only the first of it may be there.
+    fn encode_all(&self, option: u32, out: &mut Vec<u8>) -> Result<(), AllocError>
+        requires { AreShort self.now.replies }
+        ensures ok { OnOk result (out.new.items ≡ out.old.items ++ answer_bytes option self.now) }
+        ensures err { OnErr result ((some : List ℕ) × (out.new.items ≡ out.old.items ++ some)) }
+    {
+        self.encode_each(option, out)?;
+        match &self.export {
+            Some(export) => encode_export_answer(export, out),
+            None => Ok(()),
+        }
     }
 
     // Appends the replies, one after another. Where memory runs out only the first of them are there.
@@ -82,10 +120,10 @@ impl OptionAnswer {
     }
 
     /// What is agreed on from now on.
-    pub fn flags(&self) -> SessionFlags
-        ensures { result ≡ self.now.flags }
+    pub fn agreed(&self) -> Agreed
+        ensures { result ≡ self.now.agreed }
     {
-        self.flags
+        self.agreed
     }
 
     /// What comes behind the option.

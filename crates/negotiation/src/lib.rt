@@ -8,7 +8,7 @@ mod option;
 mod session;
 mod stage;
 
-pub use answer::{Next, OptionAnswer};
+pub use answer::{Agreed, Next, OptionAnswer};
 pub use end::End;
 pub use laws::one_hearing;
 pub use option::{answer_data, answer_option, refuse_option};

@@ -1,16 +1,16 @@
 ghost use Rattle.std.specs.Prelude.{◌≡◌, IfOk, [], ◌∷◌};
-ghost use Rattle.negotiation.specs.Answered.{AreShort, IsAnswered, answer_of, asks_for, context_reply, export_reply, goes_on, informed, listed, refusal_of, selected, size_reply};
+ghost use Rattle.negotiation.specs.Answered.{AreShort, IsAnswered, answer_of, asks_for, context_reply, export_flags, export_reply, goes_on, informed, listed, named, refusal_of, selected, size_reply, with_context, with_structured};
 
-use crate::answer::{Next, OptionAnswer, one, two};
+use crate::answer::{Agreed, Next, OptionAnswer, one, two};
 use nbd_wire::{SessionFlags, transmission_flags};
 use option_wire::{
-    ClientOption, ContextRequest, INFO_BLOCK_SIZE, InfoRequest, Information, OptionError,
-    OptionFault, OptionReply, SET_META_CONTEXT, Text, decode_option,
+    ClientOption, ContextRequest, ExportAnswer, INFO_BLOCK_SIZE, InfoRequest, Information,
+    OptionError, OptionFault, OptionReply, SET_META_CONTEXT, Text, decode_option,
 };
 use std::alloc::{AllocError, Global};
 
-// The sizes that a request's range has to go by, and how long a READ or a WRITE may be.
-const MINIMUM: u32 = 4096;
+// The sizes that a request's range has to go by and is best made of, and how long a READ or a WRITE may be.
+const MINIMUM: u32 = 1;
 
 const PREFERRED: u32 = 4096;
 
@@ -25,62 +25,57 @@ const SELECTED: u32 = 1;
 
 const LISTED: u32 = 0;
 
-/// The answer to an option of this number with these data, of a session that has agreed on `flags`, over an
+/// The answer to an option of this number with these data, of a session that has agreed on so much, over an
 /// export of `size` bytes whose name is empty: malformed data are answered ERR_INVALID. Refusal 0 (no memory).
 pub fn answer_data(
     alloc: Global,
     code: u32,
     bytes: &[u8],
-    flags: SessionFlags,
+    agreed: Agreed,
     size: u64,
 ) -> Result<OptionAnswer, AllocError>
-    ensures answered { IfOk result (IsAnswered flags size code bytes.now) }
+    ensures answered { IfOk result (IsAnswered agreed size code bytes.now) }
     ensures short { IfOk result (λ answer. AreShort answer.replies) }
 {
     match decode_option(alloc, code, bytes) {
-        Ok(option) => answer_option(alloc, &option, flags, size),
-        Err(OptionFault::Malformed) => refuse_option(alloc, code, flags, OptionError::Invalid),
+        Ok(option) => answer_option(alloc, &option, agreed, size),
+        Err(OptionFault::Malformed) => refuse_option(alloc, code, agreed, OptionError::Invalid),
         Err(OptionFault::NoMemory) => Err(AllocError),
     }
 }
 
-/// The answer to an option of a session that has agreed on `flags`, over an export of `size` bytes whose name is
+/// The answer to an option of a session that has agreed on so much, over an export of `size` bytes whose name is
 /// empty. Refusal 0 (no memory).
 pub fn answer_option(
     alloc: Global,
     option: &ClientOption,
-    flags: SessionFlags,
+    agreed: Agreed,
     size: u64,
 ) -> Result<OptionAnswer, AllocError>
-    ensures value { IfOk result (λ answer. answer ≡ answer_of flags size option.now) }
+    ensures value { IfOk result (λ answer. answer ≡ answer_of agreed size option.now) }
     ensures short { IfOk result (λ answer. AreShort answer.replies) }
 {
     match option {
-        ClientOption::ExportName(_) => {
-            Ok(OptionAnswer::new(Vec::new(alloc), flags, Next::Fault))
-        }
+        ClientOption::ExportName(name) => Ok(name_export(alloc, name, agreed, size)),
         ClientOption::Abort => {
-            Ok(OptionAnswer::new(one(alloc, OptionReply::Ack)?, flags, Next::End))
+            Ok(OptionAnswer::new(one(alloc, OptionReply::Ack)?, agreed, Next::End))
         }
         ClientOption::ListExports => {
             let name = Text::from_slice(alloc, b"")?;
             let replies = two(alloc, OptionReply::Server(name), OptionReply::Ack)?;
-            Ok(OptionAnswer::new(replies, flags, Next::Option))
+            Ok(OptionAnswer::new(replies, agreed, Next::Option))
         }
         ClientOption::StartTls | ClientOption::Unknown(_) => {
-            refuse(alloc, flags, OptionError::Unsupported)
+            refuse(alloc, agreed, OptionError::Unsupported)
         }
-        ClientOption::Info(asked) => inform(alloc, asked, flags, size, Next::Option),
-        ClientOption::Go(asked) => inform(alloc, asked, flags, size, Next::Transmission),
+        ClientOption::Info(asked) => inform(alloc, asked, agreed, size, Next::Option),
+        ClientOption::Go(asked) => inform(alloc, asked, agreed, size, Next::Transmission),
         ClientOption::StructuredReply => {
-            let flags = SessionFlags {
-                structured: true,
-                context: flags.context,
-            };
-            Ok(OptionAnswer::new(one(alloc, OptionReply::Ack)?, flags, Next::Option))
+            let now = with_structured(agreed);
+            Ok(OptionAnswer::new(one(alloc, OptionReply::Ack)?, now, Next::Option))
         }
-        ClientOption::ListMetaContext(asked) => list(alloc, asked, flags),
-        ClientOption::SetMetaContext(asked) => select(alloc, asked, flags),
+        ClientOption::ListMetaContext(asked) => list(alloc, asked, agreed),
+        ClientOption::SetMetaContext(asked) => select(alloc, asked, agreed),
     }
 }
 
@@ -89,29 +84,41 @@ pub fn answer_option(
 pub fn refuse_option(
     alloc: Global,
     code: u32,
-    flags: SessionFlags,
+    agreed: Agreed,
     error: OptionError,
 ) -> Result<OptionAnswer, AllocError>
-    ensures value { IfOk result (λ answer. answer ≡ refusal_of flags code error) }
+    ensures value { IfOk result (λ answer. answer ≡ refusal_of agreed code error) }
     ensures short { IfOk result (λ answer. AreShort answer.replies) }
 {
-    let context = flags.context && code != SET_META_CONTEXT;
-    let flags = SessionFlags {
-        structured: flags.structured,
-        context,
-    };
-    refuse(alloc, flags, error)
+    let context = agreed.flags.context && code != SET_META_CONTEXT;
+    refuse(alloc, with_context(agreed, context), error)
 }
 
-fn refuse(
-    alloc: Global,
-    flags: SessionFlags,
-    error: OptionError,
-) -> Result<OptionAnswer, AllocError>
-    ensures { IfOk result (λ answer. answer ≡ goes_on (OptionReply.Refused error ∷ []) flags) }
+fn with_structured(agreed: Agreed) -> Agreed
+    ensures { result ≡ with_structured agreed }
+{
+    let flags = SessionFlags {
+        structured: true,
+        context: agreed.flags.context,
+    };
+    Agreed { flags, ..agreed }
+}
+
+fn with_context(agreed: Agreed, context: bool) -> Agreed
+    ensures { result ≡ with_context context agreed }
+{
+    let flags = SessionFlags {
+        structured: agreed.flags.structured,
+        context,
+    };
+    Agreed { flags, ..agreed }
+}
+
+fn refuse(alloc: Global, agreed: Agreed, error: OptionError) -> Result<OptionAnswer, AllocError>
+    ensures { IfOk result (λ answer. answer ≡ goes_on (OptionReply.Refused error ∷ []) agreed) }
 {
     let replies = one(alloc, OptionReply::Refused(error))?;
-    Ok(OptionAnswer::new(replies, flags, Next::Option))
+    Ok(OptionAnswer::new(replies, agreed, Next::Option))
 }
 
 fn size_reply() -> OptionReply
@@ -124,35 +131,57 @@ fn size_reply() -> OptionReply
     })
 }
 
-fn export_reply(size: u64, flags: SessionFlags) -> OptionReply
-    ensures { result ≡ export_reply size flags }
+// The transmission flags of the export.
+fn export_flags(agreed: Agreed) -> u16
+    ensures { result ≡ export_flags agreed.flags }
+{
+    transmission_flags(agreed.flags.structured)
+}
+
+fn export_reply(size: u64, agreed: Agreed) -> OptionReply
+    ensures { result ≡ export_reply size agreed }
 {
     OptionReply::Info(Information::Export {
         size,
-        flags: transmission_flags(flags.structured),
+        flags: export_flags(agreed),
     })
+}
+
+// The answer to an EXPORT_NAME, which can't be refused: another name ends the session.
+fn name_export(alloc: Global, name: &Text, agreed: Agreed, size: u64) -> OptionAnswer
+    ensures { result ≡ named agreed size name.now }
+{
+    if !name.as_bytes().is_empty() {
+        return OptionAnswer::new(Vec::new(alloc), agreed, Next::Fault);
+    }
+    let export = ExportAnswer {
+        size,
+        flags: export_flags(agreed),
+        zeroes: !agreed.no_zeroes,
+    };
+    OptionAnswer::begin(alloc, export, agreed)
 }
 
 fn inform(
     alloc: Global,
     asked: &InfoRequest,
-    flags: SessionFlags,
+    agreed: Agreed,
     size: u64,
     next: Next,
 ) -> Result<OptionAnswer, AllocError>
-    ensures { IfOk result (λ answer. answer ≡ informed flags size asked.now next) }
+    ensures { IfOk result (λ answer. answer ≡ informed agreed size asked.now next) }
 {
     if !asked.name().is_empty() {
-        return refuse(alloc, flags, OptionError::Unknown);
+        return refuse(alloc, agreed, OptionError::Unknown);
     }
+    let export = export_reply(size, agreed);
     if !asked.types().contains(&INFO_BLOCK_SIZE) {
-        let required = OptionReply::Refused(OptionError::BlockSizeRequired);
-        let replies = two(alloc, size_reply(), required)?;
-        return Ok(OptionAnswer::new(replies, flags, Next::Option));
+        let replies = two(alloc, export, OptionReply::Ack)?;
+        return Ok(OptionAnswer::new(replies, agreed, next));
     }
-    let mut replies = two(alloc, export_reply(size, flags), size_reply())?;
+    let mut replies = two(alloc, export, size_reply())?;
     replies.push(OptionReply::Ack)?;
-    Ok(OptionAnswer::new(replies, flags, next))
+    Ok(OptionAnswer::new(replies, agreed, next))
 }
 
 // Whether this is one of the queries.
@@ -169,18 +198,14 @@ fn context_reply(alloc: Global, id: u32) -> Result<OptionReply, AllocError>
     Ok(OptionReply::MetaContext { id, name })
 }
 
-fn list(
-    alloc: Global,
-    asked: &ContextRequest,
-    flags: SessionFlags,
-) -> Result<OptionAnswer, AllocError>
-    ensures { IfOk result (λ answer. answer ≡ listed flags asked.now) }
+fn list(alloc: Global, asked: &ContextRequest, agreed: Agreed) -> Result<OptionAnswer, AllocError>
+    ensures { IfOk result (λ answer. answer ≡ listed agreed asked.now) }
 {
-    if !flags.structured {
-        return refuse(alloc, flags, OptionError::Invalid);
+    if !agreed.flags.structured {
+        return refuse(alloc, agreed, OptionError::Invalid);
     }
     if !asked.name().is_empty() {
-        return refuse(alloc, flags, OptionError::Unknown);
+        return refuse(alloc, agreed, OptionError::Unknown);
     }
     let queries = asked.queries();
     let replies = if queries.is_empty()
@@ -191,24 +216,17 @@ fn list(
     } else {
         one(alloc, OptionReply::Ack)?
     };
-    Ok(OptionAnswer::new(replies, flags, Next::Option))
+    Ok(OptionAnswer::new(replies, agreed, Next::Option))
 }
 
-fn select(
-    alloc: Global,
-    asked: &ContextRequest,
-    flags: SessionFlags,
-) -> Result<OptionAnswer, AllocError>
-    ensures { IfOk result (λ answer. answer ≡ selected flags asked.now) }
+fn select(alloc: Global, asked: &ContextRequest, agreed: Agreed) -> Result<OptionAnswer, AllocError>
+    ensures { IfOk result (λ answer. answer ≡ selected agreed asked.now) }
 {
-    let context = flags.structured
+    let context = agreed.flags.structured
         && asked.name().is_empty()
         && asks_for(asked.queries(), ALLOCATION);
-    let now = SessionFlags {
-        structured: flags.structured,
-        context,
-    };
-    if !flags.structured {
+    let now = with_context(agreed, context);
+    if !agreed.flags.structured {
         return refuse(alloc, now, OptionError::Invalid);
     }
     if !asked.name().is_empty() {

@@ -4,6 +4,7 @@ ghost use Rattle.negotiation.specs.declared.stage.Talk.{Talk};
 ghost use Rattle.negotiation.specs.Dialog.{HasNoDisc, ended, in_requests, is_disc, plain, silent};
 ghost use Rattle.negotiation.specs.Session.{Advances, Feeds, Fills, Greets, Hands, HandsNone, IsBehind, IsGreeted, IsSaid, IsStage, Runs, end_of, handed, held_by, room_of, standing_of, state_of, wanted_of};
 
+use crate::answer::Agreed;
 use crate::end::End;
 use crate::stage::{Stage, Talk, discard, take_data, take_flags, take_head, wanted};
 use image_model::{BLOCK_BYTES, Geometry};
@@ -20,7 +21,7 @@ use std::mem;
 pub struct Session {
     alloc: Global,
     size: u64,
-    flags: SessionFlags,
+    agreed: Agreed,
     stage: Stage,
 }
 
@@ -29,7 +30,7 @@ impl Model for Session {
 
     ghost Value = { SessionState };
 
-    ghost view = { λ session. record { size = session.size; flags = session.flags; standing = standing_of session.stage } };
+    ghost view = { λ session. record { size = session.size; agreed = session.agreed; standing = standing_of session.stage } };
 
     ghost invariant = { λ session. IsStage session.stage };
 }
@@ -37,14 +38,17 @@ impl Model for Session {
 impl Session {
     /// A session in which nothing was said yet, over an export of this geometry.
     pub fn new(alloc: Global, geometry: Geometry) -> Session
-        ensures { result ≡ record { size = 4096 * geometry.blocks; flags = plain; standing = silent } }
+        ensures { result ≡ record { size = 4096 * geometry.blocks; agreed = plain; standing = silent } }
     {
         Session {
             alloc,
             size: geometry.blocks * BLOCK_BYTES,
-            flags: SessionFlags {
-                structured: false,
-                context: false,
+            agreed: Agreed {
+                flags: SessionFlags {
+                    structured: false,
+                    context: false,
+                },
+                no_zeroes: false,
             },
             stage: Stage::Silent,
         }
@@ -75,11 +79,11 @@ impl Session {
         let stage = mem::replace(&mut self.stage, Stage::Exhausted);
         let stage = greet(self.alloc, stage, out)?;
         let talk = Talk {
-            flags: self.flags,
+            agreed: self.agreed,
             stage,
         };
         let (talk, rest) = negotiate(self.alloc, self.size, talk, piece, out)?;
-        self.flags = talk.flags;
+        self.agreed = talk.agreed;
         let (stage, requests) = hand_out(self.alloc, talk.stage, rest);
         self.stage = stage;
         requests
@@ -111,11 +115,11 @@ impl Session {
         count
     }
 
-    /// What is agreed on.
+    /// What the replies to requests go by.
     pub fn flags(&self) -> SessionFlags
-        ensures { result ≡ self.now.flags }
+        ensures { result ≡ self.now.agreed.flags }
     {
-        self.flags
+        self.agreed.flags
     }
 
     /// Whether the handshake is over.
@@ -198,16 +202,15 @@ fn advance(
     ensures advances { IfOk result (λ new. Advances (state_of size talk) front.now out.old.items out.new.items (state_of size new)) }
     ensures err { OnErr result (out.new.items ≡ out.old.items) }
 {
-    let Talk { flags, stage } = talk;
+    let Talk { agreed, stage } = talk;
     match stage {
-        Stage::Flags(bytes) => {
-            let stage = take_flags(alloc, bytes, front)?;
-            Ok(Talk { flags, stage })
+        Stage::Flags(bytes) => take_flags(alloc, agreed, bytes, front),
+        Stage::Head(bytes) => take_head(alloc, size, agreed, bytes, front, out),
+        Stage::Data { head, bytes } => take_data(alloc, size, agreed, head, bytes, front, out),
+        Stage::Discard { option, missing } => {
+            discard(alloc, agreed, option, missing, front, out)
         }
-        Stage::Head(bytes) => take_head(alloc, size, flags, bytes, front, out),
-        Stage::Data { head, bytes } => take_data(alloc, size, flags, head, bytes, front, out),
-        Stage::Discard { option, missing } => { discard(alloc, flags, option, missing, front, out) }
-        stage => Ok(Talk { flags, stage }),
+        stage => Ok(Talk { agreed, stage }),
     }
 }
 

@@ -4,9 +4,9 @@ ghost use Rattle.negotiation.specs.Answered.{AreShort};
 ghost use Rattle.negotiation.specs.Dialog.{Leaves, kept_limit, most_bytes};
 ghost use Rattle.negotiation.specs.Session.{IsData, IsGreeted, IsLongPart, IsPart, Settles, Step, TakesFlags, standing_behind, standing_of, wanted_of};
 
-use crate::answer::{Next, OptionAnswer};
+use crate::answer::{Agreed, Next, OptionAnswer};
 use crate::option::{answer_data, refuse_option};
-use nbd_wire::{SessionFlags, StreamReader};
+use nbd_wire::StreamReader;
 use option_wire::{EXPORT_NAME, OptionError, OptionHead, decode_client_flags, decode_option_head};
 use std::alloc::{AllocError, Global};
 
@@ -45,7 +45,7 @@ pub enum Stage {
 // A handshake: what is agreed on, and what is being read.
 #[derive(Drop)]
 pub struct Talk {
-    pub flags: SessionFlags,
+    pub agreed: Agreed,
     pub stage: Stage,
 }
 
@@ -77,70 +77,83 @@ pub fn wanted(stage: &Stage) -> usize
 }
 
 // Takes the next of the client's flags.
-pub fn take_flags(alloc: Global, bytes: Vec<u8>, front: &[u8]) -> Result<Stage, AllocError>
+pub fn take_flags(
+    alloc: Global,
+    agreed: Agreed,
+    bytes: Vec<u8>,
+    front: &[u8],
+) -> Result<Talk, AllocError>
     requires { vec_len bytes + length front.now ≤ 4 }
-    ensures sound { IfOk result IsGreeted }
-    ensures takes { IfOk result (λ stage. TakesFlags (bytes.items ++ front.now) (standing_of stage)) }
+    ensures sound { IfOk result (λ talk. IsGreeted talk.stage) }
+    ensures takes { IfOk result (λ talk. TakesFlags agreed (bytes.items ++ front.now) talk.agreed (standing_of talk.stage)) }
 {
     let mut bytes = bytes;
     bytes.extend_from_slice(front)?;
     if bytes.len() < FLAGS_LEN {
-        return Ok(Stage::Flags(bytes));
+        let stage = Stage::Flags(bytes);
+        return Ok(Talk { agreed, stage });
     }
     let mut whole = [0; FLAGS_LEN];
     whole.copy_from_slice(&bytes);
-    if !decode_client_flags(&whole).is_accepted() {
-        return Ok(Stage::Broken);
+    let client = decode_client_flags(&whole);
+    if !client.is_accepted() {
+        let stage = Stage::Broken;
+        return Ok(Talk { agreed, stage });
     }
-    Ok(Stage::Head(Vec::new(alloc)))
+    let agreed = Agreed {
+        no_zeroes: client.omits_zeroes(),
+        ..agreed
+    };
+    let stage = Stage::Head(Vec::new(alloc));
+    Ok(Talk { agreed, stage })
 }
 
 // Takes the next of what stands before an option's data.
 pub fn take_head(
     alloc: Global,
     size: u64,
-    flags: SessionFlags,
+    agreed: Agreed,
     bytes: Vec<u8>,
     front: &[u8],
     out: &mut Vec<u8>,
 ) -> Result<Talk, AllocError>
     requires { vec_len bytes + length front.now ≤ 16 }
     ensures sound { IfOk result (λ talk. IsGreeted talk.stage) }
-    ensures takes { IfOk result (Step flags size (λ text. text ≡ bytes.items ++ front.now) out.old.items out.new.items) }
+    ensures takes { IfOk result (Step agreed size (λ text. text ≡ bytes.items ++ front.now) out.old.items out.new.items) }
     ensures err { OnErr result (out.new.items ≡ out.old.items) }
 {
     let mut bytes = bytes;
     bytes.extend_from_slice(front)?;
     if bytes.len() < HEAD_LEN {
         let stage = Stage::Head(bytes);
-        return Ok(Talk { flags, stage });
+        return Ok(Talk { agreed, stage });
     }
     let mut whole = [0; HEAD_LEN];
     whole.copy_from_slice(&bytes);
-    begin(alloc, size, flags, &whole, out)
+    begin(alloc, size, agreed, &whole, out)
 }
 
 // Decides by what stands before an option's data what becomes of them; an option with no data is whole.
 fn begin(
     alloc: Global,
     size: u64,
-    flags: SessionFlags,
+    agreed: Agreed,
     bytes: &[u8; 16],
     out: &mut Vec<u8>,
 ) -> Result<Talk, AllocError>
     ensures sound { IfOk result (λ talk. IsGreeted talk.stage) }
-    ensures takes { IfOk result (Step flags size (λ text. text ≡ bytes.now) out.old.items out.new.items) }
+    ensures takes { IfOk result (Step agreed size (λ text. text ≡ bytes.now) out.old.items out.new.items) }
     ensures err { OnErr result (out.new.items ≡ out.old.items) }
 {
     let Ok(head) = decode_option_head(bytes) else {
         let stage = Stage::Broken;
-        return Ok(Talk { flags, stage });
+        return Ok(Talk { agreed, stage });
     };
     if head.length == 0 {
-        return close(alloc, size, flags, head.option, &[], out);
+        return close(alloc, size, agreed, head.option, &[], out);
     }
     let stage = data_stage(alloc, head.option, head.length);
-    Ok(Talk { flags, stage })
+    Ok(Talk { agreed, stage })
 }
 
 // The most bytes of data that are read. The name of an EXPORT_NAME isn't thrown away, as it can't be refused.
@@ -178,7 +191,7 @@ fn data_stage(alloc: Global, option: u32, length: u32) -> Stage
 pub fn take_data(
     alloc: Global,
     size: u64,
-    flags: SessionFlags,
+    agreed: Agreed,
     head: OptionHead,
     bytes: Vec<u8>,
     front: &[u8],
@@ -187,22 +200,22 @@ pub fn take_data(
     requires wanted { vec_len bytes + length front.now ≤ head.length }
     requires kept { head.length ≤ kept_limit }
     ensures sound { IfOk result (λ talk. IsGreeted talk.stage) }
-    ensures takes { IfOk result (Step flags size (IsPart head.option head.length (bytes.items ++ front.now)) out.old.items out.new.items) }
+    ensures takes { IfOk result (Step agreed size (IsPart head.option head.length (bytes.items ++ front.now)) out.old.items out.new.items) }
     ensures err { OnErr result (out.new.items ≡ out.old.items) }
 {
     let mut bytes = bytes;
     bytes.extend_from_slice(front)?;
     if bytes.len() < head.length as usize {
         let stage = Stage::Data { head, bytes };
-        return Ok(Talk { flags, stage });
+        return Ok(Talk { agreed, stage });
     }
-    close(alloc, size, flags, head.option, &bytes, out)
+    close(alloc, size, agreed, head.option, &bytes, out)
 }
 
 // Passes over bytes of data that aren't kept.
 pub fn discard(
     alloc: Global,
-    flags: SessionFlags,
+    agreed: Agreed,
     option: u32,
     missing: u32,
     front: &[u8],
@@ -210,15 +223,15 @@ pub fn discard(
 ) -> Result<Talk, AllocError>
     requires { length front.now ≤ missing }
     ensures sound { IfOk result (λ talk. IsGreeted talk.stage) }
-    ensures takes { IfOk result (λ talk. (size : ℕ) → Step flags size (IsLongPart option (missing - length front.now)) out.old.items out.new.items talk) }
+    ensures takes { IfOk result (λ talk. (size : ℕ) → Step agreed size (IsLongPart option (missing - length front.now)) out.old.items out.new.items talk) }
     ensures err { OnErr result (out.new.items ≡ out.old.items) }
 {
     let missing = missing - front.len() as u32;
     if missing > 0 {
         let stage = Stage::Discard { option, missing };
-        return Ok(Talk { flags, stage });
+        return Ok(Talk { agreed, stage });
     }
-    let answer = refuse_option(alloc, option, flags, OptionError::TooBig)?;
+    let answer = refuse_option(alloc, option, agreed, OptionError::TooBig)?;
     settle(alloc, option, &answer, out)
 }
 
@@ -226,21 +239,21 @@ pub fn discard(
 fn close(
     alloc: Global,
     size: u64,
-    flags: SessionFlags,
+    agreed: Agreed,
     option: u32,
     bytes: &[u8],
     out: &mut Vec<u8>,
 ) -> Result<Talk, AllocError>
     requires { length bytes.now ≤ kept_limit }
     ensures sound { IfOk result (λ talk. IsGreeted talk.stage) }
-    ensures takes { IfOk result (Step flags size (IsData option bytes.now) out.old.items out.new.items) }
+    ensures takes { IfOk result (Step agreed size (IsData option bytes.now) out.old.items out.new.items) }
     ensures err { OnErr result (out.new.items ≡ out.old.items) }
 {
-    let answer = answer_data(alloc, option, bytes, flags, size)?;
+    let answer = answer_data(alloc, option, bytes, agreed, size)?;
     settle(alloc, option, &answer, out)
 }
 
-// Writes the replies to an option, all or none, and goes on by its answer.
+// Writes the answer to an option, all or none, and goes on by its answer.
 fn settle(
     alloc: Global,
     option: u32,
@@ -254,7 +267,7 @@ fn settle(
 {
     answer.encode(option, out)?;
     Ok(Talk {
-        flags: answer.flags(),
+        agreed: answer.agreed(),
         stage: behind(alloc, answer.next()),
     })
 }

@@ -1,3 +1,4 @@
+pub mod Export
 pub mod Field
 pub mod Handshake
 pub mod Head

@@ -1,5 +1,5 @@
 ghost use Rattle.std.specs.Prelude.{◌≡◌, ◌⊎◌, ◌↔◌, IsTrue, ⊤, [], ◌∷◌, codes};
-ghost use Rattle.option_wire.specs.Handshake.{client_bits, client_flags_bytes, greeting_bytes};
+ghost use Rattle.option_wire.specs.Handshake.{client_bits, client_flags_bytes, greeting_bytes, omits_zeroes};
 
 use bitflags::{Flag, Flags, bitflag_items};
 use byteorder::{BigEndian, ByteOrder};
@@ -84,6 +84,13 @@ impl ClientFlags {
     {
         self == ClientFlags::FIXED_NEWSTYLE
             || self == ClientFlags::FIXED_NEWSTYLE.union(ClientFlags::NO_ZEROES)
+    }
+
+    /// Whether the client takes no zeroes behind the answer to an EXPORT_NAME, as the greeting offers it.
+    pub fn omits_zeroes(self) -> bool
+        ensures { result ≡ omits_zeroes self }
+    {
+        self.bits() & ClientFlags::NO_ZEROES.bits() != 0
     }
 }
 

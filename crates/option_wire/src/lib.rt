@@ -2,6 +2,7 @@
 #![tactic(auto)]
 
 mod error;
+mod export;
 mod field;
 mod handshake;
 mod head;
@@ -11,6 +12,7 @@ mod reply;
 mod text;
 
 pub use error::{Malformed, OptionFault};
+pub use export::{ExportAnswer, encode_export_answer};
 pub use handshake::{ClientFlags, HandshakeFlags, decode_client_flags, greeting};
 pub use head::{OptionHead, decode_option_head};
 pub use laws::{one_option, one_option_reply};

@@ -179,7 +179,7 @@ fn encode_head(option: u32, kind: u32, size: u32) -> [u8; 20]
 }
 
 // Appends bytes for which there is room.
-fn put(out: &mut Vec<u8>, bytes: &[u8])
+pub fn put(out: &mut Vec<u8>, bytes: &[u8])
     requires { vec_len out.old + length bytes.now ≤ vec_capacity out.old }
     ensures items { out.new.items ≡ out.old.items ++ bytes.now }
     ensures len { vec_len out.new ≡ vec_len out.old + length bytes.now }

@@ -1,4 +1,5 @@
 mod Edges
+mod Editing
 mod Filled
 mod Frames
 mod Imaged
@@ -6,4 +7,5 @@ mod Maps
 mod Missing
 mod Shown
 mod Small
+mod Taking
 mod Written

@@ -14,7 +14,7 @@ use Rattle.order_book.specs.Order.{OrderState, has_room, refusal_of}
 use Rattle.order_book.specs.Pending.{HasSmallBody}
 use Rattle.order_book.specs.declared.fault.OrderFault.{OrderFault}
 
-two_edges : (edges : Edges) → edge_count edges ≤ 2
+pub two_edges : (edges : Edges) → edge_count edges ≤ 2
 two_edges Head = omega arith
 two_edges Tail = omega arith
 two_edges Both = omega arith

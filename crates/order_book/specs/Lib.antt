@@ -1,7 +1,9 @@
 pub mod Backlog
 pub mod Cached
+pub mod Edits
 pub mod Order
 pub mod Pending
 pub mod Reading
 pub mod Shown
 pub mod State
+pub mod laws

@@ -3,8 +3,8 @@ use Rattle.std.specs.Prelude.{MatchBool, max, ◌≡◌, ℕ, ◌+◌, ◌-◌, 
 use Rattle.std.specs.FinMap.{empty}
 use Rattle.image_model.specs.declared.command.Command.{Command}
 use Rattle.image_model.specs.declared.command.Kind.{Kind}
-use Rattle.image_model.specs.Bodies.{body_limit}
-use Rattle.image_model.specs.Change.{change_of}
+use Rattle.image_model.specs.Bodies.{body_bytes, body_limit}
+use Rattle.image_model.specs.Change.{Change, change_of}
 use Rattle.image_model.specs.Command.{body_of, bodies_of}
 use Rattle.image_model.specs.Dirty.{Dirty, clean_through, dirty_after, frames_suffice}
 use Rattle.group_list.specs.Group.{Numbered}
@@ -31,7 +31,7 @@ pub record OrderState : Type 0 where
   pub bodies : List ℕ
   -- the current state of each block, and the blocks that are in memory
   pub cache : CacheState
-  -- of these the dirty ones, each with the number of the Put that wrote it, and how many frames there are for all
+  -- of these the dirty ones, each with the number of the command that wrote it, and how many frames there are for all
   pub dirty : Dirty
   pub frames : ℕ
   -- the bytes of a journal area
@@ -56,18 +56,24 @@ new_order states last most bytes = record {
   stopped = false;
 }
 
--- whether a command has room: in the frames, and in the 67,108,864 bytes for what isn't durable
-abbrev pub has_room : OrderState → Command → Bool
-has_room order command =
-    frames_suffice order.frames order.dirty (order.mark + 1) (change_of command)
-    && nat_le (sum order.bodies + body_of command) 67108864
+-- whether a change has room: in the frames, and in the 67,108,864 bytes for what isn't durable
+abbrev pub has_room_for : OrderState → Change → Bool
+has_room_for order change =
+    frames_suffice order.frames order.dirty (order.mark + 1) change
+    && nat_le (sum order.bodies + body_bytes change) 67108864
 
--- why a command is refused before any growth of memory: the first reason that holds
-abbrev pub refusal_of : OrderState → Command → Option OrderFault
-refusal_of order command =
+abbrev pub has_room : OrderState → Command → Bool
+has_room order command = has_room_for order (change_of command)
+
+-- why a change is refused before any growth of memory: the first reason that holds
+abbrev pub refusal_for : OrderState → Change → Option OrderFault
+refusal_for order change =
     if order.stopped then Some Stopped
     else (if order.mark == 18446744073709551615 then Some NumbersFull
-    else (if has_room order command then None else Some NoRoom))
+    else (if has_room_for order change then None else Some NoRoom))
+
+abbrev pub refusal_of : OrderState → Command → Option OrderFault
+refusal_of order command = refusal_for order (change_of command)
 
 -- the order with one command more
 abbrev pub with_command : OrderState → Command → OrderState

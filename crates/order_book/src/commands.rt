@@ -22,7 +22,7 @@ fn blocks_in(bytes: &[u8]) -> u64
 }
 
 // How many of a clear's edges stand at its head.
-fn head_blocks(edges: Edges) -> usize
+pub(crate) fn head_blocks(edges: Edges) -> usize
     ensures { result ≡ head_count edges }
 {
     match edges {

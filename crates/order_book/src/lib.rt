@@ -3,6 +3,7 @@
 
 mod backlog;
 mod commands;
+mod edits;
 mod fault;
 mod laws;
 mod order;

@@ -92,6 +92,11 @@ impl PendingCommands {
         }
     }
 
+    /// The allocator of the commands.
+    pub(crate) fn allocator(&self) -> Global {
+        *self.commands.allocator()
+    }
+
     /// Makes room for `count` commands more.
     pub(crate) fn reserve(&mut self, count: usize) -> Result<(), AllocError>
         ensures commands { self.new.commands ≡ self.old.commands }

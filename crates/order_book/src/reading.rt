@@ -18,7 +18,7 @@ use image_model::Kind;
 use shared_cache::Cache;
 
 /// The bytes of a block.
-const BLOCK: usize = 4_096;
+pub(crate) const BLOCK: usize = 4_096;
 
 // Reads blocks that are in memory, from this one of them on up to the first that isn't, which it tells.
 fn read_held(cache: &Cache, first: u64, from: usize, into: &mut [u8]) -> usize

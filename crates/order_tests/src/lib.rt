@@ -8,6 +8,8 @@ mod clear_tests;
 #[cfg(test)]
 mod commands;
 #[cfg(test)]
+mod edit_tests;
+#[cfg(test)]
 mod edits;
 #[cfg(test)]
 mod frame_tests;

@@ -2,7 +2,7 @@
 ghost use Rattle.std.specs.Prelude.{◌≡◌, ◌+◌, ◌<◌, ◌≤◌, ◌^◌};
 
 use crate::commands::offer;
-use crate::edits::{Asked, ByteRange, Shape};
+use crate::edits::{Asked, ByteRange, Shape, edit};
 use crate::plain::{BLOCKS, Plain};
 use crate::subject::{Start, Subject, fresh};
 use image_model::Kind;
@@ -91,13 +91,19 @@ impl<B: BoardName> Compared<B> {
         stored
     }
 
-    // What the order says to a command of this shape, with the bytes of the image.
-    fn offer(&mut self, shape: Shape) -> Option<Result<u64, OrderFault>> {
-        let command = self.plain.command(self.subject.alloc, shape)?;
-        offer(&mut self.subject.desk, command)
+    // What the order says to the edit of a turn: every fourth time to the command of this shape, with the bytes of the image,
+    // and else to the edit itself.
+    fn offer(&mut self, salt: u64, shape: Shape) -> Option<Result<u64, OrderFault>> {
+        let alloc = self.subject.alloc;
+        if roll(salt, 8, 4) == 0 {
+            let command = self.plain.command(alloc, shape)?;
+            return offer(&mut self.subject.desk, command);
+        }
+        let given = edit(alloc, covered(salt), asked(salt), salt).ok()?;
+        self.subject.edit(given)
     }
 
-    // Whether what the edit of this turn becomes is accepted, where there is no room for it once there is some.
+    // Whether the edit of this turn is accepted, where there is no room for it once there is some.
     fn change(&mut self, salt: u64) -> bool {
         let range = covered(salt);
         let edited = self
@@ -106,10 +112,10 @@ impl<B: BoardName> Compared<B> {
         let Some(shape) = edited else {
             return false;
         };
-        match self.offer(shape) {
+        match self.offer(salt, shape) {
             Some(Ok(_)) => true,
             Some(Err(OrderFault::NoRoom)) => {
-                self.make_room() && matches!(self.offer(shape), Some(Ok(_)))
+                self.make_room() && matches!(self.offer(salt, shape), Some(Ok(_)))
             }
             _ => false,
         }

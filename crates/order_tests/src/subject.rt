@@ -1,12 +1,14 @@
 //! What is tested: an order over what a keeper of a simulated device holds, with a board.
 ghost use Rattle.std.specs.Prelude.{◌≡◌, ◌+◌, ◌*◌, ◌<◌, ◌≤◌, ◌^◌, length, true, IfSome};
+ghost use Rattle.image_model.specs.Change.{IsCleared};
+ghost use Rattle.image_model.specs.Edit.{IsEdit, IsEditKind, count_of, edit_of, offset_of};
 
 use crate::commands::{Desk, byte_at, place_of, takes_put};
 use checkpoint::{Keeper, KeeperFault};
 use disk_model::{CallKind, SimDisk};
-use image_model::Geometry;
+use image_model::{Edit, Geometry, Kind, MOST_BLOCKS};
 use marks::{BlankBoard, BoardName, KeeperSeat, Opened, OrderSeat};
-use order_book::Order;
+use order_book::{Order, OrderFault};
 use std::alloc::Global;
 use std::marker::Brand;
 
@@ -116,6 +118,42 @@ impl Start {
     }
 }
 
+// Whether it puts no more bytes than one may, or doesn't zero them as data.
+fn is_kind(edit: &Edit) -> bool
+    ensures { result ≡ true → IsEditKind (edit_of edit.now) }
+{
+    match edit {
+        Edit::Put { bytes, .. } => bytes.len() <= 1_048_576,
+        Edit::Zeroes { length, kind, .. } => is_zeroed(*length, *kind),
+        Edit::Trim { length, .. } => is_zeroed(*length, Kind::Hole),
+    }
+}
+
+// Whether bytes may be zeroed to blocks of this state.
+fn is_zeroed(count: u32, kind: Kind) -> bool
+    ensures few { result ≡ true → count < 2 ^ 32 }
+    ensures kind { result ≡ true → IsCleared kind }
+{
+    match kind {
+        Kind::Data => false,
+        Kind::Zero | Kind::Hole => true,
+    }
+}
+
+// Whether an image of so many blocks, which are no more than the keeper has, takes the edit.
+fn is_edit(edit: &Edit, blocks: u64, kept: u64) -> bool
+    ensures edit { result ≡ true → IsEdit blocks (edit_of edit.now) }
+    ensures few { result ≡ true → blocks ≤ 16777216 }
+    ensures kept { result ≡ true → offset_of (edit_of edit.now) + count_of (edit_of edit.now) ≤ 4096 * kept }
+{
+    if blocks != kept || blocks > MOST_BLOCKS {
+        return false;
+    }
+    let bytes = 4096 * blocks;
+    let length = edit.length();
+    is_kind(edit) && 1 <= length && length <= bytes && edit.offset() <= bytes - length
+}
+
 // Whether these are the bytes that puts gave the blocks from the first one on.
 fn are_bytes(bytes: &[u8], first: u64) -> bool {
     let from = place_of(first);
@@ -216,6 +254,30 @@ impl<B: BoardName> Subject<B> {
     {
         let image = self.desk.order.blocks();
         image == self.keeper.geometry().blocks && blocks <= image && first <= image - blocks
+    }
+
+    // What the order says to an edit, and nothing to one that the image doesn't take. Where the device isn't needed every other
+    // edit goes without the keeper.
+    pub fn edit(&mut self, edit: Edit) -> Option<Result<u64, OrderFault>> {
+        if !is_edit(
+            &edit,
+            self.desk.order.blocks(),
+            self.keeper.geometry().blocks,
+        ) {
+            return None;
+        }
+        let desk = &mut self.desk;
+        let held = desk.order.mark() % 2 == 0 && !desk.order.needs_device(&edit);
+        let answer = if held {
+            desk.order.accept_held(&desk.board, &mut desk.pass, edit)
+        } else {
+            desk.order
+                .accept_edit(&mut self.keeper, &desk.board, &mut desk.pass, edit)
+        };
+        match answer {
+            Ok(number) => Some(Ok(number)),
+            Err((fault, _edit)) => Some(Err(fault)),
+        }
     }
 
     // What a read of blocks gives; nothing where they lie outside the image.

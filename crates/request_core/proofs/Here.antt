@@ -4,6 +4,7 @@ use Rattle.std.proofs.Common.{◌≡◌, ◌<◌, inl, inr, ℕ, Bool, false, na
 use Rattle.std.proofs.lemmas.Bool.Decides.{nat_tests}
 use Rattle.device_image.specs.Keeper.{KeeperState}
 use Rattle.disk_model.specs.Disk.{State}
+use Rattle.image_model.specs.Image.{Image}
 use Rattle.image_model.specs.declared.geometry.Geometry.{Geometry}
 use Rattle.group_list.specs.Reading.{IsOnlyRead}
 use Rattle.marks.specs.Known.{PassState, known}
@@ -34,11 +35,10 @@ read_leaves (Err errno) request geometry kept old new result kind served = serve
 module _ {D : Type 0} (state : D → State) (faults : D → ℕ) (honest : D → Type 0) (keeper : KeeperState D) (still : honest keeper.disk → IsOnlyRead (state keeper.disk) (state keeper.disk)) where
   held_read : (head : RequestHead) (order : OrderState) (result : Served) → IsHeldRead head order result → IsRead state faults honest head order order keeper keeper result
   held_read head order result read = record {
-    aligned = read.aligned;
     image = read.image;
     kinds = read.kinds;
     in_memory = read.in_memory;
-    from_base = λ sure base front last holds j k below inside none. absurd (read.there j below none);
+    from_base = λ sure base front last holds k below none. absurd (read.there k below none);
     own = λ sure base given front last holds shows clean. read.own given shows;
     shows = λ sure base given front last holds shows clean. shows;
     answer = read.answer;
@@ -59,7 +59,7 @@ module _ {D : Type 0} (state : D → State) (faults : D → ℕ) (honest : D →
   served_here (Ok End) request geometry kept old new result served = absurd served
   served_here (Ok Serve) request geometry kept old new result (inl passed) = inl (refl, passed)
   served_here (Ok Serve) request geometry kept old new result (inr read) =
-      inr (read.0, read.1, subst (λ (o : OrderState). IsReadServed state faults honest request.head old o keeper keeper result) (sym read.2) (held_served request.head old result read.3))
+      inr (inl (read.0, read.1, subst (λ (o : OrderState). IsReadServed state faults honest request.head old o keeper keeper result) (sym read.2) (held_served request.head old result read.3)))
   served_here (Err errno) request geometry kept old new result served = (refl, served.0, served.1)
 
   -- a READ changes no number, and its pass knows what it knew
@@ -68,7 +68,7 @@ module _ {D : Type 0} (state : D → State) (faults : D → ℕ) (honest : D →
     answered before after cookie given same is =
         subst (λ (r : Served). IsPassServed request before after r pass pass) (sym is)
         (let none : nat_lt before after ≡ false = grind (arith, nat_tests, same) in
-        subst (λ (b : Bool). MatchBool b ((known pass < after) × (pass ≡ accepted_for request after pass)) (pass ≡ pass)) (sym none) refl)
+        subst (λ (b : Bool). MatchBool b ((known pass < after) × (image : Image) × (pass ≡ accepted_for request image after pass)) (pass ≡ pass)) (sym none) refl)
 
     pub read_passes : (head : RequestHead) (old new : OrderState) (next : KeeperState D) → IsReadServed state faults honest head old new keeper next result → IsPassServed request old.mark new.mark result pass pass
     read_passes head old new next (inl none) = answered old.mark new.mark head.cookie _ (ap (λ (o : OrderState). o.mark) none.0) none.2

@@ -6,6 +6,7 @@ mod Fresh
 mod Here
 mod InMemory
 mod Lifted
+mod Olds
 mod Performed
 mod Runs
 mod Serves
@@ -15,4 +16,5 @@ mod Talks
 mod Times
 mod Turns
 mod Opened
+mod Owned
 mod Passes

@@ -2,28 +2,28 @@
 use Rattle.std.proofs.Common.{◌≡◌, ◌⊎◌, inl, inr, ℕ, ◌+◌, ◌<◌, ◌==◌, Bool, true, false, if◌then◌else◌, Option, List, [], ◌∷◌, ◌++◌, length, sym, ◌∙◌, ap, subst, refl, arith}
 use Rattle.std.proofs.lemmas.Bool.{cases_Bool, eq-eqb, ne_eqb}
 use Rattle.alloc_map.specs.Codes.{state_at}
-use Rattle.image_model.specs.Change.{Change, IsChange, change_of}
+use Rattle.image_model.specs.Change.{Change, IsChange}
+use Rattle.image_model.specs.Edit.{becomes}
 use Rattle.image_model.specs.Image.{Image, apply, apply_all}
 use Rattle.order_book.specs.Shown.{ShowsImage}
 use Rattle.request_core.specs.laws.Lives.{apply_append}
 use Rattle.std.proofs.lemmas.List.{take_all}
-use Rattle.image_model.specs.declared.command.Command.{Command}
 use Rattle.group_list.specs.Group.{Numbered}
 use Rattle.nbd_wire.specs.Request.{Message}
 use Rattle.nbd_wire.specs.declared.error.Errno.{Errno}
 use Rattle.nbd_wire.specs.declared.error.Errno.TheVariants as errno
 use Rattle.nbd_wire.specs.declared.error.Errno.TheVariants.{Io}
 use Rattle.nbd_wire.specs.declared.message.Answer.TheVariants.{Refused}
-use Rattle.order_book.specs.Order.{OrderState}
+use Rattle.order_book.specs.Order.{OrderState, has_room_for}
 use Rattle.request_core.specs.Parts.{IsOrderOf, Shows}
-use Rattle.request_core.specs.Serving.{IsCommandServed, IsServed, IsWriteServed, event_for, ready_for, state_of}
+use Rattle.request_core.specs.Serving.{IsMore, IsServed, IsWriteServed, event_for, ready_for, served_after, state_of}
 use Rattle.request_core.specs.Outcomes.{IsPassed}
 use Rattle.request_core.specs.Reading.{IsStatusServed}
 use Rattle.request_core.specs.declared.serving.Served.{Served}
 use Rattle.request_core.specs.declared.serving.Served.TheVariants as served
 use Rattle.request_core.proofs.Serves.{grown_same, if_false, if_true, served_accepted, served_held, served_moved, served_numbered, served_quiet, write_accepted, write_full, write_held}
-use Rattle.world.specs.Log.{command_of, is_flush, waits_for_store}
-use Rattle.world.specs.Serve.{Failure, Misread, Nothing, OutOfMemory, accepted, held, image_shown, logged, moved, passed, ready, shown, status_served, write_served}
+use Rattle.world.specs.Log.{edit_asked, is_flush, waits_for_store}
+use Rattle.world.specs.Serve.{Failure, Misread, Nothing, OutOfMemory, accepted, held, image_shown, logged, moved, numbered as got_number, passed, ready, shown, status_served, write_served}
 use Rattle.world.specs.Shown.{shown_by}
 use Rattle.world.specs.World.{World, image_after, last_number}
 use Rattle.world.specs.declared.connection.Connection.TheVariants.{Requested, Waiting, Ready}
@@ -55,40 +55,81 @@ module _ (world : World) (c : ℕ) (request : Message) (old : OrderState) (group
     still same,
   )
 
-  -- the image after a command more
-  image_more : (command : Command) → change_of command ≡ command_of request
-      → apply (change_of command) (image_after world.stage.order (length world.stage.order) world.stage.setting.image)
-      ≡ image_after (world.stage.order ++ command_of request ∷ []) (length (world.stage.order ++ command_of request ∷ [])) world.stage.setting.image
-  image_more command own =
+  -- the image after a change more
+  image_more : (given : Change) → apply given (image_after world.stage.order (length world.stage.order) world.stage.setting.image)
+      ≡ image_after (world.stage.order ++ given ∷ []) (length (world.stage.order ++ given ∷ [])) world.stage.setting.image
+  image_more given =
       let order = world.stage.order in
       let image = world.stage.setting.image in
-      ap (λ (change : Change). apply change (image_after order (length order) image)) own
-      ∙ ap (λ (l : List Change). apply (command_of request) (apply_all l image)) (take_all (length order) order (omega arith))
-      ∙ sym (ap (λ (l : List Change). apply_all l image) (take_all (length (order ++ command_of request ∷ [])) (order ++ command_of request ∷ []) (omega arith)) ∙ apply_append order (command_of request ∷ []) image)
+      ap (λ (l : List Change). apply given (apply_all l image)) (take_all (length order) order (omega arith))
+      ∙ sym (ap (λ (l : List Change). apply_all l image) (take_all (length (order ++ given ∷ [])) (order ++ given ∷ []) (omega arith)) ∙ apply_append order (given ∷ []) image)
 
-  command_served : (command : Command) → change_of command ≡ command_of request → IsChange world.stage.setting.geometry.blocks (command_of request) → old.mark < 18446744073709551615
-      → IsCommandServed request world.stage.setting.mode command old new result → (failure : Failure) × Comes (write_served failure world c request (command_of request))
-  command_served command own change left (inl (none, same, is)) = (
-    Nothing,
-    write_held world c request old group of Nothing Comes command left own none
-        (served_quiet world c request old group of (held world) result (served.NoRoom request) new same is (served_held world c request old group of here), still same),
-  )
-  command_served command own change left (inr (inl (room, same, is))) = (
-    OutOfMemory,
-    write_accepted world c request old group of OutOfMemory Comes command left own room (refused_so errno.NoMemory same is),
-  )
-  command_served command own change left (inr (inr (room, same, is, shows))) = (
-    Nothing,
-    write_accepted world c request old group of Nothing Comes command left own room (
-      served_numbered world c request old group of (accepted Nothing world c request (command_of request)) result (waits_for_store world.stage.setting.mode request) request.head.cookie (old.mark + 1) command new same refl is
-          (served_accepted world c request old group of command (old.mark + 1) within left own change refl (ap (λ (o : OrderState). length o.cache.states) (sym same) ∙ kept)),
-      λ shown. subst (λ (i : Image). ShowsImage i new.cache) (image_more command own) (shows (image_after world.stage.order (length world.stage.order) world.stage.setting.image) shown),
-    ),
-  )
+  -- a write over the image that a step shows, over which the edit becomes this change
+  module _ (failure : Failure) (image : Image) (given : Change) (is_given : becomes (edit_asked request) image ≡ given) (left : old.mark < 18446744073709551615) where
+    room_is : (room : Bool) → has_room_for old given ≡ room → has_room_for old (becomes (edit_asked request) image) ≡ room
+    room_is room is = ap (has_room_for old) is_given ∙ is
 
-  written : IsWriteServed request world.stage.setting.geometry world.stage.setting.mode old new result → (failure : Failure) × Comes (write_served failure world c request (command_of request))
-  written (inl (full, same, is)) = (Nothing, write_full world c request old group of Nothing Comes full (refused_so errno.NoSpace same is))
-  written (inr (command, own, change, left, by)) = command_served command own change left by
+    change_held : has_room_for old given ≡ false → new ≡ old → result ≡ served.NoRoom request → Comes (write_served failure image world c request)
+    change_held none same is = write_held world c request old group of failure image Comes left (room_is false none)
+        (served_quiet world c request old group of (held world) result (served.NoRoom request) new same is (served_held world c request old group of here), still same)
+
+    change_refused : accepted failure image world c request ≡ ready world c (Refused errno.NoMemory) → has_room_for old given ≡ true
+        → new ≡ old → result ≡ ready_for request.head.cookie (Refused errno.NoMemory) → Comes (write_served failure image world c request)
+    change_refused refuses room same is =
+        write_accepted world c request old group of failure image Comes left (room_is true room) (subst Comes (sym refuses) (refused_so errno.NoMemory same is))
+
+    change_taken : IsChange world.stage.setting.geometry.blocks given → accepted failure image world c request ≡ got_number world c request (becomes (edit_asked request) image)
+        → has_room_for old given ≡ true → IsMore given old new → result ≡ served_after (waits_for_store world.stage.setting.mode request) request.head.cookie (old.mark + 1)
+        → ((seen : Image) → ShowsImage seen old.cache → ShowsImage (apply given seen) new.cache) → Comes (write_served failure image world c request)
+    change_taken change accepts room (command, own, same) is shows =
+        write_accepted world c request old group of failure image Comes left (room_is true room)
+        (subst Comes (sym (accepts ∙ ap (got_number world c request) is_given)) (
+          served_numbered world c request old group of (got_number world c request given) result (waits_for_store world.stage.setting.mode request) request.head.cookie (old.mark + 1) command new same refl is
+              (served_accepted world c request old group of given command (old.mark + 1) within left own change refl (ap (λ (o : OrderState). length o.cache.states) (sym same) ∙ kept)),
+          λ shown. subst (λ (i : Image). ShowsImage i new.cache) (image_more given) (shows (image_after world.stage.order (length world.stage.order) world.stage.setting.image) shown),
+        ))
+
+  -- the image after all of the order, and a failure with which a step shows an image over which the edit becomes the same
+  abbrev after : Image
+  after = image_after world.stage.order (length world.stage.order) world.stage.setting.image
+
+  -- for an image of which this holds, as for the order's own
+  pub record Chosen (fails : Failure) (P : Image → Type 0) : Type 0 where
+    pub failure : Failure
+    pub shown : P (image_shown failure world.stage)
+    pub accepts : (image : Image) → accepted failure image world c request ≡ accepted fails image world c request
+
+  -- it comes to what the order's image gives, where the device is trusted, and else to what memory shows
+  module _ (own : Image → Type 0) (sure : world.stage.setting.trusted ≡ true → own (image_after world.stage.order (length world.stage.order) world.stage.setting.image)) where
+    pub chosen : (P : Image → Type 0) (image : Image) → P image → ((given : Image) → own given → P given)
+        → (fails : Failure) → image_shown fails world.stage ≡ after → Chosen fails P
+    chosen P image holds all fails shown = by_trust (cases_Bool world.stage.setting.trusted)
+      where
+        by_trust : (world.stage.setting.trusted ≡ true) ⊎ (world.stage.setting.trusted ≡ false) → Chosen fails P
+        by_trust (inl trusted) = record { failure = fails; shown = subst P (sym shown) (all after (sure trusted)); accepts = λ i. refl }
+        by_trust (inr other) = record {
+          failure = Misread fails image;
+          shown = subst P (sym (ap (λ (b : Bool). if b then after else image) other)) holds;
+          accepts = λ i. refl;
+        }
+
+    pub written : IsWriteServed request world.stage.setting.geometry world.stage.setting.mode own old new result
+        → (failure : Failure) × Comes (write_served failure (image_shown failure world.stage) world c request)
+    written (inl (full, same, is)) = (Nothing, write_full world c request old group of Nothing (image_shown Nothing world.stage) Comes full (refused_so errno.NoSpace same is))
+    written (inr (left, image, inl (room, same, is))) =
+        let with = chosen (λ i. has_room_for old (becomes (edit_asked request) i) ≡ false) image room.0 room.1 Nothing refl in
+        (with.failure, change_held with.failure (image_shown with.failure world.stage) _ refl left with.shown same is)
+    written (inr (left, image, inr (inl (room, same, is)))) =
+        let with = chosen (λ i. has_room_for old (becomes (edit_asked request) i) ≡ true) image room.0 room.1 OutOfMemory refl in (
+          with.failure,
+          change_refused with.failure (image_shown with.failure world.stage) _ refl left (with.accepts (image_shown with.failure world.stage)) with.shown same is,
+        )
+    written (inr (left, image, inr (inr (taken, is)))) =
+        let with = chosen (λ i. becomes (edit_asked request) i ≡ becomes (edit_asked request) image) image refl (λ given is_own. sym (taken.same given is_own)) Nothing refl in (
+          with.failure,
+          change_taken with.failure (image_shown with.failure world.stage) (becomes (edit_asked request) image) with.shown left taken.takes
+              (with.accepts (image_shown with.failure world.stage)) taken.room taken.more is taken.shows,
+        )
 
   -- a BLOCK_STATUS is answered with what the image shows, or where the device isn't trusted another one with these states
   status_shown : (failure : Failure) (image : Image) → image_shown failure world.stage ≡ image → new ≡ old → result ≡ ready_for request.head.cookie (shown_by image request.head)
@@ -113,9 +154,9 @@ module _ (world : World) (c : ℕ) (request : Message) (old : OrderState) (group
         status_shown Nothing (image_after world.stage.order (length world.stage.order) world.stage.setting.image) refl same
             (is (image_after world.stage.order (length world.stage.order) world.stage.setting.image) (λ block. sym ((sure trusted).states block))),
       )
-      by_trust (inr other) = (Misread own, status_shown (Misread own) own (misread other) same (is own (λ block. refl)))
+      by_trust (inr other) = (Misread Nothing own, status_shown (Misread Nothing own) own (misread other) same (is own (λ block. refl)))
         where
-          misread : world.stage.setting.trusted ≡ false → image_shown (Misread own) world.stage ≡ own
+          misread : world.stage.setting.trusted ≡ false → image_shown (Misread Nothing own) world.stage ≡ own
           misread untrusted = ap (λ (b : Bool). if b then image_after world.stage.order (length world.stage.order) world.stage.setting.image else own) untrusted
 
   module _ (sure : world.stage.setting.trusted ≡ true → Shows world.stage old) where
@@ -134,7 +175,7 @@ module _ (world : World) (c : ℕ) (request : Message) (old : OrderState) (group
               (if_true Comes (request.head.kind == 7) _ _ (eq-eqb request.head.kind 7 kind) told.1))),
         )
     passes (inr (inr (inr (works, other, no_read, no_status, by)))) =
-        let wrote = written by in (
+        let wrote = written (λ image. ShowsImage image old.cache) sure by in (
           wrote.0,
           if_false Comes world.stage.stopped _ _ (sym of.stopped ∙ works)
               (if_false Comes (is_flush request) _ _ other

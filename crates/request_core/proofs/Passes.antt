@@ -20,7 +20,7 @@ module _ (request : Message) (number : ℕ) (result : Served) (pass : PassState)
   pass_answered : (cookie : ℕ) (given : Answer) → result ≡ ready_for cookie given → IsPassServed request number number result pass pass
   pass_answered cookie given is =
       subst (λ (r : Served). IsPassServed request number number r pass pass) (sym is)
-      (subst (λ (b : Bool). MatchBool b ((known pass < number) × (pass ≡ accepted_for request number pass)) (pass ≡ pass)) (sym (is_same number)) refl)
+      (subst (λ (b : Bool). MatchBool b ((known pass < number) × (image : Image) × (pass ≡ accepted_for request image number pass)) (pass ≡ pass)) (sym (is_same number)) refl)
 
   -- it changes no number, and its pass knows what it knew
   pub status_passes : (head : RequestHead) (order : OrderState) → IsStatusServed head order result → IsPassServed request number number result pass pass

@@ -27,7 +27,7 @@ of_either : {X : Type 0} (P : X → Type 0) (test : Bool) (x y : X) → P x → 
 of_either P true x y here there = here
 of_either P false x y here there = there
 
-keeper_grows : {D : Type 0} (stage : Stage) (commands : List Change) (keeper : KeeperState D) (failures : ℕ) → IsOrdered stage → AreChanges stage.setting.geometry.blocks commands
+pub keeper_grows : {D : Type 0} (stage : Stage) (commands : List Change) (keeper : KeeperState D) (failures : ℕ) → IsOrdered stage → AreChanges stage.setting.geometry.blocks commands
     → IsKeeperOf stage keeper failures → IsKeeperOf (with_commands stage commands) keeper failures
 keeper_grows stage commands keeper failures is takes of = record {
   geometry = of.geometry;
@@ -88,7 +88,7 @@ module _ {D : Type 0} (extent : ℕ) (honest : Type 0) (state : State) (sound : 
       by_failure OutOfMemory = disk
       by_failure Nothing = numbers_here _ _ disk
       by_failure DeviceFailure = numbers_here _ _ disk
-      by_failure (Misread image) = numbers_here _ _ disk
+      by_failure (Misread given image) = numbers_here _ _ disk
 
   pub disk_publishes : IsDiskOf world.stage keeper state → IsDiskOf (publish world).stage keeper state
   disk_publishes disk = of_either (λ (next : World). IsDiskOf next.stage keeper state) (nat_lt world.stage.durable world.stage.stored) _ _ (numbers_here _ _ disk) disk

@@ -19,7 +19,7 @@ use Rattle.world.specs.declared.connection.Connection.TheVariants.{Idle}
 use Rattle.world.specs.declared.step.Step.{Step}
 use Rattle.world.specs.declared.step.Step.TheVariants.{Send}
 use Rattle.world.specs.Covered.{Covers}
-use Rattle.world.specs.Fits.{ReadsFit}
+use Rattle.world.specs.Fits.{EditsFit, ReadsFit}
 use Rattle.world.specs.Log.{IsLegal}
 use Rattle.world.specs.Run.{IsReached, IsRun, After}
 use Rattle.world.specs.Serve.{Failure, Nothing}
@@ -159,11 +159,13 @@ pub rehearsed : {D : Type 0} (world next : World) (done : List Step) (order : Or
     → Leads world next done order keeper failures bench.connections honest before after → bench.log ≡ next.log → (honest → IsSound extent after) → Grows world next → IsWithin next
     → Covers world world.stage.durable → Covers next next.stage.durable → IsLegal next.log next.stage.order next.paired
     → (next.stage.setting.trusted ≡ true → ReadsFit next.log next.stage.order next.paired next.shown next.stage.setting.image)
+    → (next.stage.setting.trusted ≡ true → EditsFit next.log next.stage.order next.paired next.stage.setting.image)
     → IsRehearsed world next done order keeper failures bench honest before after
-rehearsed world next done order keeper failures bench extent honest before after leads log sound grows within covers covers_now legal fits = record {
+rehearsed world next done order keeper failures bench extent honest before after leads log sound grows within covers covers_now legal fits edits = record {
   run = leads.run;
   of_world = record { of_export = leads.of_export; log = log };
   legal = subst (λ (l : List Event). IsLegal l next.stage.order next.paired) (sym log) legal;
   fits = λ trusted. subst (λ (l : List Event). ReadsFit l next.stage.order next.paired next.shown next.stage.setting.image) (sym log) (fits trusted);
+  edits = λ trusted. subst (λ (l : List Event). EditsFit l next.stage.order next.paired next.stage.setting.image) (sym log) (edits trusted);
   durable = λ is_honest. durable_at_end world next done order keeper failures bench.connections extent honest before after leads is_honest (sound is_honest) grows within covers covers_now;
 }

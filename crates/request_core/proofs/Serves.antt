@@ -1,19 +1,20 @@
 -- what serving a connection makes of the world
-use Rattle.std.proofs.Common.{◌≡◌, ◌⊎◌, inl, inr, ℕ, ◌+◌, ◌/◌, ◌<◌, ◌<◌, ◌==◌, ◌&&◌, ◌↔◌, Bool, true, false, if◌then◌else◌, Option, None, List, [], ◌∷◌, append-nil, length, bit_and, sym, ◌∙◌, ap, subst, refl, arith}
-use Rattle.std.proofs.lemmas.Bool.{cases_eq, cases_Bool, eq-eqb, le-ltb, lt-ltb, ne_eqb}
+use Rattle.std.proofs.Common.{◌≡◌, ◌⊎◌, inl, inr, ℕ, ◌+◌, ◌<◌, ◌<◌, ◌==◌, ◌&&◌, ◌↔◌, Bool, true, false, nat_le, if◌then◌else◌, Option, None, List, [], ◌∷◌, append-nil, length, bit_and, sym, ◌∙◌, ap, subst, refl, arith}
+use Rattle.std.proofs.lemmas.Bool.{both_ways, cases_eq, cases_Bool, eq-eqb, le-leb, le-ltb, lt-ltb, ne_eqb}
 use Rattle.image_model.specs.declared.command.Command.{Command}
 use Rattle.image_model.specs.declared.geometry.Geometry.{Geometry}
 use Rattle.nbd_wire.specs.declared.head.RequestHead.{RequestHead}
 use Rattle.world.specs.declared.step.Mode.{Mode}
 use Rattle.world.specs.declared.step.Mode.TheVariants.{Writeback, Writethrough}
 use Rattle.world.specs.Verdict.{IsServedRange}
-use Rattle.image_model.specs.Change.{Change, Cleared, IsChange, IsCleared, Written, change_of}
+use Rattle.image_model.specs.Change.{Change, IsChange, IsCleared, change_of}
+use Rattle.image_model.specs.Edit.{BytesPut, BytesTrimmed, BytesZeroed, IsEdit, becomes}
+use Rattle.image_model.specs.Image.{Image}
 use Rattle.image_model.specs.declared.command.Kind.TheVariants.{Zero, Hole}
 use Rattle.group_list.specs.Group.{Numbered}
-use Rattle.nbd_wire.specs.Request.{Message}
+use Rattle.nbd_wire.specs.Request.{Message, data_len, handed_len, payload_limit}
 use Rattle.nbd_wire.specs.declared.error.Errno.TheVariants.{NoSpace}
-use Rattle.order_book.specs.Order.{OrderState, with_command}
-use Rattle.order_book.specs.Order as book
+use Rattle.order_book.specs.Order.{OrderState, has_room_for, with_command}
 use Rattle.request_core.specs.Parts.{IsOrderOf}
 use Rattle.request_core.specs.Serving.{IsGrown, IsServed, event_for, quiet_event, request_in, served_after, state_of}
 use Rattle.request_core.specs.declared.serving.Served.{Served}
@@ -23,8 +24,8 @@ use Rattle.world.specs.declared.connection.Connection.TheVariants.{Idle, Request
 use Rattle.world.specs.declared.event.Event.{Event}
 use Rattle.world.specs.declared.event.Event.TheVariants.{Numbered as numbered, Held}
 use Rattle.nbd_wire.specs.declared.message.Answer.TheVariants.{Refused}
-use Rattle.world.specs.Log.{cleared_as, command_of, waits_for_store}
-use Rattle.world.specs.Serve.{Failure, Nothing, logged, held, moved, ready, accepted, write_served, state_after}
+use Rattle.world.specs.Log.{cleared_as, edit_asked, is_write_type, waits_for_store}
+use Rattle.world.specs.Serve.{Failure, logged, held, moved, ready, accepted, numbered as got_number, write_served, state_after}
 use Rattle.world.specs.World.{World, put, last_number, has_room, Stage}
 use Rattle.world_law.specs.Law.{IsWithin}
 use Rattle.world_law.specs.laws.Within.{rising_through}
@@ -55,20 +56,20 @@ module _ (world : World) (c : ℕ) (request : Message) (order : OrderState) (gro
   served_held is = record { connections = put_as_is world.connections c (Requested request) is; log = refl; grown = grown_same world.stage; of_order = of }
 
   -- a command that got its number
-  pub served_accepted : (command : Command) (number : ℕ) → IsWithin world → order.mark < 18446744073709551615 → change_of command ≡ command_of request
-      → IsChange world.stage.setting.geometry.blocks (command_of request) → number ≡ order.mark + 1
+  pub served_accepted : (given : Change) (command : Command) (number : ℕ) → IsWithin world → order.mark < 18446744073709551615 → change_of command ≡ given
+      → IsChange world.stage.setting.geometry.blocks given → number ≡ order.mark + 1
       → length (with_command order command).cache.states ≡ length order.cache.states
-      → IsServed world (accepted Nothing world c request (command_of request)) c (state_after (waits_for_store world.stage.setting.mode request) number) (numbered c number) (with_command order command) group
-  served_accepted command number within left own change is kept = subst
-      (λ (n : ℕ). IsServed world (accepted Nothing world c request (command_of request)) c (state_after (waits_for_store world.stage.setting.mode request) n) (numbered c n) (with_command order command) group)
+      → IsServed world (got_number world c request given) c (state_after (waits_for_store world.stage.setting.mode request) number) (numbered c number) (with_command order command) group
+  served_accepted given command number within left own change is kept = subst
+      (λ (n : ℕ). IsServed world (got_number world c request given) c (state_after (waits_for_store world.stage.setting.mode request) n) (numbered c n) (with_command order command) group)
       (sym (is ∙ ap (λ (n : ℕ). n + 1) of.mark))
       (record {
         connections = λ d. refl;
         log = refl;
-        grown = record { commands = command_of request ∷ []; is = refl; takes = (change, tt) };
+        grown = record { commands = given ∷ []; is = refl; takes = (change, tt) };
         of_order = let durable = within.durable in let stored = within.stored in let sealed = within.sealed in let cleaned = within.cleaned in
             let base = rising_through world.stage.base world.stage.turned world.stage.stored within.rising in
-            order_accepts world.stage order group of command (command_of request) own (omega (arith, stored, sealed)) (omega (arith, durable, stored, sealed))
+            order_accepts world.stage order group of command given own (omega (arith, stored, sealed)) (omega (arith, durable, stored, sealed))
             (omega (arith, cleaned, base, stored, sealed)) left kept;
       })
 
@@ -103,31 +104,31 @@ module _ (world : World) (c : ℕ) (request : Message) (order : OrderState) (gro
       state_after_same true cookie number = refl
       state_after_same false cookie number = refl
 
-  room_same : (command : Command) → change_of command ≡ command_of request → has_room world (command_of request) ≡ book.has_room order command
-  room_same command own = ap (has_room world) (sym own) ∙ sym (room_of world.stage order group of command)
+  room_same : (given : Change) → has_room world given ≡ has_room_for order given
+  room_same given = sym (room_of world.stage order group of given)
 
   -- which way a write command goes
-  pub write_full : (failure : Failure) (P : World → Type 0) → order.mark ≡ 18446744073709551615 → P (ready world c (Refused NoSpace)) → P (write_served failure world c request (command_of request))
-  write_full failure P full here = let mark = of.mark in
+  pub write_full : (failure : Failure) (image : Image) (P : World → Type 0) → order.mark ≡ 18446744073709551615 → P (ready world c (Refused NoSpace)) → P (write_served failure image world c request)
+  write_full failure image P full here = let mark = of.mark in
       if_true P (last_number world == 18446744073709551615) _ _ (eq-eqb (last_number world) 18446744073709551615 (omega (arith, mark, full))) here
 
-  pub write_held : (failure : Failure) (P : World → Type 0) (command : Command) → order.mark < 18446744073709551615 → change_of command ≡ command_of request
-      → book.has_room order command ≡ false → P (held world) → P (write_served failure world c request (command_of request))
-  write_held failure P command left own none here = let mark = of.mark in
+  pub write_held : (failure : Failure) (image : Image) (P : World → Type 0) → order.mark < 18446744073709551615
+      → has_room_for order (becomes (edit_asked request) image) ≡ false → P (held world) → P (write_served failure image world c request)
+  write_held failure image P left none here = let mark = of.mark in
       if_false P (last_number world == 18446744073709551615) _ _ (ne_eqb (last_number world) 18446744073709551615 (λ full. omega (arith, mark, full, left)))
-      (if_false P (has_room world (command_of request)) _ _ (room_same command own ∙ none) here)
+      (if_false P (has_room world (becomes (edit_asked request) image)) _ _ (room_same (becomes (edit_asked request) image) ∙ none) here)
 
-  pub write_accepted : (failure : Failure) (P : World → Type 0) (command : Command) → order.mark < 18446744073709551615 → change_of command ≡ command_of request
-      → book.has_room order command ≡ true → P (accepted failure world c request (command_of request)) → P (write_served failure world c request (command_of request))
-  write_accepted failure P command left own room here = let mark = of.mark in
+  pub write_accepted : (failure : Failure) (image : Image) (P : World → Type 0) → order.mark < 18446744073709551615
+      → has_room_for order (becomes (edit_asked request) image) ≡ true → P (accepted failure image world c request) → P (write_served failure image world c request)
+  write_accepted failure image P left room here = let mark = of.mark in
       if_false P (last_number world == 18446744073709551615) _ _ (ne_eqb (last_number world) 18446744073709551615 (λ full. omega (arith, mark, full, left)))
-      (if_true P (has_room world (command_of request)) _ _ (room_same command own ∙ room) here)
+      (if_true P (has_room world (becomes (edit_asked request) image)) _ _ (room_same (becomes (edit_asked request) image) ∙ room) here)
 
 -- where neither numbers nor room are wanting
-pub some_left : {F N : Type 0} (order : OrderState) (command : Command) → (F ↔ ((order.stopped ≡ false) × (order.mark ≡ 18446744073709551615)))
-    → (N ↔ ((order.stopped ≡ false) × (order.mark < 18446744073709551615) × (book.has_room order command ≡ false))) → (F → ⊥) → (N → ⊥)
-    → order.stopped ≡ false → order.mark < 18446744073709551616 → (order.mark < 18446744073709551615) × (book.has_room order command ≡ true)
-some_left order command full none no_full no_none works below = (left, by_room (cases_Bool (book.has_room order command)))
+pub some_left : {F N : Type 0} (order : OrderState) (given : Change) → (F ↔ ((order.stopped ≡ false) × (order.mark ≡ 18446744073709551615)))
+    → (N ↔ ((order.stopped ≡ false) × (order.mark < 18446744073709551615) × (has_room_for order given ≡ false))) → (F → ⊥) → (N → ⊥)
+    → order.stopped ≡ false → order.mark < 18446744073709551616 → (order.mark < 18446744073709551615) × (has_room_for order given ≡ true)
+some_left order given full none no_full no_none works below = (left, by_room (cases_Bool (has_room_for order given)))
   where
     left : order.mark < 18446744073709551615
     left = by_mark (cases_eq order.mark 18446744073709551615)
@@ -136,7 +137,7 @@ some_left order command full none no_full no_none works below = (left, by_room (
         by_mark (inl is) = absurd (no_full (full.1 (works, is)))
         by_mark (inr other) = omega (arith, other, below)
 
-    by_room : (book.has_room order command ≡ true) ⊎ (book.has_room order command ≡ false) → book.has_room order command ≡ true
+    by_room : (has_room_for order given ≡ true) ⊎ (has_room_for order given ≡ false) → has_room_for order given ≡ true
     by_room (inl room) = room
     by_room (inr is) = absurd (no_none (none.1 (works, left, is)))
 
@@ -146,19 +147,24 @@ pub waits_same : (mode : Mode) (head : RequestHead) (request : Message) → head
 waits_same Writethrough head request is = refl
 waits_same Writeback head request is = ap (λ (h : RequestHead). bit_and h.flags 1 == 1) is
 
--- the command of a WRITE, and one that the image takes where it passes judgement
-pub put_command : (request : Message) → request.head.kind ≡ 1 → command_of request ≡ Written (request.head.offset / 4096) request.bytes
-put_command request is = ap (λ (b : Bool). if b then Written (request.head.offset / 4096) request.bytes else Cleared (request.head.offset / 4096) (request.head.length / 4096) (cleared_as request.head)) (eq-eqb request.head.kind 1 is)
+-- the edit of each write request, and that an image takes it where the request passes judgement
+pub put_edit : (request : Message) → request.head.kind ≡ 1 → edit_asked request ≡ BytesPut request.head.offset request.bytes
+put_edit request is = ap (λ (b : Bool). if b then BytesPut request.head.offset request.bytes
+    else (if request.head.kind == 6 then BytesZeroed request.head.offset request.head.length (cleared_as request.head) else BytesTrimmed request.head.offset request.head.length)) (eq-eqb request.head.kind 1 is)
 
-pub put_change : (request : Message) (geometry : Geometry) → request.head.kind ≡ 1 → IsServedRange request.head geometry → length request.bytes ≡ request.head.length
-    → IsChange geometry.blocks (command_of request)
-put_change request geometry kind served whole =
-    let some = served.some in let most = served.most_written kind in let from_block = served.from_block in let whole_blocks = served.whole_blocks in let inside = served.inside in
-    subst (IsChange geometry.blocks) (sym (put_command request kind)) (request.head.length / 4096, omega arith, omega arith, omega arith, omega arith)
+pub zeroes_edit : (request : Message) → request.head.kind ≡ 6 → edit_asked request ≡ BytesZeroed request.head.offset request.head.length (cleared_as request.head)
+zeroes_edit request is =
+    ap (λ (b : Bool). if b then BytesPut request.head.offset request.bytes
+    else (if request.head.kind == 6 then BytesZeroed request.head.offset request.head.length (cleared_as request.head) else BytesTrimmed request.head.offset request.head.length))
+    (ne_eqb request.head.kind 1 (λ one. omega (arith, one, is)))
+    ∙ ap (λ (b : Bool). if b then BytesZeroed request.head.offset request.head.length (cleared_as request.head) else BytesTrimmed request.head.offset request.head.length) (eq-eqb request.head.kind 6 is)
 
--- that of a TRIM or a WRITE_ZEROES
-pub clear_command : (request : Message) → (request.head.kind ≡ 1 → ⊥) → command_of request ≡ Cleared (request.head.offset / 4096) (request.head.length / 4096) (cleared_as request.head)
-clear_command request other = ap (λ (b : Bool). if b then Written (request.head.offset / 4096) request.bytes else Cleared (request.head.offset / 4096) (request.head.length / 4096) (cleared_as request.head)) (ne_eqb request.head.kind 1 other)
+pub trim_edit : (request : Message) → (request.head.kind ≡ 1 → ⊥) → (request.head.kind ≡ 6 → ⊥) → edit_asked request ≡ BytesTrimmed request.head.offset request.head.length
+trim_edit request no_put no_zeroes =
+    ap (λ (b : Bool). if b then BytesPut request.head.offset request.bytes
+    else (if request.head.kind == 6 then BytesZeroed request.head.offset request.head.length (cleared_as request.head) else BytesTrimmed request.head.offset request.head.length))
+    (ne_eqb request.head.kind 1 no_put)
+    ∙ ap (λ (b : Bool). if b then BytesZeroed request.head.offset request.head.length (cleared_as request.head) else BytesTrimmed request.head.offset request.head.length) (ne_eqb request.head.kind 6 no_zeroes)
 
 cleared_kind : (head : RequestHead) → IsCleared (cleared_as head)
 cleared_kind head = by_test ((head.kind == 6) && (bit_and head.flags 2 == 2))
@@ -167,11 +173,34 @@ cleared_kind head = by_test ((head.kind == 6) && (bit_and head.flags 2 == 2))
     by_test true = tt
     by_test false = tt
 
-pub clear_change : (request : Message) (geometry : Geometry) → (request.head.kind ≡ 1 → ⊥) → IsServedRange request.head geometry → request.head.length < 4294967296
-    → IsChange geometry.blocks (command_of request)
-clear_change request geometry other served few =
-    let some = served.some in let from_block = served.from_block in let whole_blocks = served.whole_blocks in let inside = served.inside in
-    subst (IsChange geometry.blocks) (sym (clear_command request other)) (λ zero. omega arith, omega arith, omega (arith, few), cleared_kind request.head)
+pub put_takes : (request : Message) (geometry : Geometry) → request.head.kind ≡ 1 → IsServedRange request.head geometry → length request.bytes ≡ request.head.length
+    → IsEdit geometry.blocks (edit_asked request)
+put_takes request geometry kind served whole =
+    let some = served.some in let most = served.most_written kind in let inside = served.inside in
+    subst (IsEdit geometry.blocks) (sym (put_edit request kind)) (record { some = omega (arith, some, whole); inside = omega (arith, inside, whole); kind = omega (arith, most, whole) })
+
+pub clear_takes : (request : Message) (geometry : Geometry) → (request.head.kind ≡ 1 → ⊥) → IsServedRange request.head geometry → request.head.length < 4294967296
+    → IsEdit geometry.blocks (edit_asked request)
+clear_takes request geometry no_put served few = by_kind (cases_eq request.head.kind 6)
+  where
+    by_kind : (request.head.kind ≡ 6) ⊎ (request.head.kind ≡ 6 → ⊥) → IsEdit geometry.blocks (edit_asked request)
+    by_kind (inl is) = subst (IsEdit geometry.blocks) (sym (zeroes_edit request is)) (record { some = served.some; inside = served.inside; kind = (few, cleared_kind request.head) })
+    by_kind (inr other) = subst (IsEdit geometry.blocks) (sym (trim_edit request no_put other)) (record { some = served.some; inside = served.inside; kind = few })
+
+-- a write request asks for an edit that the image takes
+pub edit_takes : (request : Message) (geometry : Geometry) → IsServedRange request.head geometry → length request.bytes ≡ handed_len request.head → request.head.length < 4294967296
+    → IsEdit geometry.blocks (edit_asked request)
+edit_takes request geometry served handed few = by_kind (cases_eq request.head.kind 1)
+  where
+    whole : request.head.kind ≡ 1 → length request.bytes ≡ request.head.length
+    whole is =
+        let data_is : data_len request.head ≡ request.head.length = ap (λ (b : Bool). if b then request.head.length else 0) (eq-eqb request.head.kind 1 is) in
+        handed ∙ ap (λ (n : ℕ). if nat_le n payload_limit then n else 0) data_is
+        ∙ ap (λ (b : Bool). if b then request.head.length else 0) (le-leb request.head.length payload_limit (served.most_written is))
+
+    by_kind : (request.head.kind ≡ 1) ⊎ (request.head.kind ≡ 1 → ⊥) → IsEdit geometry.blocks (edit_asked request)
+    by_kind (inl is) = put_takes request geometry is served (whole is)
+    by_kind (inr other) = clear_takes request geometry other served few
 
 pub request_none : (state : Connection) → ((request : Message) → state ≡ Requested request → ⊥) → None ≡ request_in state
 request_none Idle other = refl
@@ -179,3 +208,10 @@ request_none (Requested request) other = absurd (other request refl)
 request_none (Waiting number) other = refl
 request_none (Ready outcome) other = refl
 request_none Closed other = refl
+
+-- a write request is none of the others
+pub write_others : (kind : ℕ) → is_write_type kind ≡ true → ((kind == 3) ≡ false) × ((kind == 0) ≡ false) × ((kind == 7) ≡ false)
+write_others kind write = (ne_eqb kind 3 (λ is. other 3 is refl), ne_eqb kind 0 (λ is. other 0 is refl), ne_eqb kind 7 (λ is. other 7 is refl))
+  where
+    other : (n : ℕ) → kind ≡ n → is_write_type n ≡ false → ⊥
+    other n is none = both_ways (is_write_type n) none (ap is_write_type (sym is) ∙ write)

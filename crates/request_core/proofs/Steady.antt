@@ -46,7 +46,7 @@ module _ (world : World) where
   steady_sent OutOfMemory c request = record { order = refl; setting = refl }
   steady_sent Nothing c request = record { order = refl; setting = refl }
   steady_sent DeviceFailure c request = record { order = refl; setting = refl }
-  steady_sent (Misread image) c request = record { order = refl; setting = refl }
+  steady_sent (Misread given image) c request = record { order = refl; setting = refl }
 
   pub steady_send : (failure : Failure) (c : ℕ) (request : Message) (state : Connection) → Steady (send failure world c request state)
   steady_send failure c request Idle = steady_sent failure c request
@@ -67,7 +67,7 @@ module _ (world : World) where
   steady_sealed OutOfMemory = record { order = refl; setting = refl }
   steady_sealed Nothing = record { order = refl; setting = refl }
   steady_sealed DeviceFailure = record { order = refl; setting = refl }
-  steady_sealed (Misread image) = record { order = refl; setting = refl }
+  steady_sealed (Misread given image) = record { order = refl; setting = refl }
 
   pub steady_seal : (failure : Failure) → Steady (seal failure world)
   steady_seal failure = of_either Steady (nat_lt world.stage.sealed (length world.stage.order) && (world.stage.sealed == world.stage.durable)) _ _ (λ pending. steady_sealed failure) (λ nothing. record { order = refl; setting = refl })
@@ -76,7 +76,7 @@ module _ (world : World) where
   steady_written Nothing stage is = record { order = is.order; setting = is.setting }
   steady_written OutOfMemory stage is = record { order = refl; setting = refl }
   steady_written DeviceFailure stage is = record { order = refl; setting = refl }
-  steady_written (Misread image) stage is = record { order = is.order; setting = is.setting }
+  steady_written (Misread given image) stage is = record { order = is.order; setting = is.setting }
 
   pub steady_append : (failure : Failure) → Steady (append failure world)
   steady_append failure = of_either Steady (nat_lt world.stage.stored world.stage.sealed) _ _

@@ -18,7 +18,7 @@ use Rattle.world.specs.declared.connection.Connection.TheVariants.{Idle}
 use Rattle.world.specs.declared.step.Step.{Step}
 use Rattle.world.specs.declared.step.Step.TheVariants.{Send}
 use Rattle.world.specs.Covered.{Covers}
-use Rattle.world.specs.Fits.{ReadsFit}
+use Rattle.world.specs.Fits.{EditsFit, ReadsFit}
 use Rattle.world.specs.Log.{IsLegal}
 use Rattle.world.specs.Run.{IsReached, IsRun}
 use Rattle.world.specs.Serve.{Failure, Nothing}
@@ -80,13 +80,14 @@ pub record IsDurable (world next : World) (before after : State) : Type 0 where
 
 -- The steps that are done lead from one world to the next, of which the parts are; the log of the bench is legal, and what
 -- it covers is not lost where the device is honest. Where the world trusts the device, each answer to a READ and a BLOCK_STATUS
--- shows the image after some first commands.
+-- shows the image after some first commands, and each command is what its request's edit becomes over the image after those before it.
 pub record IsRehearsed {D : Type 0} (world next : World) (done : List Step) (order : OrderState) (keeper : KeeperState D) (failures : ℕ) (bench : BenchState)
     (honest : Type 0) (before after : State) : Type 0 where
   pub run : IsRun world done next
   pub of_world : IsWorldOf next order keeper failures bench honest after
   pub legal : IsLegal bench.log next.stage.order next.paired
   pub fits : next.stage.setting.trusted ≡ true → ReadsFit bench.log next.stage.order next.paired next.shown next.stage.setting.image
+  pub edits : next.stage.setting.trusted ≡ true → EditsFit bench.log next.stage.order next.paired next.stage.setting.image
   pub durable : honest → IsDurable world next before after
 
 -- The image and the number with which a next life begins: those after some first commands of the order, all that the log

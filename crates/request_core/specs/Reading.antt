@@ -1,5 +1,5 @@
 -- what serving a READ and a BLOCK_STATUS does
-use Rattle.std.specs.Prelude.{ℕ, ◌≡◌, ◌≢◌, ◌+◌, ◌*◌, ◌/◌, ◌%◌, ◌<◌, ◌≤◌, ◌⊎◌, true, false, IsTrue, List, Ok, Some, None, slice_index}
+use Rattle.std.specs.Prelude.{ℕ, ◌≡◌, ◌≢◌, ◌+◌, ◌/◌, ◌%◌, ◌<◌, ◌≤◌, ◌⊎◌, true, false, IsTrue, List, Ok, Some, None, slice_index}
 use Rattle.alloc_map.specs.Codes.{state_at}
 use Rattle.checkpoint.specs.Keeper.{faults_by, refused_by}
 use Rattle.checkpoint.specs.declared.fault.KeeperFault.{KeeperFault}
@@ -8,6 +8,7 @@ use Rattle.device_image.specs.Holds.{Holds, is_written}
 use Rattle.device_image.specs.Keeper.{KeeperState}
 use Rattle.disk_model.specs.Disk.{State}
 use Rattle.image_model.specs.Change.{Change}
+use Rattle.image_model.specs.Edit.{blocks_met}
 use Rattle.image_model.specs.Image.{Image}
 use Rattle.image_model.specs.declared.geometry.Geometry.{Geometry}
 use Rattle.image_model.specs.declared.command.Kind.TheVariants.{Data}
@@ -30,18 +31,17 @@ use Rattle.world.specs.declared.action.Action.TheVariants.{Serve}
 -- A READ is answered with what an image shows: its states are those of the order, and the bytes of a block those in memory, where
 -- it has some, and else those of the data region. Where the keeper holds what the order has clean, it is the order's own image.
 pub record IsRead {D : Type 0} (state : D → State) (faults : D → ℕ) (honest : D → Type 0) (head : RequestHead) (old new : OrderState) (keeper next : KeeperState D) (result : Served) : Type 0 where
-  pub aligned : head.offset % 4096 ≡ 0
   pub image : Image
   pub kinds : (block : ℕ) → image.kind block ≡ state_at old.cache.states block
-  pub in_memory : (j k : ℕ) (bytes : List ℕ) → 4096 * j < head.length → k < 4096 → bytes_seen old.cache (head.offset / 4096 + j) ≡ Some bytes
-      → image.byte (head.offset + (4096 * j + k)) ≡ slice_index bytes k
+  pub in_memory : (k : ℕ) (bytes : List ℕ) → k < head.length → bytes_seen old.cache ((head.offset + k) / 4096) ≡ Some bytes
+      → image.byte (head.offset + k) ≡ slice_index bytes ((head.offset + k) % 4096)
   pub from_base : honest keeper.disk → (base : Image) (front last : List Change) → Holds keeper (state keeper.disk) base front last
-      → (j k : ℕ) → 4096 * j < head.length → k < 4096 → bytes_seen old.cache (head.offset / 4096 + j) ≡ None
-      → base.kind (head.offset / 4096 + j) ≡ Data → is_written (head.offset / 4096 + j) front ≡ false
-      → image.byte (head.offset + (4096 * j + k)) ≡ base.byte (4096 * (head.offset / 4096 + j) + k)
+      → (k : ℕ) → k < head.length → bytes_seen old.cache ((head.offset + k) / 4096) ≡ None
+      → base.kind ((head.offset + k) / 4096) ≡ Data → is_written ((head.offset + k) / 4096) front ≡ false
+      → image.byte (head.offset + k) ≡ base.byte (head.offset + k)
   pub own : honest keeper.disk → (base given : Image) (front last : List Change) → Holds keeper (state keeper.disk) base front last
       → ShowsImage given old.cache → IsCleanAt base front given old.dirty
-      → (j k : ℕ) → 4096 * j < head.length → k < 4096 → image.byte (head.offset + (4096 * j + k)) ≡ given.byte (4096 * (head.offset / 4096 + j) + k)
+      → (k : ℕ) → k < head.length → image.byte (head.offset + k) ≡ given.byte (head.offset + k)
   pub shows : honest keeper.disk → (base given : Image) (front last : List Change) → Holds keeper (state keeper.disk) base front last
       → ShowsImage given old.cache → IsCleanAt base front given old.dirty → ShowsImage given new.cache
   pub answer : result ≡ ready_for head.cookie (shown_by image head)
@@ -52,6 +52,16 @@ pub record IsRead {D : Type 0} (state : D → State) (faults : D → ℕ) (hones
   pub level : faults next.disk ≡ faults keeper.disk
   pub only_read : honest keeper.disk → IsOnlyRead (state keeper.disk) (state next.disk)
   pub holds : honest keeper.disk → (base : Image) (front last : List Change) → Holds keeper (state keeper.disk) base front last → Holds next (state next.disk) base front last
+
+-- The image is the order's own: memory shows it, and the keeper of an honest device holds what the order has clean.
+pub record IsKnownBy {D : Type 0} (state : D → State) (honest : D → Type 0) (keeper : KeeperState D) (order : OrderState) (image : Image) : Type 0 where
+  pub sure : honest keeper.disk
+  pub base : Image
+  pub front : List Change
+  pub last : List Change
+  pub holds : Holds keeper (state keeper.disk) base front last
+  pub shows : ShowsImage image order.cache
+  pub clean : IsCleanAt base front image order.dirty
 
 -- A call of the device failed, or has failed before: the answer is EIO, and the order is stopped.
 pub record IsUnread {D : Type 0} (state : D → State) (faults : D → ℕ) (honest : D → Type 0) (head : RequestHead) (old new : OrderState) (keeper next : KeeperState D) (result : Served) : Type 0 where
@@ -66,14 +76,12 @@ pub record IsUnread {D : Type 0} (state : D → State) (faults : D → ℕ) (hon
 -- A READ of blocks that are all in memory is answered with what an image shows: its states are those of the order, and its bytes
 -- those in memory, so those of each image that the order shows.
 pub record IsHeldRead (head : RequestHead) (order : OrderState) (result : Served) : Type 0 where
-  pub aligned : head.offset % 4096 ≡ 0
   pub image : Image
   pub kinds : (block : ℕ) → image.kind block ≡ state_at order.cache.states block
-  pub there : (j : ℕ) → 4096 * j < head.length → bytes_seen order.cache (head.offset / 4096 + j) ≢ None
-  pub in_memory : (j k : ℕ) (bytes : List ℕ) → 4096 * j < head.length → k < 4096 → bytes_seen order.cache (head.offset / 4096 + j) ≡ Some bytes
-      → image.byte (head.offset + (4096 * j + k)) ≡ slice_index bytes k
-  pub own : (given : Image) → ShowsImage given order.cache → (j k : ℕ) → 4096 * j < head.length → k < 4096
-      → image.byte (head.offset + (4096 * j + k)) ≡ given.byte (4096 * (head.offset / 4096 + j) + k)
+  pub there : (k : ℕ) → k < head.length → bytes_seen order.cache ((head.offset + k) / 4096) ≢ None
+  pub in_memory : (k : ℕ) (bytes : List ℕ) → k < head.length → bytes_seen order.cache ((head.offset + k) / 4096) ≡ Some bytes
+      → image.byte (head.offset + k) ≡ slice_index bytes ((head.offset + k) % 4096)
+  pub own : (given : Image) → ShowsImage given order.cache → (k : ℕ) → k < head.length → image.byte (head.offset + k) ≡ given.byte (head.offset + k)
   pub answer : result ≡ ready_for head.cookie (shown_by image head)
 
 -- what serving such a READ comes to: memory is refused, or it is answered
@@ -92,32 +100,31 @@ IsStatusServed head order result =
     (result ≡ ready_for head.cookie (Refused NoMemory))
     ⊎ ((image : Image) → ((block : ℕ) → image.kind block ≡ state_at order.cache.states block) → result ≡ ready_for head.cookie (shown_by image head))
 
--- The request is a READ that passes judgement, and the span lies among its blocks.
+-- The request is a READ that passes judgement, and the span lies among the blocks that it touches.
 pub record IsPlanned (head : RequestHead) (geometry : Geometry) (flags : SessionFlags) (span : Span) : Type 0 where
   pub passes : verdict head geometry flags ≡ Ok Serve
   pub reads : head.kind ≡ 0
   pub range : IsServedRange head geometry
   pub from : head.offset / 4096 ≤ span.first
-  pub some : span.first < head.offset / 4096 + head.length / 4096
+  pub some : span.first < head.offset / 4096 + blocks_met head.offset head.length
   pub order : span.first ≤ span.end
-  pub end : span.end ≤ head.offset / 4096 + head.length / 4096
+  pub end : span.end ≤ head.offset / 4096 + blocks_met head.offset head.length
 
 -- A READ for which bytes of a span were read before is answered with what an image shows: its states are those of the order, and the
--- bytes of a block those in memory, where it has some, and else those handed in; each of these lies in the span. Where those are the
--- base's, and the order has clean what the base has, it is the order's own image.
+-- bytes of a block those in memory, where it has some, and else those handed in, which begin with the block of the first byte; each
+-- of these lies in the span. Where those are the base's, and the order has clean what the base has, it is the order's own image.
 pub record IsReadOver (head : RequestHead) (span : Span) (bytes : List ℕ) (old new : OrderState) (result : Served) : Type 0 where
-  pub aligned : head.offset % 4096 ≡ 0
   pub works : old.stopped ≡ false
-  pub inside : (j : ℕ) → 4096 * j < head.length → bytes_seen old.cache (head.offset / 4096 + j) ≡ None → LiesIn (head.offset / 4096 + j) span
+  pub inside : (k : ℕ) → k < head.length → bytes_seen old.cache ((head.offset + k) / 4096) ≡ None → LiesIn ((head.offset + k) / 4096) span
   pub image : Image
   pub kinds : (block : ℕ) → image.kind block ≡ state_at old.cache.states block
-  pub in_memory : (j k : ℕ) (bytes : List ℕ) → 4096 * j < head.length → k < 4096 → bytes_seen old.cache (head.offset / 4096 + j) ≡ Some bytes
-      → image.byte (head.offset + (4096 * j + k)) ≡ slice_index bytes k
-  pub handed : (j k : ℕ) → 4096 * j < head.length → k < 4096 → bytes_seen old.cache (head.offset / 4096 + j) ≡ None
-      → image.byte (head.offset + (4096 * j + k)) ≡ slice_index bytes (4096 * j + k)
+  pub in_memory : (k : ℕ) (bytes : List ℕ) → k < head.length → bytes_seen old.cache ((head.offset + k) / 4096) ≡ Some bytes
+      → image.byte (head.offset + k) ≡ slice_index bytes ((head.offset + k) % 4096)
+  pub handed : (k : ℕ) → k < head.length → bytes_seen old.cache ((head.offset + k) / 4096) ≡ None
+      → image.byte (head.offset + k) ≡ slice_index bytes (head.offset % 4096 + k)
   pub own : (base given : Image) (front : List Change) → GivesBase (head.offset / 4096) bytes old.cache base front
       → ShowsImage given old.cache → IsCleanAt base front given old.dirty
-      → (j k : ℕ) → 4096 * j < head.length → k < 4096 → image.byte (head.offset + (4096 * j + k)) ≡ given.byte (4096 * (head.offset / 4096 + j) + k)
+      → (k : ℕ) → k < head.length → image.byte (head.offset + k) ≡ given.byte (head.offset + k)
   pub shows : (base given : Image) (front : List Change) → GivesBase (head.offset / 4096) bytes old.cache base front
       → ShowsImage given old.cache → IsCleanAt base front given old.dirty → ShowsImage given new.cache
   pub answer : result ≡ ready_for head.cookie (shown_by image head)

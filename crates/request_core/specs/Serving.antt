@@ -1,23 +1,25 @@
 -- what serving and answering a connection do
 use Rattle.std.specs.Prelude.{ℕ, ◌≡◌, ◌+◌, ◌<◌, ◌≤◌, ◌⊎◌, MatchBool, MatchOption, slice_index_or, slice_set, Bool, true, false, nat_le, nat_lt, Result, Ok, Err, if◌then◌else◌, Option, Some, None, List, [], ◌∷◌, ◌++◌, vec_len}
 use Rattle.image_model.specs.Change.{Change, AreChanges, IsChange, change_of}
+use Rattle.image_model.specs.Edit.{becomes}
 use Rattle.image_model.specs.declared.command.Command.{Command}
-use Rattle.image_model.specs.declared.command.Command.TheVariants.{Put, Clear, Edged}
 use Rattle.image_model.specs.declared.geometry.Geometry.{Geometry}
 use Rattle.image_model.specs.Image.{Image, apply}
 use Rattle.group_list.specs.Group.{Numbered}
 use Rattle.marks.specs.Known.{PassState, known}
+use Rattle.image_model.specs.declared.edit.Edit.{Edit}
+use Rattle.image_model.specs.declared.edit.Edit.TheVariants as edit
 use Rattle.nbd_wire.specs.Request.{Message, handed_len}
+use Rattle.nbd_wire.specs.declared.head.RequestHead.{RequestHead}
 use Rattle.nbd_wire.specs.declared.error.Errno.TheVariants as errno
 use Rattle.nbd_wire.specs.declared.error.Errno.TheVariants.{Io}
-use Rattle.nbd_wire.specs.declared.head.RequestHead.{RequestHead}
 use Rattle.nbd_wire.specs.declared.message.SessionFlags.{SessionFlags}
-use Rattle.order_book.specs.Order.{OrderState, has_room, with_command}
+use Rattle.order_book.specs.Order.{OrderState, has_room_for, with_command}
 use Rattle.order_book.specs.Shown.{ShowsImage}
 use Rattle.request_core.specs.declared.serving.Served.{Served}
 use Rattle.request_core.specs.declared.serving.Served.TheVariants as served
 use Rattle.request_core.specs.Parts.{AreConnectionsOf, IsOrderOf}
-use Rattle.world.specs.Log.{command_of, is_flush, waits_for_store}
+use Rattle.world.specs.Log.{edit_asked, is_flush, waits_for_store}
 use Rattle.world.specs.declared.connection.Connection.{Connection}
 use Rattle.world.specs.declared.connection.Connection.TheVariants.{Idle, Requested, Waiting, Ready, Closed}
 use Rattle.world.specs.declared.event.Event.{Event}
@@ -28,17 +30,11 @@ use Rattle.nbd_wire.specs.declared.message.Answer.TheVariants.{Done, Refused}
 use Rattle.world.specs.declared.step.Mode.{Mode}
 use Rattle.world.specs.World.{World, put, Stage}
 
--- the command is a Put of a request's own data
-abbrev pub IsHandedBack : RequestHead → Command → Type 0
-IsHandedBack head (Put first bytes) = vec_len bytes ≡ handed_len head
-IsHandedBack head (Clear first blocks kind) = ⊥
-IsHandedBack head (Edged first blocks kind edges bytes) = ⊥
-
--- the request again, of which the command is a Put
-abbrev pub request_again : RequestHead → Command → Served
-request_again head (Put first bytes) = served.NoRoom (record { head = head; bytes = bytes.items })
-request_again head (Clear first blocks kind) = served.Wait 0
-request_again head (Edged first blocks kind edges bytes) = served.Wait 0
+-- the edit is one that a request with this head asks for, with as many bytes as were handed on
+abbrev pub IsHandedBack : RequestHead → Edit → Type 0
+IsHandedBack head (edit.Put offset bytes) = vec_len bytes ≡ handed_len head
+IsHandedBack head (edit.Zeroes offset length kind) = handed_len head ≡ 0
+IsHandedBack head (edit.Trim offset length) = handed_len head ≡ 0
 
 -- an answer to the request with this cookie
 abbrev pub ready_for : ℕ → Answer → Served
@@ -49,35 +45,50 @@ abbrev pub served_after : Bool → ℕ → ℕ → Served
 served_after true cookie number = served.Wait number
 served_after false cookie number = ready_for cookie Done
 
--- What a write command makes of an order that has a number left for it: it has no room and the request comes back, memory is
--- refused, or it goes to the end of the order.
-abbrev pub IsCommandServed : Message → Mode → Command → OrderState → OrderState → Served → Type 0
-IsCommandServed request kept command old new result =
-    ((has_room old command ≡ false) × (new ≡ old) × (result ≡ served.NoRoom request))
-    ⊎ ((has_room old command ≡ true) × (new ≡ old) × (result ≡ ready_for request.head.cookie (Refused errno.NoMemory)))
-    ⊎ ((has_room old command ≡ true) × (new ≡ with_command old command) × (result ≡ served_after (waits_for_store kept request) request.head.cookie (old.mark + 1))
-    × ((image : Image) → ShowsImage image old.cache → ShowsImage (apply (change_of command) image) new.cache))
+-- the order has a command more, which is this change
+abbrev pub IsMore : Change → OrderState → OrderState → Type 0
+IsMore change old new = (command : Command) × (change_of command ≡ change) × (new ≡ with_command old command)
 
--- what a WRITE that passes judgement makes of an order that isn't stopped
-abbrev pub IsWriteServed : Message → Geometry → Mode → OrderState → OrderState → Served → Type 0
-IsWriteServed request geometry kept old new result =
+-- whether there is room for what a request's edit becomes over this image, and over each image that is the order's own
+abbrev pub IsRoom : Message → (Image → Type 0) → OrderState → Image → Bool → Type 0
+IsRoom request own order image room =
+    (has_room_for order (becomes (edit_asked request) image) ≡ room)
+    × ((given : Image) → own given → has_room_for order (becomes (edit_asked request) given) ≡ room)
+
+-- What a request's edit becomes over this image, which memory shows, goes to the end of the order; it becomes the same over each image
+-- that is the order's own, and each image that memory shows it shows then with that carried out.
+pub record IsTaken (request : Message) (geometry : Geometry) (own : Image → Type 0) (old new : OrderState) (image : Image) : Type 0 where
+  pub seen : ShowsImage image old.cache
+  pub takes : IsChange geometry.blocks (becomes (edit_asked request) image)
+  pub same : (given : Image) → own given → becomes (edit_asked request) image ≡ becomes (edit_asked request) given
+  pub room : has_room_for old (becomes (edit_asked request) image) ≡ true
+  pub more : IsMore (becomes (edit_asked request) image) old new
+  pub shows : (given : Image) → ShowsImage given old.cache → ShowsImage (apply (becomes (edit_asked request) image) given) new.cache
+
+-- What a write request that passes judgement makes of an order that isn't stopped: no number is left, there is no room and the
+-- request comes back, memory is refused, or what its edit becomes is the last command.
+abbrev pub IsWriteServed : Message → Geometry → Mode → (Image → Type 0) → OrderState → OrderState → Served → Type 0
+IsWriteServed request geometry kept own old new result =
     ((old.mark ≡ 18446744073709551615) × (new ≡ old) × (result ≡ ready_for request.head.cookie (Refused errno.NoSpace)))
-    ⊎ ((command : Command) × (change_of command ≡ command_of request) × IsChange geometry.blocks (command_of request) × (old.mark < 18446744073709551615)
-    × IsCommandServed request kept command old new result)
+    ⊎ ((old.mark < 18446744073709551615) × (image : Image) × (
+    (IsRoom request own old image false × (new ≡ old) × (result ≡ served.NoRoom request))
+    ⊎ (IsRoom request own old image true × (new ≡ old) × (result ≡ ready_for request.head.cookie (Refused errno.NoMemory)))
+    ⊎ (IsTaken request geometry own old new image × (result ≡ served_after (waits_for_store kept request) request.head.cookie (old.mark + 1)))))
 
--- a pass for which a request's command was accepted under a number
-abbrev pub accepted_for : Message → ℕ → PassState → PassState
-accepted_for request number pass = record pass { accepted = number; own = Some (record { number = number; change = command_of request }) }
+-- a pass for which a request's edit was accepted under a number, as what it becomes over an image
+abbrev pub accepted_for : Message → Image → ℕ → PassState → PassState
+accepted_for request image number pass =
+    record pass { accepted = number; own = Some (record { number = number; change = becomes (edit_asked request) image }) }
 
 -- What a pass knows once a request was served for it, where the last number of the order went from one to another. The number of a
 -- command is above all that the pass knew, and is then its own; a FLUSH waits for no less than what it knew; all else leaves it.
 abbrev pub IsPassServed : Message → ℕ → ℕ → Served → PassState → PassState → Type 0
 IsPassServed request before after (served.Ready reply) old new =
-    MatchBool (nat_lt before after) ((known old < after) × (new ≡ accepted_for request after old)) (new ≡ old)
+    MatchBool (nat_lt before after) ((known old < after) × (image : Image) × (new ≡ accepted_for request image after old)) (new ≡ old)
 IsPassServed request before after (served.Wait number) old new =
     MatchBool (is_flush request)
     ((known old ≤ number) × (new ≡ record old { accepted = number }))
-    ((known old < number) × (new ≡ accepted_for request number old))
+    ((known old < number) × (image : Image) × (new ≡ accepted_for request image number old))
 IsPassServed request before after (served.NoRoom back) old new = new ≡ old
 
 -- what a connection comes to whose request was served

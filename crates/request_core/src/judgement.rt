@@ -62,8 +62,7 @@ fn judge_range(head: &RequestHead, geometry: &Geometry) -> Result<Action, Errno>
     ensures verdict { result ≡ range_verdict head.now geometry.now }
     ensures range { result ≡ Ok Action.Serve → IsServedRange head.now geometry.now }
 {
-    let blocks = BLOCK_BYTES as u32;
-    if head.length == 0 || head.offset % BLOCK_BYTES != 0 || head.length % blocks != 0 {
+    if head.length == 0 {
         return Err(Errno::Invalid);
     }
     if matches!(head.kind, READ | WRITE) && head.length > MAX_PAYLOAD {

@@ -1,14 +1,17 @@
-ghost use Rattle.std.specs.Prelude.{◌≡◌, ◌≢◌, ◌/◌, ◌<◌, ◌↔◌, ℕ, false, [], Some, IfSome, IfOk, IfErr, IsErr, IsTrue, OnErr, MatchOption, IfNone, Option, Result, length, slice_index_or, slice_set, vec_len};
+ghost use Rattle.std.specs.Prelude.{◌≡◌, ◌≢◌, ◌/◌, ◌<◌, ◌↔◌, ℕ, true, false, [], Some, IfSome, IfOk, IfErr, IsErr, IsTrue, OnErr, MatchOption, IfNone, Option, Result, length, slice_index_or, slice_set, vec_len};
 ghost use Rattle.group_list.specs.Group.{Numbered};
 ghost use Rattle.nbd_wire.specs.Request.{Message};
 ghost use Rattle.nbd_wire.specs.declared.error.Errno.{Errno};
 ghost use Rattle.order_book.specs.Order.{IsInHand};
-ghost use Rattle.request_core.specs.Outcomes.{IsServedBy, IsServedHere, IsServedWith, NeedsDevice};
+ghost use Rattle.image_model.specs.Edit.{blocks_met};
+ghost use Rattle.order_book.specs.Edits.{NeedsDevice as NeedsOld};
+ghost use Rattle.order_book.specs.Shown.{ShowsImage};
+ghost use Rattle.request_core.specs.Outcomes.{IsServedBy, IsServedHere, IsServedWith, IsWriteAsked, NeedsDevice};
 ghost use Rattle.request_core.specs.Parts.{AreConnectionsOf, IsKeeperOf, IsOrderOf};
 ghost use Rattle.request_core.specs.Steps.{IsAnyServed, IsAnyTalked, IsSure};
 ghost use Rattle.shared_cache.specs.Cache.{LacksBytes};
-ghost use Rattle.request_core.specs.Serving.{AreTermsOf, IsAnsweredBy, IsHandedBack, IsPassServed, IsSentBy, IsWriteServed, answer_due, event_for, is_idle, ready_for, request_again, request_in, sent_state, served_after, state_of};
-ghost use Rattle.world.specs.Log.{cleared_as, waits_for_store};
+ghost use Rattle.request_core.specs.Serving.{AreTermsOf, IsAnsweredBy, IsPassServed, IsSentBy, IsWriteServed, answer_due, event_for, is_idle, ready_for, request_in, sent_state, served_after, state_of};
+ghost use Rattle.world.specs.Log.{edit_asked, is_write, waits_for_store};
 ghost use Rattle.world.specs.Serve.{Failure, answer as answer_of, serve as serve_of};
 ghost use Rattle.world.specs.Step.{send as send_of};
 ghost use Rattle.world.specs.Verdict.{IsServedRange, verdict};
@@ -17,18 +20,19 @@ ghost use Rattle.world.specs.World.{World};
 ghost use Rattle.world.specs.declared.connection.Connection.TheVariants as Connection;
 ghost use Rattle.world_law.specs.Law.{IsWithin};
 
+use crate::edits::{joined, split};
 use crate::judgement::judge;
-use crate::reading::{serve_held_read, serve_read, serve_status};
+use crate::reading::{Blocks, serve_held_read, serve_read, serve_status};
 use crate::turning::stop;
 use bitflags::Flags;
 use checkpoint::Keeper;
 use disk_model::Disk;
-use image_model::{BLOCK_BYTES, Command, Geometry, Kind};
+use image_model::Geometry;
 use journal::Group;
 use marks::{Board, BoardName, Pass};
 use nbd_wire::{
     Answer, BLOCK_STATUS, CommandFlags, DISCONNECT, Errno, FLUSH, READ, Reply, Request,
-    RequestHead, SessionFlags, WRITE, WRITE_ZEROES,
+    RequestHead, SessionFlags,
 };
 use order_book::{Order, OrderFault};
 use std::alloc::Global;
@@ -263,14 +267,15 @@ fn state_of(served: Served) -> Connection
     }
 }
 
-/// A request that is handed back since it needs the keeper: a READ of blocks of which one isn't in memory.
+/// A request that is handed back since it needs the keeper: a READ that touches a block which isn't in memory, or a write
+/// that takes old bytes which aren't.
 #[derive(Debug, Drop)]
 pub struct NeedsKeeper(pub Request);
 
 /// Serves a request that isn't a DISC, with no keeper at hand: it is judged, and a command gets its place in the order; a
 /// READ and a BLOCK_STATUS show the image after all of the order.
 ///
-/// A write command for which there is no room comes back, and so does a READ for which the device has to be asked.
+/// A write command for which there is no room comes back, and so does a request for which the device has to be asked.
 pub fn serve_held<B: BoardName>(
     alloc: Global,
     request: Request,
@@ -285,68 +290,62 @@ pub fn serve_held<B: BoardName>(
     ensures serves { IfOk result (λ served. IsServedHere (verdict request.head terms.geometry terms.flags) request terms.geometry terms.mode order.old order.new served) }
 
     // It comes back exactly where the device is needed, and nothing has changed then.
-    ensures needs { IsErr result ↔ NeedsDevice (verdict request.head terms.geometry terms.flags) request.head order.old }
+    ensures needs { IsErr result ↔ NeedsDevice (verdict request.head terms.geometry terms.flags) request order.old }
     ensures handed_back { IfErr result (λ back. back.0 ≡ request) }
+    ensures range { OnErr result (request.head.kind ≢ 3 → IsServedRange request.head terms.geometry) }
     ensures unchanged { OnErr result ((order.new ≡ order.old) × (pass.new ≡ pass.old)) }
 
     // What the pass knows then: a command's number is above all that it knew, and a FLUSH waits for no less than that.
     ensures pass { IfOk result (λ served. IsPassServed request order.old.mark order.new.mark served pass.old pass.new) }
 {
-    if needs_keeper(&request.head(), order, &terms) {
-        return Err(NeedsKeeper(request));
-    }
-    Ok(serve_here(alloc, request, order, board, pass, terms))
-}
-
-// Whether the keeper is needed for a request.
-fn needs_keeper<B: BoardName>(head: &RequestHead, order: &Order<B>, terms: &Terms) -> bool
-    requires { length order.now.cache.states ≡ terms.now.geometry.blocks }
-    ensures { IsTrue result ↔ NeedsDevice (verdict head.now terms.now.geometry terms.now.flags) head.now order.now }
-{
-    if head.kind != READ || order.stopped() {
-        return false;
-    }
-    match judge(head, &terms.geometry, &terms.flags) {
-        Ok(Action::Serve) => !order.holds(
-            head.offset / BLOCK_BYTES,
-            head.length as u64 / BLOCK_BYTES,
-        ),
-        Ok(Action::End) | Err(_) => false,
+    let head = request.head();
+    match judge(&head, &terms.geometry, &terms.flags) {
+        Ok(Action::End) => unreachable!(),
+        Err(errno) => Ok(refused(head.cookie, errno)),
+        Ok(Action::Serve) if order.stopped() => Ok(refused(head.cookie, Errno::Io)),
+        Ok(Action::Serve) => serve_passed(alloc, request, order, board, pass, terms),
     }
 }
 
-// Serves a request that doesn't need the keeper.
-fn serve_here<B: BoardName>(
+// Serves a request that passes judgement, over an order that isn't stopped.
+fn serve_passed<B: BoardName>(
     alloc: Global,
     request: Request,
     order: &mut Order<B>,
     board: &Board<B>,
     pass: &mut Pass<B>,
     terms: Terms,
-) -> Served
-    requires kind { request.head.kind ≢ 2 }
+) -> Result<Served, NeedsKeeper>
+    requires passes { verdict request.head terms.geometry terms.flags ≡ Ok Action.Serve }
+    requires range { request.head.kind ≢ 3 → IsServedRange request.head terms.geometry }
+    requires works { order.old.stopped ≡ false }
     requires blocks { length order.old.cache.states ≡ terms.geometry.blocks }
-    requires here { NeedsDevice (verdict request.head terms.geometry terms.flags) request.head order.old → ⊥ }
     ensures blocks { length order.new.cache.states ≡ length order.old.cache.states }
-    ensures serves { IsServedHere (verdict request.head terms.geometry terms.flags) request terms.geometry terms.mode order.old order.new result }
-    ensures pass { IsPassServed request order.old.mark order.new.mark result pass.old pass.new }
+    ensures serves { IfOk result (λ served. IsServedHere (Ok Action.Serve) request terms.geometry terms.mode order.old order.new served) }
+    ensures needs { IsErr result ↔ NeedsDevice (Ok Action.Serve) request order.old }
+    ensures handed_back { IfErr result (λ back. back.0 ≡ request) }
+    ensures unchanged { OnErr result ((order.new ≡ order.old) × (pass.new ≡ pass.old)) }
+    ensures pass { IfOk result (λ served. IsPassServed request order.old.mark order.new.mark served pass.old pass.new) }
 {
     let head = request.head();
-    match judge(&head, &terms.geometry, &terms.flags) {
-        Ok(Action::End) => unreachable!(),
-        Err(errno) => refused(head.cookie, errno),
-        Ok(Action::Serve) if order.stopped() => refused(head.cookie, Errno::Io),
-        Ok(Action::Serve) if head.kind == FLUSH => Served::Wait(order.show_mark(board, pass)),
-        Ok(Action::Serve) if head.kind == READ => serve_held_read(alloc, &head, order),
-        Ok(Action::Serve) if head.kind == BLOCK_STATUS => serve_status(alloc, &head, order),
-        Ok(Action::Serve) if head.kind == WRITE => serve_put(request, order, board, pass, terms),
-        Ok(Action::Serve) => serve_clear(request, order, board, pass, terms),
+    match head.kind {
+        FLUSH => Ok(Served::Wait(order.show_mark(board, pass))),
+        READ => {
+            let blocks = Blocks::of(&head);
+            if order.holds(blocks.first, blocks.count) {
+                Ok(serve_held_read(alloc, &head, order))
+            } else {
+                Err(NeedsKeeper(request))
+            }
+        }
+        BLOCK_STATUS => Ok(serve_status(alloc, &head, order)),
+        _ => serve_held_edit(alloc, request, order, board, pass, terms),
     }
 }
 
-/// Serves a request that isn't a DISC, as `serve_held` does, and a READ that needs the keeper too.
+/// Serves a request that isn't a DISC, as `serve_held` does, and one that needs the keeper too.
 ///
-/// The device is asked by such a READ alone; where a call of it fails the order is stopped, and a group in hand is the
+/// The device is asked by such a request alone; where a call of it fails the order is stopped, and a group in hand is the
 /// caller's to put back.
 pub fn serve_with_keeper<B: BoardName, D: Disk>(
     alloc: Global,
@@ -368,15 +367,21 @@ pub fn serve_with_keeper<B: BoardName, D: Disk>(
     ensures serves { (given : Result Action Errno) × (given ≡ verdict request.head terms.geometry terms.flags)
         × IsServedBy D.state D.faults D.honest given request terms.geometry terms.mode order.old order.new keeper.old keeper.new result }
 
-    // A READ of blocks that are all in memory doesn't ask the device.
-    ensures hit { request.head.kind ≡ 0 → (LacksBytes order.old.cache (request.head.offset / 4096) (request.head.length / 4096) → ⊥) → (order.new ≡ order.old) × (keeper.new ≡ keeper.old) }
+    // A request for which the device isn't needed doesn't ask it.
+    ensures kept { (NeedsDevice (verdict request.head terms.geometry terms.flags) request order.old → ⊥) → keeper.new ≡ keeper.old }
+
+    // A READ of blocks that are all in memory leaves the order too.
+    ensures hit { request.head.kind ≡ 0 → (LacksBytes order.old.cache (request.head.offset / 4096) (blocks_met request.head.offset request.head.length) → ⊥) → (order.new ≡ order.old) × (keeper.new ≡ keeper.old) }
 
     // What the pass knows then: a command's number is above all that it knew, and a FLUSH waits for no less than that.
     ensures pass { IsPassServed request order.old.mark order.new.mark result pass.old pass.new }
 {
     match serve_held(alloc, request, order, board, pass, terms) {
         Ok(served) => served,
-        Err(NeedsKeeper(request)) => serve_read(alloc, &request.head(), order, keeper),
+        Err(NeedsKeeper(request)) if request.head().kind == READ => {
+            serve_read(alloc, &request.head(), order, keeper)
+        }
+        Err(NeedsKeeper(request)) => serve_edit(alloc, request, order, keeper, board, pass, terms),
     }
 }
 
@@ -389,79 +394,85 @@ pub(crate) fn refused(cookie: u64, errno: Errno) -> Served
     })
 }
 
-// Gives a WRITE that passes judgement its place in the order, which isn't stopped.
-fn serve_put<B: BoardName>(
+// Gives a write request that passes judgement its place in the order, which isn't stopped, where no old byte that it takes is
+// missing.
+fn serve_held_edit<B: BoardName>(
+    alloc: Global,
     request: Request,
     order: &mut Order<B>,
     board: &Board<B>,
     pass: &mut Pass<B>,
     terms: Terms,
-) -> Served
-    requires kind { request.head.kind ≡ 1 }
-    requires write { IsServedRange request.head terms.geometry }
+) -> Result<Served, NeedsKeeper>
+    requires write { is_write request ≡ true }
+    requires range { IsServedRange request.head terms.geometry }
     requires works { order.old.stopped ≡ false }
     requires blocks { length order.old.cache.states ≡ terms.geometry.blocks }
     ensures blocks { length order.new.cache.states ≡ length order.old.cache.states }
-    ensures served { IsWriteServed request terms.geometry terms.mode order.old order.new result }
+    ensures served { IfOk result (λ served. IsWriteServed request terms.geometry terms.mode (λ image. ShowsImage image order.old.cache) order.old order.new served) }
+    ensures needs { IsErr result ↔ NeedsOld order.old (edit_asked request) }
+    ensures handed_back { IfErr result (λ back. back.0 ≡ request) }
+    ensures unchanged { OnErr result ((order.new ≡ order.old) × (pass.new ≡ pass.old)) }
+    ensures pass { IfOk result (λ served. IsPassServed request order.old.mark order.new.mark served pass.old pass.new) }
+{
+    let (head, edit) = split(request);
+    if order.needs_device(&edit) {
+        return Err(NeedsKeeper(joined(alloc, head, edit)));
+    }
+    match order.accept_held(board, pass, edit) {
+        Ok(number) => Ok(accepted(&head, terms.mode, number)),
+        Err((OrderFault::NoRoom, edit)) => Ok(Served::NoRoom(joined(alloc, head, edit))),
+        Err((OrderFault::NoMemory, _)) => Ok(refused(head.cookie, Errno::NoMemory)),
+        Err((OrderFault::NumbersFull, _)) => Ok(refused(head.cookie, Errno::NoSpace)),
+        Err(_) => Ok(refused(head.cookie, Errno::Io)),
+    }
+}
+
+// Gives a write request that passes judgement its place in the order, which isn't stopped; old bytes that aren't in memory are
+// read from the device.
+fn serve_edit<B: BoardName, D: Disk>(
+    alloc: Global,
+    request: Request,
+    order: &mut Order<B>,
+    keeper: &mut Keeper<D>,
+    board: &Board<B>,
+    pass: &mut Pass<B>,
+    terms: Terms,
+) -> Served
+    requires write { is_write request ≡ true }
+    requires range { IsServedRange request.head terms.geometry }
+    requires works { order.old.stopped ≡ false }
+    requires blocks { length order.old.cache.states ≡ terms.geometry.blocks }
+    requires device { terms.geometry ≡ keeper.old.geometry }
+    requires needs { NeedsOld order.old (edit_asked request) }
+    ensures blocks { length order.new.cache.states ≡ length order.old.cache.states }
+    ensures geometry { keeper.new.geometry ≡ keeper.old.geometry }
+    ensures count { keeper.new.count ≡ keeper.old.count }
+    ensures extent { D.extent keeper.new.disk ≡ D.extent keeper.old.disk }
+    ensures honest { D.honest keeper.new.disk ↔ D.honest keeper.old.disk }
+    ensures asked { IsWriteAsked D.state D.faults D.honest request terms.geometry terms.mode order.old order.new keeper.old keeper.new result }
     ensures pass { IsPassServed request order.old.mark order.new.mark result pass.old pass.new }
 {
-    let (head, bytes) = request.into_parts();
-    let command = Command::Put {
-        first: head.offset / BLOCK_BYTES,
-        bytes,
-    };
-    match order.accept(board, pass, command) {
+    let (head, edit) = split(request);
+    match order.accept_edit(keeper, board, pass, edit) {
         Ok(number) => accepted(&head, terms.mode, number),
-        Err((OrderFault::NoRoom, command)) => returned(head, command),
+        Err((OrderFault::NoRoom, edit)) => Served::NoRoom(joined(alloc, head, edit)),
         Err((OrderFault::NoMemory, _)) => refused(head.cookie, Errno::NoMemory),
         Err((OrderFault::NumbersFull, _)) => refused(head.cookie, Errno::NoSpace),
-        Err((OrderFault::Stopped, _)) => refused(head.cookie, Errno::Io),
+        // (Each has an arm, since a joined one tells the proof nothing of the fault.)
+        Err((OrderFault::DeviceFault, _)) => failed(order, head.cookie),
+        Err((OrderFault::Failed, _)) => failed(order, head.cookie),
+        Err((OrderFault::Stopped, _)) => failed(order, head.cookie),
     }
 }
 
-// Gives a TRIM or a WRITE_ZEROES that passes judgement its place in the order, which isn't stopped.
-fn serve_clear<B: BoardName>(
-    request: Request,
-    order: &mut Order<B>,
-    board: &Board<B>,
-    pass: &mut Pass<B>,
-    terms: Terms,
-) -> Served
-    requires kind { request.head.kind ≢ 1 }
-    requires other { request.head.kind ≢ 3 }
-    requires write { IsServedRange request.head terms.geometry }
-    requires works { order.old.stopped ≡ false }
-    requires blocks { length order.old.cache.states ≡ terms.geometry.blocks }
-    ensures blocks { length order.new.cache.states ≡ length order.old.cache.states }
-    ensures served { IsWriteServed request terms.geometry terms.mode order.old order.new result }
-    ensures pass { IsPassServed request order.old.mark order.new.mark result pass.old pass.new }
+// Stops the order, since a call of the device has failed: the answer is EIO.
+fn failed<B: BoardName>(order: &mut Order<B>, cookie: u64) -> Served
+    ensures order { order.new ≡ record order.old { stopped = true } }
+    ensures answer { result ≡ ready_for cookie (Answer.Refused Errno.Io) }
 {
-    let head = request.head();
-    let cookie = head.cookie;
-    let command = Command::Clear {
-        first: head.offset / BLOCK_BYTES,
-        blocks: head.length / BLOCK_BYTES as u32,
-        kind: cleared_as(&head),
-    };
-    match order.accept(board, pass, command) {
-        Ok(number) => accepted(&head, terms.mode, number),
-        Err((OrderFault::NoRoom, _)) => Served::NoRoom(request),
-        Err((OrderFault::NoMemory, _)) => refused(cookie, Errno::NoMemory),
-        Err((OrderFault::NumbersFull, _)) => refused(cookie, Errno::NoSpace),
-        Err((OrderFault::Stopped, _)) => refused(cookie, Errno::Io),
-    }
-}
-
-// What becomes of the blocks that are cleared.
-fn cleared_as(head: &RequestHead) -> Kind
-    ensures { result ≡ cleared_as head.now }
-{
-    let no_hole = CommandFlags::NO_HOLE.bits();
-    if head.kind == WRITE_ZEROES && head.flags & no_hole == no_hole {
-        Kind::Zero
-    } else {
-        Kind::Hole
-    }
+    order.stop();
+    refused(cookie, Errno::Io)
 }
 
 // Whether the answer to a write command waits until it is durable.
@@ -486,17 +497,6 @@ fn accepted(head: &RequestHead, mode: Mode, number: u64) -> Served
             cookie: head.cookie,
             answer: Answer::Done,
         })
-    }
-}
-
-// The request whose command was handed back.
-fn returned(head: RequestHead, command: Command) -> Served
-    requires { IsHandedBack head command }
-    ensures { result ≡ request_again head command }
-{
-    match command {
-        Command::Put { first: _, bytes } => Served::NoRoom(Request::new(head, bytes)),
-        Command::Clear { .. } | Command::Edged { .. } => unreachable!(),
     }
 }
 

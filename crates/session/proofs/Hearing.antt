@@ -6,7 +6,7 @@ use Rattle.std.specs.Prelude.{IfErr, IfOk, IsErrAnd}
 use Rattle.std.specs.Io.KnownBytes.{Appends, Consumes, Keeps}
 use Rattle.nbd_wire.specs.Request.{Message}
 use Rattle.nbd_wire.specs.Stream.{failed, in_data as keeps_data, in_discard as keeps_count, in_head as keeps_head, reading, starved}
-use Rattle.negotiation.specs.Dialog.{Standing, Turn, broken, ended, exhausted, in_discard, in_flags, in_head, in_option, in_requests, replies_text, silent}
+use Rattle.negotiation.specs.Dialog.{Standing, Turn, answers_text, broken, ended, exhausted, in_discard, in_flags, in_head, in_option, in_requests, silent}
 use Rattle.negotiation.specs.Session.{Feeds, HearsOn, IsBehind, IsOpen, IsSaid, SessionState, end_of, greeting_due, handed}
 use Rattle.negotiation.specs.declared.end.End.{End}
 use Rattle.negotiation.specs.declared.end.End.TheVariants.{IoFault, NoMemory, PeerClosed, ProtocolEnd}
@@ -14,7 +14,7 @@ use Rattle.negotiation.specs.laws.Dialogs.{hears_none, hears_then}
 use Rattle.session.specs.Hearing.{Hearing, IsTimely, ReadsOn, Tells, piece_bytes}
 use Rattle.session.specs.Streams.{Writes}
 use Rattle.option_wire.specs.Handshake.{greeting_bytes}
-use Rattle.negotiation.specs.Answered.{replies_bytes}
+use Rattle.negotiation.specs.Answered.{answer_bytes}
 use Rattle.byte_streams.specs.laws.Bytes.{appends_none, appends_on, consumes_kept, consumes_none, consumes_on}
 
 pub no_greeting : (old new : Standing) → IsSaid old → greeting_due old new ≡ []
@@ -74,14 +74,14 @@ other_end (Some end) is other = cc
 some_items : (given : Vec Message) → given.items ≡ [] → 0 < vec_len given → ⊥
 some_items given none some = omega (arith, given.ok.0, ap length none, some)
 
-tells : (old new between : SessionState) (requests : List Message) (unsent unheard : List ℕ) (fed : Result (Vec Message) End) → requests ≡ handed fed → unsent ≡ [] → ((end_of new.standing ≡ Some NoMemory) × ((requests ≡ []) ⊎ ((new.flags ≡ between.flags) × IsBehind between.standing))) ⊎ ((unheard ≡ []) × (new ≡ between))
+tells : (old new between : SessionState) (requests : List Message) (unsent unheard : List ℕ) (fed : Result (Vec Message) End) → requests ≡ handed fed → unsent ≡ [] → ((end_of new.standing ≡ Some NoMemory) × ((requests ≡ []) ⊎ ((new.agreed ≡ between.agreed) × IsBehind between.standing))) ⊎ ((unheard ≡ []) × (new ≡ between))
     → IfErr fed (λ end. end_of new.standing ≡ Some end) → ((end : End) → end_of new.standing ≡ Some end → IfOk fed (λ r. 0 < vec_len r)) → Tells requests unsent unheard between new fed
 tells old new between requests unsent unheard (Ok given) same sent whole fault first = (
   same,
   sent,
   elim whole [
     | inl end ↦
-        let still : (new.flags ≡ between.flags) × IsBehind between.standing =
+        let still : (new.agreed ≡ between.agreed) × IsBehind between.standing =
         elim end.1 [ inl none ↦ absurd (some_items given (sym same ∙ none) (first NoMemory end.0)) | inr behind ↦ behind ] in
         inr (end.0, first NoMemory end.0, still.0, still.1)
     | inr all ↦ inl all
@@ -181,10 +181,10 @@ pub record Heard (old : SessionState) (input mid output made : Option (List ℕ)
   pub turns : List Turn
   pub read : ReadsOn old input mid stream
   pub hears : HearsOn old stream turns [] now
-  pub written : Appends output made (greeting_due old.standing now.standing ++ replies_text turns)
+  pub written : Appends output made (greeting_due old.standing now.standing ++ answers_text turns)
   pub said : IsSaid now.standing
   pub size : now.size ≡ old.size
-  pub behind : IsBehind old.standing → (turns ≡ []) × (now.flags ≡ old.flags) × IsBehind now.standing
+  pub behind : IsBehind old.standing → (turns ≡ []) × (now.agreed ≡ old.agreed) × IsBehind now.standing
 
 pub heard_none : (old : SessionState) (input output : Option (List ℕ)) → IsSaid old.standing → Heard old input input output output old
 heard_none old input output said = record {
@@ -198,10 +198,10 @@ heard_none old input output said = record {
   behind = λ b. (refl, refl, b);
 }
 
-replies-append : (turns more : List Turn) → replies_text (turns ++ more) ≡ replies_text turns ++ replies_text more
-replies-append [] more = refl
-replies-append (turn ∷ turns) more =
-    ap (λ (t : List ℕ). replies_bytes turn.code turn.answer.replies ++ t) (replies-append turns more) ∙ sym (append_assoc (replies_bytes turn.code turn.answer.replies) (replies_text turns) (replies_text more))
+answers-append : (turns more : List Turn) → answers_text (turns ++ more) ≡ answers_text turns ++ answers_text more
+answers-append [] more = refl
+answers-append (turn ∷ turns) more =
+    ap (λ (t : List ℕ). answer_bytes turn.code turn.answer ++ t) (answers-append turns more) ∙ sym (append_assoc (answer_bytes turn.code turn.answer) (answers_text turns) (answers_text more))
 
 pub went_on : (old new : SessionState) (IsRead : List ℕ → Type 0) (input mid output made : Option (List ℕ)) (given : Vec Message) → Hearing old IsRead output made (Ok given) new → ((bytes : List ℕ) → IsRead bytes → ReadsOn old input mid bytes)
     → given.items ≡ [] → (0 < vec_len given → ⊥) → IsSaid new.standing → Heard old input mid output made new
@@ -216,17 +216,17 @@ went_on old new IsRead input mid output made given hearing read none few said =
         hears = subst (λ (now : SessionState). HearsOn old hearing.stream hearing.turns [] now) (sym all.1)
             (subst (λ (r : List Message). HearsOn old hearing.stream hearing.turns r hearing.between) (same ∙ none) hearing.hears);
         written = subst (Appends output made)
-            (sym (ap (λ (now : SessionState). greeting_due old.standing now.standing ++ replies_text hearing.turns) all.1 ∙ hearing.begins ∙ ap (λ (t : List ℕ). hearing.text ++ t) sent ∙ append-nil hearing.text))
+            (sym (ap (λ (now : SessionState). greeting_due old.standing now.standing ++ answers_text hearing.turns) all.1 ∙ hearing.begins ∙ ap (λ (t : List ℕ). hearing.text ++ t) sent ∙ append-nil hearing.text))
             hearing.written;
         said = said;
         size = hearing.size;
-        behind = λ b. subst (λ (now : SessionState). (hearing.turns ≡ []) × (now.flags ≡ old.flags) × IsBehind now.standing) (sym all.1) (hearing.behind b);
+        behind = λ b. subst (λ (now : SessionState). (hearing.turns ≡ []) × (now.agreed ≡ old.agreed) × IsBehind now.standing) (sym all.1) (hearing.behind b);
       }
     ]
 
 module _ (old now : SessionState) (input mid output made : Option (List ℕ)) (heard : Heard old input mid output made now) where
   abbrev said_text : List ℕ
-  said_text = greeting_due old.standing now.standing ++ replies_text heard.turns
+  said_text = greeting_due old.standing now.standing ++ answers_text heard.turns
 
   pub heard_then : (new : SessionState) (left later : Option (List ℕ)) (IsRead : List ℕ → Type 0) (outcome : Result (Vec Message) End) → Hearing now IsRead made later outcome new → ((bytes : List ℕ) → IsRead bytes → ReadsOn now mid left bytes)
       → Hearing old (ReadsOn old input left) output later outcome new
@@ -245,10 +245,10 @@ module _ (old now : SessionState) (input mid output made : Option (List ℕ)) (h
     hears = hears_then old now hearing.between heard.stream hearing.stream heard.turns hearing.turns [] hearing.requests heard.size heard.hears hearing.hears;
     begins =
         let greeting = greeting_due old.standing now.standing in
-        let rest : replies_text hearing.turns ≡ hearing.text ++ hearing.unsent =
-        ap (λ (t : List ℕ). t ++ replies_text hearing.turns) (sym (no_greeting now.standing hearing.between.standing heard.said)) ∙ hearing.begins in
-        ap (λ (t : List ℕ). t ++ replies_text (heard.turns ++ hearing.turns)) (due_same old.standing hearing.between.standing now.standing (hearing.said heard.said) heard.said)
-        ∙ ap (λ (t : List ℕ). greeting ++ t) (replies-append heard.turns hearing.turns) ∙ sym (append_assoc greeting (replies_text heard.turns) (replies_text hearing.turns))
+        let rest : answers_text hearing.turns ≡ hearing.text ++ hearing.unsent =
+        ap (λ (t : List ℕ). t ++ answers_text hearing.turns) (sym (no_greeting now.standing hearing.between.standing heard.said)) ∙ hearing.begins in
+        ap (λ (t : List ℕ). t ++ answers_text (heard.turns ++ hearing.turns)) (due_same old.standing hearing.between.standing now.standing (hearing.said heard.said) heard.said)
+        ∙ ap (λ (t : List ℕ). greeting ++ t) (answers-append heard.turns hearing.turns) ∙ sym (append_assoc greeting (answers_text heard.turns) (answers_text hearing.turns))
         ∙ ap (λ (t : List ℕ). said_text ++ t) rest ∙ sym (append_assoc said_text hearing.text hearing.unsent);
     written = appends_on output made later said_text hearing.text heard.written hearing.written;
     size = hearing.size ∙ heard.size;

@@ -20,7 +20,7 @@ same_exchanges (exchange ∷ exchanges) (other ∷ others) unanswered left reque
 
 pub one_dialog_lem : OneDialog
 one_dialog_lem size stream outcome other exchanges others unanswered left text same p q replies =
-    let (turns, requests, flags, standing) = one_hearing_lem size stream p.turns q.turns outcome other p.hears q.hears in
+    let (turns, requests, agreed, standing) = one_hearing_lem size stream p.turns q.turns outcome other p.hears q.hears in
     let both = same_exchanges exchanges others unanswered left (sym p.requests ∙ requests ∙ q.requests) replies in
-    let texts : dialog p.turns outcome.flags exchanges ≡ dialog q.turns other.flags others = λ i. dialog (turns i) (flags i) (both.0 i) in
+    let texts : dialog p.turns outcome.agreed.flags exchanges ≡ dialog q.turns other.agreed.flags others = λ i. dialog (turns i) (agreed i).flags (both.0 i) in
     (both.0, both.1, p.whole ∙ texts ∙ sym q.whole)

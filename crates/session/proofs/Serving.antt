@@ -7,7 +7,8 @@ use Rattle.std.specs.Io.KnownBytes.{IsAtEnd}
 use Rattle.nbd_wire.specs.Request.{Message}
 use Rattle.nbd_wire.specs.declared.message.Reply.{Reply}
 use Rattle.nbd_wire.specs.declared.message.SessionFlags.{SessionFlags}
-use Rattle.negotiation.specs.Dialog.{Asks, Follows, Hears, Leaves, Negotiates, Outcome, Standing, Turn, broken, ended, exhausted, in_discard, in_flags, in_head, in_option, in_requests, handshake_text, plain, replies_text, silent}
+use Rattle.negotiation.specs.declared.answer.Agreed.{Agreed}
+use Rattle.negotiation.specs.Dialog.{Asks, Follows, Hears, Leaves, Negotiates, Outcome, Standing, Turn, agreed_with, answers_text, broken, ended, exhausted, in_discard, in_flags, in_head, in_option, in_requests, handshake_text, plain, silent}
 use Rattle.negotiation.specs.Session.{HearsOn, IsBehind, IsOpen, IsSaid, SessionState, end_of, greeting_due, outcome_of}
 use Rattle.negotiation.specs.declared.answer.Next.{Next}
 use Rattle.negotiation.specs.declared.answer.Next.TheVariants as behind
@@ -22,21 +23,21 @@ use Rattle.session.proofs.Hearing.{due_said, timely_on}
 use Rattle.session.proofs.Transmitting.{behind_said, early_ends, front_none}
 
 -- where nothing was said no option was heard
-follows_silent : (next : Next) (agreed : SessionFlags) (rest : List ℕ) (turns : List Turn) (outcome : Outcome) (P : Type 0) → outcome.standing ≡ silent → (P → ⊥) → Follows next agreed rest turns outcome P → ⊥
+follows_silent : (next : Next) (agreed : Agreed) (rest : List ℕ) (turns : List Turn) (outcome : Outcome) (P : Type 0) → outcome.standing ≡ silent → (P → ⊥) → Follows next agreed rest turns outcome P → ⊥
 follows_silent behind.Option agreed rest turns outcome P is not p = not p
 follows_silent behind.Transmission agreed rest turns outcome P is not p = subst (λ (s : Standing). Asks rest outcome.requests s) is p.2
 follows_silent behind.End agreed rest turns outcome P is not p = let same : ended ≡ silent = sym p.1.2 ∙ is in cc same
 follows_silent behind.Fault agreed rest turns outcome P is not p = let same : broken ≡ silent = sym p.1.2 ∙ is in cc same
 
-negotiates_silent : (size : ℕ) (agreed : SessionFlags) (stream : List ℕ) (turns : List Turn) (outcome : Outcome) → outcome.standing ≡ silent → Negotiates size agreed stream turns outcome → ⊥
+negotiates_silent : (size : ℕ) (agreed : Agreed) (stream : List ℕ) (turns : List Turn) (outcome : Outcome) → outcome.standing ≡ silent → Negotiates size agreed stream turns outcome → ⊥
 negotiates_silent size agreed stream [] outcome is p = subst (λ (s : Standing). Leaves s stream) is p.2
 negotiates_silent size agreed stream (turn ∷ turns) outcome is p =
-    follows_silent turn.answer.next turn.answer.flags p.1 turns outcome (Negotiates size turn.answer.flags p.1 turns outcome) is
-    (negotiates_silent size turn.answer.flags p.1 turns outcome is) p.4
+    follows_silent turn.answer.next turn.answer.agreed p.1 turns outcome (Negotiates size turn.answer.agreed p.1 turns outcome) is
+    (negotiates_silent size turn.answer.agreed p.1 turns outcome is) p.4
 
 no_turns : (size : ℕ) (stream : List ℕ) (turns : List Turn) (outcome : Outcome) → outcome.standing ≡ silent → Hears size stream turns outcome → turns ≡ []
 no_turns size stream turns outcome is (inl p) = p.none
-no_turns size stream turns outcome is (inr p) = absurd (negotiates_silent size plain p.rest turns outcome is p.negotiates)
+no_turns size stream turns outcome is (inr p) = absurd (negotiates_silent size (agreed_with p.client plain) p.rest turns outcome is p.negotiates)
 
 -- of what is due for the greeting and the replies the text is a beginning of the handshake's
 record Says (turns : List Turn) (text unsent : List ℕ) (between : Standing) : Type 0 where
@@ -44,13 +45,13 @@ record Says (turns : List Turn) (text unsent : List ℕ) (between : Standing) : 
   pub begins : handshake_text turns ≡ text ++ left
   pub all : IsSaid between → left ≡ unsent
 
-says_all : (between : Standing) (turns : List Turn) (text unsent : List ℕ) → IsSaid between → greeting_due silent between ++ replies_text turns ≡ text ++ unsent → Says turns text unsent between
+says_all : (between : Standing) (turns : List Turn) (text unsent : List ℕ) → IsSaid between → greeting_due silent between ++ answers_text turns ≡ text ++ unsent → Says turns text unsent between
 says_all between turns text unsent said begins =
-    record { left = unsent; begins = ap (λ (t : List ℕ). t ++ replies_text turns) (sym (due_said between said)) ∙ begins; all = λ s. refl }
+    record { left = unsent; begins = ap (λ (t : List ℕ). t ++ answers_text turns) (sym (due_said between said)) ∙ begins; all = λ s. refl }
 
-says : (between : Standing) (turns : List Turn) (text unsent : List ℕ) → (between ≡ silent → turns ≡ []) → greeting_due silent between ++ replies_text turns ≡ text ++ unsent → Says turns text unsent between
+says : (between : Standing) (turns : List Turn) (text unsent : List ℕ) → (between ≡ silent → turns ≡ []) → greeting_due silent between ++ answers_text turns ≡ text ++ unsent → Says turns text unsent between
 says silent turns text unsent none begins =
-    let nothing : text ≡ [] = front_none text unsent (sym (ap replies_text (none refl)) ∙ begins) in
+    let nothing : text ≡ [] = front_none text unsent (sym (ap answers_text (none refl)) ∙ begins) in
     record { left = handshake_text turns; begins = ap (λ (t : List ℕ). t ++ handshake_text turns) (sym nothing); all = λ s. absurd s }
 says (in_flags bytes) turns text unsent none begins = says_all (in_flags bytes) turns text unsent tt begins
 says (in_head bytes) turns text unsent none begins = says_all (in_head bytes) turns text unsent tt begins
@@ -63,7 +64,7 @@ says exhausted turns text unsent none begins = says_all exhausted turns text uns
 
 -- nothing was heard yet
 hears_silent : (size : ℕ) → Hears size [] [] (outcome_of [] (begun size))
-hears_silent size = inl (record { none = refl; requests = refl; flags = refl; leaves = refl })
+hears_silent size = inl (record { none = refl; requests = refl; agreed = refl; leaves = refl })
 
 module _ {P : Type 0} (allows : P → Message → SessionFlags → P → Reply → Type 0) (size : ℕ) (pass : P) (input output : Option (List ℕ)) where
   -- there was no memory to begin with
@@ -75,12 +76,12 @@ module _ {P : Type 0} (allows : P → Message → SessionFlags → P → Reply �
     exchanges = [];
     unanswered = [];
     text = [];
-    unsent = dialog [] plain [];
+    unsent = dialog [] plain.flags [];
     read = (consumes_none input, inl refl);
     owed = record { turns = []; hears = hears_silent size; requests = refl; whole = refl };
     steps = refl;
     written = appends_none output;
-    ends = early_ends end early silent [] (dialog [] plain []) [] input;
+    ends = early_ends end early silent [] (dialog [] plain.flags []) [] input;
   }
 
   module _ (mid made : Option (List ℕ)) (new : SessionState) where
@@ -120,12 +121,12 @@ module _ {P : Type 0} (allows : P → Message → SessionFlags → P → Reply �
     module _ (given : Vec Message) (h : Hearing (begun size) (ReadsOn (begun size) input mid) output made (Ok given) new) where
       -- what transmission goes on from
       abbrev pub base : SessionState
-      base = record { size = size; flags = h.between.flags; standing = h.between.standing }
+      base = record { size = size; agreed = h.between.agreed; standing = h.between.standing }
 
       same_base : new ≡ h.between → new ≡ base
       same_base same =
           let is : h.between.size ≡ size = sym (ap (λ (s : SessionState). s.size) same) ∙ h.size in
-          same ∙ (λ i. record { size = is i; flags = h.between.flags; standing = h.between.standing })
+          same ∙ (λ i. record { size = is i; agreed = h.between.agreed; standing = h.between.standing })
 
       pub stands : Stands h.unheard new base
       stands = elim h.tells.2 [ inl all ↦ inl (all.0, same_base all.1) | inr end ↦ inr end.0 ]
@@ -133,8 +134,8 @@ module _ {P : Type 0} (allows : P → Message → SessionFlags → P → Reply �
       pub over : IsBehind new.standing → IsBehind base.standing
       over b = elim h.tells.2 [ inl all ↦ subst (λ (s : SessionState). IsBehind s.standing) all.1 b | inr end ↦ end.3 ]
 
-      pub agreed : new.flags ≡ base.flags
-      agreed = elim h.tells.2 [ inl all ↦ ap (λ (s : SessionState). s.flags) all.1 | inr end ↦ end.2 ]
+      pub agreed : new.agreed ≡ base.agreed
+      agreed = elim h.tells.2 [ inl all ↦ ap (λ (s : SessionState). s.agreed) all.1 | inr end ↦ end.2 ]
 
       -- nothing is read behind an end of the handshake
       timely : (taken : List ℕ) → (taken ≡ []) ⊎ ((h.unheard ≡ []) × IsTimely base taken) → ((h.stream ++ h.unheard) ++ taken ≡ []) ⊎ IsTimely (begun size) ((h.stream ++ h.unheard) ++ taken)
@@ -144,12 +145,12 @@ module _ {P : Type 0} (allows : P → Message → SessionFlags → P → Reply �
           timely_on (begun size) base (h.stream ++ h.unheard) taken h.turns h.requests refl (subst (λ (b : List ℕ). HearsOn (begun size) b h.turns h.requests base) (sym all) h.hears) h.read.1 (inr both.1)
 
       -- and what came of it
-      pub served_whole : (later : P) (left told : Option (List ℕ)) (end : Result (Unit {0}) End) → IsBehind new.standing → Transmits allows new.flags base h.unheard given.items pass later mid left made told end → IsServed allows size pass later input left output told end
+      pub served_whole : (later : P) (left told : Option (List ℕ)) (end : Result (Unit {0}) End) → IsBehind new.standing → Transmits allows new.agreed.flags base h.unheard given.items pass later mid left made told end → IsServed allows size pass later input left output told end
       served_whole later left told end b t =
           let heard = h.hears [] [] [] (hears_silent size) in
           let said_so = says h.between.standing h.turns h.text h.unsent (λ is. no_turns size h.stream h.turns (outcome_of h.requests h.between) is heard) h.begins in
           let said : handshake_text h.turns ≡ h.text = said_so.begins ∙ ap (λ (x : List ℕ). h.text ++ x) (said_so.all (behind_said h.between.standing (over b)) ∙ h.tells.1) ∙ append-nil h.text in
-          let flags : new.flags ≡ t.between.flags = agreed ∙ sym t.agreed in
+          let flags : new.agreed.flags ≡ t.between.agreed.flags = ap (λ (a : Agreed). a.flags) (agreed ∙ sym t.agreed) in
           let read : (h.stream ++ h.unheard) ++ t.taken ≡ (h.stream ++ t.stream) ++ t.unheard =
           append_assoc h.stream h.unheard t.taken ∙ ap (λ (x : List ℕ). h.stream ++ x) t.parts ∙ sym (append_assoc h.stream t.stream t.unheard) in
           record {
@@ -165,7 +166,7 @@ module _ {P : Type 0} (allows : P → Message → SessionFlags → P → Reply �
               turns = h.turns;
               hears = subst (λ (turns : List Turn). Hears size (h.stream ++ t.stream) turns (outcome_of (h.requests ++ t.more) t.between)) (append-nil h.turns) (t.hears h.stream h.turns h.requests heard);
               requests = ap (λ (r : List Message). r ++ t.more) h.tells.0 ∙ t.requests;
-              whole = sym (ap (λ (x : List ℕ). x ++ talk_text t.between.flags t.exchanges) said ∙ ap (λ (x : List ℕ). h.text ++ x) (ap (λ (f : SessionFlags). talk_text f t.exchanges) (sym flags) ∙ t.begins) ∙ sym (append_assoc h.text t.text t.unsent));
+              whole = sym (ap (λ (x : List ℕ). x ++ talk_text t.between.agreed.flags t.exchanges) said ∙ ap (λ (x : List ℕ). h.text ++ x) (ap (λ (f : SessionFlags). talk_text f t.exchanges) (sym flags) ∙ t.begins) ∙ sym (append_assoc h.text t.text t.unsent));
             };
             steps = subst (λ (f : SessionFlags). AreSteps allows f pass t.exchanges later) flags t.steps;
             written = appends_on output made told h.text t.text h.written t.written;

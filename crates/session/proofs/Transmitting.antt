@@ -7,7 +7,7 @@ use Rattle.std.specs.Io.KnownBytes.{Appends, Consumes, IsAtEnd}
 use Rattle.nbd_wire.specs.Request.{Message}
 use Rattle.nbd_wire.specs.declared.message.Reply.{Reply}
 use Rattle.nbd_wire.specs.declared.message.SessionFlags.{SessionFlags}
-use Rattle.negotiation.specs.Dialog.{Standing, Turn, broken, ended, exhausted, in_discard, in_flags, in_head, in_option, in_requests, replies_text, silent}
+use Rattle.negotiation.specs.Dialog.{Standing, Turn, answers_text, broken, ended, exhausted, in_discard, in_flags, in_head, in_option, in_requests, silent}
 use Rattle.negotiation.specs.Session.{HearsOn, IsBehind, IsOpen, IsSaid, SessionState, end_of}
 use Rattle.negotiation.specs.declared.end.End.{End}
 use Rattle.negotiation.specs.declared.end.End.TheVariants.{IoFault, NoMemory, PeerClosed, ProtocolEnd}
@@ -58,7 +58,7 @@ quiet_text : (old new : SessionState) (IsRead : List ℕ → Type 0) (output mad
 quiet_text old new IsRead output made outcome hearing b =
     let none = (hearing.behind b).0 in
     front_none hearing.text hearing.unsent
-    (sym (ap (λ (t : List ℕ). t ++ replies_text hearing.turns) (no_greeting old.standing hearing.between.standing (behind_said old.standing b)) ∙ ap replies_text none) ∙ hearing.begins)
+    (sym (ap (λ (t : List ℕ). t ++ answers_text hearing.turns) (no_greeting old.standing hearing.between.standing (behind_said old.standing b)) ∙ ap answers_text none) ∙ hearing.begins)
 
 module _ {P : Type 0} (allows : P → Message → SessionFlags → P → Reply → Type 0) (flags : SessionFlags) (base : SessionState) (held : List ℕ) (waiting : List Message) (first : P) (input output : Option (List ℕ)) where
   -- the first requests were answered, and these wait
@@ -74,7 +74,7 @@ module _ {P : Type 0} (allows : P → Message → SessionFlags → P → Reply �
     pub clear : (held ≡ []) ⊎ (end_of now.standing ≡ Some NoMemory)
     pub parts : held ++ taken ≡ stream ++ unheard
     pub hears : HearsOn base stream [] more between
-    pub agreed : between.flags ≡ base.flags
+    pub agreed : between.agreed ≡ base.agreed
     pub size : now ≡ between → now.size ≡ base.size
     pub all : waiting ++ more ≡ asked exchanges ++ requests
     pub steps : AreSteps allows flags first exchanges pass
@@ -193,7 +193,7 @@ module _ {P : Type 0} (allows : P → Message → SessionFlags → P → Reply �
     ]))
 
     module _ (new : SessionState) (left later : Option (List ℕ)) (outcome : Result (Vec Message) End) (unheard : t.unheard ≡ []) (size : t.between.size ≡ base.size) (h : Hearing t.between (ReadsOn t.between mid left) made later outcome new) where
-      quiet : (h.turns ≡ []) × (h.between.flags ≡ t.between.flags) × IsBehind h.between.standing
+      quiet : (h.turns ≡ []) × (h.between.agreed ≡ t.between.agreed) × IsBehind h.between.standing
       quiet = h.behind t.behind
 
       read_on : Consumes input left (t.taken ++ (h.stream ++ h.unheard))

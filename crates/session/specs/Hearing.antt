@@ -3,7 +3,7 @@ use Rattle.std.specs.Prelude.{ℕ, ◌≡◌, ◌⊎◌, ◌<◌, ◌≤◌, Lis
 use Rattle.std.specs.Global.{Vec}
 use Rattle.std.specs.Io.KnownBytes.{Appends, Consumes}
 use Rattle.nbd_wire.specs.Request.{Message}
-use Rattle.negotiation.specs.Dialog.{Turn, replies_text}
+use Rattle.negotiation.specs.Dialog.{Turn, answers_text}
 use Rattle.negotiation.specs.Session.{HearsOn, IsBehind, IsOpen, IsSaid, SessionState, end_of, greeting_due}
 use Rattle.negotiation.specs.declared.end.End.{End}
 use Rattle.negotiation.specs.declared.end.End.TheVariants.{IoFault, NoMemory, PeerClosed, ProtocolEnd}
@@ -36,7 +36,7 @@ ReadsSome input left = (bytes : List ℕ) × (0 < length bytes) × Consumes inpu
 -- that are handed out. Where memory ran out, or a stream failed, it says nothing of the input.
 abbrev pub Tells : List Message → List ℕ → List ℕ → SessionState → SessionState → Result (Vec Message) End → Type 0
 Tells requests unsent unheard between new (Ok handed) =
-    (requests ≡ handed.items) × (unsent ≡ []) × (((unheard ≡ []) × (new ≡ between)) ⊎ ((end_of new.standing ≡ Some NoMemory) × (0 < vec_len handed) × (new.flags ≡ between.flags) × IsBehind between.standing))
+    (requests ≡ handed.items) × (unsent ≡ []) × (((unheard ≡ []) × (new ≡ between)) ⊎ ((end_of new.standing ≡ Some NoMemory) × (0 < vec_len handed) × (new.agreed ≡ between.agreed) × IsBehind between.standing))
 Tells requests unsent unheard between new (Err NoMemory) = end_of new.standing ≡ Some NoMemory
 Tells requests unsent unheard between new (Err PeerClosed) =
     (requests ≡ []) × (unsent ≡ []) × (unheard ≡ []) × (new ≡ between) × IsOpen new.standing
@@ -56,11 +56,11 @@ pub record Hearing (old : SessionState) (IsRead : List ℕ → Type 0) (output m
   pub unsent : List ℕ
   pub read : IsRead (stream ++ unheard)
   pub hears : HearsOn old stream turns requests between
-  pub begins : greeting_due old.standing between.standing ++ replies_text turns ≡ text ++ unsent
+  pub begins : greeting_due old.standing between.standing ++ answers_text turns ≡ text ++ unsent
   pub written : Appends output made text
   pub size : new.size ≡ old.size
   pub said : IsSaid old.standing → IsSaid between.standing
-  pub behind : IsBehind old.standing → (turns ≡ []) × (between.flags ≡ old.flags) × IsBehind between.standing
+  pub behind : IsBehind old.standing → (turns ≡ []) × (between.agreed ≡ old.agreed) × IsBehind between.standing
   pub tells : Tells requests unsent unheard between new outcome
 
 -- these requests, or why there are none

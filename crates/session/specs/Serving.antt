@@ -20,7 +20,7 @@ pub record IsDialog (size : ℕ) (stream : List ℕ) (outcome : Outcome) (exchan
   pub turns : List Turn
   pub hears : Hears size stream turns outcome
   pub requests : outcome.requests ≡ asked exchanges ++ unanswered
-  pub whole : text ≡ dialog turns outcome.flags exchanges
+  pub whole : text ≡ dialog turns outcome.agreed.flags exchanges
 
 -- the dialog is a function of the stream and of the replies
 abbrev pub OneDialog : Type 0
@@ -48,7 +48,7 @@ Ends standing unheard unsent unanswered left (Err IoFault) = Unit {0}
 
 -- a session in which nothing was said yet
 abbrev pub begun : ℕ → SessionState
-begun size = record { size = size; flags = plain; standing = silent }
+begun size = record { size = size; agreed = plain; standing = silent }
 
 -- Of what was read a first part was heard. The first of its requests had their steps, each allowed from where the one before it
 -- left the pass, and what is written is a beginning of the dialog with these replies.
@@ -62,7 +62,7 @@ pub record IsServed {P : Type 0} (allows : P → Message → SessionFlags → P 
   pub unsent : List ℕ
   pub read : ReadsOn (begun size) input left (stream ++ unheard)
   pub owed : IsDialog size stream outcome exchanges unanswered (text ++ unsent)
-  pub steps : AreSteps allows outcome.flags old exchanges new
+  pub steps : AreSteps allows outcome.agreed.flags old exchanges new
   pub written : Appends output made text
   pub ends : Ends outcome.standing unheard unsent unanswered left end
 
@@ -85,7 +85,7 @@ pub record Transmits {P : Type 0} (allows : P → Message → SessionFlags → P
   pub timely : (taken ≡ []) ⊎ ((held ≡ []) × IsTimely old taken)
   pub parts : held ++ taken ≡ stream ++ unheard
   pub hears : HearsOn old stream [] more between
-  pub agreed : between.flags ≡ old.flags
+  pub agreed : between.agreed ≡ old.agreed
   pub requests : waiting ++ more ≡ asked exchanges ++ unanswered
   pub steps : AreSteps allows flags pass exchanges new
   pub begins : talk_text flags exchanges ≡ text ++ unsent
@@ -95,5 +95,5 @@ pub record Transmits {P : Type 0} (allows : P → Message → SessionFlags → P
 -- whatever it had heard before
 abbrev pub TransmitsOn : {P : Type 0} → (P → Message → SessionFlags → P → Reply → Type 0) → SessionState → List Message → P → P → Option (List ℕ) → Option (List ℕ) → Option (List ℕ) → Option (List ℕ) → Result (Unit {0}) End → Type 0
 TransmitsOn allows now waiting pass new input left output made end =
-    (heard : SessionState) (held : List ℕ) → Stands held now heard → IsBehind heard.standing → now.flags ≡ heard.flags
-    → Transmits allows now.flags heard held waiting pass new input left output made end
+    (heard : SessionState) (held : List ℕ) → Stands held now heard → IsBehind heard.standing → now.agreed ≡ heard.agreed
+    → Transmits allows now.agreed.flags heard held waiting pass new input left output made end

@@ -1,13 +1,15 @@
--- When the answers of a log that show an image fit the order of commands.
-use Rattle.std.specs.Prelude.{◌≡◌, ◌≢◌, ℕ, ◌<◌, ◌≤◌, true, List, length}
+-- When the answers of a log that show an image, and the commands that its edits became, fit the order of commands.
+use Rattle.std.specs.Prelude.{◌≡◌, ◌≢◌, ℕ, ◌<◌, ◌≤◌, true, Some, List, length, slice_get}
 use Rattle.image_model.specs.Change.{Change}
+use Rattle.image_model.specs.Edit.{becomes}
 use Rattle.image_model.specs.Image.{Image}
 use Rattle.nbd_wire.specs.Request.{Message}
 use Rattle.nbd_wire.specs.declared.error.Errno.{Errno}
 use Rattle.nbd_wire.specs.declared.message.Answer.{Answer}
 use Rattle.nbd_wire.specs.declared.message.Answer.TheVariants.{Done, Refused}
 use Rattle.world.specs.declared.event.Event.{Event}
-use Rattle.world.specs.Log.{IsAnswered, is_read}
+use Rattle.world.specs.declared.event.Event.TheVariants.{Sent}
+use Rattle.world.specs.Log.{IsAnswered, StandsAt, edit_asked, is_read, is_write}
 use Rattle.world.specs.Shown.{shown_by}
 use Rattle.world.specs.World.{image_after}
 
@@ -33,3 +35,16 @@ pub record ReadsFit (log : List Event) (order : List Change) (paired shown : ℕ
   pub before : (place : ℕ) (is : IsShown log place) (k : ℕ) → k < shown place → paired k < is.answer
   -- the count never falls from an answer to a request that is sent later
   pub rising : (place later : ℕ) (is : IsShown log place) → IsShown log later → is.answer < later → shown place ≤ shown later
+
+-- A command is what the edit of the request that was sent at the place becomes over an image.
+pub record IsEdited (log : List Event) (place : ℕ) (command : Change) (image : Image) : Type 0 where
+  pub connection : ℕ
+  pub request : Message
+  pub sent : StandsAt log place (Sent connection request)
+  pub write : is_write request ≡ true
+  pub own : becomes (edit_asked request) image ≡ command
+
+-- Each command of the order is so over the image after those before it.
+abbrev pub EditsFit : List Event → List Change → (ℕ → ℕ) → Image → Type 0
+EditsFit log order paired image = (k : ℕ) (command : Change) → slice_get order k ≡ Some command
+    → IsEdited log (paired k) command (image_after order k image)

@@ -1,7 +1,9 @@
 -- What the log of a run must be. A request is known by the place in the log where it was sent; what was sent and what was
 -- answered, read in the log's order, is the transcript.
-use Rattle.std.specs.Prelude.{◌≡◌, ◌≢◌, ℕ, ◌<◌, ◌/◌, ◌==◌, ◌&&◌, ◌||◌, if◌then◌else◌, Bool, true, Some, List, length, slice_get, bit_and}
-use Rattle.image_model.specs.Change.{Change, Written, Cleared}
+use Rattle.std.specs.Prelude.{◌≡◌, ◌≢◌, ℕ, ◌<◌, ◌==◌, ◌&&◌, ◌||◌, if◌then◌else◌, Bool, true, Some, List, length, slice_get, bit_and}
+use Rattle.image_model.specs.Change.{Change}
+use Rattle.image_model.specs.Edit.{ByteEdit, BytesPut, BytesTrimmed, BytesZeroed, becomes}
+use Rattle.image_model.specs.Image.{Image}
 use Rattle.image_model.specs.declared.command.Kind.{Kind}
 use Rattle.image_model.specs.declared.command.Kind.TheVariants.{Zero, Hole}
 use Rattle.nbd_wire.specs.Request.{Message}
@@ -34,14 +36,15 @@ is_write_type kind = (kind == 1) || (kind == 4) || (kind == 6)
 abbrev pub cleared_as : RequestHead → Kind
 cleared_as head = if (head.kind == 6) && (bit_and head.flags 2 == 2) then Zero else Hole
 
--- a request that asks for a write command, and that command
+-- a request that asks for a write command, and the edit that it asks for
 abbrev pub is_write : Message → Bool
 is_write request = is_write_type request.head.kind
 
-abbrev pub command_of : Message → Change
-command_of request =
-    if request.head.kind == 1 then Written (request.head.offset / 4096) request.bytes
-    else Cleared (request.head.offset / 4096) (request.head.length / 4096) (cleared_as request.head)
+abbrev pub edit_asked : Message → ByteEdit
+edit_asked request =
+    if request.head.kind == 1 then BytesPut request.head.offset request.bytes
+    else (if request.head.kind == 6 then BytesZeroed request.head.offset request.head.length (cleared_as request.head)
+    else BytesTrimmed request.head.offset request.head.length)
 
 -- a READ or a BLOCK_STATUS, which are answered with what an image holds
 abbrev pub is_read_type : ℕ → Bool
@@ -58,13 +61,13 @@ abbrev pub waits_for_store : Mode → Message → Bool
 waits_for_store Writethrough request = true
 waits_for_store Writeback request = bit_and request.head.flags 1 == 1
 
--- the request whose command has a place in the order
+-- the request whose command has a place in the order: what its edit becomes over some image
 pub record IsPaired (log : List Event) (command : Change) (place : ℕ) : Type 0 where
   pub connection : ℕ
   pub request : Message
   pub sent : StandsAt log place (Sent connection request)
   pub write : is_write request ≡ true
-  pub own : command_of request ≡ command
+  pub own : (image : Image) × (becomes (edit_asked request) image ≡ command)
 
 -- The log agrees with the order of commands, under a pairing of each command with the place of its request.
 pub record IsLegal (log : List Event) (order : List Change) (paired : ℕ → ℕ) : Type 0 where

@@ -1,8 +1,9 @@
 -- How serving a connection changes the world. Each step changes the world and adds its event to the log.
-use Rattle.std.specs.Prelude.{ℕ, ◌+◌, Bool, true, false, ◌==◌, nat_le, if◌then◌else◌, Result, Ok, Err, [], ◌∷◌, ◌++◌, length}
+use Rattle.std.specs.Prelude.{ℕ, ◌+◌, ◌/◌, Bool, true, false, ◌==◌, ◌||◌, nat_le, if◌then◌else◌, Result, Ok, Err, [], ◌∷◌, ◌++◌, length}
 use Rattle.disk_model.specs.Faults.{counted}
 use Rattle.image_model.specs.Change.{Change}
-use Rattle.image_model.specs.Image.{Image}
+use Rattle.image_model.specs.Edit.{ByteEdit, BytesPut, BytesTrimmed, BytesZeroed, becomes, blocks_met, is_partial_data}
+use Rattle.image_model.specs.Image.{Image, last_of}
 use Rattle.nbd_wire.specs.Request.{Message}
 use Rattle.nbd_wire.specs.declared.error.Errno.{Errno}
 use Rattle.nbd_wire.specs.declared.error.Errno.TheVariants.{Io, NoMemory, NoSpace}
@@ -14,18 +15,18 @@ use Rattle.world.specs.declared.event.Event.{Event}
 use Rattle.world.specs.declared.event.Event.TheVariants.{Answered, Numbered, Took, Held}
 use Rattle.nbd_wire.specs.declared.message.Answer.{Answer}
 use Rattle.nbd_wire.specs.declared.message.Answer.TheVariants.{Done, Refused}
-use Rattle.world.specs.Log.{command_of, is_flush, waits_for_store}
+use Rattle.world.specs.Log.{edit_asked, is_flush, waits_for_store}
 use Rattle.world.specs.Verdict.{verdict}
 use Rattle.world.specs.Shown.{shown_by}
 use Rattle.world.specs.World.{World, Stage, put, last_number, has_room, image_after}
 
 -- What fails in a step: nothing, a growth of memory, which is refused, or a call of the device; and a device that isn't trusted
--- may show another image. Nothing else in a step is free.
+-- may show another image, while that fails. Nothing else in a step is free.
 pub data Failure : Type 0 where
   Nothing : Failure
   OutOfMemory : Failure
   DeviceFailure : Failure
-  Misread : (image : Image) → Failure
+  Misread : (given : Failure) (image : Image) → Failure
 
 -- the world in which order and keeper come to this
 abbrev pub staged : World → Stage → World
@@ -60,23 +61,46 @@ abbrev pub state_after : Bool → ℕ → Connection
 state_after true number = Waiting number
 state_after false number = Ready Done
 
--- a write request, whose command nothing holds or refuses
-abbrev pub accepted : Failure → World → ℕ → Message → Change → World
-accepted OutOfMemory world connection request command = ready world connection (Refused NoMemory)
-accepted _ world connection request command =
+-- a write request whose command gets the next number
+abbrev pub numbered : World → ℕ → Message → Change → World
+numbered world connection request command =
     let number = last_number world + 1 in
     logged (moved (ordered world connection command) connection (state_after (waits_for_store world.stage.setting.mode request) number))
     (Numbered connection number)
 
--- a write request that asks for a command: refused where no number is left, held where there is no room
-abbrev pub write_served : Failure → World → ℕ → Message → Change → World
-write_served failure world connection request command =
-    if last_number world == 18446744073709551615 then ready world connection (Refused NoSpace)
-    else (if has_room world command then accepted failure world connection request command else held world)
+-- whether the first or the last block that bytes touch is data and covered in part
+abbrev pub covers_data_in_part : ℕ → ℕ → Image → Bool
+covers_data_in_part offset count image =
+    let first = offset / 4096 in
+    let last = last_of first (blocks_met offset count) in
+    is_partial_data offset count first (image.kind first) || is_partial_data offset count last (image.kind last)
 
--- what a READ or a BLOCK_STATUS shows: the image after all of the order, but where the device isn't trusted and shows another
+-- whether an edit takes old bytes, for which the device may be needed
+abbrev pub takes_old_bytes : ByteEdit → Image → Bool
+takes_old_bytes (BytesPut offset bytes) image = covers_data_in_part offset (length bytes) image
+takes_old_bytes (BytesZeroed offset count kind) image = covers_data_in_part offset count image
+takes_old_bytes (BytesTrimmed offset count) image = false
+
+-- a write request over this image, whose command nothing holds or refuses: EIO where a call of the device fails
+abbrev pub accepted : Failure → Image → World → ℕ → Message → World
+accepted OutOfMemory image world connection request = ready world connection (Refused NoMemory)
+accepted DeviceFailure image world connection request =
+    if takes_old_bytes (edit_asked request) image then ready (faulted world) connection (Refused Io)
+    else numbered world connection request (becomes (edit_asked request) image)
+accepted Nothing image world connection request = numbered world connection request (becomes (edit_asked request) image)
+accepted (Misread given other) image world connection request = accepted given image world connection request
+
+-- A write request asks for the command that its edit becomes over this image: it is refused where no number is left, and held
+-- where there is no room.
+abbrev pub write_served : Failure → Image → World → ℕ → Message → World
+write_served failure image world connection request =
+    if last_number world == 18446744073709551615 then ready world connection (Refused NoSpace)
+    else (if has_room world (becomes (edit_asked request) image) then accepted failure image world connection request else held world)
+
+-- what a request shows or is carried out over: the image after all of the order, but where the device isn't trusted and shows
+-- another
 abbrev pub image_shown : Failure → Stage → Image
-image_shown (Misread image) stage = if stage.setting.trusted then image_after stage.order (length stage.order) stage.setting.image else image
+image_shown (Misread given image) stage = if stage.setting.trusted then image_after stage.order (length stage.order) stage.setting.image else image
 image_shown Nothing stage = image_after stage.order (length stage.order) stage.setting.image
 image_shown OutOfMemory stage = image_after stage.order (length stage.order) stage.setting.image
 image_shown DeviceFailure stage = image_after stage.order (length stage.order) stage.setting.image
@@ -105,7 +129,7 @@ passed failure world connection request =
     else (if is_flush request then logged (moved world connection (Waiting (last_number world))) Took
     else (if request.head.kind == 0 then read_served failure world connection request
     else (if request.head.kind == 7 then status_served failure world connection request
-    else write_served failure world connection request (command_of request))))
+    else write_served failure (image_shown failure world.stage) world connection request)))
 
 -- a request that is judged: DISC closes the connection
 abbrev pub judged : Result Action Errno → Failure → World → ℕ → Message → World

@@ -1,5 +1,6 @@
 -- what a READ and a BLOCK_STATUS are answered, of an image ("Structured reply types" and "Block status" of NBD's proto.md)
-use Rattle.std.specs.Prelude.{ℕ, zero, suc, ◌+◌, ◌/◌, ◌==◌, if◌then◌else◌, List, [], ◌∷◌, take, bit_and}
+use Rattle.std.specs.Prelude.{ℕ, zero, suc, ◌+◌, ◌-◌, ◌/◌, ◌%◌, ◌==◌, nat_le, if◌then◌else◌, List, [], ◌∷◌, take, bit_and}
+use Rattle.image_model.specs.Edit.{blocks_met}
 use Rattle.image_model.specs.Image.{Image}
 use Rattle.image_model.specs.declared.command.Kind.{Kind}
 use Rattle.image_model.specs.declared.command.Kind.TheVariants.{Data, Zero, Hole}
@@ -37,6 +38,25 @@ unfoldable pub runs_from : (ℕ → ℕ) → ℕ → ℕ → List Run
 runs_from status block zero = []
 runs_from status block (suc count) = with_block (status block) (runs_from status (block + 1) count)
 
+-- runs without so many bytes at their front, which are fewer than the first of them has
+abbrev pub cut_front : ℕ → List Run → List Run
+cut_front count [] = []
+cut_front count (run ∷ runs) = record run { length = run.length - count } ∷ runs
+
+-- runs up to so many bytes, of which there is one at least
+unfoldable pub cut_behind : ℕ → List Run → List Run
+cut_behind count [] = []
+cut_behind count (run ∷ runs) =
+    if nat_le count run.length then record run { length = count } ∷ [] else run ∷ cut_behind (count - run.length) runs
+
+-- the runs of blocks from that of the offset on, cut to so many bytes from there on
+abbrev pub cut_to : ℕ → ℕ → List Run → List Run
+cut_to offset count runs = cut_behind count (cut_front (offset % 4096) runs)
+
+-- the runs of the blocks that so many bytes from the offset on touch
+abbrev pub runs_met : (ℕ → ℕ) → ℕ → ℕ → List Run
+runs_met status offset count = runs_from status (offset / 4096) (blocks_met offset count)
+
 -- how many runs a BLOCK_STATUS is answered at most: one with REQ_ONE, else 1,024
 abbrev pub most_runs : RequestHead → ℕ
 most_runs head = if bit_and head.flags 8 == 8 then 1 else 1024
@@ -48,6 +68,6 @@ shown_by image head =
     then Bytes (record {
       offset = head.offset;
       bytes = bytes_from image head.offset head.length;
-      runs = runs_from (λ block. read_status_of (image.kind block)) (head.offset / 4096) (head.length / 4096);
+      runs = cut_to head.offset head.length (runs_met (λ block. read_status_of (image.kind block)) head.offset head.length);
     })
-    else States (take (most_runs head) (runs_from (λ block. status_of (image.kind block)) (head.offset / 4096) (head.length / 4096)))
+    else States (cut_to head.offset head.length (take (most_runs head) (runs_met (λ block. status_of (image.kind block)) head.offset head.length)))

@@ -52,7 +52,7 @@ abbrev pub written : Failure → World → Stage → World
 written Nothing world stage = logged (staged world stage) Took
 written OutOfMemory world stage = out_of_memory world
 written DeviceFailure world stage = logged (faulted world) (Failed DeviceFault)
-written (Misread image) world stage = logged (staged world stage) Took
+written (Misread given image) world stage = logged (staged world stage) Took
 
 -- the group in hand is stored
 abbrev pub stored_more : Failure → World → World
@@ -98,7 +98,7 @@ abbrev pub without_memory : Failure → Failure
 without_memory Nothing = Nothing
 without_memory OutOfMemory = Nothing
 without_memory DeviceFailure = DeviceFailure
-without_memory (Misread image) = Nothing
+without_memory (Misread given image) = Nothing
 
 -- the first area is no longer in use
 abbrev pub finish : Failure → World → World

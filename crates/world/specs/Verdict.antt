@@ -1,5 +1,5 @@
 -- what becomes of a request before anything is done for it, by docs/FORMATS.md, "Judgement": the first rule that applies
-use Rattle.std.specs.Prelude.{ℕ, ◌≡◌, ◌<◌, ◌≤◌, ◌+◌, ◌%◌, ◌*◌, Bool, ◌==◌, ◌||◌, ◌&&◌, not, nat_lt, if◌then◌else◌, Result, Ok, Err, bit_and, List, [], ◌∷◌}
+use Rattle.std.specs.Prelude.{ℕ, ◌≡◌, ◌<◌, ◌≤◌, ◌+◌, ◌*◌, Bool, ◌==◌, ◌||◌, ◌&&◌, not, nat_lt, if◌then◌else◌, Result, Ok, Err, bit_and, List, [], ◌∷◌}
 use Rattle.nbd_wire.specs.declared.error.Errno.{Errno}
 use Rattle.nbd_wire.specs.declared.error.Errno.TheVariants.{Invalid, NoSpace}
 use Rattle.nbd_wire.specs.declared.head.RequestHead.{RequestHead}
@@ -23,10 +23,6 @@ abbrev pub allowed_flags : ℕ → Bool → ℕ
 allowed_flags kind structured =
     1 + (if kind == 6 then 2 else 0) + (if (kind == 0) && structured then 4 else 0) + (if kind == 7 then 8 else 0)
 
--- a range that has no bytes, or doesn't begin and end between blocks
-abbrev pub is_unaligned : RequestHead → Bool
-is_unaligned head = (head.length == 0) || not (head.offset % 4096 == 0) || not (head.length % 4096 == 0)
-
 -- the error of a range past the end
 abbrev pub past_end : ℕ → Errno
 past_end kind = if (kind == 1) || (kind == 6) then NoSpace else Invalid
@@ -34,7 +30,7 @@ past_end kind = if (kind == 1) || (kind == 6) then NoSpace else Invalid
 -- the rules on the range of a request that names one
 abbrev pub range_verdict : RequestHead → Geometry → Result Action Errno
 range_verdict head geometry = first_of_rules (
-    (is_unaligned head, Err Invalid)
+    (head.length == 0, Err Invalid)
     ∷ (((head.kind == 0) || (head.kind == 1)) && nat_lt 1048576 head.length, Err Invalid)
     ∷ (nat_lt (4096 * geometry.blocks) (head.offset + head.length), Err (past_end head.kind))
     ∷ []) (Ok Serve)
@@ -49,11 +45,9 @@ verdict head geometry flags = first_of_rules (
     ∷ ((head.kind == 7) && not (flags.structured && flags.context), Err Invalid)
     ∷ []) (range_verdict head geometry)
 
--- whole blocks inside the image, of a READ or a WRITE at most 1,048,576 bytes
+-- one byte at least, all inside the image, of a READ or a WRITE at most 1,048,576
 pub record IsServedRange (head : RequestHead) (geometry : Geometry) : Type 0 where
   pub some : 0 < head.length
   pub most_read : head.kind ≡ 0 → head.length ≤ 1048576
   pub most_written : head.kind ≡ 1 → head.length ≤ 1048576
-  pub from_block : head.offset % 4096 ≡ 0
-  pub whole_blocks : head.length % 4096 ≡ 0
   pub inside : head.offset + head.length ≤ 4096 * geometry.blocks

@@ -1,3 +1,4 @@
+mod Edited
 mod Reached
 mod Shown
 mod Truthful

@@ -2,6 +2,7 @@
 use Rattle.std.proofs.Common.{◌≡◌, inl, inr, ℕ, ◌+◌, ◌≤◌, ◌==◌, ◌&&◌, Bool, true, nat_le, nat_lt, Result, Ok, Err, List, [], ◌∷◌, ◌++◌, append_assoc, append-nil, length, length-append, sym, ◌∙◌, ap, subst, refl, arith}
 use Rattle.std.proofs.lemmas.Bool.{ltb-true}
 use Rattle.image_model.specs.Change.{Change}
+use Rattle.image_model.specs.Edit.{becomes}
 use Rattle.nbd_wire.specs.Request.{Message}
 use Rattle.nbd_wire.specs.declared.error.Errno.{Errno}
 use Rattle.nbd_wire.specs.declared.error.Errno.TheVariants.{Io, NoMemory, NoSpace}
@@ -17,14 +18,13 @@ use Rattle.nbd_wire.specs.declared.message.Answer.TheVariants.{Done, Refused}
 use Rattle.world.specs.declared.step.Step.{Step}
 use Rattle.world.specs.declared.step.Step.TheVariants as steps
 use Rattle.world.specs.Covered.{Covers, IsCovered}
-use Rattle.world.specs.Log.{command_of, is_flush}
+use Rattle.world.specs.Log.{edit_asked, is_flush}
 use Rattle.world.specs.Run.{IsReached, IsRun, Fresh, After}
-use Rattle.world.specs.Serve.{Failure, Nothing, OutOfMemory, DeviceFailure, logged, held, moved, ready, ordered, accepted, passed, judged, serve, answer, staged, faulted, Misread, image_shown, shown, read_served, status_served}
+use Rattle.world.specs.Serve.{Failure, Nothing, OutOfMemory, DeviceFailure, logged, held, moved, ready, ordered, accepted, passed, judged, serve, answer, staged, faulted, Misread, image_shown, shown, read_served, status_served, takes_old_bytes}
 use Rattle.world.specs.Checkpoint.{can_rotate, can_copy, can_map, can_finish, can_clean, is_full, finished}
 use Rattle.world.specs.Step.{sent, send, sealed_more, put_back, written, append, publish, in_time, with_generation, without_memory, after_step}
 use Rattle.world.specs.Verdict.{verdict}
 use Rattle.image_model.specs.Image.{Image}
-use Rattle.world.specs.Shown.{bytes_from, most_runs, read_status_of, runs_from, shown_by, status_of}
 use Rattle.world.specs.World.{World, Stage, last_number, has_room, fits}
 use Rattle.world_law.specs.Law.{Grows, IsRising, IsWithin}
 use Rattle.world_law.specs.laws.Logged.{put_other}
@@ -79,7 +79,7 @@ module _ (world : World) where
     grows_sent OutOfMemory request = grows_plain world (sent OutOfMemory world c request) _ refl refl refl refl (omega arith) (omega arith) (λ within. omega arith) (λ within. omega arith) (omega arith) (λ is. is)
     grows_sent Nothing request = grows_plain world (sent Nothing world c request) _ refl refl refl refl (omega arith) (omega arith) (λ within. omega arith) (λ within. omega arith) (omega arith) (λ is. is)
     grows_sent DeviceFailure request = grows_plain world (sent DeviceFailure world c request) _ refl refl refl refl (omega arith) (omega arith) (λ within. omega arith) (λ within. omega arith) (omega arith) (λ is. is)
-    grows_sent (Misread image) request = grows_plain world (sent (Misread image) world c request) _ refl refl refl refl (omega arith) (omega arith) (λ within. omega arith) (λ within. omega arith) (omega arith) (λ is. is)
+    grows_sent (Misread given image) request = grows_plain world (sent (Misread given image) world c request) _ refl refl refl refl (omega arith) (omega arith) (λ within. omega arith) (λ within. omega arith) (omega arith) (λ is. is)
 
     grows_send : (failure : Failure) (request : Message) (state : Connection) → Grows world (send failure world c request state)
     grows_send failure request Idle = grows_sent failure request
@@ -102,26 +102,29 @@ module _ (world : World) where
       stopped = λ is. is;
     }
 
-    grows_accepted : (failure : Failure) (request : Message) (command : Change) → Grows world (accepted failure world c request command)
-    grows_accepted OutOfMemory request command = grows_moved (Ready (Refused NoMemory)) Took
-    grows_accepted Nothing request command = grows_numbered command _ _
-    grows_accepted DeviceFailure request command = grows_numbered command _ _
-    grows_accepted (Misread image) request command = grows_numbered command _ _
+    grows_fault : Grows world (ready (faulted world) c (Refused Io))
+    grows_fault = grows_plain world (ready (faulted world) c (Refused Io)) _ refl refl refl refl (omega arith) (omega arith) (λ within. omega arith) (λ within. omega arith) (omega arith) (λ is. refl)
+
+    grows_accepted : (failure : Failure) (image : Image) (request : Message) → Grows world (accepted failure image world c request)
+    grows_accepted OutOfMemory image request = grows_moved (Ready (Refused NoMemory)) Took
+    grows_accepted Nothing image request = grows_numbered (becomes (edit_asked request) image) _ _
+    grows_accepted DeviceFailure image request = of_either (Grows world) (takes_old_bytes (edit_asked request) image) _ _ (λ wants. grows_fault) (λ none. grows_numbered (becomes (edit_asked request) image) _ _)
+    grows_accepted (Misread given other) image request = grows_accepted given image request
 
     grows_shown : (image : Image) (request : Message) → Grows world (shown image world c request)
     grows_shown image request = grows_plain world (shown image world c request) _ refl refl refl refl (omega arith) (omega arith) (λ within. omega arith) (λ within. omega arith) (omega arith) (λ is. is)
 
     grows_read : (failure : Failure) (request : Message) → Grows world (read_served failure world c request)
     grows_read OutOfMemory request = grows_moved (Ready (Refused NoMemory)) Took
-    grows_read DeviceFailure request = grows_plain world (ready (faulted world) c (Refused Io)) _ refl refl refl refl (omega arith) (omega arith) (λ within. omega arith) (λ within. omega arith) (omega arith) (λ is. refl)
+    grows_read DeviceFailure request = grows_fault
     grows_read Nothing request = grows_shown (image_shown Nothing world.stage) request
-    grows_read (Misread image) request = grows_shown (image_shown (Misread image) world.stage) request
+    grows_read (Misread given image) request = grows_shown (image_shown (Misread given image) world.stage) request
 
     grows_status : (failure : Failure) (request : Message) → Grows world (status_served failure world c request)
     grows_status OutOfMemory request = grows_moved (Ready (Refused NoMemory)) Took
     grows_status DeviceFailure request = grows_shown (image_shown DeviceFailure world.stage) request
     grows_status Nothing request = grows_shown (image_shown Nothing world.stage) request
-    grows_status (Misread image) request = grows_shown (image_shown (Misread image) world.stage) request
+    grows_status (Misread given image) request = grows_shown (image_shown (Misread given image) world.stage) request
 
     grows_passed : (failure : Failure) (request : Message) → Grows world (passed failure world c request)
     grows_passed failure request = of_either (Grows world) world.stage.stopped _ _ (λ stopped. grows_moved (Ready (Refused Io)) Took)
@@ -129,7 +132,7 @@ module _ (world : World) where
         (λ other. of_either (Grows world) (request.head.kind == 0) _ _ (λ read. grows_read failure request)
         (λ no_read. of_either (Grows world) (request.head.kind == 7) _ _ (λ status. grows_status failure request)
         (λ no_status. of_either (Grows world) (last_number world == 18446744073709551615) _ _ (λ full. grows_moved (Ready (Refused NoSpace)) Took)
-        (λ left. of_either (Grows world) (has_room world (command_of request)) _ _ (λ room. grows_accepted failure request (command_of request)) (λ none. grows_held))))))
+        (λ left. of_either (Grows world) (has_room world (becomes (edit_asked request) (image_shown failure world.stage))) _ _ (λ room. grows_accepted failure (image_shown failure world.stage) request) (λ none. grows_held))))))
 
     grows_judged : (result : Result Action Errno) (failure : Failure) (request : Message) → Grows world (judged result failure world c request)
     grows_judged (Ok End) failure request = grows_moved Closed Took
@@ -155,7 +158,7 @@ module _ (world : World) where
   grows_sealed OutOfMemory = grows_plain world (sealed_more OutOfMemory world) _ refl refl refl refl (omega arith) (omega arith) (λ within. omega arith) (λ within. omega arith) (omega arith) (λ is. is)
   grows_sealed Nothing = grows_plain world (sealed_more Nothing world) Took refl refl refl refl (omega arith) (omega arith) (λ within. omega arith) (λ within. omega arith) (omega arith) (λ is. is)
   grows_sealed DeviceFailure = grows_plain world (sealed_more DeviceFailure world) Took refl refl refl refl (omega arith) (omega arith) (λ within. omega arith) (λ within. omega arith) (omega arith) (λ is. is)
-  grows_sealed (Misread image) = grows_plain world (sealed_more (Misread image) world) Took refl refl refl refl (omega arith) (omega arith) (λ within. omega arith) (λ within. omega arith) (omega arith) (λ is. is)
+  grows_sealed (Misread given image) = grows_plain world (sealed_more (Misread given image) world) Took refl refl refl refl (omega arith) (omega arith) (λ within. omega arith) (λ within. omega arith) (omega arith) (λ is. is)
 
   grows_failed : (fault : StepFault) → Grows world (logged world (Failed fault))
   grows_failed fault = grows_plain world (logged world (Failed fault)) _ refl refl refl refl (omega arith) (omega arith) (λ within. omega arith) (λ within. omega arith) (omega arith) (λ is. is)
@@ -163,7 +166,7 @@ module _ (world : World) where
   grows_written : (failure : Failure) (stage : Stage) → Grows world (logged (staged world stage) Took) → Grows world (written failure world stage)
   grows_written Nothing stage is = is
   grows_written OutOfMemory stage is = grows_failed fault.NoMemory
-  grows_written (Misread image) stage is = is
+  grows_written (Misread given image) stage is = is
   grows_written DeviceFailure stage is = grows_plain world (logged (faulted world) (Failed fault.DeviceFault)) _ refl refl refl refl (omega arith) (omega arith) (λ within. omega arith) (λ within. omega arith) (omega arith) (λ is. refl)
 
   grows_back : (event : Event) → Grows world (logged (put_back world) event)

@@ -1,11 +1,11 @@
 -- the answers that show an image fit the order
-use Rattle.std.proofs.Common.{◌≡◌, ◌≢◌, ◌⊎◌, inl, inr, ℕ, ◌+◌, ◌-◌, ◌<◌, ◌≤◌, ◌==◌, ◌&&◌, Bool, true, false, if◌then◌else◌, nat_le, nat_lt, Result, Ok, Err, Some, List, [], ◌∷◌, ◌++◌, take, drop, length, length-append, sym, ◌∙◌, ap, subst, refl, arith}
-use Rattle.std.specs.List.{slice_get}
+use Rattle.std.proofs.Common.{◌≡◌, ◌≢◌, ◌⊎◌, inl, inr, ℕ, ◌+◌, ◌-◌, ◌<◌, ◌≤◌, ◌==◌, ◌&&◌, Bool, true, false, if◌then◌else◌, nat_le, nat_lt, Result, Ok, Err, List, [], ◌∷◌, ◌++◌, length, length-append, sym, ◌∙◌, ap, subst, refl, arith}
 use Rattle.std.proofs.lemmas.Option.{slice_get_within}
 use Rattle.std.proofs.lemmas.Bool.{both_ways, cases_eq, eqb-true, or_from}
 use Rattle.std.proofs.lemmas.List.{take-append-le}
 use Rattle.image_model.specs.Bodies.{bodies_bytes}
 use Rattle.image_model.specs.Change.{Change}
+use Rattle.image_model.specs.Edit.{becomes}
 use Rattle.image_model.specs.Image.{Image, apply_all}
 use Rattle.nbd_wire.specs.Request.{Message}
 use Rattle.nbd_wire.specs.declared.error.Errno.{Errno}
@@ -24,11 +24,11 @@ use Rattle.world.specs.declared.step.Step.{Step}
 use Rattle.world.specs.declared.step.Step.TheVariants as steps
 use Rattle.world.specs.Checkpoint.{can_rotate, can_copy, can_map, can_finish, can_clean, is_full, finished, rotated}
 use Rattle.world.specs.Fits.{IsShown, ReadsFit}
-use Rattle.world.specs.Log.{StandsAt, IsAnswered, command_of, is_flush, is_read, is_read_type, waits_for_store}
+use Rattle.world.specs.Log.{StandsAt, IsAnswered, edit_asked, is_flush, is_read, is_read_type, waits_for_store}
 use Rattle.world.specs.Run.{IsReached, Fresh, After}
-use Rattle.world.specs.Serve.{Failure, Nothing, OutOfMemory, DeviceFailure, Misread, accepted, answer, answered, faulted, held, image_shown, judged, logged, moved, ordered, passed, read_served, ready, serve, shown, state_after, status_served, write_served}
+use Rattle.world.specs.Serve.{Failure, Nothing, OutOfMemory, DeviceFailure, Misread, accepted, answer, answered, faulted, held, image_shown, judged, logged, moved, ordered, passed, read_served, ready, serve, shown, state_after, status_served, write_served, takes_old_bytes}
 use Rattle.world.specs.Shown.{shown_by}
-use Rattle.world.specs.Step.{after_step, in_time, put_back, send, sent, with_generation, written, without_memory, sealed_more, append}
+use Rattle.world.specs.Step.{after_step, in_time, put_back, send, with_generation, written, without_memory, sealed_more, append}
 use Rattle.world.specs.Verdict.{verdict}
 use Rattle.world.specs.World.{World, Stage, Setting, fits, fresh, has_room, image_after, in_hand, last_number, put}
 use Rattle.world_law.specs.laws.Events.{IsLast, answered_split, get_split}
@@ -370,11 +370,11 @@ module _ (world : World) (c : ℕ) (request : Message) (is_open : IsOpen world.l
           (due_counted d (world.places d) (world.connections d) other (fit.due d))
 
 -- where the device is trusted what is shown is the image after all of the order
-shown_true : (failure : Failure) (stage : Stage) → stage.setting.trusted ≡ true → image_shown failure stage ≡ image_after stage.order (length stage.order) stage.setting.image
+pub shown_true : (failure : Failure) (stage : Stage) → stage.setting.trusted ≡ true → image_shown failure stage ≡ image_after stage.order (length stage.order) stage.setting.image
 shown_true Nothing stage trusted = refl
 shown_true OutOfMemory stage trusted = refl
 shown_true DeviceFailure stage trusted = refl
-shown_true (Misread image) stage trusted = ap (λ (b : Bool). if b then image_after stage.order (length stage.order) stage.setting.image else image) trusted
+shown_true (Misread given image) stage trusted = ap (λ (b : Bool). if b then image_after stage.order (length stage.order) stage.setting.image else image) trusted
 
 flush_no_read : (request : Message) → is_flush request ≡ true → is_read request ≡ true → ⊥
 flush_no_read request flush read = unlike (subst (λ (kind : ℕ). is_read_type kind ≡ true) (eqb-true request.head.kind 3 flush) read)
@@ -411,42 +411,42 @@ module _ (world : World) (c : ℕ) (sound : IsSound world) (fit : Fits world) wh
         (fit_moved (ordered world c command) c state (fit_ordered world c request command is_open fit)
         (due_after (facts (ordered world c command)) (waits_for_store world.stage.setting.mode request) (last_number world + 1) refl other))
 
-    fit_accepted : (failure : Failure) (command : Change) → is_read request ≡ false → Fits (accepted failure world c request command)
-    fit_accepted OutOfMemory command other = fit_ready NoMemory
-    fit_accepted Nothing command other = fit_numbered command other
-    fit_accepted DeviceFailure command other = fit_numbered command other
-    fit_accepted (Misread image) command other = fit_numbered command other
-
     fit_fault : Fits (ready (faulted world) c (Refused Io))
     fit_fault = fit_quiet (moved (faulted world) c (Ready (Refused Io))) Took quiet_took (fit_moved (faulted world) c (Ready (Refused Io)) fit (λ asked at read given. absurd (given Io refl)))
+
+    fit_accepted : (failure : Failure) (image : Image) → is_read request ≡ false → Fits (accepted failure image world c request)
+    fit_accepted OutOfMemory image other = fit_ready NoMemory
+    fit_accepted Nothing image other = fit_numbered (becomes (edit_asked request) image) other
+    fit_accepted DeviceFailure image other = of_either Fits (takes_old_bytes (edit_asked request) image) _ _ (λ wants. fit_fault) (λ none. fit_numbered (becomes (edit_asked request) image) other)
+    fit_accepted (Misread given shown) image other = fit_accepted given image other
 
     fit_read : (failure : Failure) → Fits (read_served failure world c request)
     fit_read OutOfMemory = fit_ready NoMemory
     fit_read DeviceFailure = fit_fault
     fit_read Nothing = fit_shown world c request is_open (image_shown Nothing world.stage) (shown_true Nothing world.stage) fit
-    fit_read (Misread image) = fit_shown world c request is_open (image_shown (Misread image) world.stage) (shown_true (Misread image) world.stage) fit
+    fit_read (Misread given image) = fit_shown world c request is_open (image_shown (Misread given image) world.stage) (shown_true (Misread given image) world.stage) fit
 
     fit_status : (failure : Failure) → Fits (status_served failure world c request)
     fit_status OutOfMemory = fit_ready NoMemory
     fit_status DeviceFailure = fit_shown world c request is_open (image_shown DeviceFailure world.stage) (shown_true DeviceFailure world.stage) fit
     fit_status Nothing = fit_shown world c request is_open (image_shown Nothing world.stage) (shown_true Nothing world.stage) fit
-    fit_status (Misread image) = fit_shown world c request is_open (image_shown (Misread image) world.stage) (shown_true (Misread image) world.stage) fit
+    fit_status (Misread given image) = fit_shown world c request is_open (image_shown (Misread given image) world.stage) (shown_true (Misread given image) world.stage) fit
 
-    fit_write : (failure : Failure) (command : Change) → is_read request ≡ false → Fits (write_served failure world c request command)
-    fit_write failure command other = of_either Fits (last_number world == 18446744073709551615) (ready world c (Refused NoSpace)) (if has_room world command then accepted failure world c request command else held world)
+    fit_write : (failure : Failure) (image : Image) → is_read request ≡ false → Fits (write_served failure image world c request)
+    fit_write failure image other = of_either Fits (last_number world == 18446744073709551615) (ready world c (Refused NoSpace)) (if has_room world (becomes (edit_asked request) image) then accepted failure image world c request else held world)
         (λ full. fit_ready NoSpace)
-        (λ left. of_either Fits (has_room world command) (accepted failure world c request command) (held world) (λ room. fit_accepted failure command other) (λ none. fit_held))
+        (λ left. of_either Fits (has_room world (becomes (edit_asked request) image)) (accepted failure image world c request) (held world) (λ room. fit_accepted failure image other) (λ none. fit_held))
 
     -- a request that is no FLUSH
     abbrev asked : Failure → World
     asked failure = if request.head.kind == 0 then read_served failure world c request
-        else (if request.head.kind == 7 then status_served failure world c request else write_served failure world c request (command_of request))
+        else (if request.head.kind == 7 then status_served failure world c request else write_served failure (image_shown failure world.stage) world c request)
 
     fit_asked : (failure : Failure) → Fits (asked failure)
-    fit_asked failure = of_either Fits (request.head.kind == 0) (read_served failure world c request) (if request.head.kind == 7 then status_served failure world c request else write_served failure world c request (command_of request))
+    fit_asked failure = of_either Fits (request.head.kind == 0) (read_served failure world c request) (if request.head.kind == 7 then status_served failure world c request else write_served failure (image_shown failure world.stage) world c request)
         (λ read. fit_read failure)
-        (λ no_bytes. of_either Fits (request.head.kind == 7) (status_served failure world c request) (write_served failure world c request (command_of request)) (λ status. fit_status failure)
-        (λ no_status. fit_write failure (command_of request) (or_from (request.head.kind == 0) (request.head.kind == 7) no_bytes no_status)))
+        (λ no_bytes. of_either Fits (request.head.kind == 7) (status_served failure world c request) (write_served failure (image_shown failure world.stage) world c request) (λ status. fit_status failure)
+        (λ no_status. fit_write failure (image_shown failure world.stage) (or_from (request.head.kind == 0) (request.head.kind == 7) no_bytes no_status)))
 
     abbrev flushed : World
     flushed = logged (moved world c (Waiting (last_number world))) Took
@@ -492,7 +492,7 @@ module _ (world : World) (c : ℕ) (sound : IsSound world) (fit : Fits world) wh
   fit_send OutOfMemory request Idle = fit_quiet world (Failed fault.NoMemory) (quiet_failed fault.NoMemory) fit
   fit_send Nothing request Idle = fit_sent world c request fit
   fit_send DeviceFailure request Idle = fit_sent world c request fit
-  fit_send (Misread image) request Idle = fit_sent world c request fit
+  fit_send (Misread given image) request Idle = fit_sent world c request fit
   fit_send failure request (Requested other) = fit_held
   fit_send failure request (Waiting number) = fit_held
   fit_send failure request (Ready outcome) = fit_held
@@ -513,13 +513,13 @@ module _ (world : World) (fit : Fits world) where
   fit_sealed OutOfMemory = fit_failed fault.NoMemory
   fit_sealed Nothing = fit_staged Took quiet_took (sealed_more Nothing world).stage
   fit_sealed DeviceFailure = fit_staged Took quiet_took (sealed_more DeviceFailure world).stage
-  fit_sealed (Misread image) = fit_staged Took quiet_took (sealed_more (Misread image) world).stage
+  fit_sealed (Misread given image) = fit_staged Took quiet_took (sealed_more (Misread given image) world).stage
 
   fit_written : (failure : Failure) (stage : Stage) → Fits (written failure world (record stage { setting = world.stage.setting; order = world.stage.order }))
   fit_written Nothing stage = fit_staged Took quiet_took stage
   fit_written OutOfMemory stage = fit_failed fault.NoMemory
   fit_written DeviceFailure stage = fit_staged (Failed fault.DeviceFault) (quiet_failed fault.DeviceFault) (faulted world).stage
-  fit_written (Misread image) stage = fit_staged Took quiet_took stage
+  fit_written (Misread given image) stage = fit_staged Took quiet_took stage
 
   fit_append : (failure : Failure) → Fits (append failure world)
   fit_append failure = of_either Fits (nat_lt world.stage.stored world.stage.sealed) _ _

@@ -3,6 +3,7 @@ use Rattle.std.proofs.Common.{◌≡◌, ◌⊎◌, inl, inr, ℕ, ◌+◌, ◌-
 use Rattle.std.proofs.lemmas.Bool.{both_ways, cases_eq, cases_lt}
 use Rattle.image_model.specs.Bodies.{bodies_bytes, body_limit, longest}
 use Rattle.image_model.specs.Change.{Change}
+use Rattle.image_model.specs.Edit.{becomes}
 use Rattle.image_model.specs.declared.geometry.Geometry.{Geometry}
 use Rattle.nbd_wire.specs.Request.{Message}
 use Rattle.nbd_wire.specs.declared.error.Errno.{Errno}
@@ -20,14 +21,14 @@ use Rattle.nbd_wire.specs.declared.message.Answer.TheVariants.{Done, Refused}
 use Rattle.world.specs.declared.event.StepFault.TheVariants as fault
 use Rattle.world.specs.declared.step.Step.{Step}
 use Rattle.world.specs.declared.step.Step.TheVariants as steps
-use Rattle.world.specs.Log.{StandsAt, command_of, is_flush, is_write_type}
+use Rattle.world.specs.Log.{StandsAt, edit_asked, is_flush}
 use Rattle.world.specs.Run.{IsReached, Fresh, After}
-use Rattle.world.specs.Serve.{Failure, Nothing, OutOfMemory, DeviceFailure, logged, held, moved, ready, ordered, state_after, accepted, passed, judged, serve, answered, answer, staged, faulted, Misread, image_shown, shown, read_served, status_served}
+use Rattle.world.specs.Serve.{Failure, Nothing, OutOfMemory, DeviceFailure, logged, held, moved, ready, ordered, state_after, accepted, passed, judged, serve, answered, answer, staged, faulted, Misread, image_shown, shown, read_served, status_served, takes_old_bytes}
 use Rattle.world.specs.Checkpoint.{can_rotate, can_copy, can_map, can_finish, can_clean, is_full, rotated, finished}
 use Rattle.world.specs.Step.{send, sent, sealed_more, put_back, written, append, publish, in_time, with_generation, without_memory, after_step}
-use Rattle.world.specs.Verdict.{verdict, first_of_rules, is_known, allowed_flags, is_unaligned, past_end}
+use Rattle.world.specs.Verdict.{verdict, first_of_rules, is_known, allowed_flags, past_end}
 use Rattle.image_model.specs.Image.{Image}
-use Rattle.world.specs.Shown.{bytes_from, most_runs, read_status_of, runs_from, shown_by, status_of}
+use Rattle.world.specs.Shown.{shown_by}
 use Rattle.world.specs.World.{World, Stage, Setting, fresh, put, last_number, has_room, in_hand, fits}
 use Rattle.world_law.specs.Law.{HasFailed, TellsFault, TellsTruth}
 use Rattle.world_law.specs.laws.Events.{get_split}
@@ -118,7 +119,7 @@ verdict_unlike : (head : RequestHead) (geometry : Geometry) (flags : SessionFlag
 verdict_unlike head geometry flags is =
     no_rule (head.kind == 2) (not (is_known head.kind)) (not (bit_and head.flags (allowed_flags head.kind flags.structured) == head.flags))
     ((head.kind == 3) && (head.offset == 0) && (head.length == 0)) (head.kind == 3) ((head.kind == 7) && not (flags.structured && flags.context))
-    (is_unaligned head) (((head.kind == 0) || (head.kind == 1)) && nat_lt 1048576 head.length) (nat_lt (4096 * geometry.blocks) (head.offset + head.length))
+    (head.length == 0) (((head.kind == 0) || (head.kind == 1)) && nat_lt 1048576 head.length) (nat_lt (4096 * geometry.blocks) (head.offset + head.length))
     (past_end head.kind) (past_unlike head.kind) is
 
 refused_inside : (errno : Errno) → Ready (Refused errno) ≡ Ready (Refused Io) → errno ≡ Io
@@ -199,7 +200,7 @@ module _ (world : World) (true_so_far : IsTruthful world) where
     calm_sent OutOfMemory request = calm_failed
     calm_sent Nothing request = calm (sent Nothing world c request) (Sent c request) refl refl refl refl (λ is. is) tt (due_put c (Requested request) (λ is. cc))
     calm_sent DeviceFailure request = calm (sent DeviceFailure world c request) (Sent c request) refl refl refl refl (λ is. is) tt (due_put c (Requested request) (λ is. cc))
-    calm_sent (Misread image) request = calm (sent (Misread image) world c request) (Sent c request) refl refl refl refl (λ is. is) tt (due_put c (Requested request) (λ is. cc))
+    calm_sent (Misread given image) request = calm (sent (Misread given image) world c request) (Sent c request) refl refl refl refl (λ is. is) tt (due_put c (Requested request) (λ is. cc))
 
     calm_send : (failure : Failure) (request : Message) (state : Connection) → IsTruthful (send failure world c request state)
     calm_send failure request Idle = calm_sent failure request
@@ -222,11 +223,20 @@ module _ (world : World) (true_so_far : IsTruthful world) where
     space_unlike : NoSpace ≡ Io → ⊥
     space_unlike is = cc
 
-    calm_accepted : (failure : Failure) (request : Message) (command : Change) → IsTruthful (accepted failure world c request command)
-    calm_accepted OutOfMemory request command = calm_ready NoMemory (λ is. absurd (memory_unlike is))
-    calm_accepted Nothing request command = calm_numbered command _ _
-    calm_accepted DeviceFailure request command = calm_numbered command _ _
-    calm_accepted (Misread image) request command = calm_numbered command _ _
+    told_fault : IsTruthful (ready (faulted world) c (Refused Io))
+    told_fault = record {
+      told = told_more (faulted world).stage Took (λ is. refl) (λ is. is) tt;
+      due = λ connection is. refl;
+      failed = λ is. rises true_so_far.since;
+      since = risen_since (rises true_so_far.since);
+      quiet = λ works. cc;
+    }
+
+    calm_accepted : (failure : Failure) (image : Image) (request : Message) → IsTruthful (accepted failure image world c request)
+    calm_accepted OutOfMemory image request = calm_ready NoMemory (λ is. absurd (memory_unlike is))
+    calm_accepted Nothing image request = calm_numbered (becomes (edit_asked request) image) _ _
+    calm_accepted DeviceFailure image request = of_either IsTruthful (takes_old_bytes (edit_asked request) image) _ _ (λ wants. told_fault) (λ none. calm_numbered (becomes (edit_asked request) image) _ _)
+    calm_accepted (Misread given other) image request = calm_accepted given image request
 
     shown_unlike : (image : Image) (head : RequestHead) → Ready (shown_by image head) ≡ Ready (Refused Io) → ⊥
     shown_unlike image head = of_either (λ (outcome : Answer). Ready outcome ≡ Ready (Refused Io) → ⊥) (head.kind == 0) _ _ (λ read is. cc) (λ status is. cc)
@@ -235,26 +245,17 @@ module _ (world : World) (true_so_far : IsTruthful world) where
     calm_shown image request = calm (shown image world c request) Took refl refl refl refl (λ is. is) tt
         (due_put c (Ready (shown_by image request.head)) (λ is. absurd (shown_unlike image request.head is)))
 
-    fault_read : IsTruthful (ready (faulted world) c (Refused Io))
-    fault_read = record {
-      told = told_more (faulted world).stage Took (λ is. refl) (λ is. is) tt;
-      due = λ connection is. refl;
-      failed = λ is. rises true_so_far.since;
-      since = risen_since (rises true_so_far.since);
-      quiet = λ works. cc;
-    }
-
     calm_read : (failure : Failure) (request : Message) → IsTruthful (read_served failure world c request)
     calm_read OutOfMemory request = calm_ready NoMemory (λ is. absurd (memory_unlike is))
-    calm_read DeviceFailure request = fault_read
+    calm_read DeviceFailure request = told_fault
     calm_read Nothing request = calm_shown (image_shown Nothing world.stage) request
-    calm_read (Misread image) request = calm_shown (image_shown (Misread image) world.stage) request
+    calm_read (Misread given image) request = calm_shown (image_shown (Misread given image) world.stage) request
 
     calm_status : (failure : Failure) (request : Message) → IsTruthful (status_served failure world c request)
     calm_status OutOfMemory request = calm_ready NoMemory (λ is. absurd (memory_unlike is))
     calm_status DeviceFailure request = calm_shown (image_shown DeviceFailure world.stage) request
     calm_status Nothing request = calm_shown (image_shown Nothing world.stage) request
-    calm_status (Misread image) request = calm_shown (image_shown (Misread image) world.stage) request
+    calm_status (Misread given image) request = calm_shown (image_shown (Misread given image) world.stage) request
 
     calm_passed : (failure : Failure) (request : Message) → IsTruthful (passed failure world c request)
     calm_passed failure request = of_either IsTruthful world.stage.stopped _ _ (λ stopped. calm_ready Io (λ is. stopped))
@@ -262,7 +263,7 @@ module _ (world : World) (true_so_far : IsTruthful world) where
         (λ other. of_either IsTruthful (request.head.kind == 0) _ _ (λ read. calm_read failure request)
         (λ no_read. of_either IsTruthful (request.head.kind == 7) _ _ (λ status. calm_status failure request)
         (λ no_status. of_either IsTruthful (last_number world == 18446744073709551615) _ _ (λ full. calm_ready NoSpace (λ is. absurd (space_unlike is)))
-        (λ left. of_either IsTruthful (has_room world (command_of request)) _ _ (λ room. calm_accepted failure request (command_of request)) (λ none. calm_held))))))
+        (λ left. of_either IsTruthful (has_room world (becomes (edit_asked request) (image_shown failure world.stage))) _ _ (λ room. calm_accepted failure (image_shown failure world.stage) request) (λ none. calm_held))))))
 
     calm_judged : (result : Result Action Errno) → (result ≡ Err Io → ⊥) → (failure : Failure) (request : Message) → IsTruthful (judged result failure world c request)
     calm_judged (Ok End) unlike failure request = calm_moved Closed Took tt (λ is. cc)
@@ -304,13 +305,13 @@ module _ (world : World) (true_so_far : IsTruthful world) where
   calm_sealed OutOfMemory = calm_failed
   calm_sealed Nothing = calm_grouped
   calm_sealed DeviceFailure = calm_grouped
-  calm_sealed (Misread image) = calm_grouped
+  calm_sealed (Misread given image) = calm_grouped
 
   calm_written : (failure : Failure) (stage : Stage) → (is_full world.stage ≡ true → is_full stage ≡ true)
       → IsTruthful (written failure world (record stage { setting = world.stage.setting; stopped = world.stage.stopped; faults = world.stage.faults }))
   calm_written OutOfMemory stage full = calm_failed
   calm_written Nothing stage full = calm_staged stage Took full tt
-  calm_written (Misread image) stage full = calm_staged stage Took full tt
+  calm_written (Misread given image) stage full = calm_staged stage Took full tt
   calm_written DeviceFailure stage full = record {
     told = told_more (faulted world).stage (Failed fault.DeviceFault) (λ is. refl) (λ is. is) refl;
     due = λ connection is. refl;

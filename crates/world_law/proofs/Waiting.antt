@@ -12,14 +12,15 @@ use Rattle.world.specs.declared.step.Step.{Step}
 use Rattle.world.specs.declared.step.Step.TheVariants as steps
 use Rattle.image_model.specs.Bodies.{bodies_bytes}
 use Rattle.image_model.specs.Change.{Change}
-use Rattle.world.specs.Log.{command_of, is_flush, waits_for_store}
+use Rattle.image_model.specs.Edit.{becomes}
+use Rattle.world.specs.Log.{edit_asked, is_flush, waits_for_store}
 use Rattle.world.specs.Run.{IsReached, Fresh, After}
-use Rattle.world.specs.Serve.{Failure, Nothing, OutOfMemory, DeviceFailure, accepted, answer, judged, passed, serve, state_after, Misread, image_shown, shown, read_served, status_served}
+use Rattle.world.specs.Serve.{Failure, Nothing, OutOfMemory, DeviceFailure, accepted, answer, judged, passed, serve, state_after, Misread, image_shown, shown, read_served, status_served, takes_old_bytes}
 use Rattle.world.specs.Checkpoint.{can_rotate, can_copy, can_map, can_finish, can_clean, is_full, rotated, finished}
 use Rattle.world.specs.Step.{after_step, append, in_time, with_generation, sealed_more, send, sent, without_memory, written}
 use Rattle.world.specs.Verdict.{verdict}
 use Rattle.image_model.specs.Image.{Image}
-use Rattle.world.specs.Shown.{bytes_from, most_runs, read_status_of, runs_from, shown_by, status_of}
+use Rattle.world.specs.Shown.{shown_by}
 use Rattle.world.specs.World.{World, Stage, Setting, fits, fresh, has_room, in_hand, last_number, put}
 use Rattle.world_law.specs.laws.Steps.{of_either}
 
@@ -53,7 +54,7 @@ module _ (world : World) (all : AllWait world) where
   wait_sent OutOfMemory c request = all
   wait_sent Nothing c request = wait_moved c (Requested request) tt
   wait_sent DeviceFailure c request = wait_moved c (Requested request) tt
-  wait_sent (Misread image) c request = wait_moved c (Requested request) tt
+  wait_sent (Misread given image) c request = wait_moved c (Requested request) tt
 
   wait_send : (failure : Failure) (c : ℕ) (request : Message) (state : Connection) → AllWait (send failure world c request state)
   wait_send failure c request Idle = wait_sent failure c request
@@ -75,11 +76,11 @@ module _ (world : World) (all : AllWait world) where
       wait_put c (world.stage.setting.opening + length (world.stage.order ++ command ∷ [])) (state_after (waits_for_store world.stage.setting.mode request) (last_number world + 1)) (omega (arith, more))
       (state_within (waits_for_store world.stage.setting.mode request) _ (last_number world + 1) (omega (arith, more)))
 
-  wait_accepted : (failure : Failure) (c : ℕ) (request : Message) (command : Change) → AllWait (accepted failure world c request command)
-  wait_accepted OutOfMemory c request command = wait_moved c (Ready (Refused NoMemory)) tt
-  wait_accepted Nothing c request command = wait_ordered c request command
-  wait_accepted DeviceFailure c request command = wait_ordered c request command
-  wait_accepted (Misread image) c request command = wait_ordered c request command
+  wait_accepted : (failure : Failure) (image : Image) (c : ℕ) (request : Message) → AllWait (accepted failure image world c request)
+  wait_accepted OutOfMemory image c request = wait_moved c (Ready (Refused NoMemory)) tt
+  wait_accepted Nothing image c request = wait_ordered c request (becomes (edit_asked request) image)
+  wait_accepted DeviceFailure image c request = of_either AllWait (takes_old_bytes (edit_asked request) image) _ _ (λ wants. wait_moved c (Ready (Refused Io)) tt) (λ none. wait_ordered c request (becomes (edit_asked request) image))
+  wait_accepted (Misread given other) image c request = wait_accepted given image c request
 
   wait_shown : (image : Image) (c : ℕ) (request : Message) → AllWait (shown image world c request)
   wait_shown image c request = wait_moved c (Ready (shown_by image request.head)) tt
@@ -88,13 +89,13 @@ module _ (world : World) (all : AllWait world) where
   wait_read OutOfMemory c request = wait_moved c (Ready (Refused NoMemory)) tt
   wait_read DeviceFailure c request = wait_moved c (Ready (Refused Io)) tt
   wait_read Nothing c request = wait_shown (image_shown Nothing world.stage) c request
-  wait_read (Misread image) c request = wait_shown (image_shown (Misread image) world.stage) c request
+  wait_read (Misread given image) c request = wait_shown (image_shown (Misread given image) world.stage) c request
 
   wait_status : (failure : Failure) (c : ℕ) (request : Message) → AllWait (status_served failure world c request)
   wait_status OutOfMemory c request = wait_moved c (Ready (Refused NoMemory)) tt
   wait_status DeviceFailure c request = wait_shown (image_shown DeviceFailure world.stage) c request
   wait_status Nothing c request = wait_shown (image_shown Nothing world.stage) c request
-  wait_status (Misread image) c request = wait_shown (image_shown (Misread image) world.stage) c request
+  wait_status (Misread given image) c request = wait_shown (image_shown (Misread given image) world.stage) c request
 
   wait_passed : (failure : Failure) (c : ℕ) (request : Message) → AllWait (passed failure world c request)
   wait_passed failure c request = of_either AllWait world.stage.stopped _ _ (λ stopped. wait_moved c (Ready (Refused Io)) tt)
@@ -102,7 +103,7 @@ module _ (world : World) (all : AllWait world) where
       (λ other. of_either AllWait (request.head.kind == 0) _ _ (λ read. wait_read failure c request)
       (λ no_read. of_either AllWait (request.head.kind == 7) _ _ (λ status. wait_status failure c request)
       (λ no_status. of_either AllWait (last_number world == 18446744073709551615) _ _ (λ full. wait_moved c (Ready (Refused NoSpace)) tt)
-      (λ left. of_either AllWait (has_room world (command_of request)) _ _ (λ room. wait_accepted failure c request (command_of request)) (λ none. all))))))
+      (λ left. of_either AllWait (has_room world (becomes (edit_asked request) (image_shown failure world.stage))) _ _ (λ room. wait_accepted failure (image_shown failure world.stage) c request) (λ none. all))))))
 
   wait_judged : (given : Result Action Errno) (failure : Failure) (c : ℕ) (request : Message) → AllWait (judged given failure world c request)
   wait_judged (Ok End) failure c request = wait_moved c Closed tt
@@ -128,13 +129,13 @@ module _ (world : World) (all : AllWait world) where
   wait_sealed OutOfMemory = all
   wait_sealed Nothing = all
   wait_sealed DeviceFailure = all
-  wait_sealed (Misread image) = all
+  wait_sealed (Misread given image) = all
 
   wait_written : (failure : Failure) (stage : Stage) → AllWait (written failure world (record stage { setting = world.stage.setting; order = world.stage.order }))
   wait_written OutOfMemory stage = all
   wait_written Nothing stage = all
   wait_written DeviceFailure stage = all
-  wait_written (Misread image) stage = all
+  wait_written (Misread given image) stage = all
 
   wait_append : (failure : Failure) → AllWait (append failure world)
   wait_append failure = of_either AllWait (nat_lt world.stage.stored world.stage.sealed) _ _

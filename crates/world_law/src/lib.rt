@@ -3,7 +3,7 @@
 
 ghost use Rattle.std.specs.Prelude.{◌≡◌, ◌≤◌, ℕ, true, List};
 ghost use Rattle.world.specs.Covered.{Covers};
-ghost use Rattle.world.specs.Fits.{ReadsFit};
+ghost use Rattle.world.specs.Fits.{EditsFit, ReadsFit};
 ghost use Rattle.world.specs.Log.{IsLegal};
 ghost use Rattle.world.specs.Run.{IsReached, IsRun};
 ghost use Rattle.world.specs.World.{World, last_number};
@@ -11,8 +11,8 @@ ghost use Rattle.world.specs.declared.connection.Connection.TheVariants as Conne
 ghost use Rattle.world.specs.declared.step.Step.{Step};
 ghost use Rattle.world_law.specs.Law.{Grows, IsWithin, TellsTruth};
 
-/// Whatever the schedule, and whatever its steps meet: the log is legal, the reads of a trusted device fit, all that the log
-/// covers is durable, what is durable is stored and what is stored is ordered; what map and data hold is stored, and what was
+/// Whatever the schedule, and whatever its steps meet: the log is legal, the reads of a trusted device fit, and on one each
+/// command is what its request's edit becomes over the image after those before it; all that the log covers is durable, what is durable is stored and what is stored is ordered; what map and data hold is stored, and what was
 /// let go of the frames map and data hold; the log, the order and the numbers only grow; a fault of the device is told only
 /// where the device has counted one, and that no generation is left only where none is; and a connection waits only for a
 /// number of the order.
@@ -20,6 +20,8 @@ pub fn schedule_law()
     ensures legal { (world : World) → IsReached world → IsLegal world.log world.stage.order world.paired }
     ensures fits { (world : World) → IsReached world → world.stage.setting.trusted ≡ true
         → ReadsFit world.log world.stage.order world.paired world.shown world.stage.setting.image }
+    ensures edits { (world : World) → IsReached world → world.stage.setting.trusted ≡ true
+        → EditsFit world.log world.stage.order world.paired world.stage.setting.image }
     ensures covered { (world : World) → IsReached world → Covers world world.stage.durable }
     ensures within { (world : World) → IsReached world → IsWithin world }
     ensures truth { (world : World) → IsReached world → TellsTruth world }

@@ -1,13 +1,13 @@
 -- A stream has one hearing.
 use Rattle.std.proofs.Common.{◌≡◌, ◌≢◌, ◌⊎◌, inl, inr, ℕ, ◌-◌, ◌+◌, ◌<◌, ◌≤◌, ◌^◌, Bool, true, false, cond, eqb, leb, List, [], ◌∷◌, ◌++◌, length, take, drop, refl, sym, ap, subst, ◌∙◌, append_assoc, length-append, arith}
 use Rattle.std.specs.List.{list_any}
-use Rattle.std.specs.Prelude.{◌||◌}
+use Rattle.std.specs.Prelude.{not, ◌==◌, ◌||◌, bit_and}
 use Rattle.std.proofs.lemmas.Bool.{cases_lt, cond-true, le-leb, lt-leb}
 use Rattle.std.proofs.lemmas.List.{take-append-drop, take-append-le, take_at}
 use Rattle.std.proofs.lemmas.List.Folds.{list_any-append}
 use Rattle.nbd_wire.specs.Request.{Message}
 use Rattle.nbd_wire.specs.Stream.{Begins, Kept, Reads, reading, starved}
-use Rattle.nbd_wire.specs.declared.message.SessionFlags.{SessionFlags}
+use Rattle.negotiation.specs.declared.answer.Agreed.{Agreed}
 use Rattle.nbd_wire.specs.laws.Streams.{first_requests_lem, one_reading_lem}
 use Rattle.option_wire.specs.Handshake.{client_bits, client_flags_bytes}
 use Rattle.option_wire.specs.Head.{option_head, option_magic}
@@ -18,7 +18,7 @@ use Rattle.option_wire.specs.laws.Texts.{number_32, same_front}
 use Rattle.negotiation.specs.Answered.{Answered, IsAnswered, answer_of}
 use Rattle.negotiation.specs.declared.answer.Next.{Next}
 use Rattle.negotiation.specs.declared.answer.Next.TheVariants as behind
-use Rattle.negotiation.specs.Dialog.{Asks, Follows, IsAccepted, IsFlagless, IsNegotiated, IsOver, IsTold, IsTurn, Leaves, LeavesFlags, Negotiates, OneHearing, Outcome, Standing, Turn, before_disc, broken, ended, exhausted, in_discard, in_flags, in_head, in_option, in_requests, is_disc, kept_limit, most_bytes, plain, read_limit, silent}
+use Rattle.negotiation.specs.Dialog.{Asks, Follows, IsAccepted, IsFlagless, IsNegotiated, IsOver, IsTold, IsTurn, Leaves, LeavesFlags, Negotiates, OneHearing, Outcome, Standing, Turn, agreed_with, before_disc, broken, ended, exhausted, in_discard, in_flags, in_head, in_option, in_requests, is_disc, kept_limit, most_bytes, plain, read_limit, silent}
 use Rattle.negotiation.specs.laws.Requests.{before_first-found}
 
 -- ---- options
@@ -89,7 +89,7 @@ turn_parts content rest text stream code whole same =
     same ∙ ap (λ (t : List ℕ). t ++ rest) whole ∙ append_assoc (option_head code (length content)) content rest
 
 -- no option stands where none is whole
-front_is_no_turn : (agreed : SessionFlags) (size : ℕ) (stream text rest : List ℕ) (turn : Turn) (standing : Standing) → Front stream standing → IsTurn agreed size text turn → stream ≡ text ++ rest → ⊥
+front_is_no_turn : (agreed : Agreed) (size : ℕ) (stream text rest : List ℕ) (turn : Turn) (standing : Standing) → Front stream standing → IsTurn agreed size text turn → stream ≡ text ++ rest → ⊥
 front_is_no_turn agreed size stream text rest turn standing (short p _) is same =
     omega (arith, p, head_is_long stream turn.code (length is.content) (is.content ++ rest) (turn_parts is.content rest text stream turn.code is.whole same))
 front_is_no_turn agreed size stream text rest turn standing (foreign _ m _) is same =
@@ -102,20 +102,20 @@ front_is_no_turn agreed size stream text rest turn standing (begun code count se
       | inr less ↦ omega (arith, less, all.1, ap length all.2, length-append is.content rest)
     ]
 
-one_answer : (agreed : SessionFlags) (size code : ℕ) (content : List ℕ) (answer other : Answered) → IsAnswered agreed size code content answer → IsAnswered agreed size code content other → answer ≡ other
+one_answer : (agreed : Agreed) (size code : ℕ) (content : List ℕ) (answer other : Answered) → IsAnswered agreed size code content answer → IsAnswered agreed size code content other → answer ≡ other
 one_answer agreed size code content answer other (inl (option, is, same)) (inl (option', is', same')) =
     same ∙ ap (answer_of agreed size) (one_option_lem code content option option' is is') ∙ sym same'
 one_answer agreed size code content answer other (inl (option, is, same)) (inr (none, same')) = absurd (none option is)
 one_answer agreed size code content answer other (inr (none, same)) (inl (option, is, same')) = absurd (none option is)
 one_answer agreed size code content answer other (inr (none, same)) (inr (none', same')) = same ∙ sym same'
 
-one_telling : (agreed : SessionFlags) (size code : ℕ) (content : List ℕ) (answer other : Answered) → IsTold agreed size code content answer → IsTold agreed size code content other → answer ≡ other
+one_telling : (agreed : Agreed) (size code : ℕ) (content : List ℕ) (answer other : Answered) → IsTold agreed size code content answer → IsTold agreed size code content other → answer ≡ other
 one_telling agreed size code content answer other (inl p) (inl q) = one_answer agreed size code content answer other p.1 q.1
 one_telling agreed size code content answer other (inl p) (inr q) = absurd (omega (arith, p.0, q.0))
 one_telling agreed size code content answer other (inr p) (inl q) = absurd (omega (arith, p.0, q.0))
 one_telling agreed size code content answer other (inr p) (inr q) = p.1 ∙ sym q.1
 
-one_turn : (agreed : SessionFlags) (size : ℕ) (stream text other_text rest other_rest : List ℕ) (turn other : Turn) → IsTurn agreed size text turn → IsTurn agreed size other_text other → stream ≡ text ++ rest → stream ≡ other_text ++ other_rest
+one_turn : (agreed : Agreed) (size : ℕ) (stream text other_text rest other_rest : List ℕ) (turn other : Turn) → IsTurn agreed size text turn → IsTurn agreed size other_text other → stream ≡ text ++ rest → stream ≡ other_text ++ other_rest
     → (turn ≡ other) × (rest ≡ other_rest)
 one_turn agreed size stream text other_text rest other_rest turn other p q same other_same =
     let all = one_head turn.code other.code (length p.content) (length q.content) (p.content ++ rest) (q.content ++ other_rest) p.code_fits q.code_fits
@@ -187,37 +187,37 @@ one_asking stream requests others standing other (over all begins some before is
 abbrev IsOne : List Turn → List Turn → Outcome → Outcome → Type 0
 IsOne turns others outcome other = (turns ≡ others) × (outcome ≡ other)
 
-one_over : (agreed : SessionFlags) (turns others : List Turn) (outcome other : Outcome) (standing : Standing) → (turns ≡ []) × IsOver agreed outcome standing → (others ≡ []) × IsOver agreed other standing → IsOne turns others outcome other
+one_over : (agreed : Agreed) (turns others : List Turn) (outcome other : Outcome) (standing : Standing) → (turns ≡ []) × IsOver agreed outcome standing → (others ≡ []) × IsOver agreed other standing → IsOne turns others outcome other
 one_over agreed turns others outcome other standing (none, p) (none', q) =
     let requests = p.0 ∙ sym q.0 in
-    let flags = p.1 ∙ sym q.1 in
+    let agreed = p.1 ∙ sym q.1 in
     let standings = p.2 ∙ sym q.2 in
-    (none ∙ sym none', λ i. record { requests = requests i; flags = flags i; standing = standings i })
+    (none ∙ sym none', λ i. record { requests = requests i; agreed = agreed i; standing = standings i })
 
-one_follow : (next : Next) (agreed : SessionFlags) (rest : List ℕ) (turns others : List Turn) (outcome other : Outcome) (P Q : Type 0) → (P → Q → IsOne turns others outcome other)
+one_follow : (next : Next) (agreed : Agreed) (rest : List ℕ) (turns others : List Turn) (outcome other : Outcome) (P Q : Type 0) → (P → Q → IsOne turns others outcome other)
     → Follows next agreed rest turns outcome P → Follows next agreed rest others other Q → IsOne turns others outcome other
 one_follow behind.Option agreed rest turns others outcome other P Q on p q = on p q
 one_follow behind.Transmission agreed rest turns others outcome other P Q on p q =
     let asks = one_asking rest outcome.requests other.requests outcome.standing other.standing (asking_of rest outcome.requests outcome.standing p.2) (asking_of rest other.requests other.standing q.2) in
-    let flags = p.1 ∙ sym q.1 in
-    (p.0 ∙ sym q.0, λ i. record { requests = asks.0 i; flags = flags i; standing = asks.1 i })
+    let agreed = p.1 ∙ sym q.1 in
+    (p.0 ∙ sym q.0, λ i. record { requests = asks.0 i; agreed = agreed i; standing = asks.1 i })
 one_follow behind.End agreed rest turns others outcome other P Q on p q = one_over agreed turns others outcome other ended p q
 one_follow behind.Fault agreed rest turns others outcome other P Q on p q = one_over agreed turns others outcome other broken p q
 
-one_negotiation : (size : ℕ) (agreed : SessionFlags) (stream : List ℕ) (turns others : List Turn) (outcome other : Outcome) → Negotiates size agreed stream turns outcome → Negotiates size agreed stream others other → IsOne turns others outcome other
+one_negotiation : (size : ℕ) (agreed : Agreed) (stream : List ℕ) (turns others : List Turn) (outcome other : Outcome) → Negotiates size agreed stream turns outcome → Negotiates size agreed stream others other → IsOne turns others outcome other
 one_negotiation size agreed stream [] [] outcome other p q =
     let requests = p.0 ∙ sym q.0 in
-    let flags = p.1 ∙ sym q.1 in
+    let agreed = p.1 ∙ sym q.1 in
     let standings = one_front stream outcome.standing other.standing (front_of stream outcome.standing p.2) (front_of stream other.standing q.2) in
-    (refl, λ i. record { requests = requests i; flags = flags i; standing = standings i })
+    (refl, λ i. record { requests = requests i; agreed = agreed i; standing = standings i })
 one_negotiation size agreed stream [] (turn ∷ others) outcome other p q = absurd (front_is_no_turn agreed size stream q.0 q.1 turn outcome.standing (front_of stream outcome.standing p.2) q.2 q.3)
 one_negotiation size agreed stream (turn ∷ turns) [] outcome other p q = absurd (front_is_no_turn agreed size stream p.0 p.1 turn other.standing (front_of stream other.standing q.2) p.2 p.3)
 one_negotiation size agreed stream (turn ∷ turns) (turn' ∷ others) outcome other p q =
     let first = one_turn agreed size stream p.0 q.0 p.1 q.1 turn turn' p.2 q.2 p.3 q.3 in
-    let follows = subst (λ (t : Turn). Follows t.answer.next t.answer.flags p.1 others other (Negotiates size t.answer.flags p.1 others other)) (sym first.0)
-    (subst (λ (r : List ℕ). Follows turn'.answer.next turn'.answer.flags r others other (Negotiates size turn'.answer.flags r others other)) (sym first.1) q.4) in
-    let more = one_follow turn.answer.next turn.answer.flags p.1 turns others outcome other (Negotiates size turn.answer.flags p.1 turns outcome) (Negotiates size turn.answer.flags p.1 others other)
-    (one_negotiation size turn.answer.flags p.1 turns others outcome other) p.4 follows in
+    let follows = subst (λ (t : Turn). Follows t.answer.next t.answer.agreed p.1 others other (Negotiates size t.answer.agreed p.1 others other)) (sym first.0)
+    (subst (λ (r : List ℕ). Follows turn'.answer.next turn'.answer.agreed r others other (Negotiates size turn'.answer.agreed r others other)) (sym first.1) q.4) in
+    let more = one_follow turn.answer.next turn.answer.agreed p.1 turns others outcome other (Negotiates size turn.answer.agreed p.1 turns outcome) (Negotiates size turn.answer.agreed p.1 others other)
+    (one_negotiation size turn.answer.agreed p.1 turns others outcome other) p.4 follows in
     ((λ i. first.0 i ∷ more.0 i), more.1)
 
 -- ---- the client's flags
@@ -276,16 +276,22 @@ one_flagless text standing other some (part lt is) (refused le is') = absurd (om
 one_flagless text standing other some (refused le is) (part lt is') = absurd (omega (arith, lt, le))
 one_flagless text standing other some (refused le is) (refused le' is') = is ∙ sym is'
 
+-- the same flags agree on the same
+same_agreement : (client other : ClientFlags) (agreed : Agreed) → client_bits client ≡ client_bits other → agreed_with client agreed ≡ agreed_with other agreed
+same_agreement client other agreed same = λ i. record { flags = agreed.flags; no_zeroes = not (bit_and (same i) 2 == 0) }
+
 pub one_hearing_lem : OneHearing
 one_hearing_lem size stream turns others outcome other (inl p) (inl q) = (
   p.none ∙ sym q.none,
   p.requests ∙ sym q.requests,
-  p.flags ∙ sym q.flags,
+  p.agreed ∙ sym q.agreed,
   λ some. one_flagless stream outcome.standing other.standing some (flagless_of stream outcome.standing p.leaves) (flagless_of stream other.standing q.leaves),
 )
 one_hearing_lem size stream turns others outcome other (inl p) (inr q) = absurd (accepted_only stream turns outcome size others other p q)
 one_hearing_lem size stream turns others outcome other (inr p) (inl q) = absurd (accepted_only stream others other size turns outcome q p)
 one_hearing_lem size stream turns others outcome other (inr p) (inr q) =
     let bits = number_32 (client_bits p.client) (client_bits q.client) p.rest q.rest (accepted_fits p.client p.accepted) (accepted_fits q.client q.accepted) (sym p.whole ∙ q.whole) in
-    let one = one_negotiation size plain p.rest turns others outcome other p.negotiates (subst (λ (r : List ℕ). Negotiates size plain r others other) (sym bits.1) q.negotiates) in
-    (one.0, ap (λ (o : Outcome). o.requests) one.1, ap (λ (o : Outcome). o.flags) one.1, λ some. ap (λ (o : Outcome). o.standing) one.1)
+    let agreed = agreed_with p.client plain in
+    let same = subst (λ (a : Agreed). Negotiates size a q.rest others other) (sym (same_agreement p.client q.client plain bits.0)) q.negotiates in
+    let one = one_negotiation size agreed p.rest turns others outcome other p.negotiates (subst (λ (r : List ℕ). Negotiates size agreed r others other) (sym bits.1) same) in
+    (one.0, ap (λ (o : Outcome). o.requests) one.1, ap (λ (o : Outcome). o.agreed) one.1, λ some. ap (λ (o : Outcome). o.standing) one.1)

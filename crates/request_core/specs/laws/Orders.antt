@@ -11,8 +11,7 @@ use Rattle.image_model.specs.Command.{body_of, bodies_of}
 use Rattle.group_list.specs.Group.{Numbered}
 use Rattle.image_model.specs.laws.CleanedMaps.{cleaned-blocks}
 use Rattle.image_model.specs.laws.DirtyTails.{dirty_behind_push}
-use Rattle.order_book.specs.Order.{OrderState, Seals, with_clean, with_command, with_durable, with_group}
-use Rattle.order_book.specs.Order as book
+use Rattle.order_book.specs.Order.{OrderState, Seals, has_room_for, with_clean, with_command, with_durable, with_group}
 use Rattle.world.specs.Checkpoint.{can_clean}
 use Rattle.world.specs.World.{Stage, dirty_behind}
 use Rattle.request_core.specs.Parts.{IsOrderOf, commands_in}
@@ -62,16 +61,16 @@ module _ (stage : Stage) (order : OrderState) (group : Option Numbered) (of : Is
   }
 
   -- the room that a command needs
-  pub room_of : (command : Command) → book.has_room order command
-      ≡ (frames_suffice stage.setting.frames (dirty_behind stage.cleaned stage) (stage.setting.opening + length stage.order + 1) (change_of command)
-      && nat_le (bodies_bytes (drop stage.durable stage.order) + body_bytes (change_of command)) 67108864)
-  room_of command =
+  pub room_of : (given : Change) → has_room_for order given
+      ≡ (frames_suffice stage.setting.frames (dirty_behind stage.cleaned stage) (stage.setting.opening + length stage.order + 1) given
+      && nat_le (bodies_bytes (drop stage.durable stage.order) + body_bytes given) 67108864)
+  room_of given =
       let dirty = dirty_behind stage.cleaned stage in
-      ap (λ (b : Bool). b && nat_le (sum order.bodies + body_of command) 67108864)
-      (ap (λ (n : ℕ). frames_suffice n order.dirty (order.mark + 1) (change_of command)) of.frames
-      ∙ (ap (λ (d : Dirty). frames_suffice stage.setting.frames d (order.mark + 1) (change_of command)) of.dirty
-      ∙ ap (λ (n : ℕ). frames_suffice stage.setting.frames dirty (n + 1) (change_of command)) of.mark))
-      ∙ ap (λ (n : ℕ). frames_suffice stage.setting.frames dirty (stage.setting.opening + length stage.order + 1) (change_of command) && nat_le (n + body_of command) 67108864)
+      ap (λ (b : Bool). b && nat_le (sum order.bodies + body_bytes given) 67108864)
+      (ap (λ (n : ℕ). frames_suffice n order.dirty (order.mark + 1) given) of.frames
+      ∙ (ap (λ (d : Dirty). frames_suffice stage.setting.frames d (order.mark + 1) given) of.dirty
+      ∙ ap (λ (n : ℕ). frames_suffice stage.setting.frames dirty (n + 1) given) of.mark))
+      ∙ ap (λ (n : ℕ). frames_suffice stage.setting.frames dirty (stage.setting.opening + length stage.order + 1) given && nat_le (n + body_bytes given) 67108864)
       (ap sum of.bodies ∙ sum_map body_bytes (drop stage.durable stage.order))
 
 -- the longest beginning is the one that fits where no longer one does

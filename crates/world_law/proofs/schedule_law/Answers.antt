@@ -1,3 +1,4 @@
+use Rattle.world_law.proofs.Edited.{edits_fit}
 use Rattle.world_law.proofs.Shown.{reads_fit}
 use Rattle.world_law.proofs.Reached.{sound_reached, covers_durable, grows_run, reached_run}
 use Rattle.world_law.proofs.Truthful.{truth_reached}
@@ -9,6 +10,7 @@ pub returns : goal.returns
 returns c = record {
   legal = λ world reached. (sound_reached world reached).legal;
   fits = reads_fit;
+  edits = edits_fit;
   covered = λ world reached. covers_durable world (sound_reached world reached);
   within = within_reached;
   truth = truth_reached;

@@ -4,6 +4,8 @@ use Rattle.std.specs.List.{slice_get}
 use Rattle.std.proofs.lemmas.Option.{slice_get_within}
 use Rattle.std.proofs.lemmas.Bool.{cases_eq}
 use Rattle.image_model.specs.Change.{Change}
+use Rattle.image_model.specs.Edit.{becomes}
+use Rattle.image_model.specs.Image.{Image}
 use Rattle.nbd_wire.specs.Request.{Message}
 use Rattle.nbd_wire.specs.declared.error.Errno.{Errno}
 use Rattle.nbd_wire.specs.declared.error.Errno.TheVariants.{Io}
@@ -14,7 +16,7 @@ use Rattle.world.specs.declared.event.Event.TheVariants.{Sent, Answered}
 use Rattle.nbd_wire.specs.declared.message.Answer.{Answer}
 use Rattle.nbd_wire.specs.declared.message.Answer.TheVariants.{Done, Refused, Bytes, States}
 use Rattle.world.specs.Covered.{IsCovered}
-use Rattle.world.specs.Log.{StandsAt, IsAnswered, IsLegal, IsPaired, command_of, is_write}
+use Rattle.world.specs.Log.{StandsAt, IsAnswered, IsLegal, IsPaired, edit_asked, is_write}
 use Rattle.world.specs.Serve.{moved, ordered}
 use Rattle.world.specs.World.{World, put}
 use Rattle.world_law.specs.laws.Events.{get_split}
@@ -33,7 +35,7 @@ no_answer log c place d answer request other outcome is_open is =
     is_open.unanswered answer outcome is.later (subst (λ (e : ℕ). StandsAt log answer (Answered e outcome)) same is.answered)
 
 module _ (world : World) (c : ℕ) (request : Message) (added : Change) (sound : IsSound world) (is_open : IsOpen world.log c (world.places c) request)
-    (unpaired : IsUnpaired world.stage.order world.paired (world.places c)) (write : is_write request ≡ true) (asked : command_of request ≡ added) where
+    (unpaired : IsUnpaired world.stage.order world.paired (world.places c)) (write : is_write request ≡ true) (asked : (image : Image) × (becomes (edit_asked request) image ≡ added)) where
   -- the number of commands before, and which one of those after a command is
   below_more : (k : ℕ) → k < length (world.stage.order ++ added ∷ []) → (k < length world.stage.order) ⊎ (k ≡ length world.stage.order)
   below_more k below = by_case (cases_eq k (length world.stage.order))
@@ -73,7 +75,7 @@ module _ (world : World) (c : ℕ) (request : Message) (added : Change) (sound :
           → IsPaired world.log command (put world.paired (length world.stage.order) (world.places c) k)
       own k command (inl at) = subst (IsPaired world.log command) (sym (old_pair k (slice_get_within world.stage.order k command at))) (sound.legal.own k command at)
       own k command (inr last) = subst (IsPaired world.log command) (sym (new_pair k last.0))
-          (record { connection = c; request = request; sent = is_open.sent; write = write; own = asked ∙ sym last.1 })
+          (record { connection = c; request = request; sent = is_open.sent; write = write; own = (asked.0, asked.1 ∙ sym last.1) })
 
       apart : (k m : ℕ) → k < m → (m < length world.stage.order) ⊎ (m ≡ length world.stage.order)
           → put world.paired (length world.stage.order) (world.places c) k ≢ put world.paired (length world.stage.order) (world.places c) m

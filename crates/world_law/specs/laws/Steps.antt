@@ -21,13 +21,14 @@ use Rattle.world.specs.declared.step.Step.{Step}
 use Rattle.world.specs.declared.step.Step.TheVariants as steps
 use Rattle.image_model.specs.Bodies.{bodies_bytes, body_limit, longest}
 use Rattle.image_model.specs.Change.{Change}
-use Rattle.world.specs.Log.{command_of, is_write, is_write_type, is_flush, waits_for_store, IsAnswered}
-use Rattle.world.specs.Serve.{Failure, Nothing, OutOfMemory, DeviceFailure, logged, held, moved, ready, ordered, state_after, accepted, write_served, passed, judged, serve, answer, staged, faulted, Misread, image_shown, shown, read_served, status_served}
+use Rattle.image_model.specs.Edit.{becomes}
+use Rattle.world.specs.Log.{edit_asked, is_write, is_write_type, is_flush, waits_for_store, IsAnswered}
+use Rattle.world.specs.Serve.{Failure, Nothing, OutOfMemory, DeviceFailure, logged, held, moved, ready, ordered, state_after, accepted, write_served, passed, judged, serve, answer, staged, faulted, Misread, image_shown, shown, read_served, status_served, takes_old_bytes}
 use Rattle.world.specs.Checkpoint.{can_rotate, can_copy, can_map, can_finish, can_clean, is_full, rotated, finished}
 use Rattle.world.specs.Step.{send, sealed_more, seal, put_back, written, stored_more, append, publish, in_time, with_generation, without_memory, clean, after_step}
-use Rattle.world.specs.Verdict.{verdict, first_of_rules, is_known, allowed_flags, is_unaligned, past_end}
+use Rattle.world.specs.Verdict.{verdict, first_of_rules, is_known, allowed_flags, past_end}
 use Rattle.image_model.specs.Image.{Image}
-use Rattle.world.specs.Shown.{bytes_from, most_runs, read_status_of, runs_from, shown_by, status_of}
+use Rattle.world.specs.Shown.{shown_by}
 use Rattle.world.specs.World.{World, Stage, Setting, fresh, last_number, has_room, fits, in_hand, put}
 use Rattle.world_law.specs.laws.Logged.{IsQuiet, put_same, sound_quiet, sound_moved}
 use Rattle.world_law.specs.laws.Ordered.{sound_ordered}
@@ -66,12 +67,12 @@ end_unlike : (let result : Result Action Errno = Ok End in result ≡ Ok Serve) 
 end_unlike is = cc
 
 -- where the rules of judgement let a request that is no FLUSH through, none of them applies
-passes : (disc unknown flagged empty flush context unaligned long beyond : Bool) (errno : Errno) → (empty ≡ true → flush ≡ true)
+passes : (disc unknown flagged empty flush context none long beyond : Bool) (errno : Errno) → (empty ≡ true → flush ≡ true)
     → first_of_rules ((disc, Ok End) ∷ (unknown, Err Invalid) ∷ (flagged, Err Invalid) ∷ (empty, Ok Serve) ∷ (flush, Err Invalid) ∷ (context, Err Invalid) ∷ [])
-    (first_of_rules ((unaligned, Err Invalid) ∷ (long, Err Invalid) ∷ (beyond, Err errno) ∷ []) (Ok Serve)) ≡ Ok Serve
+    (first_of_rules ((none, Err Invalid) ∷ (long, Err Invalid) ∷ (beyond, Err errno) ∷ []) (Ok Serve)) ≡ Ok Serve
     → flush ≡ false → (disc ≡ false) × (unknown ≡ false)
-passes disc unknown flagged true flush context unaligned long beyond errno flushes is no_flush = absurd (both_ways flush no_flush (flushes refl))
-passes disc unknown flagged false flush context unaligned long beyond errno flushes is no_flush =
+passes disc unknown flagged true flush context none long beyond errno flushes is no_flush = absurd (both_ways flush no_flush (flushes refl))
+passes disc unknown flagged false flush context none long beyond errno flushes is no_flush =
     let a = past disc (Ok End) _ (Ok Serve) is end_unlike in
     let b = past unknown (Err Invalid) _ (Ok Serve) a.1 (err_unlike Invalid) in
     (a.0, b.0)
@@ -102,7 +103,7 @@ pub passes_write : (head : RequestHead) (geometry : Geometry) (flags : SessionFl
 passes_write head geometry flags is no_flush no_read no_status =
     let parts = passes (head.kind == 2) (not (is_known head.kind)) (not (bit_and head.flags (allowed_flags head.kind flags.structured) == head.flags))
     ((head.kind == 3) && (head.offset == 0) && (head.length == 0)) (head.kind == 3) ((head.kind == 7) && not (flags.structured && flags.context))
-    (is_unaligned head) (((head.kind == 0) || (head.kind == 1)) && nat_lt 1048576 head.length) (nat_lt (4096 * geometry.blocks) (head.offset + head.length))
+    (head.length == 0) (((head.kind == 0) || (head.kind == 1)) && nat_lt 1048576 head.length) (nat_lt (4096 * geometry.blocks) (head.offset + head.length))
     (past_end head.kind)
     (λ all. (and_parts (head.kind == 3) (head.offset == 0) (and_parts ((head.kind == 3) && (head.offset == 0)) (head.length == 0) all).0).0)
     is no_flush in
@@ -144,21 +145,26 @@ module _ (world : World) (c : ℕ) (sound : IsSound world) where
     )
     right_after command false waits write = (request, right.0, write, waits, (length world.stage.order, new_below command, put_same world.paired (length world.stage.order) (world.places c)))
 
-    sound_numbered : (command : Change) → is_write request ≡ true → command_of request ≡ command → IsSound (logged (moved (ordered world c command) c (state_after (waits_for_store world.stage.setting.mode request) (last_number world + 1))) (Numbered c (last_number world + 1)))
+    sound_numbered : (command : Change) → is_write request ≡ true → (image : Image) × (becomes (edit_asked request) image ≡ command) → IsSound (logged (moved (ordered world c command) c (state_after (waits_for_store world.stage.setting.mode request) (last_number world + 1))) (Numbered c (last_number world + 1)))
     sound_numbered command write asked = sound_quiet _ (Numbered c (last_number world + 1)) (quiet_numbered c (last_number world + 1))
         (sound_ordered world c request command sound right.0 right.1 write asked (state_after (waits_for_store world.stage.setting.mode request) (last_number world + 1))
         (right_after command (waits_for_store world.stage.setting.mode request) refl write))
 
-    sound_accepted : (failure : Failure) (command : Change) → is_write request ≡ true → command_of request ≡ command → IsSound (accepted failure world c request command)
-    sound_accepted OutOfMemory command write asked = sound_ready NoMemory
-    sound_accepted Nothing command write asked = sound_numbered command write asked
-    sound_accepted DeviceFailure command write asked = sound_numbered command write asked
-    sound_accepted (Misread image) command write asked = sound_numbered command write asked
+    -- a device fault is no more than that nothing more is durable
+    sound_fault : IsSound (ready (faulted world) c (Refused Io))
+    sound_fault = sound_quiet (moved (faulted world) c (Ready (Refused Io))) Took quiet_took
+        (sound_moved (faulted world) c (Ready (Refused Io)) (sound_staged world (faulted world).stage sound (omega arith)) (request, right.0, right.1))
 
-    sound_write : (failure : Failure) (command : Change) → is_write request ≡ true → command_of request ≡ command → IsSound (write_served failure world c request command)
-    sound_write failure command write asked = of_either IsSound (last_number world == 18446744073709551615) _ _
+    sound_accepted : (failure : Failure) (image : Image) → is_write request ≡ true → IsSound (accepted failure image world c request)
+    sound_accepted OutOfMemory image write = sound_ready NoMemory
+    sound_accepted Nothing image write = sound_numbered (becomes (edit_asked request) image) write (image, refl)
+    sound_accepted DeviceFailure image write = of_either IsSound (takes_old_bytes (edit_asked request) image) _ _ (λ wants. sound_fault) (λ none. sound_numbered (becomes (edit_asked request) image) write (image, refl))
+    sound_accepted (Misread given other) image write = sound_accepted given image write
+
+    sound_write : (failure : Failure) (image : Image) → is_write request ≡ true → IsSound (write_served failure image world c request)
+    sound_write failure image write = of_either IsSound (last_number world == 18446744073709551615) _ _
         (λ full. sound_ready NoSpace)
-        (λ left. of_either IsSound (has_room world command) _ _ (λ room. sound_accepted failure command write asked) (λ none. sound_held world sound))
+        (λ left. of_either IsSound (has_room world (becomes (edit_asked request) image)) _ _ (λ room. sound_accepted failure image write) (λ none. sound_held world sound))
 
     others_before : is_flush request ≡ true → AwaitsOthers (facts_of world) (world.places c) (last_number world) request
     others_before flush = record {
@@ -169,11 +175,6 @@ module _ (world : World) (c : ℕ) (sound : IsSound world) where
         no_write : (is_write request ≡ true) ⊎ (is_write request ≡ false) → is_write request ≡ false
         no_write (inl write) = absurd (flush_no_write request flush write)
         no_write (inr is) = is
-
-    -- a device fault is no more than that nothing more is durable
-    sound_fault : IsSound (ready (faulted world) c (Refused Io))
-    sound_fault = sound_quiet (moved (faulted world) c (Ready (Refused Io))) Took quiet_took
-        (sound_moved (faulted world) c (Ready (Refused Io)) (sound_staged world (faulted world).stage sound (omega arith)) (request, right.0, right.1))
 
     right_shown : (image : Image) (head : RequestHead) → IsRight (facts_of world) c (world.places c) (Ready (shown_by image head))
     right_shown image head = of_either (λ (outcome : Answer). IsRight (facts_of world) c (world.places c) (Ready outcome)) (head.kind == 0) _ _ (λ read. (request, right.0)) (λ status. (request, right.0))
@@ -189,13 +190,13 @@ module _ (world : World) (c : ℕ) (sound : IsSound world) where
     sound_read OutOfMemory = sound_ready NoMemory
     sound_read DeviceFailure = sound_fault
     sound_read Nothing = sound_shown (image_shown Nothing world.stage)
-    sound_read (Misread image) = sound_shown (image_shown (Misread image) world.stage)
+    sound_read (Misread given image) = sound_shown (image_shown (Misread given image) world.stage)
 
     sound_status : (failure : Failure) → IsSound (status_served failure world c request)
     sound_status OutOfMemory = sound_ready NoMemory
     sound_status DeviceFailure = sound_shown (image_shown DeviceFailure world.stage)
     sound_status Nothing = sound_shown (image_shown Nothing world.stage)
-    sound_status (Misread image) = sound_shown (image_shown (Misread image) world.stage)
+    sound_status (Misread given image) = sound_shown (image_shown (Misread given image) world.stage)
 
     -- what a request that is no FLUSH, READ or BLOCK_STATUS asks for
     abbrev AsksToWrite : Type 0
@@ -209,7 +210,7 @@ module _ (world : World) (c : ℕ) (sound : IsSound world) where
         (sound_moved world c (Waiting (last_number world)) sound (request, right.0, inr (others_before flush))))
         (λ other. of_either IsSound (request.head.kind == 0) _ _ (λ read. sound_read failure)
         (λ no_read. of_either IsSound (request.head.kind == 7) _ _ (λ status. sound_status failure)
-        (λ no_status. sound_write failure (command_of request) (writes other no_read no_status) refl))))
+        (λ no_status. sound_write failure (image_shown failure world.stage) (writes other no_read no_status)))))
 
     sound_judged : (result : Result Action Errno) → (result ≡ Ok Serve → AsksToWrite) → (failure : Failure) → IsSound (judged result failure world c request)
     sound_judged (Ok End) writes failure = sound_quiet (moved world c Closed) Took quiet_took (sound_moved world c Closed sound tt)
@@ -243,7 +244,7 @@ module _ (world : World) (c : ℕ) (sound : IsSound world) where
   sound_send OutOfMemory request Idle right = sound_quiet world (Failed fault.NoMemory) (quiet_failed fault.NoMemory) sound
   sound_send Nothing request Idle right = sound_sent world c request sound right
   sound_send DeviceFailure request Idle right = sound_sent world c request sound right
-  sound_send (Misread image) request Idle right = sound_sent world c request sound right
+  sound_send (Misread given image) request Idle right = sound_sent world c request sound right
   sound_send failure request (Requested other) right = sound_held world sound
   sound_send failure request (Waiting number) right = sound_held world sound
   sound_send failure request (Ready outcome) right = sound_held world sound
@@ -265,7 +266,7 @@ module _ (world : World) (sound : IsSound world) where
   sound_sealed_more OutOfMemory = sound_failed fault.NoMemory
   sound_sealed_more Nothing = sound_grouped
   sound_sealed_more DeviceFailure = sound_grouped
-  sound_sealed_more (Misread image) = sound_grouped
+  sound_sealed_more (Misread given image) = sound_grouped
 
   sound_seal : (failure : Failure) → IsSound (seal failure world)
   sound_seal failure = of_either IsSound (nat_lt world.stage.sealed (length world.stage.order) && (world.stage.sealed == world.stage.durable)) _ _
@@ -278,7 +279,7 @@ module _ (world : World) (sound : IsSound world) where
       → IsSound (written failure world (record stage { setting = world.stage.setting; order = world.stage.order }))
   sound_written Nothing stage more = sound_took stage Took quiet_took more
   sound_written OutOfMemory stage more = sound_failed fault.NoMemory
-  sound_written (Misread image) stage more = sound_took stage Took quiet_took more
+  sound_written (Misread given image) stage more = sound_took stage Took quiet_took more
   sound_written DeviceFailure stage more = sound_took (faulted world).stage (Failed fault.DeviceFault) (quiet_failed fault.DeviceFault) (omega arith)
 
   sound_stored_more : (failure : Failure) → IsSound (stored_more failure world)

@@ -3,8 +3,12 @@ use Rattle.std.proofs.Common.{◌≡◌, ℕ, ◌+◌, ◌-◌, ◌<◌, ◌≤�
 use Rattle.std.proofs.lemmas.Bool.{and_parts, both_ways, not-true, ltb-true, eqb-true}
 use Rattle.image_model.specs.Bodies.{body_bytes, body_limit, longest}
 use Rattle.image_model.specs.Change.{Change}
+use Rattle.image_model.specs.Edit.{becomes}
+use Rattle.image_model.specs.Image.{Image}
 use Rattle.nbd_wire.specs.Request.{Message}
 use Rattle.nbd_wire.specs.declared.error.Errno.{Errno}
+use Rattle.nbd_wire.specs.declared.error.Errno.TheVariants.{Io}
+use Rattle.nbd_wire.specs.declared.message.Answer.TheVariants.{Refused}
 use Rattle.world.specs.declared.action.Action.{Action}
 use Rattle.world.specs.declared.action.Action.TheVariants.{End, Serve}
 use Rattle.world.specs.declared.connection.Connection.{Connection}
@@ -14,13 +18,11 @@ use Rattle.world.specs.declared.event.Event.TheVariants.{Took}
 use Rattle.world.specs.declared.step.Step.{Step}
 use Rattle.world.specs.declared.step.Step.TheVariants as steps
 use Rattle.world.specs.Checkpoint.{can_clean, can_copy, can_finish, can_map, can_rotate, finished, is_full, is_turned, last_turned, left_behind, rotated, to_copy}
-use Rattle.world.specs.Log.{command_of, is_flush}
+use Rattle.world.specs.Log.{edit_asked, is_flush}
 use Rattle.world.specs.Run.{IsReached, Fresh, After}
-use Rattle.world.specs.Serve.{Failure, Nothing, OutOfMemory, DeviceFailure, accepted, answer, judged, logged, passed, serve, staged, Misread, image_shown, shown, read_served, status_served, faulted}
+use Rattle.world.specs.Serve.{Failure, Nothing, OutOfMemory, DeviceFailure, accepted, answer, judged, logged, passed, ready, serve, staged, Misread, image_shown, shown, read_served, status_served, faulted, takes_old_bytes}
 use Rattle.world.specs.Step.{after_step, append, in_time, with_generation, sealed_more, send, sent, without_memory, written}
 use Rattle.world.specs.Verdict.{verdict}
-use Rattle.image_model.specs.Image.{Image}
-use Rattle.world.specs.Shown.{bytes_from, most_runs, read_status_of, runs_from, shown_by, status_of}
 use Rattle.world.specs.World.{World, Stage, Setting, fits, fresh, has_room, last_number}
 use Rattle.world_law.specs.Law.{IsRising, IsWithin}
 use Rattle.world_law.specs.laws.Parts.{copied_same}
@@ -157,7 +159,7 @@ module _ (world : World) (within : IsWithin world) where
   within_sent OutOfMemory c request = within_elsewhere _ _ _ _ _
   within_sent Nothing c request = within_elsewhere _ _ _ _ _
   within_sent DeviceFailure c request = within_elsewhere _ _ _ _ _
-  within_sent (Misread image) c request = within_elsewhere _ _ _ _ _
+  within_sent (Misread given image) c request = within_elsewhere _ _ _ _ _
 
   within_send : (failure : Failure) (c : ℕ) (request : Message) (state : Connection) → IsWithin (send failure world c request state)
   within_send failure c request Idle = within_sent failure c request
@@ -166,23 +168,26 @@ module _ (world : World) (within : IsWithin world) where
   within_send failure c request (Ready outcome) = within_elsewhere _ _ _ _ _
   within_send failure c request Closed = within_elsewhere _ _ _ _ _
 
-  within_accepted : (failure : Failure) (c : ℕ) (request : Message) (command : Change) → IsWithin (accepted failure world c request command)
-  within_accepted OutOfMemory c request command = within_elsewhere _ _ _ _ _
-  within_accepted Nothing c request command = within_ordered _ _ _ _
-  within_accepted DeviceFailure c request command = within_ordered _ _ _ _
-  within_accepted (Misread image) c request command = within_ordered _ _ _ _
+  within_fault : (c : ℕ) → IsWithin (ready (faulted world) c (Refused Io))
+  within_fault c = elsewhere (logged (faulted world) Took) _ _ _ _ _ (within_back _ _ _)
+
+  within_accepted : (failure : Failure) (image : Image) (c : ℕ) (request : Message) → IsWithin (accepted failure image world c request)
+  within_accepted OutOfMemory image c request = within_elsewhere _ _ _ _ _
+  within_accepted Nothing image c request = within_ordered _ _ _ _
+  within_accepted DeviceFailure image c request = of_either IsWithin (takes_old_bytes (edit_asked request) image) _ _ (λ wants. within_fault c) (λ none. within_ordered _ _ _ _)
+  within_accepted (Misread given other) image c request = within_accepted given image c request
 
   within_read : (failure : Failure) (c : ℕ) (request : Message) → IsWithin (read_served failure world c request)
   within_read OutOfMemory c request = within_elsewhere _ _ _ _ _
-  within_read DeviceFailure c request = elsewhere (logged (faulted world) Took) _ _ _ _ _ (within_back _ _ _)
+  within_read DeviceFailure c request = within_fault c
   within_read Nothing c request = within_elsewhere _ _ _ _ _
-  within_read (Misread image) c request = within_elsewhere _ _ _ _ _
+  within_read (Misread given image) c request = within_elsewhere _ _ _ _ _
 
   within_status : (failure : Failure) (c : ℕ) (request : Message) → IsWithin (status_served failure world c request)
   within_status OutOfMemory c request = within_elsewhere _ _ _ _ _
   within_status DeviceFailure c request = within_elsewhere _ _ _ _ _
   within_status Nothing c request = within_elsewhere _ _ _ _ _
-  within_status (Misread image) c request = within_elsewhere _ _ _ _ _
+  within_status (Misread given image) c request = within_elsewhere _ _ _ _ _
 
   within_passed : (failure : Failure) (c : ℕ) (request : Message) → IsWithin (passed failure world c request)
   within_passed failure c request = of_either IsWithin world.stage.stopped _ _ (λ stopped. within_elsewhere _ _ _ _ _)
@@ -190,7 +195,7 @@ module _ (world : World) (within : IsWithin world) where
       (λ other. of_either IsWithin (request.head.kind == 0) _ _ (λ read. within_read failure c request)
       (λ no_read. of_either IsWithin (request.head.kind == 7) _ _ (λ status. within_status failure c request)
       (λ no_status. of_either IsWithin (last_number world == 18446744073709551615) _ _ (λ full. within_elsewhere _ _ _ _ _)
-      (λ left. of_either IsWithin (has_room world (command_of request)) _ _ (λ room. within_accepted failure c request (command_of request)) (λ none. within_elsewhere _ _ _ _ _))))))
+      (λ left. of_either IsWithin (has_room world (becomes (edit_asked request) (image_shown failure world.stage))) _ _ (λ room. within_accepted failure (image_shown failure world.stage) c request) (λ none. within_elsewhere _ _ _ _ _))))))
 
   within_judged : (given : Result Action Errno) (failure : Failure) (c : ℕ) (request : Message) → IsWithin (judged given failure world c request)
   within_judged (Ok End) failure c request = within_elsewhere _ _ _ _ _
@@ -223,13 +228,13 @@ module _ (world : World) (within : IsWithin world) where
   within_sealed OutOfMemory = within_elsewhere _ _ _ _ _
   within_sealed Nothing = within_grouped
   within_sealed DeviceFailure = within_grouped
-  within_sealed (Misread image) = within_grouped
+  within_sealed (Misread given image) = within_grouped
 
   within_written : (failure : Failure) (stage : Stage) → IsWithin (logged (staged world stage) Took) → IsWithin (written failure world stage)
   within_written Nothing stage is = is
   within_written OutOfMemory stage is = within_elsewhere _ _ _ _ _
   within_written DeviceFailure stage is = within_back _ _ _
-  within_written (Misread image) stage is = is
+  within_written (Misread given image) stage is = is
 
   -- a group takes some of the last area
   more_taken : nat_lt world.stage.stored world.stage.sealed ≡ true → (bodies : ℕ) → (world.stage.at + 17 + bodies ≡ 0) ↔ (world.stage.sealed ≡ last_turned world.stage.base world.stage.turned)

@@ -54,7 +54,7 @@ returns-clause-dialog g c = λ start opened.
     (piped_or (g.R.Read.remaining c.args.input.now) (g.R.Read.remaining c.run-end.new.input) (g.W.Write.contents c.args.output.now) (g.W.Write.contents c.run-end.new.output)
     (Runs disk.state disk.faults disk.honest parts.parts.2 keeper parts.parts.3 ran.order ran.keeper ran.connections)
     (IsLived disk.state disk.faults disk.honest frames c.args.options.mode start done.keeper.disk) c.run-end.result c.finish-outcome.result
-    (λ exchanges last runs. lived disk.state disk.faults disk.honest c.leads_law.ensures c.schedule_law.ensures.truth c.schedule_law.ensures.within c.schedule_law.ensures.fits c.fresh_parts_law.ensures start keeper ran.keeper done.keeper ran.order done.order ran.connections done.connections
+    (λ exchanges last runs. lived disk.state disk.faults disk.honest c.leads_law.ensures c.schedule_law.ensures.truth c.schedule_law.ensures.within c.schedule_law.ensures.fits c.schedule_law.ensures.edits c.fresh_parts_law.ensures start keeper ran.keeper done.keeper ran.order done.order ran.connections done.connections
     frames c.args.options.frames_enough c.args.options.mode states opened.recovered parts.ensures.order.1 few opened.counted opened.found shows opened.stays
     c.finish-outcome.ensures.honest.0 (λ is. c.finish-outcome.ensures.honest.1 (c.run-end.ensures.honest.1 (opened.stays is))) c.run-end.result c.finish-outcome.result exchanges last
     (fresh_runs exchanges last runs) c.finish-outcome.ensures.world c.finish-outcome.ensures.stored c.finish-outcome.ensures.works c.finish-outcome.ensures.broken)
@@ -78,7 +78,7 @@ returns-clause-device g c = λ start opened is.
     parts.ensures.connections
     (subst (λ (order : OrderState). Runs disk.state disk.faults disk.honest order keeper parts.parts.3 ran.order ran.keeper ran.connections exchanges last c.run-end.result) parts.ensures.order.2 runs) in
     subst (λ end. HasRisen (disk.faults start) (disk.faults end)) (sym c.into_disk-2.ensures)
-    (told_fault disk.state disk.faults disk.honest c.leads_law.ensures c.schedule_law.ensures.truth c.schedule_law.ensures.within c.schedule_law.ensures.fits c.fresh_parts_law.ensures start keeper ran.keeper done.keeper ran.order done.order ran.connections done.connections
+    (told_fault disk.state disk.faults disk.honest c.leads_law.ensures c.schedule_law.ensures.truth c.schedule_law.ensures.within c.schedule_law.ensures.fits c.schedule_law.ensures.edits c.fresh_parts_law.ensures start keeper ran.keeper done.keeper ran.order done.order ran.connections done.connections
     frames c.args.options.frames_enough c.args.options.mode states opened.recovered parts.ensures.order.1 few opened.counted opened.found shows opened.stays
     c.finish-outcome.ensures.honest.0 (λ is. c.finish-outcome.ensures.honest.1 (c.run-end.ensures.honest.1 (opened.stays is))) c.run-end.result c.finish-outcome.result piped.told.exchanges piped.told.last
     (fresh_runs piped.told.exchanges piped.told.last piped.runs) c.finish-outcome.ensures.world c.run-end.ensures.early c.finish-outcome.ensures.end is)

@@ -2,7 +2,7 @@ use Rattle.std.proofs.Common.{◌≡◌, ℕ, ◌+◌, ◌-◌, ◌≤◌, ◌++
 use Rattle.std.specs.Prelude.{IfOk}
 use Rattle.std.proofs.lemmas.Result.{IfOk-weaker}
 use Rattle.negotiation.specs.Dialog.{Standing, in_discard}
-use Rattle.negotiation.specs.Session.{Advances, IsLongPart, IsPart, Step, standing_of, state_of, wanted_of}
+use Rattle.negotiation.specs.Session.{Advances, IsLongPart, IsPart, Step, TakesFlags, standing_of, state_of, wanted_of}
 use Rattle.negotiation.specs.declared.stage.Stage.{Stage}
 use Rattle.negotiation.specs.declared.stage.Stage.TheVariants as stages
 use Rattle.negotiation.specs.declared.stage.Talk.{Talk}
@@ -10,39 +10,41 @@ use Rattle.negotiation.specs.laws.Dialogs.{data_advances, discard_advances, flag
 use Rattle.negotiation.proofs.Sessions.{advances_nothing, idle}
 use Rattle.negotiation.proofs.session.advance.Goals as goal
 
-pub returns-in_ok-stage-in-Flags-clause-advances : goal.returns-in_ok-stage-in-Flags-clause-advances
-returns-in_ok-stage-in-Flags-clause-advances c =
-    let flags = c.args.talk.flags in
+pub returns-in-Flags-clause-advances : goal.returns-in-Flags-clause-advances
+returns-in-Flags-clause-advances c =
+    let agreed = c.args.talk.agreed in
     let before = c.args.out.now.items in
-    let new = standing_of c.in_ok-stage-in-Flags.stage in
-    subst (λ (s : Standing). Advances (session_at c.args.size flags s) c.args.front.now before before (session_at c.args.size flags new)) (sym (ap standing_of c.in-Flags.is))
-    (flags_advances c.args.size flags c.in-Flags.bytes.items c.args.front.now before new c.in_ok-stage-in-Flags.ensures.takes)
+    subst (λ (s : Standing). IfOk c.take_flags.result (λ (new : Talk). Advances (session_at c.args.size agreed s) c.args.front.now before before (state_of c.args.size new))) (sym (ap standing_of c.in-Flags.is))
+    (IfOk-weaker c.take_flags.result (λ (new : Talk). TakesFlags agreed (c.in-Flags.bytes.items ++ c.args.front.now) new.agreed (standing_of new.stage))
+    (λ (new : Talk). Advances (session_at c.args.size agreed (standing_of (stages.Flags c.in-Flags.bytes))) c.args.front.now before before (state_of c.args.size new))
+    (λ new takes. flags_advances c.args.size agreed c.in-Flags.bytes.items c.args.front.now before new takes)
+    c.take_flags.ensures.takes)
 
 pub returns-in-Head-clause-advances : goal.returns-in-Head-clause-advances
 returns-in-Head-clause-advances c =
-    let flags = c.args.talk.flags in
+    let agreed = c.args.talk.agreed in
     let before = c.args.out.now.items in
     let after = c.take_head.new.out.items in
-    subst (λ (s : Standing). IfOk c.take_head.result (λ (new : Talk). Advances (session_at c.args.size flags s) c.args.front.now before after (state_of c.args.size new))) (sym (ap standing_of c.in-Head.is))
-    (IfOk-weaker c.take_head.result (Step flags c.args.size (λ text. text ≡ c.in-Head.bytes.items ++ c.args.front.now) before after)
-    (λ (new : Talk). Advances (session_at c.args.size flags (standing_of (stages.Head c.in-Head.bytes))) c.args.front.now before after (state_of c.args.size new))
-    (λ new step. head_advances c.args.size flags c.args.front.now before after new c.in-Head.bytes.items step)
+    subst (λ (s : Standing). IfOk c.take_head.result (λ (new : Talk). Advances (session_at c.args.size agreed s) c.args.front.now before after (state_of c.args.size new))) (sym (ap standing_of c.in-Head.is))
+    (IfOk-weaker c.take_head.result (Step agreed c.args.size (λ text. text ≡ c.in-Head.bytes.items ++ c.args.front.now) before after)
+    (λ (new : Talk). Advances (session_at c.args.size agreed (standing_of (stages.Head c.in-Head.bytes))) c.args.front.now before after (state_of c.args.size new))
+    (λ new step. head_advances c.args.size agreed c.args.front.now before after new c.in-Head.bytes.items step)
     c.take_head.ensures.takes)
 
 pub returns-in-Data-clause-advances : goal.returns-in-Data-clause-advances
 returns-in-Data-clause-advances c =
-    let flags = c.args.talk.flags in
+    let agreed = c.args.talk.agreed in
     let before = c.args.out.now.items in
     let after = c.take_data.new.out.items in
-    subst (λ (s : Standing). IfOk c.take_data.result (λ (new : Talk). Advances (session_at c.args.size flags s) c.args.front.now before after (state_of c.args.size new))) (sym (ap standing_of c.in-Data.is))
-    (IfOk-weaker c.take_data.result (Step flags c.args.size (IsPart c.in-Data.head.option c.in-Data.head.length (c.in-Data.bytes.items ++ c.args.front.now)) before after)
-    (λ (new : Talk). Advances (session_at c.args.size flags (standing_of (stages.Data c.in-Data.head c.in-Data.bytes))) c.args.front.now before after (state_of c.args.size new))
-    (λ new step. data_advances c.args.size flags c.args.front.now before after new c.in-Data.head.option c.in-Data.head.length c.in-Data.bytes.items step)
+    subst (λ (s : Standing). IfOk c.take_data.result (λ (new : Talk). Advances (session_at c.args.size agreed s) c.args.front.now before after (state_of c.args.size new))) (sym (ap standing_of c.in-Data.is))
+    (IfOk-weaker c.take_data.result (Step agreed c.args.size (IsPart c.in-Data.head.option c.in-Data.head.length (c.in-Data.bytes.items ++ c.args.front.now)) before after)
+    (λ (new : Talk). Advances (session_at c.args.size agreed (standing_of (stages.Data c.in-Data.head c.in-Data.bytes))) c.args.front.now before after (state_of c.args.size new))
+    (λ new step. data_advances c.args.size agreed c.args.front.now before after new c.in-Data.head.option c.in-Data.head.length c.in-Data.bytes.items step)
     c.take_data.ensures.takes)
 
 pub returns-in-Discard-clause-advances : goal.returns-in-Discard-clause-advances
 returns-in-Discard-clause-advances c =
-    let flags = c.args.talk.flags in
+    let agreed = c.args.talk.agreed in
     let before = c.args.out.now.items in
     let after = c.discard.new.out.items in
     let option = c.in-Discard.option in
@@ -50,10 +52,10 @@ returns-in-Discard-clause-advances c =
     let left = missing - length c.args.front.now in
     let within : length c.args.front.now ≤ missing = subst (λ (stage : Stage). length c.args.front.now ≤ wanted_of stage) c.in-Discard.is c.requires.wanted in
     let parts : length c.args.front.now + left ≡ missing = omega (arith, within) in
-    subst (λ (s : Standing). IfOk c.discard.result (λ (new : Talk). Advances (session_at c.args.size flags s) c.args.front.now before after (state_of c.args.size new))) (sym (ap standing_of c.in-Discard.is))
-    (IfOk-weaker c.discard.result (λ (new : Talk). (size : ℕ) → Step flags size (IsLongPart option left) before after new)
-    (λ (new : Talk). Advances (session_at c.args.size flags (in_discard option missing)) c.args.front.now before after (state_of c.args.size new))
-    (λ new step. discard_advances c.args.size flags c.args.front.now before after new option missing left parts (step c.args.size))
+    subst (λ (s : Standing). IfOk c.discard.result (λ (new : Talk). Advances (session_at c.args.size agreed s) c.args.front.now before after (state_of c.args.size new))) (sym (ap standing_of c.in-Discard.is))
+    (IfOk-weaker c.discard.result (λ (new : Talk). (size : ℕ) → Step agreed size (IsLongPart option left) before after new)
+    (λ (new : Talk). Advances (session_at c.args.size agreed (in_discard option missing)) c.args.front.now before after (state_of c.args.size new))
+    (λ new step. discard_advances c.args.size agreed c.args.front.now before after new option missing left parts (step c.args.size))
     c.discard.ensures.takes)
 
 pub returns-in_default : goal.returns-in_default

@@ -1,38 +1,51 @@
-use Rattle.std.proofs.Common.{◌≡◌, ◌+◌, ◌-◌, ◌*◌, ◌/◌, ℕ, inr, List, get_or, length, replicate, sym, ◌∙◌, ap, subst, refl, arith}
+use Rattle.std.proofs.Common.{◌≡◌, ◌≢◌, ◌+◌, ◌-◌, ◌*◌, ◌/◌, ◌%◌, ℕ, inr, List, drop, take, get_or, length, None, Some, sym, ◌∙◌, ap, refl, arith}
 use Rattle.alloc_map.specs.Codes.{state_at}
+use Rattle.image_model.specs.Edit.{blocks_met}
 use Rattle.image_model.specs.Image.{Image}
 use Rattle.nbd_wire.specs.declared.message.Answer.{Answer}
 use Rattle.request_core.specs.Serving.{ready_for}
-use Rattle.request_core.proofs.InMemory.{seen_zero, whole, zero_there}
+use Rattle.request_core.proofs.InMemory.{part_holds, part_size, part_zero, whole}
 use Rattle.request_core.proofs.reading.serve_held_read.Goals as goal
+use Rattle.shared_cache.specs.Cache.{bytes_seen}
 
 pub bytes_answer-requires-clause-zero : goal.bytes_answer-requires-clause-zero
-bytes_answer-requires-clause-zero g c = λ j k below inside other.
+bytes_answer-requires-clause-zero g c =
+    let head = c.args.head.now in
     let into = c.read_held.new.into in
+    let items = c.cut.new.bytes.items in
     let read = c.read_held.ensures in
     let size : length into ≡ c.in-Ok-vec.bytes.len = read.size ∙ ap length c.deref_mut.ensures.value ∙ sym c.in-Ok-vec.bytes.ok.0 in
-    let first = c.args.head.now.offset / 4096 in
-    subst (λ (l : List ℕ). get_or l (4096 * j + k) 0 ≡ 0) (sym (whole c.in-Ok-vec.bytes.len into c.in-Ok-vec.bytes.items size))
-    (read.in_memory j k (replicate 4096 0) (omega (arith, below, size)) inside (seen_zero c.args.order.now.cache (first + j) other) ∙ zero_there 4096 k)
+    let long : length into ≡ 4096 * blocks_met head.offset head.length = size ∙ c.in-Ok-vec.ensures.len ∙ c.bytes.ensures ∙ ap (λ (n : ℕ). 4096 * n) c.of-blocks.ensures.count in
+    let part : items ≡ take head.length (drop (head.offset % 4096) into) = c.cut.ensures ∙ ap (λ (l : List ℕ). take head.length (drop (head.offset % 4096) l)) (whole c.in-Ok-vec.bytes.len into c.in-Ok-vec.bytes.items size) in
+    let count = part_size head.offset head.length into items part long in
+    λ k below other. part_zero head.offset head.length into items part long c.args.order.now.cache
+    (λ j k bytes under inside seen. read.in_memory j k bytes under inside (ap (λ (n : ℕ). bytes_seen c.args.order.now.cache (n + j)) c.of-blocks.ensures.first ∙ seen))
+    k (let held = c.cut.new.bytes.ok.0 in omega (arith, below, held, count)) other
 
 pub returns : goal.returns
 returns g c =
-    let into = c.read_held.new.into in
-    let read = c.read_held.ensures in
     let head = c.args.head.now in
     let old = c.args.order.now in
+    let into = c.read_held.new.into in
+    let items = c.cut.new.bytes.items in
+    let read = c.read_held.ensures in
     let size : length into ≡ c.in-Ok-vec.bytes.len = read.size ∙ ap length c.deref_mut.ensures.value ∙ sym c.in-Ok-vec.bytes.ok.0 in
-    let long : length into ≡ head.length = size ∙ c.in-Ok-vec.ensures.len in
-    let written = whole c.in-Ok-vec.bytes.len into c.in-Ok-vec.bytes.items size in
-    let given : Image = record { blocks = 0; byte = λ place. get_or into (place - head.offset) 0; kind = λ block. state_at old.cache.states block } in
-    let at : (n : ℕ) → get_or into (head.offset + n - head.offset) 0 ≡ get_or into n 0 = λ n. ap (λ (m : ℕ). get_or into m 0) (let same : head.offset + n - head.offset ≡ n = omega arith in same) in
-    let answer_is = c.bytes_answer.ensures given (λ block. refl) (λ k below. ap (λ (l : List ℕ). get_or l k 0) written ∙ sym (at k)) in
+    let long : length into ≡ 4096 * blocks_met head.offset head.length = size ∙ c.in-Ok-vec.ensures.len ∙ c.bytes.ensures ∙ ap (λ (n : ℕ). 4096 * n) c.of-blocks.ensures.count in
+    let part : items ≡ take head.length (drop (head.offset % 4096) into) = c.cut.ensures ∙ ap (λ (l : List ℕ). take head.length (drop (head.offset % 4096) l)) (whole c.in-Ok-vec.bytes.len into c.in-Ok-vec.bytes.items size) in
+    let first = c.of-blocks.ensures.first in
+    let seen : (j : ℕ) → bytes_seen old.cache (c.of-blocks.result.first + j) ≡ bytes_seen old.cache (head.offset / 4096 + j) = λ j. ap (λ (n : ℕ). bytes_seen old.cache (n + j)) first in
+    let given : Image = record { blocks = 0; byte = λ place. get_or items (place - head.offset) 0; kind = λ block. state_at old.cache.states block } in
+    let at : (n : ℕ) → get_or items (head.offset + n - head.offset) 0 ≡ get_or items n 0 = λ n. ap (λ (m : ℕ). get_or items m 0) (let same : head.offset + n - head.offset ≡ n = omega arith in same) in
+    let answer_is = c.bytes_answer.ensures given (λ block. refl) (λ k below. sym (at k)) in
     inr (record {
-      aligned = c.requires.from;
       image = given;
       kinds = λ block. refl;
-      there = λ j below. read.there j (omega (arith, below, long));
-      in_memory = λ j k bytes below inside seen. at (4096 * j + k) ∙ read.in_memory j k bytes (omega (arith, below, long)) inside seen;
-      own = λ image shows j k below inside. at (4096 * j + k) ∙ read.image image shows j k (omega (arith, below, long)) inside;
+      there = part_holds head.offset head.length into items part long (λ block k byte. bytes_seen old.cache block ≢ None)
+          (λ j k below inside none. read.there j below (seen j ∙ none));
+      in_memory = λ k bytes below is. at k ∙ part_holds head.offset head.length into items part long (λ block r byte. (bytes : List ℕ) → bytes_seen old.cache block ≡ Some bytes → byte ≡ get_or bytes r 0)
+          (λ j r under inside bytes is. read.in_memory j r bytes under inside (seen j ∙ is)) k below bytes is;
+      own = λ image shows k below. at k ∙ part_holds head.offset head.length into items part long (λ block r byte. byte ≡ image.byte (4096 * block + r))
+          (λ j r under inside. read.image image shows j r under inside ∙ ap (λ (n : ℕ). image.byte (4096 * (n + j) + r)) first) k below
+          ∙ ap image.byte (let same : 4096 * ((head.offset + k) / 4096) + (head.offset + k) % 4096 ≡ head.offset + k = omega arith in same);
       answer = ap (λ (a : Answer). ready_for head.cookie a) answer_is;
     })

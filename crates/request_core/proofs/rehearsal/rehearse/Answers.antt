@@ -80,7 +80,7 @@ returns-clause-world g c = λ world trusted of.
       omega (arith, c.loop-step.auto.step-index-end, c.loop-step-test.false),
       rehearsed world next (take index steps) c.loop-step.order new (g.D.Disk.faults new.disk) c.loop-step.bench (g.D.Disk.extent new.disk) (Trusts trusted (g.D.Disk.honest new.disk)) (g.D.Disk.state old.disk) (g.D.Disk.state new.disk)
           so_far here.1 (λ trusts. g.met.D.Disk.sound new.disk (trusted_honest trusted (g.D.Disk.honest new.disk) trusts)) (law.grows world next (take index steps) so_far.run) (law.within next so_far.of_export.reached)
-          (law.covered world of.of_export.reached) (law.covered next so_far.of_export.reached) (law.legal next so_far.of_export.reached) (law.fits next so_far.of_export.reached),
+          (law.covered world of.of_export.reached) (law.covered next so_far.of_export.reached) (law.legal next so_far.of_export.reached) (law.fits next so_far.of_export.reached) (law.edits next so_far.of_export.reached),
     )
 
 -- an answer that is an error says nothing of Ok
@@ -108,7 +108,7 @@ returns-in_err-carry_out-clause-world g c = λ world trusted of.
       no_ok _ _ c.from_residual.result c.from_residual.ensures.1,
       rehearsed world next (take index steps) c.carry_out.new.order new (g.D.Disk.faults new.disk) c.carry_out.new.bench (g.D.Disk.extent new.disk) (Trusts trusted (g.D.Disk.honest new.disk)) (g.D.Disk.state old.disk) (g.D.Disk.state new.disk)
           so_far (ap (λ (b : BenchState). b.log) same.2 ∙ here.1) (λ trusts. g.met.D.Disk.sound new.disk (trusted_honest trusted (g.D.Disk.honest new.disk) trusts)) (law.grows world next (take index steps) so_far.run) (law.within next so_far.of_export.reached)
-          (law.covered world of.of_export.reached) (law.covered next so_far.of_export.reached) (law.legal next so_far.of_export.reached) (law.fits next so_far.of_export.reached),
+          (law.covered world of.of_export.reached) (law.covered next so_far.of_export.reached) (law.legal next so_far.of_export.reached) (law.fits next so_far.of_export.reached) (law.edits next so_far.of_export.reached),
     )
 
 pub carry_out-requires-clause-blocks : goal.carry_out-requires-clause-blocks

@@ -8,7 +8,11 @@ use Rattle.nbd_wire.specs.declared.error.Errno.{Errno}
 use Rattle.order_book.specs.Order.{IsInHand, OrderState}
 use Rattle.request_core.proofs.Asked.{now_stopped}
 use Rattle.request_core.proofs.serving.serve_or_stop.Goals as goal
+use Rattle.image_model.specs.Image.{Image}
+use Rattle.order_book.specs.Shown.{ShowsImage}
 use Rattle.request_core.specs.Outcomes.{IsPassed, IsServedBy}
+use Rattle.request_core.specs.Reading.{IsKnownBy, IsUnread}
+use Rattle.request_core.specs.Serving.{IsWriteServed}
 use Rattle.request_core.specs.declared.serving.Served.{Served}
 use Rattle.world.specs.declared.action.Action.{Action}
 use Rattle.world.specs.declared.action.Action.TheVariants.{End, Serve}
@@ -29,24 +33,31 @@ module _ {D : Type 0} (state : D → State) (faults : D → ℕ) (honest : D →
   same_order : new ≡ old → IfSome hand (IsInHand new)
   same_order same = still_in_hand old new hand (ap (λ (o : OrderState). o.sealed) same) (ap (λ (o : OrderState). o.in_hand) same) was
 
+  write_in_hand : (own : Image → Type 0) → IsWriteServed request geometry kept own old new result → IfSome hand (IsInHand new)
+  write_in_hand own (inl full) = same_order full.1
+  write_in_hand own (inr (left, image, inl no_room)) = same_order no_room.1
+  write_in_hand own (inr (left, image, inr (inl no_memory))) = same_order no_memory.1
+  write_in_hand own (inr (left, image, inr (inr (taken, is)))) =
+      still_in_hand old new hand (ap (λ (o : OrderState). o.sealed) taken.more.2) (ap (λ (o : OrderState). o.in_hand) taken.more.2) was
+
   passed_in_hand : IsPassed request geometry kept old new result → IfSome hand (IsInHand new)
   passed_in_hand (inl stopped) = same_order stopped.1
   passed_in_hand (inr (inl flush)) = same_order flush.2
   passed_in_hand (inr (inr (inl status))) = same_order status.2
-  passed_in_hand (inr (inr (inr (works, no_flush, no_read, no_status, inl full)))) = same_order full.1
-  passed_in_hand (inr (inr (inr (works, no_flush, no_read, no_status, inr (command, is, takes, left, inl no_room))))) = same_order no_room.1
-  passed_in_hand (inr (inr (inr (works, no_flush, no_read, no_status, inr (command, is, takes, left, inr (inl no_memory)))))) = same_order no_memory.1
-  passed_in_hand (inr (inr (inr (works, no_flush, no_read, no_status, inr (command, is, takes, left, inr (inr accepted)))))) =
-      still_in_hand old new hand (ap (λ (o : OrderState). o.sealed) accepted.1) (ap (λ (o : OrderState). o.in_hand) accepted.1) was
+  passed_in_hand (inr (inr (inr write))) = write_in_hand (λ image. ShowsImage image old.cache) write.4
+
+  unread_in_hand : IsUnread state faults honest request.head old new keeper next result → IfSome hand (IsInHand new)
+  unread_in_hand unread = still_in_hand old new hand (ap (λ (o : OrderState). o.sealed) unread.order) (ap (λ (o : OrderState). o.in_hand) unread.order) was
 
   served_in_hand : (given : Result Action Errno) → IsServedBy state faults honest given request geometry kept old new keeper next result → IfSome hand (IsInHand new)
   served_in_hand (Ok End) by = absurd by
   served_in_hand (Ok Serve) (inl (same, passed)) = passed_in_hand passed
-  served_in_hand (Ok Serve) (inr (works, kind, inl no_memory)) = same_order no_memory.0
-  served_in_hand (Ok Serve) (inr (works, kind, inr (inl read))) =
+  served_in_hand (Ok Serve) (inr (inl (works, kind, inl no_memory))) = same_order no_memory.0
+  served_in_hand (Ok Serve) (inr (inl (works, kind, inr (inl read)))) =
       still_in_hand old new hand (ap (λ (o : OrderState). o.sealed) read.order) (ap (λ (o : OrderState). o.in_hand) read.order) was
-  served_in_hand (Ok Serve) (inr (works, kind, inr (inr unread))) =
-      still_in_hand old new hand (ap (λ (o : OrderState). o.sealed) unread.order) (ap (λ (o : OrderState). o.in_hand) unread.order) was
+  served_in_hand (Ok Serve) (inr (inl (works, kind, inr (inr unread)))) = unread_in_hand unread
+  served_in_hand (Ok Serve) (inr (inr (works, write, inl edit))) = write_in_hand (IsKnownBy state honest keeper old) edit.served
+  served_in_hand (Ok Serve) (inr (inr (works, write, inr refused))) = unread_in_hand refused.unread
   served_in_hand (Err errno) by = same_order by.1
 
 pub stop-requires : goal.stop-requires
@@ -69,4 +80,4 @@ returns-then-stopped-clause-serves g c =
     let stopped : middle.stopped ≡ true = sym c.if-stopped.ensures in
     let unread = now_stopped g.D.Disk.state g.D.Disk.faults g.D.Disk.honest c.args.request c.args.terms.geometry c.args.terms.mode c.args.order.now middle c.args.keeper.now c.serve_with_keeper-served.new.keeper
     c.serve_with_keeper-served.result works stopped given by in
-    (given, given_is, inr (unread.0, works, unread.1, c.stop.ensures.hand, middle, unread.2, c.stop.ensures.order))
+    (given, given_is, inr (unread.0, works, c.stop.ensures.hand, middle, unread.1, c.stop.ensures.order))

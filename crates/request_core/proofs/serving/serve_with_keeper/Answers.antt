@@ -1,10 +1,14 @@
-use Rattle.std.proofs.Common.{refl, sym, subst}
+use Rattle.std.proofs.Common.{◌≡◌, ◌⊎◌, ◌∙◌, inl, inr, ap, refl, sym, subst}
 use Rattle.group_list.specs.laws.Chained.{none_read}
 use Rattle.marks.specs.Known.{PassState}
+use Rattle.nbd_wire.specs.Request.{Message}
+use Rattle.nbd_wire.specs.declared.head.RequestHead.{RequestHead}
+use Rattle.order_book.specs.Edits.{NeedsDevice as NeedsOld}
 use Rattle.order_book.specs.Order.{OrderState}
 use Rattle.request_core.specs.Serving.{IsPassServed}
 use Rattle.request_core.proofs.Here.{read_leaves, read_passes, served_here}
 use Rattle.request_core.proofs.serving.serve_with_keeper.Goals as goal
+use Rattle.world.specs.Log.{edit_asked}
 use Rattle.world.specs.Verdict.{verdict}
 
 pub returns-in-Ok-clause-serves : goal.returns-in-Ok-clause-serves
@@ -28,3 +32,17 @@ returns-in-Err-clause-pass g c =
     (subst (λ (order : OrderState). IsPassServed c.args.request order.mark c.serve_read.new.order.mark c.serve_read.result c.args.pass.now c.args.pass.now) same.0
     (read_passes g.D.Disk.state g.D.Disk.faults g.D.Disk.honest c.args.keeper.now (λ sure. none_read (g.met.D.Disk.sound c.args.keeper.now.disk sure)) c.args.request c.serve_read.result c.args.pass.now
     _ c.serve_held.new.order c.serve_read.new.order c.serve_read.new.keeper c.serve_read.ensures.read))
+
+pub serve_edit-requires-clause-needs : goal.serve_edit-requires-clause-needs
+serve_edit-requires-clause-needs g c =
+    let request = c.args.request in
+    let back = c.in-Err.ensures.handed_back in
+    let same = c.in-Err-2.ensures.unchanged.0 in
+    let needs = c.in-Err-2.ensures.needs.0 refl in
+    subst (λ (r : Message). NeedsOld c.serve_held.new.order (edit_asked r)) (sym back)
+    (subst (λ (o : OrderState). NeedsOld o (edit_asked request)) (sym same)
+    (by_kind needs.2 (λ kind. c.if-head-eq-READ.false (ap (λ (h : RequestHead). h.kind) c.head.ensures ∙ ap (λ (r : Message). r.head.kind) c.in-Err.ensures.handed_back ∙ kind))))
+  where
+    by_kind : {A B : Type 0} → (((c.args.request.head.kind ≡ 0) × A) ⊎ (B × NeedsOld c.args.order.now (edit_asked c.args.request))) → (c.args.request.head.kind ≡ 0 → ⊥) → NeedsOld c.args.order.now (edit_asked c.args.request)
+    by_kind (inl read) other = absurd (other read.0)
+    by_kind (inr edit) other = edit.1

@@ -1,4 +1,3 @@
-use Rattle.std.proofs.Common.{[], refl}
 use Rattle.std.specs.Prelude.{is_ok}
 use Rattle.session.proofs.Answering.{writes_both, writes_less, writes_part}
 use Rattle.session.proofs.serve.write_behind.Goals as goal

@@ -14,13 +14,13 @@ loop-init g c = record {
   piece = c.requires.piece;
   no_disc = c.requires.no_disc;
   going = λ heard held stands b flags.
-      transmitting_start (g.S.Serve.allows c.args.export.now) c.args.session.now.flags heard held c.args.requests.items c.args.pass.now (g.R.Read.remaining c.args.input.now) (g.W.Write.contents c.args.output.now) c.args.session.now stands b;
+      transmitting_start (g.S.Serve.allows c.args.export.now) c.args.session.now.agreed.flags heard held c.args.requests.items c.args.pass.now (g.R.Read.remaining c.args.input.now) (g.W.Write.contents c.args.output.now) c.args.session.now stands b;
 }
 
 pub returns-in_err-answer_all : goal.returns-in_err-answer_all
 returns-in_err-answer_all g c = λ heard held stands b flags.
     let allows = g.S.Serve.allows c.args.export.now in
-    let agreed = c.args.session.now.flags in
+    let agreed = c.args.session.now.agreed.flags in
     let t = c.loop.invariant.going heard held stands b flags in
     let made = g.W.Write.contents c.loop.output in
     let later = g.W.Write.contents c.answer_all.new.output in
@@ -33,7 +33,7 @@ returns-in_err-answer_all g c = λ heard held stands b flags.
 pub returns-then-ended : goal.returns-then-ended
 returns-then-ended g c = λ heard held stands b flags.
     let allows = g.S.Serve.allows c.args.export.now in
-    let agreed = c.args.session.now.flags in
+    let agreed = c.args.session.now.agreed.flags in
     let waiting = c.args.requests.items in
     let input = g.R.Read.remaining c.args.input.now in
     let mid = g.R.Read.remaining c.loop.input in
@@ -47,7 +47,7 @@ returns-then-ended g c = λ heard held stands b flags.
 pub returns-in_err-requests : goal.returns-in_err-requests
 returns-in_err-requests g c = λ heard held stands b flags.
     let allows = g.S.Serve.allows c.args.export.now in
-    let agreed = c.args.session.now.flags in
+    let agreed = c.args.session.now.agreed.flags in
     let waiting = c.args.requests.items in
     let input = g.R.Read.remaining c.args.input.now in
     let mid = g.R.Read.remaining c.loop.input in
@@ -65,7 +65,7 @@ returns-in_err-requests g c = λ heard held stands b flags.
 pub loop-preserved : goal.loop-preserved
 loop-preserved g c =
     let allows = g.S.Serve.allows c.args.export.now in
-    let agreed = c.args.session.now.flags in
+    let agreed = c.args.session.now.agreed.flags in
     let waiting = c.args.requests.items in
     let input = g.R.Read.remaining c.args.input.now in
     let mid = g.R.Read.remaining c.loop.input in
@@ -88,5 +88,5 @@ loop-preserved g c =
 pub returns : goal.returns
 returns g c = λ heard held stands b flags.
     let t = c.loop.invariant.going heard held stands b flags in
-    stopped (g.S.Serve.allows c.args.export.now) c.args.session.now.flags heard held c.args.requests.items c.args.pass.now (g.R.Read.remaining c.args.input.now) (g.W.Write.contents c.args.output.now) c.loop.pass (g.R.Read.remaining c.loop.input) (g.W.Write.contents c.loop.output)
+    stopped (g.S.Serve.allows c.args.export.now) c.args.session.now.agreed.flags heard held c.args.requests.items c.args.pass.now (g.R.Read.remaining c.args.input.now) (g.W.Write.contents c.args.output.now) c.loop.pass (g.R.Read.remaining c.loop.input) (g.W.Write.contents c.loop.output)
     c.loop.session c.loop.requests.items t (Err IoFault) tt

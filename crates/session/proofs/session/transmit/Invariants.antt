@@ -13,7 +13,7 @@ invariant-loop g l = record {
   none_due : l.due.items ≡ [];
   piece : vec_len l.piece ≡ piece_bytes;
   no_disc : HasNoDisc l.requests.items;
-  going : (heard : SessionState) (held : List ℕ) → Stands held l.fn.session heard → IsBehind heard.standing → l.fn.session.flags ≡ heard.flags
-      → Transmitting (g.S.Serve.allows l.export) l.fn.session.flags heard held l.fn.requests.items l.fn.pass (g.R.Read.remaining l.fn.input) (g.W.Write.contents l.fn.output)
+  going : (heard : SessionState) (held : List ℕ) → Stands held l.fn.session heard → IsBehind heard.standing → l.fn.session.agreed ≡ heard.agreed
+      → Transmitting (g.S.Serve.allows l.export) l.fn.session.agreed.flags heard held l.fn.requests.items l.fn.pass (g.R.Read.remaining l.fn.input) (g.W.Write.contents l.fn.output)
       l.pass (g.R.Read.remaining l.input) (g.W.Write.contents l.output) l.session l.requests.items;
 }

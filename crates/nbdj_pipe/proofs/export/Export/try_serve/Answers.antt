@@ -28,8 +28,8 @@ as_served world failure request is = subst (λ (s : Connection). IsServedAs worl
 
 no_room : (world next : World) (request : Message) (event : Event) → IsServedAs world request (verdict_on request.head world.stage.setting.geometry world.stage.setting.flags) next
     → next.log ≡ world.log ++ event ∷ [] → event ≡ Held → (next.connections ≡ world.connections) × (next.stage ≡ world.stage) × LacksRoom world request × (spoken (event ∷ []) ≡ [])
-no_room world next request event (inl (held, judged, works, write, full)) log is =
-    (ap (λ (w : World). w.connections) held, ap (λ (w : World). w.stage) held, record { works = works; judged = judged; write = write; full = full }, ap (λ (e : Event). spoken (e ∷ [])) is)
+no_room world next request event (inl (held, judged, works, write, failure, full)) log is =
+    (ap (λ (w : World). w.connections) held, ap (λ (w : World). w.stage) held, record { works = works; judged = judged; write = write; failure = failure; full = full }, ap (λ (e : Event). spoken (e ∷ [])) is)
 no_room world next request event (inr (judged, (own, logged, quiet, other))) log is = absurd (other (sym (last_same world.log event own (sym log ∙ logged)) ∙ is))
 
 is_judged : (world next : World) (request : Message) (given : Result Action Errno) (event : Event) → IsServedAs world request given next → next.log ≡ world.log ++ event ∷ [] → (event ≡ Held → ⊥)

@@ -1,6 +1,6 @@
 use Rattle.std.proofs.Common.{◌≡◌, ℕ, inl, inr, List, Some, rules, sym, subst, ap, ◌∙◌}
 use Rattle.nbd_wire.specs.Request.{Message}
-use Rattle.nbd_wire.specs.declared.message.SessionFlags.{SessionFlags}
+use Rattle.negotiation.specs.declared.answer.Agreed.{Agreed}
 use Rattle.negotiation.specs.Dialog.{Standing}
 use Rattle.negotiation.specs.Session.{Feeds, Hands, IsBehind, SessionState, end_of, handed, standing_of}
 use Rattle.negotiation.specs.declared.end.End.TheVariants.{NoMemory}
@@ -13,13 +13,13 @@ use Rattle.negotiation.proofs.session.Session.feed.Goals as goal
 pub returns-in_err-stage-clause-session : goal.returns-in_err-stage-clause-session
 returns-in_err-stage-clause-session c =
     let size = c.self.inside.size in
-    let flags = c.self.inside.flags in
+    let agreed = c.self.inside.agreed in
     let piece = c.args.piece.now in
     let before = c.args.out.now.items in
     let after = c.greet.new.out.items in
-    let old = session_at size flags (standing_of c.replace-stage.result) in
-    let new = session_at size flags (standing_of c.replace-stage.new.dest) in
-    let same : old ≡ c.args.self.now = ap (λ (stage : Stage). session_at size flags (standing_of stage)) c.replace-stage.ensures.value ∙ c.self.view_is in
+    let old = session_at size agreed (standing_of c.replace-stage.result) in
+    let new = session_at size agreed (standing_of c.replace-stage.new.dest) in
+    let same : old ≡ c.args.self.now = ap (λ (stage : Stage). session_at size agreed (standing_of stage)) c.replace-stage.ensures.value ∙ c.self.view_is in
     let end : end_of new.standing ≡ Some NoMemory = ap (λ (stage : Stage). end_of (standing_of stage)) c.replace-stage.ensures.after in
     subst (λ (s : SessionState). Feeds s piece before after (handed c.from_residual.result) new) same
     (subst (λ (r : List Message). Feeds old piece before after r new) (sym (handed_error c.from_residual.result c.from_residual.ensures.0))
@@ -28,18 +28,18 @@ returns-in_err-stage-clause-session c =
 pub returns-in_err-talk-clause-session : goal.returns-in_err-talk-clause-session
 returns-in_err-talk-clause-session c =
     let size = c.self.inside.size in
-    let flags = c.self.inside.flags in
+    let agreed = c.self.inside.agreed in
     let piece = c.args.piece.now in
     let before = c.args.out.now.items in
     let after = c.negotiate.new.out.items in
-    let old = session_at size flags (standing_of c.replace-stage.result) in
-    let new = session_at size flags (standing_of c.replace-stage.new.dest) in
-    let same : old ≡ c.args.self.now = ap (λ (stage : Stage). session_at size flags (standing_of stage)) c.replace-stage.ensures.value ∙ c.self.view_is in
+    let old = session_at size agreed (standing_of c.replace-stage.result) in
+    let new = session_at size agreed (standing_of c.replace-stage.new.dest) in
+    let same : old ≡ c.args.self.now = ap (λ (stage : Stage). session_at size agreed (standing_of stage)) c.replace-stage.ensures.value ∙ c.self.view_is in
     let end : end_of new.standing ≡ Some NoMemory = ap (λ (stage : Stage). end_of (standing_of stage)) c.replace-stage.ensures.after in
     let cut = c.in_err-talk.ensures.err in
     subst (λ (s : SessionState). Feeds s piece before after (handed c.from_residual-in_err-talk.result) new) same
     (subst (λ (r : List Message). Feeds old piece before after r new) (sym (handed_error c.from_residual-in_err-talk.result c.from_residual-in_err-talk.ensures.0))
-    (cut_short size flags (standing_of c.replace-stage.result) (standing_of c.in_ok-stage.stage) before c.greet.new.out.items after piece cut.0 cut.1 c.in_ok-stage.ensures.greets cut.2 cut.3
+    (cut_short size agreed (standing_of c.replace-stage.result) (standing_of c.in_ok-stage.stage) before c.greet.new.out.items after piece cut.0 cut.1 c.in_ok-stage.ensures.greets cut.2 cut.3
     (λ b.
     let kept = greets_behind (standing_of c.replace-stage.result) (standing_of c.in_ok-stage.stage) before c.greet.new.out.items c.in_ok-stage.ensures.greets b in
     (c.in_err-talk.ensures.still (behind_idle c.in_ok-stage.stage (subst IsBehind (sym kept.0) b))).0)
@@ -55,35 +55,35 @@ all_written {old} {new} {piece} {before} {after} {later} {requests} feeds same =
 pub returns-clause-session : goal.returns-clause-session
 returns-clause-session c =
     let size = c.self.inside.size in
-    let flags = c.self.inside.flags in
+    let agreed = c.self.inside.agreed in
     let piece = c.args.piece.now in
     let before = c.args.out.now.items in
     let after = c.negotiate.new.out.items in
     let talk = c.in_ok-talk.talk in
     let requests = handed c.hand_out-stage.result.1 in
     let new = standing_of c.hand_out-stage.result.0 in
-    let old = session_at size flags (standing_of c.replace-stage.result) in
-    let same : old ≡ c.args.self.now = ap (λ (stage : Stage). session_at size flags (standing_of stage)) c.replace-stage.ensures.value ∙ c.self.view_is in
+    let old = session_at size agreed (standing_of c.replace-stage.result) in
+    let same : old ≡ c.args.self.now = ap (λ (stage : Stage). session_at size agreed (standing_of stage)) c.replace-stage.ensures.value ∙ c.self.view_is in
     let hands : Hands (standing_of talk.stage) c.in_ok-talk.rest.now requests new = rest_handed c.hand_out-stage.ensures.hands (search rules) in
-    all_written (subst (λ (s : SessionState). Feeds s piece before after requests (session_at size talk.flags new)) same
+    all_written (subst (λ (s : SessionState). Feeds s piece before after requests (session_at size talk.agreed new)) same
     (elim (behind_or (standing_of c.replace-stage.result)) [
       | inl b ↦
           let kept = greets_behind (standing_of c.replace-stage.result) (standing_of c.in_ok-stage.stage) before c.greet.new.out.items c.in_ok-stage.ensures.greets b in
           let idle = c.in_ok-talk.ensures.still (behind_idle c.in_ok-stage.stage (subst IsBehind (sym kept.0) b)) in
           let stands : standing_of talk.stage ≡ standing_of c.replace-stage.result = ap (λ (t : Talk). standing_of t.stage) idle.0.0 ∙ kept.0 in
           let hands = subst (λ (s : Standing). Hands s piece requests new) stands (subst (λ (p : List ℕ). Hands (standing_of talk.stage) p requests new) idle.0.1 hands) in
-          subst (λ (f : SessionFlags). Feeds old piece before after requests (session_at size f new)) (sym (ap (λ (t : Talk). t.flags) idle.0.0))
-          (fed_behind size flags (standing_of c.replace-stage.result) new before after piece requests b (idle.1 ∙ kept.1) hands)
-      | inr not ↦ fed size flags (standing_of c.replace-stage.result) (standing_of c.in_ok-stage.stage) before c.greet.new.out.items after piece c.in_ok-talk.rest.now talk
+          subst (λ (f : Agreed). Feeds old piece before after requests (session_at size f new)) (sym (ap (λ (t : Talk). t.agreed) idle.0.0))
+          (fed_behind size agreed (standing_of c.replace-stage.result) new before after piece requests b (idle.1 ∙ kept.1) hands)
+      | inr not ↦ fed size agreed (standing_of c.replace-stage.result) (standing_of c.in_ok-stage.stage) before c.greet.new.out.items after piece c.in_ok-talk.rest.now talk
           c.in_ok-stage.ensures.greets c.in_ok-talk.ensures.sound c.in_ok-talk.ensures.runs not new requests hands
     ])) (search rules)
 
 pub returns-clause-again : goal.returns-clause-again
 returns-clause-again c = λ end is.
     let size = c.self.inside.size in
-    let flags = c.self.inside.flags in
-    let old = session_at size flags (standing_of c.replace-stage.result) in
-    let same : old ≡ c.args.self.now = ap (λ (stage : Stage). session_at size flags (standing_of stage)) c.replace-stage.ensures.value ∙ c.self.view_is in
+    let agreed = c.self.inside.agreed in
+    let old = session_at size agreed (standing_of c.replace-stage.result) in
+    let same : old ≡ c.args.self.now = ap (λ (stage : Stage). session_at size agreed (standing_of stage)) c.replace-stage.ensures.value ∙ c.self.view_is in
     let was : end_of (standing_of c.replace-stage.result) ≡ Some end = ap (λ (s : SessionState). end_of s.standing) same ∙ is in
     let kept = greets_ended (standing_of c.replace-stage.result) (standing_of c.in_ok-stage.stage) c.args.out.now.items c.greet.new.out.items end c.in_ok-stage.ensures.greets was in
     let still : end_of (standing_of c.in_ok-stage.stage) ≡ Some end = ap end_of kept ∙ was in

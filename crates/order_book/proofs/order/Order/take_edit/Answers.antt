@@ -1,0 +1,28 @@
+use Rattle.std.proofs.Common.{◌≡◌, ◌∙◌, ◌/◌, ap, length, refl, subst, sym}
+use Rattle.image_model.specs.Change.{IsChange, change_of}
+use Rattle.image_model.specs.Edit.{becomes, edit_of, offset_of}
+use Rattle.order_book.specs.Edits.{image_in, image_with}
+use Rattle.order_book.specs.Order.{OrderState, refusal_for}
+use Rattle.order_book.specs.laws.Edited.{same_refusal}
+use Rattle.order_book.proofs.Taking.{becomes_taken, whole_becomes}
+use Rattle.order_book.proofs.order.Order.take_edit.Goals as goal
+
+pub take_whole_put-requires-clause-free : goal.take_whole_put-requires-clause-free
+take_whole_put-requires-clause-free g c =
+    ap (refusal_for c.args.self.now) (sym (whole_becomes (edit_of c.args.edit) (image_in c.args.self.now.cache) (c.is_whole_put.ensures.0 c.if-is_whole_put.true)))
+    ∙ c.requires.free
+
+pub take-requires-clause-command : goal.take-requires-clause-command
+take-requires-clause-command g c =
+    let edit = edit_of c.args.edit in
+    let over = subst (λ (o : OrderState). change_of c.in-Ok.command ≡ becomes edit (image_with o.cache (offset_of edit / 4096) c.args.head.now c.args.tail.now)) c.self.view_is c.in-Ok.ensures in
+    subst (IsChange (length c.args.self.now.cache.states)) (sym over)
+    (becomes_taken edit (image_with c.args.self.now.cache (offset_of edit / 4096) c.args.head.now c.args.tail.now) c.requires.few c.requires.edit)
+
+pub take-requires-clause-free : goal.take-requires-clause-free
+take-requires-clause-free g c =
+    let edit = edit_of c.args.edit in
+    let over = subst (λ (o : OrderState). change_of c.in-Ok.command ≡ becomes edit (image_with o.cache (offset_of edit / 4096) c.args.head.now c.args.tail.now)) c.self.view_is c.in-Ok.ensures in
+    ap (refusal_for c.args.self.now) over
+    ∙ same_refusal c.args.self.now edit (image_with c.args.self.now.cache (offset_of edit / 4096) c.args.head.now c.args.tail.now) (image_in c.args.self.now.cache) (λ block. refl)
+    ∙ c.requires.free

@@ -1,0 +1,138 @@
+-- what an edit in bytes becomes over what is in memory of an image
+use Rattle.std.specs.Prelude.{ℕ, ◌≡◌, ◌+◌, ◌-◌, ◌*◌, ◌/◌, ◌%◌, ◌==◌, ◌&&◌, Bool, true, false, not, max, min, if◌then◌else◌, List, [], ◌++◌, length, take, drop, replicate, slice_index, Option, Some, None}
+use Rattle.alloc_map.specs.Codes.{state_at}
+use Rattle.device_image.specs.Keeper.{KeeperState}
+use Rattle.disk_model.specs.Faults.{counted}
+use Rattle.image_model.specs.declared.command.Command.{Command}
+use Rattle.image_model.specs.declared.command.Command.TheVariants as command
+use Rattle.image_model.specs.declared.command.Edges.{Edges}
+use Rattle.image_model.specs.declared.command.Edges.TheVariants.{Head, Tail, Both}
+use Rattle.image_model.specs.declared.command.Kind.TheVariants.{Data, Hole}
+use Rattle.image_model.specs.declared.edit.Edit.{Edit}
+use Rattle.image_model.specs.declared.edit.Edit.TheVariants as edit
+use Rattle.image_model.specs.Change.{Change, Written, Cleared, change_of}
+use Rattle.image_model.specs.Edit.{ByteEdit, BytesPut, BytesZeroed, BytesTrimmed, becomes, blocks_met, meets, spans}
+use Rattle.image_model.specs.Image.{Image, apply}
+use Rattle.marks.specs.Known.{PassState}
+use Rattle.order_book.specs.Cached.{ShowsCommand}
+use Rattle.order_book.specs.Order.{OrderState, refusal_for, with_command}
+use Rattle.order_book.specs.Shown.{ShowsImage}
+use Rattle.order_book.specs.declared.fault.OrderFault.{OrderFault}
+use Rattle.order_book.specs.declared.fault.OrderFault.TheVariants.{NoMemory, DeviceFault, NumbersFull, Failed, NoRoom, Stopped}
+use Rattle.shared_cache.specs.Blocks.{is_held}
+use Rattle.shared_cache.specs.Cache.{CacheState, bytes_seen}
+
+-- whether an edit needs the old bytes of a block: it puts or zeroes some of its bytes, and not all of them
+abbrev pub is_in_part : ℕ → ℕ → ℕ → Bool
+is_in_part offset count block = meets offset count block && not (spans offset count block)
+
+abbrev pub needs_old : ByteEdit → ℕ → Bool
+needs_old (BytesPut offset bytes) block = is_in_part offset (length bytes) block
+needs_old (BytesZeroed offset count kind) block = is_in_part offset count block
+needs_old (BytesTrimmed offset count) block = false
+
+-- The edit needs the old bytes of the block, which is data and held by no frame.
+abbrev pub IsMissing : ByteEdit → CacheState → ℕ → Type 0
+IsMissing edit cache block = (needs_old edit block ≡ true) × (state_at cache.states block ≡ Data) × (is_held block cache.blocks ≡ false)
+
+-- There is such a block.
+abbrev pub LacksOld : ByteEdit → CacheState → Type 0
+LacksOld edit cache = (block : ℕ) × IsMissing edit cache block
+
+-- the bytes of a block that are in memory, or else these
+abbrev pub bytes_or : Option (List ℕ) → List ℕ → List ℕ
+bytes_or None other = other
+bytes_or (Some bytes) other = bytes
+
+-- the image that is in memory, where of the blocks that are missing one has the bytes `head` and each other one the bytes `tail`
+abbrev pub image_with : CacheState → ℕ → List ℕ → List ℕ → Image
+image_with cache first head tail = record {
+  blocks = length cache.states;
+  byte = λ place. slice_index (bytes_or (bytes_seen cache (place / 4096)) (if place / 4096 == first then head else tail)) (place % 4096);
+  kind = λ block. state_at cache.states block;
+}
+
+-- the image that is in memory, where blocks that are missing are zero
+abbrev pub image_in : CacheState → Image
+image_in cache = image_with cache 0 [] []
+
+-- the bytes of all blocks that a put touches, of old ones of the first and of the last, and its own between them
+abbrev pub put_bytes : List ℕ → ℕ → List ℕ → List ℕ → List ℕ
+put_bytes first offset bytes last =
+    (take (offset % 4096) first ++ bytes) ++ drop (offset % 4096 + length bytes - 4096 * (blocks_met offset (length bytes) - 1)) last
+
+-- the old bytes of a block, zero where so many bytes from the offset on stand
+abbrev pub zeroed_block : ℕ → ℕ → ℕ → List ℕ → List ℕ
+zeroed_block offset count block old =
+    let from = max offset (4096 * block) - 4096 * block in
+    let to = min (offset + count) (4096 * block + 4096) - 4096 * block in
+    (take from old ++ replicate (to - from) 0) ++ drop to old
+
+-- the bytes of the edges, those of the first block and those of the last
+abbrev pub edge_bytes : Edges → List ℕ → List ℕ → List ℕ
+edge_bytes Head first last = first
+edge_bytes Tail first last = last
+edge_bytes Both first last = first ++ last
+
+-- The edit puts whole blocks, and what it then becomes over any image.
+abbrev pub IsWholePut : ByteEdit → Type 0
+IsWholePut (BytesPut offset bytes) = (offset % 4096 ≡ 0) × (length bytes % 4096 ≡ 0)
+IsWholePut (BytesZeroed offset count kind) = ⊥
+IsWholePut (BytesTrimmed offset count) = ⊥
+
+abbrev pub whole_change : ByteEdit → Change
+whole_change (BytesPut offset bytes) = Written (offset / 4096) bytes
+whole_change (BytesZeroed offset count kind) = Cleared 0 0 kind
+whole_change (BytesTrimmed offset count) = Cleared 0 0 Hole
+
+-- the command is a put, and the edit at this offset that it stands for
+abbrev pub IsPut : Command → Type 0
+IsPut (command.Put first bytes) = Unit {0}
+IsPut (command.Clear first blocks kind) = ⊥
+IsPut (command.Edged first blocks kind edges bytes) = ⊥
+
+abbrev pub put_again : ℕ → Command → Edit
+put_again offset (command.Put first bytes) = edit.Put offset bytes
+put_again offset (command.Clear first blocks kind) = edit.Trim offset 0
+put_again offset (command.Edged first blocks kind edges bytes) = edit.Trim offset 0
+
+-- which edges a clear has, if any
+abbrev pub edges_given : Bool → Bool → Option Edges
+edges_given true true = Some Both
+edges_given true false = Some Head
+edges_given false true = Some Tail
+edges_given false false = None
+
+-- Nothing refuses the edit before old bytes that it needs are read, and one of these blocks is missing. The room is that of the
+-- command that the edit becomes, which the states alone tell.
+pub record NeedsDevice (order : OrderState) (edit : ByteEdit) : Type 0 where
+  pub accepted : refusal_for order (becomes edit (image_in order.cache)) ≡ None
+  pub lacks : LacksOld edit order.cache
+
+-- The edit is the last command of the order, as what it becomes over this image, and a pass has it as its own.
+pub record TakesEdit (edit : ByteEdit) (image : Image) (old new : OrderState) (before after : PassState) : Type 0 where
+  pub command : Command
+  pub is : change_of command ≡ becomes edit image
+  pub taken : new ≡ with_command old command
+  pub pass : after ≡ record before { accepted = old.mark + 1; own = Some (record { number = old.mark + 1; change = becomes edit image }) }
+  -- what is known then of the image, block by block and as a whole
+  pub seen : ShowsCommand (becomes edit image) old.cache new.cache
+  pub shown : (other : Image) → ShowsImage other old.cache → ShowsImage (apply (becomes edit image) other) new.cache
+
+-- the keeper after an edit was refused, and its device as it then is: memory may be refused once the device was read
+abbrev pub keeper_after : {D : Type 0} → OrderFault → KeeperState D → D → KeeperState D
+keeper_after NoMemory keeper disk = record keeper { disk = disk }
+keeper_after DeviceFault keeper disk = record keeper { disk = disk; failed = true }
+keeper_after NumbersFull keeper disk = keeper
+keeper_after Failed keeper disk = keeper
+keeper_after NoRoom keeper disk = keeper
+keeper_after Stopped keeper disk = keeper
+
+-- the number of faults of the device after an edit was refused
+abbrev pub faults_after : OrderFault → ℕ → ℕ
+faults_after NoMemory faults = faults
+faults_after DeviceFault faults = counted faults
+faults_after NumbersFull faults = faults
+faults_after Failed faults = faults
+faults_after NoRoom faults = faults
+faults_after Stopped faults = faults

@@ -1,0 +1,131 @@
+use Rattle.std.proofs.Common.{◌∙◌, inl, inr, ap, refl, subst, sym, true, ℕ, Bool, arith}
+use Rattle.image_model.specs.Edit.{ByteEdit, IsEdit, becomes, edit_of}
+use Rattle.image_model.specs.Image.{Image}
+use Rattle.nbd_wire.specs.declared.error.Errno.TheVariants.{Io, NoMemory}
+use Rattle.nbd_wire.specs.declared.head.RequestHead.{RequestHead}
+use Rattle.nbd_wire.specs.declared.message.Answer.TheVariants.{Refused}
+use Rattle.order_book.specs.Edits.{TakesEdit, faults_after, image_in, keeper_after}
+use Rattle.order_book.specs.Order.{OrderState}
+use Rattle.order_book.specs.declared.fault.OrderFault.{OrderFault}
+use Rattle.checkpoint.specs.declared.fault.KeeperFault.TheVariants as refusal
+use Rattle.order_book.specs.laws.Edited.{room_shown}
+use Rattle.request_core.specs.Reading.{IsKnownBy}
+use Rattle.request_core.specs.Serving.{ready_for, served_after}
+use Rattle.request_core.proofs.Owned.{edit_refused, faults_apart, not_refused, room_over, taken_over, taken_passes}
+use Rattle.request_core.proofs.Serves.{edit_takes, waits_same, write_others}
+use Rattle.request_core.proofs.serving.serve_edit.Goals as goal
+use Rattle.world.specs.Log.{edit_asked, waits_for_store}
+
+pub returns-in-Ok-clause-asked : goal.returns-in-Ok-clause-asked
+returns-in-Ok-clause-asked g c =
+    let state = g.D.Disk.state in
+    let honest = g.D.Disk.honest in
+    let request = c.args.request in
+    let geometry = c.args.terms.geometry in
+    let head = c.split-edit.result.0 in
+    let old = c.args.order.now in
+    let new = c.accept_edit.new.self in
+    let keeper = c.args.keeper.now in
+    let edit_is = c.split-edit.ensures.edit in
+    let head_is = c.split-edit.ensures.head in
+    let asked = λ (given : Image) (taken : TakesEdit (edit_of c.split-edit.result.1) given old new c.args.pass.now c.accept_edit.new.pass).
+    subst (λ (e : ByteEdit). TakesEdit e given old new c.args.pass.now c.accept_edit.new.pass) edit_is taken in
+    let (image, shows, own) = c.in-Ok.ensures.taken in
+    let takes : IsEdit geometry.blocks (edit_asked request) = edit_takes request geometry c.requires.range c.split-edit.ensures.whole c.split-edit.ensures.few in
+    let left = not_refused old (becomes (edit_asked request) (image_in old.cache)) c.requires.needs.accepted c.in-Ok.ensures.numbers.mark in
+    let room = sym (room_shown old (edit_asked request) image shows) ∙ left.1 in
+    let waits = waits_for_store c.args.terms.mode request in
+    inl (record {
+      served = inr (
+        left.0,
+        image,
+        inr (inr (
+          taken_over request geometry (IsKnownBy state honest keeper old) old new c.args.pass.now c.accept_edit.new.pass image shows takes room (asked image own)
+              (λ given known. asked given (c.in-Ok.ensures.image known.sure known.base given known.front known.last known.holds known.shows known.clean)),
+          c.accepted.ensures ∙ ap (λ (b : Bool). served_after b head.cookie c.in-Ok.number) (waits_same c.args.terms.mode head request head_is)
+              ∙ ap (λ (h : RequestHead). served_after waits h.cookie c.in-Ok.number) head_is ∙ ap (λ (n : ℕ). served_after waits request.head.cookie n) c.in-Ok.ensures.number,
+        )),
+      );
+      keeper_is = c.in-Ok.ensures.keeper_ok;
+      level = c.in-Ok.ensures.faults_ok;
+      only_read = c.in-Ok.ensures.only_read;
+      holds = λ sure base front last holds. c.in-Ok.ensures.holds sure base front last holds (λ none. none);
+    })
+
+pub returns-in-Ok-clause-pass : goal.returns-in-Ok-clause-pass
+returns-in-Ok-clause-pass g c =
+    let request = c.args.request in
+    let head = c.split-edit.result.0 in
+    let old = c.args.order.now in
+    let new = c.accept_edit.new.self in
+    let edit_is = c.split-edit.ensures.edit in
+    let head_is = c.split-edit.ensures.head in
+    let (image, shows, own) = c.in-Ok.ensures.taken in
+    let taken = subst (λ (e : ByteEdit). TakesEdit e image old new c.args.pass.now c.accept_edit.new.pass) edit_is own in
+    let waits = waits_for_store c.args.terms.mode request in
+    let others = write_others request.head.kind c.requires.write in
+    let known_is = c.in-Ok.ensures.known in
+    taken_passes request c.args.terms.mode old new image c.args.pass.now c.accept_edit.new.pass others.0 (omega (arith, known_is, c.in-Ok.ensures.number)) taken c.accepted.result
+    (c.accepted.ensures ∙ ap (λ (b : Bool). served_after b head.cookie c.in-Ok.number) (waits_same c.args.terms.mode head request head_is)
+    ∙ ap (λ (h : RequestHead). served_after waits h.cookie c.in-Ok.number) head_is ∙ ap (λ (n : ℕ). served_after waits request.head.cookie n) c.in-Ok.ensures.number)
+
+pub returns-in-Err-NoMemory-default-clause-asked : goal.returns-in-Err-NoMemory-default-clause-asked
+returns-in-Err-NoMemory-default-clause-asked g c =
+    let state = g.D.Disk.state in
+    let honest = g.D.Disk.honest in
+    let request = c.args.request in
+    let old = c.args.order.now in
+    let keeper = c.args.keeper.now in
+    let left = not_refused old (becomes (edit_asked request) (image_in old.cache)) c.requires.needs.accepted c.in-Err-NoMemory-default.ensures.numbers.mark in
+    let fault_is = c.in-Err-NoMemory-default.field-0-0-is in
+    inl (record {
+      served = inr (
+        left.0,
+        image_in old.cache,
+        inr (inl (
+          room_over request (IsKnownBy state honest keeper old) old true (λ given known. known.shows) left.1,
+          c.in-Err-NoMemory-default.ensures.unchanged,
+          c.refused.ensures ∙ ap (λ (h : RequestHead). ready_for h.cookie (Refused NoMemory)) c.split-edit.ensures.head,
+        )),
+      );
+      keeper_is = c.in-Err-NoMemory-default.ensures.keeper_err ∙ ap (λ (f : OrderFault). keeper_after f keeper c.accept_edit.new.keeper.disk) fault_is;
+      level = c.in-Err-NoMemory-default.ensures.faults_err ∙ ap (λ (f : OrderFault). faults_after f (g.D.Disk.faults keeper.disk)) fault_is;
+      only_read = c.in-Err-NoMemory-default.ensures.only_read;
+      holds = λ sure base front last holds. c.in-Err-NoMemory-default.ensures.holds sure base front last holds (λ is. faults_apart.2 (sym fault_is ∙ is));
+    })
+
+pub returns-in-Err-DeviceFault-default-clause-asked : goal.returns-in-Err-DeviceFault-default-clause-asked
+returns-in-Err-DeviceFault-default-clause-asked g c =
+    let request = c.args.request in
+    let geometry = c.args.terms.geometry in
+    let keeper = c.args.keeper.now in
+    let fault_is = c.in-Err-DeviceFault-default.field-0-0-is in
+    let takes : IsEdit geometry.blocks (edit_asked request) = edit_takes request geometry c.requires.range c.split-edit.ensures.whole c.split-edit.ensures.few in
+    inr (edit_refused g.D.Disk.state g.D.Disk.faults g.D.Disk.honest request geometry c.args.order.now c.failed.new.order keeper c.accept_edit.new.keeper c.failed.result takes c.requires.needs
+    c.in-Err-DeviceFault-default.ensures.numbers.mark (record {
+      refusal = refusal.DeviceFault;
+      cause = inl refl;
+      answer = c.failed.ensures.answer ∙ ap (λ (h : RequestHead). ready_for h.cookie (Refused Io)) c.split-edit.ensures.head;
+      order = c.failed.ensures.order ∙ ap (λ (o : OrderState). record o { stopped = true }) c.in-Err-DeviceFault-default.ensures.unchanged;
+      keeper_is = c.in-Err-DeviceFault-default.ensures.keeper_err ∙ ap (λ (f : OrderFault). keeper_after f keeper c.accept_edit.new.keeper.disk) fault_is;
+      level = c.in-Err-DeviceFault-default.ensures.faults_err ∙ ap (λ (f : OrderFault). faults_after f (g.D.Disk.faults keeper.disk)) fault_is;
+      only_read = c.in-Err-DeviceFault-default.ensures.only_read;
+    }))
+
+pub returns-in-Err-Failed-default-clause-asked : goal.returns-in-Err-Failed-default-clause-asked
+returns-in-Err-Failed-default-clause-asked g c =
+    let request = c.args.request in
+    let geometry = c.args.terms.geometry in
+    let keeper = c.args.keeper.now in
+    let fault_is = c.in-Err-Failed-default.field-0-0-is in
+    let takes : IsEdit geometry.blocks (edit_asked request) = edit_takes request geometry c.requires.range c.split-edit.ensures.whole c.split-edit.ensures.few in
+    inr (edit_refused g.D.Disk.state g.D.Disk.faults g.D.Disk.honest request geometry c.args.order.now c.failed-in-Err-Failed-default.new.order keeper c.accept_edit.new.keeper c.failed-in-Err-Failed-default.result takes c.requires.needs
+    c.in-Err-Failed-default.ensures.numbers.mark (record {
+      refusal = refusal.Failed;
+      cause = inr (refl, (c.in-Err-Failed-default.ensures.failed.0 c.in-Err-Failed-default.field-0-0-is).0);
+      answer = c.failed-in-Err-Failed-default.ensures.answer ∙ ap (λ (h : RequestHead). ready_for h.cookie (Refused Io)) c.split-edit.ensures.head;
+      order = c.failed-in-Err-Failed-default.ensures.order ∙ ap (λ (o : OrderState). record o { stopped = true }) c.in-Err-Failed-default.ensures.unchanged;
+      keeper_is = c.in-Err-Failed-default.ensures.keeper_err ∙ ap (λ (f : OrderFault). keeper_after f keeper c.accept_edit.new.keeper.disk) fault_is;
+      level = c.in-Err-Failed-default.ensures.faults_err ∙ ap (λ (f : OrderFault). faults_after f (g.D.Disk.faults keeper.disk)) fault_is;
+      only_read = c.in-Err-Failed-default.ensures.only_read;
+    }))

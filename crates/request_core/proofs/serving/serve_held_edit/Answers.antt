@@ -1,0 +1,99 @@
+use Rattle.std.proofs.Common.{◌≡◌, ◌∙◌, inl, inr, ap, subst, sym, true, false, ℕ, Bool, arith}
+use Rattle.image_model.specs.Edit.{ByteEdit, IsEdit, becomes, edit_of}
+use Rattle.image_model.specs.Image.{Image}
+use Rattle.nbd_wire.specs.declared.error.Errno.TheVariants.{NoMemory}
+use Rattle.nbd_wire.specs.declared.head.RequestHead.{RequestHead}
+use Rattle.nbd_wire.specs.declared.message.Answer.TheVariants.{Refused}
+use Rattle.nbd_wire.specs.Request.{handed_len}
+use Rattle.order_book.specs.Edits.{TakesEdit, image_in}
+use Rattle.order_book.specs.Order.{has_room_for}
+use Rattle.order_book.specs.Shown.{ShowsImage}
+use Rattle.order_book.specs.laws.Edited.{shows_in}
+use Rattle.request_core.specs.Serving.{ready_for, served_after}
+use Rattle.request_core.specs.declared.serving.Served.TheVariants.{NoRoom}
+use Rattle.request_core.proofs.Owned.{faults_apart, room_over, taken_over, taken_passes}
+use Rattle.request_core.proofs.Serves.{edit_takes, some_left, waits_same, write_others}
+use Rattle.request_core.proofs.serving.serve_held_edit.Goals as goal
+use Rattle.world.specs.Log.{edit_asked, waits_for_store}
+
+pub returns-in-Ok-clause-served : goal.returns-in-Ok-clause-served
+returns-in-Ok-clause-served g c =
+    let request = c.args.request in
+    let geometry = c.args.terms.geometry in
+    let head = c.split-edit.result.0 in
+    let old = c.args.order.now in
+    let new = c.accept_held.new.self in
+    let image : Image = image_in old.cache in
+    let edit_is = c.split-edit.ensures.edit in
+    let head_is = c.split-edit.ensures.head in
+    let takes : IsEdit geometry.blocks (edit_asked request) = edit_takes request geometry c.requires.range c.split-edit.ensures.whole c.split-edit.ensures.few in
+    let left = some_left old (becomes (edit_of c.split-edit.result.1) image) c.in-Ok.ensures.numbers_full c.in-Ok.ensures.no_room (λ none. none) (λ none. none) c.requires.works c.in-Ok.ensures.numbers.mark in
+    let room : has_room_for old (becomes (edit_asked request) image) ≡ true = subst (λ (e : ByteEdit). has_room_for old (becomes e image) ≡ true) edit_is left.1 in
+    let over = λ (given : Image) (shows : ShowsImage given old.cache).
+    subst (λ (e : ByteEdit). TakesEdit e given old new c.args.pass.now c.accept_held.new.pass) edit_is (c.in-Ok.ensures.taken given shows) in
+    let waits = waits_for_store c.args.terms.mode request in
+    inr (
+      left.0,
+      image,
+      inr (inr (
+        taken_over request geometry (λ given. ShowsImage given old.cache) old new c.args.pass.now c.accept_held.new.pass image (shows_in old.cache) takes room (over image (shows_in old.cache)) over,
+        c.accepted.ensures ∙ ap (λ (b : Bool). served_after b head.cookie c.in-Ok.number) (waits_same c.args.terms.mode head request head_is)
+            ∙ ap (λ (h : RequestHead). served_after waits h.cookie c.in-Ok.number) head_is ∙ ap (λ (n : ℕ). served_after waits request.head.cookie n) c.in-Ok.ensures.number,
+      )),
+    )
+
+pub returns-in-Ok-clause-pass : goal.returns-in-Ok-clause-pass
+returns-in-Ok-clause-pass g c =
+    let request = c.args.request in
+    let head = c.split-edit.result.0 in
+    let old = c.args.order.now in
+    let new = c.accept_held.new.self in
+    let image : Image = image_in old.cache in
+    let edit_is = c.split-edit.ensures.edit in
+    let head_is = c.split-edit.ensures.head in
+    let taken = subst (λ (e : ByteEdit). TakesEdit e image old new c.args.pass.now c.accept_held.new.pass) edit_is (c.in-Ok.ensures.taken image (shows_in old.cache)) in
+    let waits = waits_for_store c.args.terms.mode request in
+    let others = write_others request.head.kind c.requires.write in
+    let known_is = c.in-Ok.ensures.known in
+    taken_passes request c.args.terms.mode old new image c.args.pass.now c.accept_held.new.pass others.0 (omega (arith, known_is, c.in-Ok.ensures.number)) taken c.accepted.result
+    (c.accepted.ensures ∙ ap (λ (b : Bool). served_after b head.cookie c.in-Ok.number) (waits_same c.args.terms.mode head request head_is)
+    ∙ ap (λ (h : RequestHead). served_after waits h.cookie c.in-Ok.number) head_is ∙ ap (λ (n : ℕ). served_after waits request.head.cookie n) c.in-Ok.ensures.number)
+
+pub returns-in-Err-NoRoom-default-clause-served : goal.returns-in-Err-NoRoom-default-clause-served
+returns-in-Err-NoRoom-default-clause-served g c =
+    let request = c.args.request in
+    let old = c.args.order.now in
+    let image : Image = image_in old.cache in
+    let edit_is = c.split-edit.ensures.edit in
+    let none = c.in-Err-NoRoom-default.ensures.no_room.0 c.in-Err-NoRoom-default.field-0-0-is in
+    let room : has_room_for old (becomes (edit_asked request) image) ≡ false = subst (λ (e : ByteEdit). has_room_for old (becomes e image) ≡ false) edit_is none.2 in
+    let back = ap edit_of c.in-Err-NoRoom-default.ensures.handed_back ∙ edit_is in
+    inr (
+      none.1,
+      image,
+      inl (
+        room_over request (λ given. ShowsImage given old.cache) old false (λ given shows. shows) room,
+        c.in-Err-NoRoom-default.ensures.unchanged,
+        ap NoRoom (c.joined-in-Err-NoRoom-default.ensures request (sym c.split-edit.ensures.head) (c.split-edit.ensures.whole ∙ ap handed_len (sym c.split-edit.ensures.head)) back),
+      ),
+    )
+
+pub returns-in-Err-NoMemory-default-clause-served : goal.returns-in-Err-NoMemory-default-clause-served
+returns-in-Err-NoMemory-default-clause-served g c =
+    let request = c.args.request in
+    let old = c.args.order.now in
+    let image : Image = image_in old.cache in
+    let edit_is = c.split-edit.ensures.edit in
+    let fault_is = c.in-Err-NoMemory-default.field-0-0-is in
+    let left = some_left old (becomes (edit_of c.split-edit.result.1) image) c.in-Err-NoMemory-default.ensures.numbers_full c.in-Err-NoMemory-default.ensures.no_room
+    (λ full. faults_apart.0 (sym fault_is ∙ full)) (λ full. faults_apart.1 (sym fault_is ∙ full)) c.requires.works c.in-Err-NoMemory-default.ensures.numbers.mark in
+    let room : has_room_for old (becomes (edit_asked request) image) ≡ true = subst (λ (e : ByteEdit). has_room_for old (becomes e image) ≡ true) edit_is left.1 in
+    inr (
+      left.0,
+      image,
+      inr (inl (
+        room_over request (λ given. ShowsImage given old.cache) old true (λ given shows. shows) room,
+        c.in-Err-NoMemory-default.ensures.unchanged,
+        c.refused.ensures ∙ ap (λ (h : RequestHead). ready_for h.cookie (Refused NoMemory)) c.split-edit.ensures.head,
+      )),
+    )

@@ -1,6 +1,0 @@
-use Rattle.request_core.proofs.Passes.{status_passes}
-use Rattle.request_core.proofs.serving.serve_here.Goals as goal
-
-pub returns-in-Ok-Serve-4-clause-pass : goal.returns-in-Ok-Serve-4-clause-pass
-returns-in-Ok-Serve-4-clause-pass g c =
-    status_passes c.args.request c.args.order.now.mark c.serve_status.result c.args.pass.now c.head-head.result c.args.order.now c.serve_status.ensures
