@@ -1,25 +1,27 @@
 #!/bin/sh
 # Checks of `nbdj serve`, by the program NBDJ, with clients that others wrote: libnbd's (nbdinfo, nbdcopy, nbdfuse, and its library under
-# tests/libnbd_client.py), QEMU's (qemu-img, qemu-io), fio, and Linux's ext4 over nbdfuse and a loop device. Each that writes is met by a
-# kill of the server too: what a FLUSH had confirmed has to be there. A client that isn't installed is skipped, and the line says so;
-# `tests/clients.sh --install` installs Debian's packages. The last line is 'N passed, M failed'.
+# tests/libnbd_client.py), QEMU's (qemu-img, qemu-io), fio, nbdkit as a proxy, nbd-client, and Linux's ext4 over nbdfuse. None is told
+# anything of blocks by an option of its own. Each that writes is met by a kill of the server too: what a FLUSH had confirmed has to be
+# there. A client that isn't installed is skipped, and the line says so; `tests/clients.sh --install` installs Debian's packages. The last
+# line is 'N passed, M failed'.
 set -u
 if [ "${1:-}" = --install ]; then
-    apt-get update && exec apt-get install -y --no-install-recommends libnbd-bin python3-libnbd qemu-utils qemu-block-extra fio fuse3 e2fsprogs nbdkit
+    apt-get update && exec apt-get install -y --no-install-recommends libnbd-bin python3-libnbd qemu-utils qemu-block-extra fio fuse3 e2fsprogs nbdkit nbd-client
 fi
 here=$(cd "$(dirname "$0")/.." && pwd)
 . "$here/tests/checks.sh"
 SIZE=67108864 HALF=33554432 AREA=8388608
-mounted='' loop='' fuse='' server=''
+mounted='' loop='' fuse='' attached='' server=''
 
 # What a run leaves behind when it is stopped midway: mounts first, since they stand on the server.
 release() {
     [ -z "$mounted" ] || umount "$mounted" 2>/dev/null
     [ -z "$loop" ] || losetup -d "$loop" 2>/dev/null
     [ -z "$fuse" ] || umount -l "$fuse" 2>/dev/null
+    [ -z "$attached" ] || nbd-client -d "$attached" >/dev/null 2>&1
     [ -z "$server" ] || kill -9 "$(cat server_pid)" 2>/dev/null
     [ ! -d "$folder/small" ] || umount "$folder/small" 2>/dev/null
-    mounted='' loop='' fuse='' server=''
+    mounted='' loop='' fuse='' attached='' server=''
 }
 trap 'release; rm -rf "$folder"' EXIT
 trap 'exit 1' HUP INT TERM
@@ -50,7 +52,7 @@ image() {
     "$NBDJ" format d.img --size "$SIZE" --area "$AREA" >/dev/null
 }
 
-# serves TRANSPORT WORD..: serves d.img over tcp or unix, and sets uri
+# serves TRANSPORT WORD..: serves d.img over tcp or unix, and sets uri, and where as nbd-client has it
 serves() {
     transport=$1
     shift
@@ -68,10 +70,10 @@ serves() {
         tries=$((tries + 1))
     done
     case $transport in
-    tcp) uri=nbd://127.0.0.1:$(sed -n 's/^listening //p' heard) ;;
-    unix) uri="nbd+unix:///?socket=$(sed -n 's/^listening //p' heard)" ;;
+    tcp) uri=nbd://127.0.0.1:$(sed -n 's/^listening //p' heard) where="127.0.0.1 $(sed -n 's/^listening //p' heard)" ;;
+    unix) uri="nbd+unix:///?socket=$(sed -n 's/^listening //p' heard)" where="-unix $(sed -n 's/^listening //p' heard)" ;;
     esac
-    is "$transport: the server listens" "listening" "$(cut -d ' ' -f 1 heard; cat serve_errors)"
+    is "$transport: the server listens" "listening" "$(cut -d ' ' -f 1 heard; grep -v '^nbdj: recovered ' serve_errors)"
 }
 
 # killed NAME: the server is killed as by a power cut, which it lived to see, and the image recovered
@@ -147,7 +149,7 @@ can_fua: true
 can_multi_conn: true
 can_trim: true
 can_zero: true
-block_size_minimum: 4096
+block_size_minimum: 1
 block_size_preferred: 4096
 block_size_maximum: 1048576' "$(timeout 30 nbdinfo --no-content "$uri" 2>&1 | tr -d '\t' | grep -v '^uri:\|^contexts:')"
         is "$1: nbdinfo --list" '0|1|export="":' "$(quiet nbdinfo --list "$uri")|$(grep -c '^export=' output)|$(grep '^export=' output)"
@@ -159,7 +161,9 @@ block_size_maximum: 1048576' "$(timeout 30 nbdinfo --no-content "$uri" 2>&1 | tr
     fi
 }
 
-# shell NAME: nbdsh with the Python that knows libnbd, whose first commands are those that its manual shows
+# shell NAME: nbdsh with the Python that knows libnbd, whose first commands are those that its manual shows; and odd offsets, over a put of
+# blocks 1 and 2, of which the trim made the second a hole: what is written at byte 4,095 has a byte in block 0, and what is zeroed at byte
+# 8,191 one in block 1, which stays data, and two in block 2, which is allocated then. The last trim has block 2 alone as a whole.
 shell() {
     { [ -n "$python" ] && has nbdsh; } || return
     cat >commands.py <<'PYTHON'
@@ -171,9 +175,20 @@ print(h.pread(8192, 4096) == data[:4096] + bytes(4096))
 found = []
 h.block_status(16384, 0, lambda context, offset, entries, error: found.extend(entries) or 0)
 print(found)
+h.pwrite(b"odd", 4095)
+h.zero(3, 8191, nbd.CMD_FLAG_NO_HOLE)
+h.pwrite(b"!", 20001)
+print(h.pread(5, 4094) == b"\0odd" + data[2:3], h.pread(4, 8190) == data[4094:4095] + bytes(3), h.pread(3, 20000) == b"\0!\0")
+found = []
+h.block_status(20479, 1, lambda context, offset, entries, error: found.extend(entries) or 0)
+print(found)
+h.trim(4097, 8191)
+found = []
+h.block_status(10000, 8000, lambda context, offset, entries, error: found.extend(entries) or 0)
+print(found, h.pread(8192, 4096) == b"dd" + data[2:4095] + bytes(4097))
 PYTHON
-    is "$1: nbdsh" "0|True|[4096, 3, 4096, 0, 8192, 3]" "$(PATH="$(dirname "$(command -v "$python")"):$PATH" quiet nbdsh --base-allocation -u "$uri" -c "$(cat commands.py)")|$(
-        sed -n 1p output)|$(sed -n 2p output)"
+    is "$1: nbdsh" "0|True|[4096, 3, 4096, 0, 8192, 3]|True True True|[8191, 0, 4096, 2, 4096, 3, 4096, 0]|[192, 0, 8192, 3, 1616, 0] True" "$(
+        PATH="$(dirname "$(command -v "$python")"):$PATH" quiet nbdsh --base-allocation -u "$uri" -c "$(cat commands.py)")|$(paste -s -d '|' output)"
 }
 
 # Whole images in and out, with what the export then says is data; over one connection and over four.
@@ -205,14 +220,46 @@ copies() {
     fi
 }
 
-# QEMU's requests one by one; those that aren't whole blocks it makes whole by itself. What has to come of them is made with dd.
+# Images of any size: what is behind the last whole block goes by bytes. They are 1,000,003 bytes, and 1,954 sectors of 512, laid over an
+# image whose bytes behind them stay.
+odd_copies() {
+    head -c 1000003 bytes_b >odd
+    head -c 1000448 bytes_b >sectors
+    # The sectors 3, 8 to 10 and 1,953 of zeroes: a block of which a part is zeroed, one that is zeroed from its begin on, and the last.
+    for run in '3 1' '8 3' '1953 1'; do dd if=/dev/zero of=sectors bs=512 seek=${run% *} count=${run#* } conv=notrunc 2>/dev/null; done
+    if has nbdcopy; then
+        is "$1: nbdcopy in before an odd copy" 0 "$(quiet nbdcopy source_a "$uri")"
+        cp source_a wanted
+        dd if=odd of=wanted conv=notrunc 2>/dev/null
+        is "$1: nbdcopy of 1,000,003 bytes" 0 "$(quiet nbdcopy --flush odd "$uri")"
+        is "$1: nbdcopy out behind it" 0 "$(quiet nbdcopy "$uri" found)"
+        same "$1: what nbdcopy copied of 1,000,003 bytes" wanted found
+        dd if=sectors of=wanted conv=notrunc 2>/dev/null
+        is "$1: nbdcopy of 1,954 sectors" 0 "$(quiet nbdcopy --sparse=512 --connections=4 --flush sectors "$uri")"
+        is "$1: nbdcopy out behind the sectors" 0 "$(quiet nbdcopy "$uri" found)"
+        same "$1: what nbdcopy copied of sectors" wanted found
+    fi
+    if has qemu-img; then
+        is "$1: qemu-img convert before the sectors" 0 "$(quiet qemu-img convert -n -f raw -O raw source_a "$uri")"
+        cp source_a wanted
+        dd if=sectors of=wanted conv=notrunc 2>/dev/null
+        is "$1: qemu-img convert of 1,954 sectors" 0 "$(quiet qemu-img convert -n -S 512 -f raw -O raw sectors "$uri")"
+        is "$1: qemu-img compare behind the sectors" 0 "$(quiet qemu-img compare -f raw -F raw wanted "$uri")"
+        is "$1: qemu-img dd of 100 sectors" 0 "$(quiet qemu-img dd -f raw -O raw bs=512 skip=1900 count=2000 if="$uri" of=found)"
+        tail -c +$((1900 * 512 + 1)) wanted | head -c 51200 >found_wanted
+        same "$1: the 100 sectors" found_wanted found
+    fi
+}
+
+# QEMU's requests one by one, also of sectors and of any bytes. What has to come of them is made with dd.
 pokes() {
     has qemu-io || return
     head -c 131072 bytes_b >piece
     head -c 3000 bytes_a | tail -c 1000 >crumb
     is "$1: qemu-io" 0 "$(quiet qemu-io -f raw -c 'write -s piece 1M 128k' -c 'write -f -s piece 5M 128k' -c 'write -z 1092k 8k' -c 'write -z -u 1104k 8k' \
         -c 'discard 5M 64k' -c "write -s crumb $((1048576 + 1500)) 1000" -c 'write -z 5308416 1000' -c flush -c 'write -P 0x5a 40000k 64k' -c 'read -P 0x5a 40000k 64k' \
-        -c 'read -P 0 5M 64k' "$uri")"
+        -c 'read -P 0 5M 64k' -c 'write -P 0x5b 40001k 512' -c 'write -f -P 0x5c 40007680 512' -c 'write -z 41000448 512' -c 'discard 41004032 512' \
+        -c 'read -P 0x5b 40001k 512' -c 'read -P 0 41000448 512' -c 'read -P 0x5a 41000960 3584' "$uri")"
     timeout 30 qemu-io -f raw -c 'read -P 0x5b 40000k 64k' "$uri" >output 2>&1
     is "$1: qemu-io finds another pattern" '1|1' "$?|$(grep -c 'verification failed' output)"
     cp source_a wanted
@@ -225,6 +272,9 @@ pokes() {
         dd if=crumb of=wanted bs=1 seek=$((1048576 + 1500)) conv=notrunc
         dd if=/dev/zero of=wanted bs=1 seek=5308416 count=1000 conv=notrunc
         filled 65536 Z | dd of=wanted bs=4096 seek=10000 conv=notrunc
+        filled 512 '[' | dd of=wanted bs=512 seek=80002 conv=notrunc
+        filled 512 '\\' | dd of=wanted bs=512 seek=78140 conv=notrunc
+        dd if=/dev/zero of=wanted bs=512 seek=80079 count=1 conv=notrunc
     } 2>/dev/null
     is "$1: the image behind qemu-io" 0 "$(quiet qemu-img convert -f raw -O raw "$uri" found)"
     same "$1: what qemu-io wrote" wanted found
@@ -240,6 +290,53 @@ asks() {
         is "$1: commands with $kind replies" ok "$(client 60 commands "$uri" $kind)"
     done
     is "$1: refusals" ok "$(client 30 refusals "$uri")"
+    is "$1: a client that doesn't ask for sizes" ok "$(client 30 unasked "$uri")"
+}
+
+# proxied NAME: nbdkit between a client and the server, which passes on what it is told of sizes
+proxied() {
+    has nbdkit && has nbdcopy || return
+    is "$1: nbdkit as a proxy: nbdinfo" '1|4096|1048576' "$(timeout 60 nbdkit -U - nbd uri="$uri" --run 'nbdinfo --no-content "$uri"' 2>&1 |
+        sed -n 's/^.*block_size_[a-z]*: //p' | paste -s -d '|')"
+    is "$1: nbdkit as a proxy: nbdcopy in" 0 "$(quiet nbdkit -U - nbd uri="$uri" --run 'nbdcopy --flush source_b "$uri"')"
+    is "$1: nbdkit as a proxy: nbdcopy of 1,000,003 bytes" 0 "$(quiet nbdkit -U - nbd uri="$uri" --run 'nbdcopy --flush odd "$uri"')"
+    is "$1: nbdkit as a proxy: nbdcopy out" 0 "$(quiet nbdkit -U - nbd uri="$uri" --run 'nbdcopy "$uri" found')"
+    cp source_b wanted
+    dd if=odd of=wanted conv=notrunc 2>/dev/null
+    same "$1: what went through nbdkit" wanted found
+    if has qemu-io; then
+        is "$1: nbdkit as a proxy: qemu-io" 0 "$(quiet nbdkit -U - nbd uri="$uri" --run 'qemu-io -f raw -c "write -P 0x61 1536 512" -c "read -P 0x61 1536 512" "$uri"')"
+        filled 512 a | dd of=wanted bs=512 seek=3 conv=notrunc 2>/dev/null
+        is "$1: nbdkit as a proxy: nbdcopy out again" 0 "$(quiet nbdcopy "$uri" found)"
+        same "$1: what went through nbdkit by sectors" wanted found
+    fi
+}
+
+# kernel NAME: nbd-client, which never asks for sizes: its list; its handshake by GO and by EXPORT_NAME, behind which it asks the kernel to
+# take the connection, which for a file is refused; and the kernel's device where there is one.
+kernel() {
+    has nbd-client || return
+    is "$1: nbd-client -l" '0|Negotiation: ..|' "$(quiet nbd-client -l $where)|$(paste -s -d '|' output)"
+    : >no_device
+    for word in '' -g; do
+        quiet nbd-client -L $word $where no_device >said
+        is "$1: the handshake of nbd-client $word" '1|Negotiation: ..size = 64MB' "$(head -n 1 said)|$(grep -o 'Negotiation: ..size = [0-9]*MB' output)"
+    done
+    if [ ! -b /dev/nbd0 ]; then
+        skipped "$1: the kernel's device" 'there is no /dev/nbd0'
+        return
+    fi
+    is "$1: nbd-client attaches" 0 "$(quiet nbd-client -L $where /dev/nbd0)"
+    attached=/dev/nbd0
+    echo 1024 >/sys/block/nbd0/queue/max_sectors_kb
+    is "$1: the size of the kernel's device" "$SIZE" "$(blockdev --getsize64 /dev/nbd0)"
+    is "$1: an image into the kernel's device" 0 "$(quiet dd if=source_a of=/dev/nbd0 bs=4M conv=fsync)"
+    is "$1: sectors into the kernel's device" 0 "$(quiet dd if=sectors of=/dev/nbd0 bs=512 oflag=direct conv=fsync)"
+    cp source_a wanted
+    dd if=sectors of=wanted conv=notrunc 2>/dev/null
+    same "$1: what the kernel's device holds" wanted /dev/nbd0
+    is "$1: nbd-client lets it go" 0 "$(quiet nbd-client -d /dev/nbd0)"
+    attached=''
 }
 
 for transport in tcp unix; do
@@ -250,6 +347,9 @@ for transport in tcp unix; do
     copies $transport
     pokes $transport
     asks $transport
+    odd_copies $transport
+    proxied $transport
+    kernel $transport
     if has nbdcopy; then
         # (nothing is sent behind the FLUSH of nbdcopy, so the kill may take none of it)
         is "$transport: nbdcopy in before a kill" 0 "$(quiet nbdcopy --flush source_b "$uri")"
@@ -260,6 +360,40 @@ for transport in tcp unix; do
         killed "$transport: the end"
     fi
 done
+
+# counted NAME BYTES COMMAND WORD..: requests reach the server as they are; no client reads or writes more than it has to. URI stands for that
+# of the server, and BYTES is what this counts of one session.
+counted() {
+    name=$1 wanted=$2
+    shift 2
+    image
+    serves unix --verbose --sessions 1
+    for word; do
+        shift
+        case $word in *URI) word=${word%URI}$uri ;; esac
+        set -- "$@" "$word"
+    done
+    is "$name" 0 "$(quiet "$@")"
+    wait "$server" 2>wait
+    server=''
+    is "$name: what the server counts" "$wanted" "$(sed -n 's/^.* left after [0-9]* requests, //p' serve_errors)"
+}
+if has qemu-io; then
+    counted 'sectors of qemu-io' '1024 bytes read and 1536 written' qemu-io -f raw -c 'write -P 0x51 512 512' -c 'write -P 0x52 7680 1024' \
+        -c 'read -P 0x51 512 512' -c 'read -P 0x52 8192 512' URI
+    counted 'bytes of qemu-io' '5 bytes read and 4 written' qemu-io -f raw -c 'write -P 0x51 4095 3' -c 'write -P 0x52 4094 1' -c 'read -P 0x51 4095 3' \
+        -c 'read -P 0 4093 1' -c 'read -P 0x52 4094 1' URI
+    # (it parts what is longer than 1 MiB)
+    counted '8 MiB of qemu-io at byte 3' '8388608 bytes read and 8388608 written' qemu-io -f raw -c 'write -P 7 3 8M' -c 'read -P 7 3 8M' URI
+fi
+if has qemu-img; then
+    counted 'sectors that qemu-img bench writes' '0 bytes read and 1024000 written' qemu-img bench -f raw -w -c 2000 -d 8 -s 512 -S 1536 URI
+    counted 'sectors that qemu-img bench reads' '1024000 bytes read and 0 written' qemu-img bench -f raw -c 2000 -d 8 -s 512 -S 1536 URI
+    counted 'sectors that qemu-img dd reads' '51200 bytes read and 0 written' qemu-img dd -f raw -O raw bs=512 skip=1900 count=2000 if=URI of=found
+fi
+if has nbdcopy; then
+    counted 'bytes of nbdcopy' '0 bytes read and 1000003 written' nbdcopy --connections=1 odd URI
+fi
 
 # Writethrough: what was answered is there, without any FLUSH.
 if has nbdcopy; then
@@ -429,6 +563,18 @@ if has_fio; then
         is 'fio finds the byte' yes "$([ $? -ne 0 ] && grep -q 'verify: bad\|crc32c: verify failed' output && echo yes)"
     fi
     killed 'behind the second fio'
+    # The same by sectors: requests of 512 bytes to 8 KiB, at any sector.
+    image
+    serves tcp --workers 8
+    fio_job --bsrange=512-8k --rw=randwrite --verify=crc32c --do_verify=1 --verify_fatal=1 --end_fsync=1
+    is 'fio writes sectors and verifies' '0|0' "$?|$(grep -c 'verify: bad' output)"
+    killed 'behind fio by sectors'
+    serves tcp --workers 8
+    fio_job --bsrange=512-8k --rw=randwrite --verify=crc32c --verify_only --verify_fatal=1
+    is 'fio verifies sectors after the kill' '0|0' "$?|$(grep -c 'verify: bad' output)"
+    fio_job --bsrange=512-8k --rw=randrw --rwmixread=50 --verify=crc32c --do_verify=1 --verify_fatal=1
+    is 'fio reads and writes sectors' '0|0' "$?|$(grep -c 'verify: bad' output)"
+    killed 'behind the second fio by sectors'
 fi
 
 # What each client does again and again, until the kill: the first half of the image from the one source and from the other in turn.
@@ -447,14 +593,15 @@ midst() {
     rm -f early
     (
         while "$3" b && "$3" a; do :; done
-        # (that it ended while the server lived would be a fault of the client)
+        # (that it ended while the server lived would be a fault of the client; one that was killed is there until it is waited for)
+        sleep 0.5
         if kill -0 "$(cat server_pid)" 2>/dev/null; then echo early >early; fi
     ) >writer_output 2>&1 &
     writer=$!
     flooded=$(client 60 flood "$uri" log 8192 4096 "$(cat server_pid)" 400)
     is "$name: writes over four connections" ok "$(echo "$flooded" | sed 's/^\(ok\) .*/\1/')"
     wait $writer
-    is "$name: it went on up to the kill" '' "$(cat early writer_output 2>/dev/null | grep early)"
+    is "$name: it went on up to the kill" '' "$([ ! -e early ] || cat writer_output)"
     killed "$name"
     serves "$2" --workers 12
     verified=$(client 60 verify "$uri" log)
@@ -476,10 +623,9 @@ else
     skipped 'a kill in the midst of each client' 'nbdcopy or python3-libnbd is not installed'
 fi
 
-# A file system. Debian's nbd-client can't be used, so nbdfuse makes a file of the export, and a loop device of 4,096 bytes a sector makes
-# whole blocks of what the file system writes. The server is killed after some files were synced, while more are written.
-skipped 'mke2fs on the file of nbdfuse' 'it writes 1,024 bytes at a time, nbdfuse passes them on, and a block has 4,096'
-blocks_device() {
+# A file system: nbdfuse makes a file of the export, on which mke2fs writes as it likes, and which is mounted by a loop device. A block of the
+# file system has 1,024 bytes. The server is killed after some files were synced, while more are written.
+file_of() {
     timeout 120 nbdfuse -P fuse_pid export "$uri" >fuse_output 2>&1 &
     fuser=$!
     fuse=$folder/export
@@ -488,35 +634,34 @@ blocks_device() {
         sleep 0.05
         tries=$((tries + 1))
     done
-    [ -e export/nbd ] && loop=$(losetup -f --show -b 4096 export/nbd 2>/dev/null)
+    [ -e export/nbd ]
 }
 # released: the file system is let go, and so is all that it stands on
 released() {
     [ -z "$mounted" ] || timeout 30 umount "$mounted" 2>/dev/null
-    [ -z "$loop" ] || losetup -d "$loop" 2>/dev/null
-    # (a loop device is let go a moment later)
+    # (its loop device is let go a moment later)
     tries=0
     while [ $tries -lt 100 ] && ! umount "$fuse" 2>/dev/null; do
         sleep 0.05
         tries=$((tries + 1))
     done
     wait $fuser 2>wait
-    mounted='' loop='' fuse=''
+    mounted='' fuse=''
 }
 file_system() {
     mkdir export mount tree tree/below
     for k in 1 2 3 4 5 6 7 8; do differing $((k * 77777)) $((k * 1000003)) >tree/below/file_$k; done
     image
     serves unix
-    if ! blocks_device; then
-        skipped 'ext4 over nbdfuse' "there is no loop device here, or no FUSE: $(tail -n 1 fuse_output)"
-        [ -z "$fuse" ] || released
+    if ! file_of; then
+        skipped 'ext4 over nbdfuse' "there is no FUSE here: $(tail -n 1 fuse_output)"
+        released
         killed 'without a file system'
         return
     fi
-    is 'mke2fs with files' 0 "$(quiet mke2fs -q -F -t ext4 -b 4096 -d tree "$loop")"
-    is 'e2fsck of the device' 0 "$(quiet e2fsck -fn "$loop")"
-    if mount -t ext4 "$loop" mount 2>/dev/null; then
+    is 'mke2fs with files' 0 "$(quiet mke2fs -q -F -t ext4 -b 1024 -d tree export/nbd)"
+    is 'e2fsck of the file' 0 "$(quiet e2fsck -fn export/nbd)"
+    if mount -t ext4 -o loop export/nbd mount 2>/dev/null; then
         mounted=$folder/mount
         for k in 1 2 3 4; do
             cp tree/below/file_$k mount/synced_$k
@@ -560,7 +705,7 @@ file_system() {
         is 'the files that were synced before the kill' '' "$differ"
         echo "a kill in the midst of ext4: $(wc -l <synced) files were synced before it"
     else
-        skipped 'ext4 mounted' 'this system lets nobody mount'
+        skipped 'ext4 mounted' 'this system lets nobody mount, or has no loop device'
         released
         killed 'a file system'
         held 'a file system'
@@ -571,7 +716,7 @@ file_system() {
         same "the file $k of the tree" tree/below/file_$k out
     done
 }
-if has nbdfuse && has mke2fs && has debugfs && has losetup; then
+if has nbdfuse && has mke2fs && has debugfs; then
     if [ -w /dev/fuse ]; then
         file_system
     else

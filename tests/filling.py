@@ -1,5 +1,6 @@
 #!/usr/bin/env python3
-"""100,000 writes through `pipe` over a journal of 2 MiB, which fills every few hundred of them, by the built program NBDJ.
+"""100,000 writes through `pipe` over a journal of 2 MiB, which fills every few hundred of them, by the built program NBDJ. Half are of a
+block, the others of any bytes.
 
 Each life of the server is killed (SIGKILL) once it has answered a seeded number of requests, or ends with its input. Then the image is
 recovered, and is the image after some first writes of those that were sent, all that a FLUSH confirmed among them; the next life goes
@@ -36,16 +37,24 @@ def run(*words):
     return f"{done.returncode}|{done.stdout}|{done.stderr}"
 
 
-def block_of(number):
-    """The bytes that the write with this number puts into its block: they differ from write to write and from place to place."""
-    return b"".join(struct.pack(">II", number, place) for place in range(BLOCK // 8))
+def bytes_of(number, offset, length):
+    """The bytes that the write with this number puts there: they differ from write to write and from place to place."""
+    cells = range(offset // 8, (offset + length + 7) // 8)
+    return b"".join(struct.pack(">II", number, place) for place in cells)[offset % 8:][:length]
+
+
+def any_range(random_source):
+    if random_source.randrange(2):
+        return random_source.randrange(BLOCKS) * BLOCK, BLOCK
+    length = random_source.choice([random_source.randrange(1, 600), random_source.randrange(1, 2 * BLOCK)])
+    return random_source.randrange(BLOCKS * BLOCK - length + 1), length
 
 
 def requests_of(writes, random_source):
     """The requests of a life, each with the number of its last write: the writes, a FLUSH behind every hundred or so, and a DISC."""
     requests = []
-    for number, block in writes:
-        requests.append((WRITE, number, block * BLOCK, block_of(number)))
+    for number, offset, length in writes:
+        requests.append((WRITE, number, offset, bytes_of(number, offset, length)))
         if random_source.randrange(100) == 0:
             requests.append((FLUSH, number, 0, b""))
     requests.append((DISCONNECT, writes[-1][0], 0, b""))
@@ -87,14 +96,14 @@ def live(image, requests, answers_wanted):
 
 def main():
     random_source = random.Random(SEED)
-    image_blocks = [0] * BLOCKS
+    image, written = bytearray(BLOCKS * BLOCK), set()
     last, killed = 0, 0
     with tempfile.TemporaryDirectory() as folder:
         path = os.path.join(folder, "d.img")
         check("format", f"0|formatted {DATA + BLOCKS * BLOCK}\n|", run("format", path, "--blocks", str(BLOCKS), "--area", str(AREA)))
         for life in range(LIVES):
             count = (WRITES - last) // (LIVES - life) + 1
-            writes = [(last + 1 + index, random_source.randrange(BLOCKS)) for index in range(count)]
+            writes = [(last + 1 + index, *any_range(random_source)) for index in range(count)]
             requests = requests_of(writes, random_source)
             # (the last life, and each fifth, comes to its end)
             whole = life % 5 == 4 or life == LIVES - 1
@@ -110,19 +119,19 @@ def main():
             recovered = run("recover", path)
             found = int(recovered.split()[1]) if recovered.startswith("0|commands ") else -1
             check(f"life {life}: {confirmed} to {writes[-1][0]} commands", True, confirmed <= found <= writes[-1][0])
-            for number, block in writes:
+            for number, offset, length in writes:
                 if number <= found:
-                    image_blocks[block] = number
+                    image[offset:offset + length] = bytes_of(number, offset, length)
+                    written |= set(range(offset // BLOCK, (offset + length - 1) // BLOCK + 1))
             with open(path, "rb") as file:
                 file.seek(DATA)
-                for block, number in enumerate(image_blocks):
-                    data = file.read(BLOCK)
-                    if data != (block_of(number) if number else bytes(BLOCK)):
-                        check(f"life {life}: block {block}", number, struct.unpack(">I", data[:4])[0])
-                check(f"life {life}: the end of the file", b"", file.read(1))
+                data = file.read()
+            check(f"life {life}: the bytes of the image", len(image), len(data))
+            differ = [block for block in range(BLOCKS) if data[block * BLOCK:(block + 1) * BLOCK] != image[block * BLOCK:(block + 1) * BLOCK]]
+            check(f"life {life}: the blocks that differ", [], differ[:9])
             last = found
-        written = sum(1 for number in image_blocks if number)
-        numbers = {"blocks": BLOCKS, "mode": 0, "base": last, "commands": last, "data": written, "zero": 0, "hole": BLOCKS - written}
+        counts = len(written), BLOCKS - len(written)
+        numbers = {"blocks": BLOCKS, "mode": 0, "base": last, "commands": last, "data": counts[0], "zero": 0, "hole": counts[1]}
         check("check", "0|" + "".join(f"{name} {number}\n" for name, number in numbers.items()) + "|", run("check", path))
         check("lives that were killed", True, killed >= 10)
     print(f"{last} writes in {LIVES} lives, {killed} of them killed")

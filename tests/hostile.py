@@ -307,7 +307,7 @@ def parted(folder):
     wanted = bytes.fromhex("4e42444d41474943 49484156454f5054 0003")
     wanted += answer.pack(0x3E889045565A9, STRUCTURED, 1, 0)
     wanted += answer.pack(0x3E889045565A9, GO, 3, 12) + struct.pack(">HQH", 0, BLOCKS * BLOCK, 0x01ED)
-    wanted += answer.pack(0x3E889045565A9, GO, 3, 14) + struct.pack(">HIII", 3, BLOCK, BLOCK, MIB) + answer.pack(0x3E889045565A9, GO, 1, 0)
+    wanted += answer.pack(0x3E889045565A9, GO, 3, 14) + struct.pack(">HIII", 3, 1, BLOCK, MIB) + answer.pack(0x3E889045565A9, GO, 1, 0)
     wanted += struct.pack(">IIQ", 0x67446698, 0, 1)
     wanted += struct.pack(">IHHQIQ", 0x668E33EF, 1, 1, 2, BLOCK + 8, 0) + data + struct.pack(">IIQ", 0x67446698, 0, 3)
     wrong = []
@@ -325,7 +325,8 @@ def parted(folder):
 
 
 def largest(folder):
-    """The largest image, all holes: a write, a clear of as many blocks as a request can name, and the states of half of those as one run."""
+    """The largest image, all holes: a write, a trim of as many bytes as a request can name, and their states as one run, though together they
+    touch as many blocks as 32 bits have no bytes for."""
     blocks, image = 1 << 24, os.path.join(folder, "largest.img")
     subprocess.run([NBDJ, "format", image, "--blocks", str(blocks), "--area", "2097152"], check=True, stdout=subprocess.DEVNULL, timeout=60)
     words = [NBDJ, "serve", image, "--listen", "127.0.0.1:0", "--frames", str(FRAMES), "--sessions", "1"]
@@ -339,10 +340,10 @@ def largest(folder):
                 _, asked, kind, length = struct.unpack(">QIII", take(client, 20))
                 take(client, length)
                 answered = asked, kind
-            client.sendall(request(WRITE, 1, 5 * BLOCK, BLOCK) + block_of(1) + request(TRIM, 2, 0, 1_048_575 * BLOCK))
-            client.sendall(request(STATUS, 3, 0, 524_288 * BLOCK) + request(FLUSH, 4, 0, 0) + request(DISC, 5, 0, 0))
+            client.sendall(request(WRITE, 1, 5 * BLOCK, BLOCK) + block_of(1) + request(TRIM, 2, 1, 0xFFFFFFFF))
+            client.sendall(request(STATUS, 3, 1, 0xFFFFFFFF) + request(FLUSH, 4, 0, 0) + request(DISC, 5, 0, 0))
             wanted = "67446698 00000000 0000000000000001 67446698 00000000 0000000000000002"
-            wanted += "668e33ef 0001 0005 0000000000000003 0000000c 00000001 80000000 00000003 67446698 00000000 0000000000000004"
+            wanted += "668e33ef 0001 0005 0000000000000003 0000000c 00000001 ffffffff 00000003 67446698 00000000 0000000000000004"
             check("what the largest image answers", bytes.fromhex(wanted).hex(), take(client, 16 * 3 + 32 + 1).hex())
         check("the largest image: the server ends", 0, server.wait(timeout=60))
     told = subprocess.run([NBDJ, "check", image], capture_output=True, text=True, timeout=60).stdout

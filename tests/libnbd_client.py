@@ -1,8 +1,10 @@
 #!/usr/bin/env python3
-"""A client over libnbd that knows what each block has to hold. tests/clients.sh runs it; each command prints one line, `ok ..` or why not.
+"""A client over libnbd that knows what each byte has to hold. tests/clients.sh runs it; each command prints one line, `ok ..` or why not.
 
-commands URI structured|simple  sends a seeded mix of all commands and flags, and holds each answer to a model of the image
-refusals URI                    sends what has to be refused, and a client that doesn't ask for block sizes
+commands URI structured|simple  sends a seeded mix of all commands and flags, of whole blocks, of sectors and of any bytes, and holds each
+                                answer to a model of the image
+refusals URI                    sends what has to be refused
+unasked URI                     is a client that doesn't ask for the sizes of blocks
 flood URI LOG FIRST COUNT PID FLUSHES
                                 writes blocks over 4 connections, keeps in LOG what was sent and what a FLUSH or FUA acknowledged, and
                                 kills the process once so many FLUSHes were acknowledged, with further requests on their way
@@ -18,7 +20,7 @@ import signal
 import struct
 import sys
 
-BLOCK = 4096
+BLOCK, SECTOR, MIB = 4096, 512, 1 << 20
 DATA, ZERO, HOLE = 0, 2, 3
 
 
@@ -33,6 +35,17 @@ def block_of(block, number):
     return b"".join(struct.pack(">III", block, number, place) for place in range(BLOCK // 12 + 1))[:BLOCK]
 
 
+def touched(offset, length):
+    """The blocks of which a byte is in the range."""
+    return range(offset // BLOCK, (offset + length - 1) // BLOCK + 1)
+
+
+def bytes_of(offset, length, number):
+    """The bytes of a write with this number, of any range."""
+    begin = offset % BLOCK
+    return b"".join(block_of(block, number) for block in touched(offset, length))[begin:begin + length]
+
+
 def connected(uri):
     nbd = import_nbd()
     client = nbd.NBD()
@@ -44,33 +57,55 @@ def connected(uri):
 
 
 class Model:
-    """The bytes and the states of an image."""
+    """The bytes of an image and the states of its blocks, under requests of any bytes."""
 
     def __init__(self, blocks):
         self.states = [HOLE] * blocks
         self.data = bytearray(blocks * BLOCK)
 
-    def put(self, first, data):
-        self.data[first * BLOCK:first * BLOCK + len(data)] = data
-        count = len(data) // BLOCK
-        self.states[first:first + count] = [DATA] * count
+    def put(self, offset, data):
+        self.data[offset:offset + len(data)] = data
+        for block in touched(offset, len(data)):
+            self.states[block] = DATA
 
-    def clear(self, first, count, state):
-        self.data[first * BLOCK:(first + count) * BLOCK] = bytes(count * BLOCK)
-        self.states[first:first + count] = [state] * count
+    def zero(self, offset, length, state):
+        """A data block stays data where it is zeroed in part."""
+        self.data[offset:offset + length] = bytes(length)
+        for block in touched(offset, length):
+            is_whole = offset <= block * BLOCK and (block + 1) * BLOCK <= offset + length
+            if is_whole or self.states[block] != DATA:
+                self.states[block] = state
 
-    def read(self, first, count):
-        return bytes(self.data[first * BLOCK:(first + count) * BLOCK])
+    def trim(self, offset, length):
+        """Whole blocks alone become holes."""
+        first, end = (offset + BLOCK - 1) // BLOCK, (offset + length) // BLOCK
+        if first < end:
+            self.zero(first * BLOCK, (end - first) * BLOCK, HOLE)
 
-    def runs(self, first, count, is_same):
-        """The longest runs of blocks of one state, as [state of the first, count]."""
+    def read(self, offset, length):
+        return bytes(self.data[offset:offset + length])
+
+    def runs(self, offset, length, is_same):
+        """The longest runs of bytes whose blocks have one state, as [state of the first, count of bytes]."""
         found = []
-        for state in self.states[first:first + count]:
+        for block in touched(offset, length):
+            state = self.states[block]
+            count = min((block + 1) * BLOCK, offset + length) - max(block * BLOCK, offset)
             if found and is_same(found[-1][0], state):
-                found[-1][1] += 1
+                found[-1][1] += count
             else:
-                found.append([state, 1])
+                found.append([state, count])
         return found
+
+
+def any_range(source, size):
+    """Whole blocks, sectors or any bytes, at few places so that they meet one another; some of them at the end."""
+    unit = source.choice([BLOCK, SECTOR, 1])
+    near = source.randrange(64 * BLOCK) // unit * unit
+    offset = near if source.randrange(2) else size - unit - near
+    # (most are short: about as many end in the block where they begin as behind it)
+    most = min(MIB, size - offset, source.choice([BLOCK, 4 * BLOCK, MIB]))
+    return offset, max(source.randrange(most + 1) // unit * unit, unit)
 
 
 def chunks_of(client, count, offset, flags):
@@ -94,7 +129,7 @@ def status_of(client, count, offset, flags):
         return 0
 
     client.block_status(count, offset, extent, flags)
-    return [[state, length // BLOCK] for length, state in zip(entries[0::2], entries[1::2])]
+    return [[state, length] for length, state in zip(entries[0::2], entries[1::2])]
 
 
 def commands(uri, kind):
@@ -109,62 +144,60 @@ def commands(uri, kind):
     client.connect_uri(uri)
     if client.get_structured_replies_negotiated() != structured:
         return f"structured replies are {client.get_structured_replies_negotiated()}"
-    blocks = client.get_size() // BLOCK
+    size = client.get_size()
     fua, df, no_hole, one = nbd.CMD_FLAG_FUA, nbd.CMD_FLAG_DF, nbd.CMD_FLAG_NO_HOLE, nbd.CMD_FLAG_REQ_ONE
     random_source = random.Random(23)
-    model = Model(blocks)
-    client.trim(client.get_size() // 2, 0)
-    client.trim(client.get_size() - client.get_size() // 2, client.get_size() // 2)
+    model = Model(size // BLOCK)
+    client.trim(size // 2, 0)
+    client.trim(size - size // 2, size // 2)
     met = {}
     kinds = ["write", "read", "trim", "zero", "flush"] + (["chunks", "whole", "status"] if structured else [])
-    for number in range(1, 2001):
+    for number in range(1, 3001):
         what = random_source.choice(kinds)
-        # Few places, so that they meet one another; some of them at the end.
-        first = random_source.choice([random_source.randrange(64), blocks - 1 - random_source.randrange(64)])
-        count = random_source.randrange(1, min(256, blocks - first) + 1)
-        offset, length = first * BLOCK, count * BLOCK
+        offset, length = any_range(random_source, size)
         flag = random_source.choice([0, fua])
-        met[what, flag] = met.get((what, flag), 0) + 1
-        where = f"step {number}, {what} of {count} blocks from {first} with flags {flag}"
+        is_in_blocks = (offset | length) % BLOCK == 0
+        met[what, flag, is_in_blocks] = met.get((what, flag, is_in_blocks), 0) + 1
+        where = f"step {number}, {what} of {length} bytes at {offset} with flags {flag}"
         if what == "write":
-            data = b"".join(block_of(block, number) for block in range(first, first + count))
+            data = bytes_of(offset, length, number)
             client.pwrite(data, offset, flag)
-            model.put(first, data)
+            model.put(offset, data)
         elif what == "trim":
             client.trim(length, offset, flag)
-            model.clear(first, count, HOLE)
+            model.trim(offset, length)
         elif what == "zero":
             keeps = random_source.choice([0, no_hole])
             client.zero(length, offset, flag | keeps)
-            model.clear(first, count, ZERO if keeps else HOLE)
+            model.zero(offset, length, ZERO if keeps else HOLE)
         elif what == "flush":
             client.flush(flag)
         elif what == "read":
-            if client.pread(length, offset, flag) != model.read(first, count):
+            if client.pread(length, offset, flag) != model.read(offset, length):
                 return f"{where}: other bytes"
         elif what in ("chunks", "whole"):
             whole = what == "whole"
             data, got = chunks_of(client, length, offset, flag | (df if whole else 0))
-            if data != model.read(first, count):
+            if data != model.read(offset, length):
                 return f"{where}: other bytes"
             wanted, place = [], offset
-            for state, run in model.runs(first, count, lambda a, b: (a == DATA) == (b == DATA)):
-                wanted.append((nbd.READ_DATA if state == DATA else nbd.READ_HOLE, place, run * BLOCK))
-                place += run * BLOCK
+            for state, run in model.runs(offset, length, lambda a, b: (a == DATA) == (b == DATA)):
+                wanted.append((nbd.READ_DATA if state == DATA else nbd.READ_HOLE, place, run))
+                place += run
             if got != ([(nbd.READ_DATA, offset, length)] if whole else wanted):
                 return f"{where}: chunks {got}"
         elif what == "status":
             got = status_of(client, length, offset, flag)
-            if got != model.runs(first, count, lambda a, b: a == b):
+            if got != model.runs(offset, length, lambda a, b: a == b):
                 return f"{where}: runs {got}"
             got = status_of(client, length, offset, flag | one)
-            if got != model.runs(first, count, lambda a, b: a == b)[:1]:
+            if got != model.runs(offset, length, lambda a, b: a == b)[:1]:
                 return f"{where}: with REQ_ONE runs {got}"
-    if len(met) != 2 * len(kinds):
+    if len(met) != 4 * len(kinds):
         return f"met {met}"
-    for first in range(0, blocks, 256):
-        if client.pread(256 * BLOCK, first * BLOCK) != model.read(first, 256):
-            return f"other bytes in the end from block {first} on"
+    for offset in range(0, size, MIB):
+        if client.pread(MIB, offset) != model.read(offset, MIB):
+            return f"other bytes in the end from byte {offset} on"
     client.shutdown()
     return "ok"
 
@@ -180,19 +213,19 @@ def refusals(uri):
     client.connect_uri(uri)
     size = client.get_size()
     trials = [
-        ("a WRITE of 512 bytes", errno.EINVAL, lambda: client.pwrite(bytes(512), 0)),
-        ("a WRITE at byte 1", errno.EINVAL, lambda: client.pwrite(bytes(BLOCK), 1)),
-        ("a READ of 1 byte", errno.EINVAL, lambda: client.pread(1, 0)),
-        ("a READ at byte 512", errno.EINVAL, lambda: client.pread(BLOCK, 512)),
-        ("a TRIM of 512 bytes", errno.EINVAL, lambda: client.trim(512, 0)),
-        ("a WRITE_ZEROES at byte 512", errno.EINVAL, lambda: client.zero(BLOCK, 512)),
-        ("a WRITE past the end", errno.ENOSPC, lambda: client.pwrite(bytes(2 * BLOCK), size - BLOCK)),
-        ("a WRITE_ZEROES past the end", errno.ENOSPC, lambda: client.zero(2 * BLOCK, size - BLOCK)),
-        ("a TRIM past the end", errno.EINVAL, lambda: client.trim(2 * BLOCK, size - BLOCK)),
-        ("a READ past the end", errno.EINVAL, lambda: client.pread(2 * BLOCK, size - BLOCK)),
-        ("a BLOCK_STATUS past the end", errno.EINVAL, lambda: status_of(client, 2 * BLOCK, size - BLOCK, 0)),
-        ("a WRITE of more than 1 MiB", errno.EINVAL, lambda: client.pwrite(bytes((1 << 20) + BLOCK), 0)),
-        ("a READ of more than 1 MiB", errno.EINVAL, lambda: client.pread((1 << 20) + BLOCK, 0)),
+        ("a WRITE of no byte", errno.EINVAL, lambda: client.pwrite(b"", 0)),
+        ("a READ of no byte", errno.EINVAL, lambda: client.pread(0, 0)),
+        ("a TRIM of no byte", errno.EINVAL, lambda: client.trim(0, size - 1)),
+        ("a WRITE_ZEROES of no byte", errno.EINVAL, lambda: client.zero(0, size)),
+        ("a BLOCK_STATUS of no byte", errno.EINVAL, lambda: status_of(client, 0, 5, 0)),
+        ("a WRITE that ends a byte past the end", errno.ENOSPC, lambda: client.pwrite(bytes(SECTOR), size - SECTOR + 1)),
+        ("a WRITE behind the end", errno.ENOSPC, lambda: client.pwrite(b"x", size)),
+        ("a WRITE_ZEROES that ends a byte past the end", errno.ENOSPC, lambda: client.zero(2, size - 1)),
+        ("a TRIM that ends a byte past the end", errno.EINVAL, lambda: client.trim(BLOCK, size - BLOCK + 1)),
+        ("a READ that ends a byte past the end", errno.EINVAL, lambda: client.pread(2, size - 1)),
+        ("a BLOCK_STATUS that ends a byte past the end", errno.EINVAL, lambda: status_of(client, 2, size - 1, 0)),
+        ("a WRITE of a byte more than 1 MiB", errno.EINVAL, lambda: client.pwrite(bytes(MIB + 1), 0)),
+        ("a READ of a byte more than 1 MiB", errno.EINVAL, lambda: client.pread(MIB + 1, 0)),
         ("DF on a WRITE", errno.EINVAL, lambda: client.pwrite(bytes(BLOCK), 0, nbd.CMD_FLAG_DF)),
         ("a CACHE", errno.EINVAL, lambda: client.cache(BLOCK, 0)),
     ]
@@ -204,14 +237,11 @@ def refusals(uri):
             if error.errnum != wanted:
                 return f"{name}: {error}"
     # The session has gone on.
-    client.pwrite(block_of(7, 1), 7 * BLOCK)
-    if client.pread(BLOCK, 7 * BLOCK) != block_of(7, 1):
+    client.pwrite(bytes_of(30000, 1000, 1), 30000)
+    if client.pread(1000, 30000) != bytes_of(30000, 1000, 1):
         return "other bytes behind the refusals"
     client.shutdown()
-    for name, prepare in [
-        ("a client that doesn't ask for block sizes", lambda it: it.set_request_block_size(False)),
-        ("another export", lambda it: it.set_export_name("another")),
-    ]:
+    for name, prepare in [("another export", lambda it: it.set_export_name("another"))]:
         other = nbd.NBD()
         prepare(other)
         try:
@@ -224,6 +254,31 @@ def refusals(uri):
             return f"{name} was taken"
         except nbd.Error:
             pass
+    return "ok"
+
+
+def unasked(uri):
+    """Nobody has told it the sizes: what is within them is served, also by bytes, and a longer request refused."""
+    nbd = import_nbd()
+    client = nbd.NBD()
+    client.set_request_block_size(False)
+    client.set_strict_mode(0)
+    client.connect_uri(uri)
+    sizes = [client.get_block_size(it) for it in (nbd.SIZE_MINIMUM, nbd.SIZE_PREFERRED, nbd.SIZE_MAXIMUM)]
+    if sizes != [0, 0, 0]:
+        return f"it was told the sizes {sizes}"
+    for offset, length in ((5, 7), (SECTOR, SECTOR), (3 * BLOCK - 1, 2), (1, MIB)):
+        data = bytes_of(offset, length, length)
+        client.pwrite(data, offset)
+        if client.pread(length, offset) != data:
+            return f"other bytes of {length} at {offset}"
+    try:
+        client.pwrite(bytes(MIB + SECTOR), 0)
+        return "a WRITE of more than 1 MiB was taken"
+    except nbd.Error as error:
+        if error.errnum != errno.EINVAL:
+            return f"a WRITE of more than 1 MiB: {error}"
+    client.shutdown()
     return "ok"
 
 
@@ -365,7 +420,7 @@ def mixed(image, first, second):
 
 
 def main():
-    acts = {act.__name__: act for act in (commands, refusals, flood, verify, mixed)}
+    acts = {act.__name__: act for act in (commands, refusals, unasked, flood, verify, mixed)}
     print(acts[sys.argv[1]](*sys.argv[2:]))
 
 

@@ -34,7 +34,7 @@ LONG = "--long" in sys.argv[1:]
 # How many calls of a built test are refused in turn before they are taken in samples, and how many samples there are then.
 IN_TURN, SAMPLES = (10**9, 0) if LONG else (60, 60)
 BLOCK, BLOCKS = 4096, 16
-READ, WRITE, DISC, FLUSH = 0, 1, 2, 3
+READ, WRITE, DISC, FLUSH, ZEROES = 0, 1, 2, 3, 6
 passed, failed, refused = 0, 0, 0
 counting = threading.Lock()
 
@@ -152,6 +152,17 @@ class Script:
         printed[at - 1: at] = [it.replace("error 22", "error 12") for it in printed[at - 1: at]]
         return printed, status
 
+    def unserved(self, step, at):
+        """The script without the serving of a request that was held before, and without its answer, which is ENOMEM."""
+        connection = self.lines[step - 1].split()[1]
+        printed, status = self.replay(self.lines[: step - 2] + self.lines[step:])
+        return printed[: at - 2] + ["done", f"answer {connection} error 12"] + printed[at - 2:], status
+
+    def copied(self, step, at, count):
+        """The script where a step of several copies was refused behind so many of them."""
+        printed, status = self.replay(self.lines[: step - 1] + [f"copy {count}"] + self.lines[step:])
+        return printed[: at - 1] + ["failed 0"] + printed[at:], status
+
     def unmarked(self):
         """The script with armed crashes that leave what the last good sync left."""
         return self.replay([re.sub(r"^(crash at \d+) .*", r"\1 old", it) for it in self.lines])
@@ -171,8 +182,12 @@ class Script:
         late = next((i for i, it in enumerate(printed[at:], at + 1) if re.match("answer .* error 12$", it)), None)
         if got == "failed 0":
             yield self.without(step, at)
+            if self.lines[step - 1].startswith("copy "):
+                yield from (self.copied(step, at, count) for count in range(1, 9))
         elif re.match("answer .*error 12$", got):
             yield self.unsent(step, at)
+            if self.lines[step - 2].startswith("serve "):
+                yield self.unserved(step, at)
         elif got.startswith("opened"):
             # A write that was stopped and isn't in the device's record leaves what was there.
             yield self.unmarked()
@@ -288,8 +303,9 @@ def refuse_format():
 PIPED = [
     request(WRITE, 1, 0, filled(b"A")),
     request(FLUSH, 2, 0),
-    request(WRITE, 3, BLOCK, filled(b"B"), flags=1),
-    request(WRITE, 4, 2 * BLOCK, filled(b"C")),
+    # (of blocks 0 and 1 a byte and two, whose other bytes are taken with them; and an edge)
+    request(WRITE, 3, BLOCK - 1, b"BBB", flags=1),
+    request(ZEROES, 4, 5, length=2 * BLOCK),
     request(DISC, 5, 0),
 ]
 

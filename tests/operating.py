@@ -1,10 +1,11 @@
 #!/usr/bin/env python3
-"""How `serve` of the built program NBDJ begins, goes on and ends, as who runs it sees it: what a kill leaves, an end that is asked for, dead
-clients, a device that fails, and what is told.
+"""How `serve` of the built program NBDJ begins, goes on and ends, as who runs it sees it: what a kill leaves, also of sectors that clients
+write beside one another, an end that is asked for, dead clients, a device that fails, and what is told.
 
 Prints a line for each check that fails, and last 'N passed, M failed'.
 """
 import os
+import random
 import re
 import resource
 import signal
@@ -18,7 +19,7 @@ import time
 import hostile
 from hostile import BLOCK, DISC, FLUSH, MIB, NBDJ, READ, WRITE, Server, block_of, check, request, take
 
-EIO = 5
+EIO, SECTOR = 5, 512
 
 
 def reply(cookie, error=0):
@@ -90,6 +91,97 @@ def intervals(folder):
         count = goes_on_writing(client, 4)
         found = int(killed(server).split()[1])
         check("at least a third of four seconds of writes is stored", True, found >= count // 3 or (found, count))
+
+
+class Sectors:
+    """What each sector of an image was written with, in order, and which of it was acknowledged, by a FLUSH on any connection or by FUA."""
+
+    def __init__(self, count):
+        self.sent = [[] for _ in range(count)]
+        self.answered, self.acknowledged = [0] * count, [0] * count
+        self.lock, self.flushes = threading.Lock(), 0
+
+    @staticmethod
+    def bytes_of(sector, number):
+        return b"".join(hostile.struct.pack(">III", sector, number, place) for place in range(SECTOR // 12 + 1))[:SECTOR]
+
+    def batch(self, client, own, number, source):
+        """Writes of some sectors, all on their way at once; False where the server is gone. One of 30 or so has FUA."""
+        sectors = source.sample(own, source.randrange(1, 9))
+        flags = [source.randrange(30) == 0 for _ in sectors]
+        asked = b""
+        for step, (sector, has_fua) in enumerate(zip(sectors, flags)):
+            self.sent[sector].append(number + step)
+            asked += request(WRITE, number + step, sector * SECTOR, SECTOR, int(has_fua)) + self.bytes_of(sector, number + step)
+        client.sendall(asked)
+        for step, (sector, has_fua) in enumerate(zip(sectors, flags)):
+            if take(client, 16) != reply(number + step):
+                return False
+            with self.lock:
+                self.answered[sector] = number + step
+                if has_fua:
+                    self.acknowledged[sector] = number + step
+        return True
+
+    def flush(self, client):
+        with self.lock:
+            before = list(self.answered)
+        client.sendall(request(FLUSH, 1, 0, 0))
+        if take(client, 16) != reply(1):
+            return False
+        with self.lock:
+            self.acknowledged = [max(pair) for pair in zip(self.acknowledged, before)]
+            self.flushes += 1
+        return True
+
+    def write(self, client, own, source):
+        """Batches without end, and a FLUSH now and then; the connection's end is the only way out."""
+        number = 1
+        try:
+            while self.batch(client, own, number, source) and (source.randrange(12) or self.flush(client)):
+                number += 8
+        except OSError:
+            pass
+
+
+def sectors(folder):
+    """Three connections write sectors of 512 bytes for 10 seconds, neighbours in one block by different ones, until a kill. Each sector has one
+    of its writes, none older than what was acknowledged; and all sectors of a connection are as after some first of its writes."""
+    count = hostile.BLOCKS * BLOCK // SECTOR
+    it = Sectors(count)
+    # (few enough that most are written again and again, over more blocks than there are frames)
+    owned = [range(index, count // 4, 3) for index in range(3)]
+    with Server(folder, "sectors", 4) as server:
+        clients = [server.shaken() for _ in owned]
+        threads = [threading.Thread(target=it.write, args=(client, own, random.Random(own[0]))) for client, own in zip(clients, owned)]
+        for thread in threads:
+            thread.start()
+        time.sleep(10)
+        check("sectors: the server lives", None, server.process.poll())
+        server.process.kill()
+        server.process.wait(timeout=60)
+        for thread in threads:
+            thread.join()
+        for client in clients:
+            client.close()
+        check("sectors: the recovery", "commands", recovered(server).split()[0])
+        asked = b"".join(request(READ, place, place * MIB, MIB) for place in range(count * SECTOR // MIB))
+        read = subprocess.run([NBDJ, "pipe", server.image], input=asked + request(DISC, 0, 0, 0), capture_output=True, timeout=60).stdout
+    image = b"".join(read[place + 16:place + 16 + MIB] for place in range(0, len(read), MIB + 16))
+    check("sectors: the image that is read", count * SECTOR, len(image))
+    found = [hostile.struct.unpack(">I", image[sector * SECTOR + 4:sector * SECTOR + 8])[0] for sector in range(count)]
+    torn = [sector for sector, number in enumerate(found)
+            if image[sector * SECTOR:(sector + 1) * SECTOR] != (it.bytes_of(sector, number) if number else bytes(SECTOR))]
+    check("sectors: each has the bytes of one write", [], torn[:9])
+    check("sectors: one that was sent", [], [sector for sector, number in enumerate(found) if number not in [0, *it.sent[sector]]][:9])
+    check("sectors: none older than what was acknowledged", [], [sector for sector in range(count) if found[sector] < it.acknowledged[sector]][:9])
+    for index, own in enumerate(owned):
+        last = max(found[sector] for sector in own)
+        amiss = [sector for sector in own if found[sector] != max((number for number in it.sent[sector] if number <= last), default=0)]
+        check(f"sectors: connection {index} is as after some first of its writes", [], amiss[:9])
+    writes = sum(len(numbers) for numbers in it.sent)
+    check("sectors: there were writes, and flushes", True, writes > 1000 and it.flushes > 9 or (writes, it.flushes))
+    print(f"sectors: {writes} writes of {SECTOR} bytes, {it.flushes} flushes", flush=True)
 
 
 def asked_to_end(folder):
@@ -224,7 +316,7 @@ def copied(folder):
 
 def main():
     with tempfile.TemporaryDirectory() as folder:
-        for scenario in (kills, intervals, asked_to_end, idle, failing, told, copied):
+        for scenario in (kills, intervals, sectors, asked_to_end, idle, failing, told, copied):
             begun = time.monotonic()
             hostile.guarded(scenario, folder)
             print(f"{scenario.__name__}: {time.monotonic() - begun:.1f} s", flush=True)

@@ -442,8 +442,8 @@ ends 'after the short streams' 0 "$(text 'commands 0')" '' recover d.img
     request 0000 1 1 61440 4096; filled 4096 A
     request 0000 1 2 61440 8192; filled 8192 A
     bytes '25609513 0000 0001 0000000000000003 fffffffffffff000 00001000'; filled 4096 A
-    request 0000 1 4 1 4096; filled 4096 A
-    request 0000 1 5 0 100; filled 100 A
+    request 0000 1 4 61441 4096; filled 4096 A
+    request 0000 1 5 65536 1; filled 1 A
     request 0000 1 6 0 0
     request 0002 1 7 0 4096; filled 4096 A
     request 0000 3 8 4096 0
@@ -456,7 +456,7 @@ ends 'after the short streams' 0 "$(text 'commands 0')" '' recover d.img
     request ffff 2 15 9 9
     request 0000 1 16 0 4096; filled 4096 A
 } >input
-replies="$(reply 1 0)$(reply 2 28)$(reply 3 28)$(reply 4 22)$(reply 5 22)$(reply 6 22)$(reply 7 22)$(reply 8 22)$(reply 9 22)"
+replies="$(reply 1 0)$(reply 2 28)$(reply 3 28)$(reply 4 28)$(reply 5 28)$(reply 6 22)$(reply 7 22)$(reply 8 22)$(reply 9 22)"
 replies="$replies$(reply 10 0)$(reply 11 22)$(reply 12 22)$(reply 13 22)$(reply 14 22)"
 ends 'judgement' 0 "$replies" '' pipe d.img
 : >input
@@ -501,6 +501,92 @@ tail -c "+$((data + 1))" d.img >found
 same 'the blocks after the recovery' wanted found
 ends 'a recovered device again' 0 "$(text 'commands 41')" '' recover d.img
 
+# The groups of requests of bytes, from their first gate to the next. A block that is covered in part goes into the group with its old
+# bytes, but for one that isn't data where bytes are made zero, and for those of a trim.
+# stands NAME PLACE: d.img holds the bytes of `wanted` from this place on
+stands() {
+    tail -c "+$(($2 + 1))" d.img | head -c "$(wc -c <wanted)" >found
+    same "$1" wanted found
+}
+# slice FILE FROM COUNT: bytes of a file
+slice() { tail -c "+$(($2 + 1))" "$1" | head -c "$3"; }
+differing 12288 7 >data
+
+fresh 16 2097152
+{ request 0000 1 1 4000 200; slice data 0 200; request 0000 2 2 0 0; } >input
+ends 'a write over two holes' 0 "$(reply 1 0)" '' pipe d.img
+{ bytes '01 0000200d 0000000000000001 00000001 01 0000000000000000 00000002'; filled 4000 '\000'; slice data 0 200; filled 3993 '\000'; } >wanted
+stands 'the group of a write over two holes' 8192
+
+fresh 16 2097152
+{ request 0000 4 1 61441 4095; request 0000 2 2 0 0; } >input
+ends 'a trim of less than a block' 0 "$(reply 1 0)" '' pipe d.img
+bytes '01 0000000d 0000000000000001 00000001 02 000000000000000f 00000000 00' >wanted
+stands 'the group of a trim of less than a block' 8192
+
+fresh 16 2097152
+{ request 0000 1 1 4096 4096; slice data 0 4096; request 0002 6 2 4000 200; request 0000 2 3 0 0; } >input
+ends 'zeroes that end in data' 0 "$(reply 1 0)$(reply 2 0)" '' pipe d.img
+{
+    bytes '01 0000201b 0000000000000001 00000002 01 0000000000000001 00000001'
+    slice data 0 4096
+    bytes '05 0000000000000000 00000002 02'
+    filled 104 '\000'
+    slice data 104 3992
+    bytes 00
+} >wanted
+stands 'the group of zeroes that end in data' 8192
+
+fresh 16 2097152
+{ request 0000 1 1 20480 4096; slice data 4096 4096; request 0002 6 2 20500 100; request 0000 2 3 0 0; } >input
+ends 'zeroes amid a block' 0 "$(reply 1 0)$(reply 2 0)" '' pipe d.img
+{
+    bytes '01 0000201b 0000000000000001 00000002 01 0000000000000005 00000001'
+    slice data 4096 4096
+    bytes '05 0000000000000005 00000001 01'
+    slice data 4096 20
+    filled 100 '\000'
+    slice data 4216 3976
+    bytes 00
+} >wanted
+stands 'the group of zeroes amid a block' 8192
+
+# The old bytes that a session finds on the device go into the group; the recovery before it has turned to the second area.
+fresh 16 2097152
+{ request 0000 1 1 0 4096; slice data 8192 4096; request 0000 2 2 0 0; } >input
+ends 'a block for the next session' 0 "$(reply 1 0)" '' pipe d.img
+{ request 0000 1 1 100 200; slice data 0 200; request 0000 2 2 0 0; } >input
+ends 'a write into a block of the session before' 0 "$(reply 1 0)" '' pipe d.img
+{
+    bytes '01 0000100d 0000000000000002 00000001 01 0000000000000000 00000001'
+    slice data 8192 100
+    slice data 0 200
+    slice data 8492 3796
+    bytes 00
+} >wanted
+stands 'the group of a write into a block of the session before' 2105344
+
+# Zeroes between two blocks that stay data, and what a checkpoint makes of them: both are copied, and the block between is a hole.
+fresh 16 2097152
+{ request 0000 1 1 0 12288; cat data; request 0000 6 2 100 8192; request 0000 2 3 0 0; } >input
+ends 'zeroes between data' 0 "$(reply 1 0)$(reply 2 0)" '' pipe d.img
+{
+    bytes '01 0000501b 0000000000000001 00000002 01 0000000000000000 00000003'
+    cat data
+    bytes '04 0000000000000000 00000003 03'
+    slice data 0 100
+    filled 4096 '\000'
+    slice data 8292 3996
+    bytes 00
+} >wanted
+stands 'the group of zeroes between data' 8192
+: >input
+checks 'check of zeroes between data' 16 0 0 2 2 0 14
+ends 'zeroes between data, recovered' 0 "$(text 'commands 2')" '' recover d.img
+{ slice data 0 100; filled 8192 '\000'; slice data 8292 3996; } >wanted
+stands 'the blocks of zeroes between data' $((8192 + 2 * 2097152 + 2 * 4096))
+is 'the map of zeroes between data' 22000000 "$(part d.img $((8192 + 2 * 2097152 + 4096)) 4)"
+
 # READs of what was written, of a hole with FUA, past the end, with DF, and a BLOCK_STATUS; then of what an opening found.
 fresh 16 2097152
 differing 8192 5 >data
@@ -540,6 +626,53 @@ data=$((8192 + 2 * 2097152 + 2 * 4096))
 { filled 4096 D; filled 61440 '\000'; } >wanted
 tail -c "+$((data + 1))" d.img >found
 same 'the blocks after the clears' wanted found
+
+# Requests of any bytes, in one stream and again over the opened device. A write of bytes 4,000 to 4,199 is a put of blocks 0 and 1. Zeroes
+# over bytes 100 to 8,291 of three data blocks clear the block between, and leave both edges data. Of the trims the first covers no whole
+# block, and has a number all the same.
+fresh 16 2097152
+differing 12288 3 >data
+{ head -c 4000 /dev/zero; filled 200 A; head -c 3992 /dev/zero; head -c 100 data; head -c 8192 /dev/zero; tail -c 3996 data; } >wanted
+reads=''
+for range in '0 8192' '8192 12288' '4000 200' '4095 2' '3999 1' '8291 2' '16483 2' '20479 1'; do reads="$reads $range"; done
+asks() {
+    cookie=20
+    set -- $reads
+    while [ $# -gt 0 ]; do
+        request 0000 0 $cookie "$1" "$2"
+        cookie=$((cookie + 1))
+        shift 2
+    done
+    request 0000 2 $cookie 0 0
+}
+answers() {
+    cookie=20
+    set -- $reads
+    while [ $# -gt 0 ]; do
+        reply $cookie 0
+        part wanted "$1" "$2"
+        cookie=$((cookie + 1))
+        shift 2
+    done
+}
+{
+    request 0000 1 1 4000 200; filled 200 A
+    request 0000 1 2 8192 12288; cat data
+    request 0001 6 3 8292 8192
+    request 0000 4 4 8193 8190
+    request 0000 4 5 65535 1
+    request 0000 6 6 5 0
+    asks
+} >input
+ends 'requests of any bytes' 0 "$(reply 1 0)$(reply 2 0)$(reply 3 0)$(reply 4 0)$(reply 5 0)$(reply 6 22)$(answers)" '' pipe d.img
+: >input
+checks 'check of requests of any bytes' 16 0 0 5 4 0 12
+is 'the edges of the zeroes' "04000000000000000200000003$(printf 03)$(part data 0 100)$(filled 3996 '\000' | hex)$(filled 100 '\000' | hex)$(part data 8292 3996)" \
+    "$(part d.img $((8192 + 17 + 13 + 8192 + 13 + 12288)) 8206)"
+asks >input
+ends 'reads of any bytes of an opened device' 0 "$(answers)" '' pipe d.img
+rm -f data wanted
+: >input
 
 # A journal that fills is emptied: the first write is copied into the image, and the second one stored.
 fresh 256 2097152
@@ -627,7 +760,7 @@ fi
 
 # The scripts that docs/SCRIPTS.md teaches, and what it says that they print.
 block() { awk -v kind="$1" -v k="$2" '$0 == "```" kind { n++; on = n == k; next } /^```/ { on = 0 } on' "$here/docs/SCRIPTS.md"; }
-for k in 1 2 3 4; do
+for k in 1 2 3 4 5; do
     block script "$k" >input
     ends "script $k of the page" 0 "$(block prints "$k" | hex)" '' rehearse
 done

@@ -3,8 +3,9 @@
 that has read all of it waits, or amid a client's writes.
 
 What a client reads of the whole image before a kill without load is, byte for byte, what it reads after the restart. After a kill under load
-it is the image after some first commands of those that the client sent, all that a FLUSH confirmed among them. The bytes of both header
-slots are kept at each step, and printed with a difference. Prints a line for each check that fails, and last 'N passed, M failed'.
+it is the image after some first commands of those that the client sent, all that a FLUSH confirmed among them; about half of them are of
+whole blocks, and the others of any bytes. The bytes of both header slots are kept at each step, and printed with a difference. Prints a line
+for each check that fails, and last 'N passed, M failed'.
 """
 import contextlib
 import os
@@ -61,24 +62,24 @@ class Client:
             found += piece
         return bytes(found)
 
-    def ask(self, kind, block=0, blocks=0, data=b"", flags=0):
+    def ask(self, kind, offset=0, length=0, data=b"", flags=0):
         """The data of a READ, or nothing; another reply than Ok ends the run."""
         self.cookie += 1
-        self.socket.sendall(struct.pack(">IHHQQI", 0x25609513, flags, kind, self.cookie, block * BLOCK, blocks * BLOCK) + data)
+        self.socket.sendall(struct.pack(">IHHQQI", 0x25609513, flags, kind, self.cookie, offset, length) + data)
         magic, error, cookie = struct.unpack(">IIQ", self.take(16))
         if (magic, error, cookie) != (0x67446698, 0, self.cookie):
             raise ValueError(f"a reply {magic:x}, {error}, {cookie} to request {self.cookie}")
-        return self.take(blocks * BLOCK) if kind == READ else b""
+        return self.take(length) if kind == READ else b""
 
     def image(self):
-        return self.ask(READ, 0, BLOCKS)
+        return self.ask(READ, 0, BLOCKS * BLOCK)
 
     def close(self):
         self.socket.close()
 
 
 class Load:
-    """Commands of one client, in the order in which they were sent: each the block that it begins with and the bytes that it leaves there. How
+    """Commands of one client, in the order in which they were sent: each the byte that it begins with and the bytes that it leaves there. How
     many of them a FLUSH has confirmed."""
 
     numbers = 0
@@ -87,15 +88,21 @@ class Load:
         self.sent, self.confirmed = [], 0
 
     def command(self, client, source):
-        blocks = min(1 + int(source.expovariate(0.4)), 32)
-        block = source.randrange(BLOCKS - blocks + 1)
+        unit = source.choice((BLOCK, 1))
+        length = min(1 + int(source.expovariate(0.4 * unit / BLOCK)), 32 * BLOCK // unit) * unit
+        offset = source.randrange((BLOCKS * BLOCK - length) // unit + 1) * unit
         kind = source.choices((WRITE, TRIM, ZEROES), (8, 1, 1))[0]
-        data = bytes(blocks * BLOCK)
+        data = bytes(length)
         if kind == WRITE:
             Load.numbers += 1
-            data = b"".join(struct.pack(">IHH", Load.numbers, block, place % 65536) for place in range(blocks * BLOCK // 8))
-        self.sent.append((block, data))
-        client.ask(kind, block, blocks, data if kind == WRITE else b"", source.choice((0, NO_HOLE)) if kind == ZEROES else 0)
+            data = b"".join(struct.pack(">II", Load.numbers, place) for place in range(offset // 8, (offset + length) // 8 + 1))[offset % 8:][:length]
+        if kind == TRIM:
+            # (a trim has its whole blocks alone)
+            first, end = (offset + BLOCK - 1) // BLOCK, (offset + length) // BLOCK
+            self.sent.append((first * BLOCK, bytes(max(end - first, 0) * BLOCK)))
+        else:
+            self.sent.append((offset, data))
+        client.ask(kind, offset, length, data if kind == WRITE else b"", source.choice((0, NO_HOLE)) if kind == ZEROES else 0)
 
     def run(self, client, source):
         """Commands without end, and a FLUSH now and then; the connection's end is the only way out."""
@@ -114,8 +121,8 @@ class Load:
             if count >= self.confirmed:
                 yield count, bytes(image)
             if count < len(self.sent):
-                block, data = self.sent[count]
-                image[block * BLOCK: block * BLOCK + len(data)] = data
+                offset, data = self.sent[count]
+                image[offset: offset + len(data)] = data
 
 
 class Restarts:

@@ -1,15 +1,16 @@
 #!/bin/sh
 # Sweeps scripts with the built program NBDJ: each is run anew for each crash at a call of the device, and for each fault of one, and
 # what is opened afterwards is compared with plain bytes. Swept are the scripts of tests/scripts, without their lines that crash the
-# device or let a call of it fail, and those of docs/SCRIPTS.md. Prints how many runs with a crash there were, and last
-# 'N passed, M failed'. Those that take many minutes are swept with --long alone.
+# device or let a call of it fail, those of docs/SCRIPTS.md, and some that are drawn. Prints how many runs with a crash there were, and
+# last 'N passed, M failed'. Those that take many minutes are swept with --long alone.
 set -u
 here=$(cd "$(dirname "$0")/.." && pwd)
 . "$here/tests/checks.sh"
 runs=0
 
-# Scripts with hundreds of calls of the device.
-long=checkpoint_lets_frames_go
+# Scripts with hundreds of calls of the device, or of a large one.
+long='checkpoint_lets_frames_go edge_is_held_before_its_read edge_waits_for_a_frame group_of_seven_puts_of_257_blocks
+no_frame_left_for_bytes read_of_old_bytes_fails_after_an_eviction'
 
 # swept NAME: sweeps the script in the file `input`
 swept() {
@@ -27,8 +28,10 @@ swept() {
 without_trouble() { grep -v -e '^crash ' -e '^fault ' "$1" >input; }
 
 if [ "${1:-}" = --long ]; then
-    without_trouble "$here/tests/scripts/$long.in"
-    swept "$long"
+    for name in $long; do
+        without_trouble "$here/tests/scripts/$name.in"
+        swept "$name"
+    done
     echo "$runs runs with a crash"
     the_end
     exit
@@ -38,6 +41,12 @@ fi
 printf '%s\n' 'format 16 2097152 512' 'send 1 put 0 1 41' 'serve 1' 'answer 1' seal append publish >input
 ends 'a put that is stored, swept' 0 "$(printf '%s\n' 'calls 4' 'runs 25' ok | hex)" '' rehearse --sweep
 ends 'the faults of a put that is stored' 0 "$(printf '%s\n' 'reads 0' 'writes 2' 'syncs 2' ok | hex)" '' rehearse --faults
+# Requests of bytes read no old ones from the device where they are in memory: a group alone makes calls.
+for name in bytes_across_two_holes zeroes_between_two_edges; do
+    without_trouble "$here/tests/scripts/$name.in"
+    ends "$name, swept" 0 "$(printf '%s\n' 'calls 4' 'runs 25' ok | hex)" '' rehearse --sweep
+    ends "the faults of $name" 0 "$(printf '%s\n' 'reads 0' 'writes 2' 'syncs 2' ok | hex)" '' rehearse --faults
+done
 
 # A script is read to its end before anything runs, and no line of it crashes the device or lets a call of it fail.
 for how in --sweep --faults; do
@@ -56,16 +65,50 @@ is 'one of both at a time' 2 "$status"
 
 for script in "$here"/tests/scripts/*.in; do
     name=$(basename "$script" .in)
-    [ "$name" = "$long" ] && continue
+    case " $(echo $long) " in *" $name "*) continue ;; esac
     without_trouble "$script"
     swept "$name"
 done
 
 block() { awk -v kind="$1" -v k="$2" '$0 == "```" kind { n++; on = n == k; next } /^```/ { on = 0 } on' "$here/docs/SCRIPTS.md"; }
-for k in 1 2 3 4; do
+for k in 1 2 3 4 5; do
     block script "$k" >whole
     without_trouble whole
     swept "script $k of the page"
+done
+
+# drawn SEED: a script of requests of bytes that often begin or end at the border of a block or beside it, with groups and checkpoints
+# between them
+drawn() {
+    awk -v x="$1" '
+        function below(n) { x = x * 16807 % 2147483647; return x % n }
+        function beside(  k) { k = below(6); return k == 0 ? 0 : k == 1 ? 1 : k == 2 ? 4095 : k == 3 ? 4096 : below(4096) }
+        function ask(what) { print "send 1 " what; print "serve 1"; print "answer 1" }
+        function store() { print "seal"; print "append"; print "publish"; print "answer 1" }
+        BEGIN {
+            print "format 16 2097152 512"
+            for (k = 1; k <= 24; k++) {
+                first = below(13)
+                from = 4096 * first + beside()
+                behind = 4096 * (first + below(4)) + beside()
+                if (behind <= from) behind = from + 1 + below(300)
+                range = from " " behind - from
+                kind = below(9)
+                fua = below(6) == 0
+                last = fua ? " fua" : ""
+                if (kind < 4) ask("bytes " range " " sprintf("%02x", below(256)) last)
+                else if (kind < 7) ask("zeroes " range " " (below(2) ? "hole" : "zero") last)
+                else if (kind == 7) ask("trim " range last)
+                else ask("flush")
+                if (fua || kind == 8 || k % 5 == 0) store()
+                if (k % 12 == 0) { print "rotate"; print "copy 99"; print "map"; print "finish"; print "clean" }
+            }
+            store()
+        }'
+}
+for seed in 4711 20260 998244353; do
+    drawn "$seed" >input
+    swept "the script of seed $seed"
 done
 
 echo "$runs runs with a crash"

@@ -74,13 +74,13 @@ while [ $round -lt "$rounds" ]; do
         serve $it
         ./client fill "nbd+unix:///?socket=$folder/$it.sock" $blocks
         # (what the one has left unstored the next would pay for)
-        for row in 'sequential 1' 'flushed 8' 'fua 8' 'write 1' 'write 4' 'mixed 4'; do
+        for row in 'sequential 1' 'flushed 8' 'fua 8' 'write 1' 'write 4' 'mixed 4' 'write-512 1' 'write-512 4' 'read-512 1' 'read-512 4'; do
             measure $it $row $blocks >>"$it.$(echo "$row" | tr ' ' .)"
             sync
         done
         # Reads that hit: of blocks that were written last, fewer than the frames.
         ./client fill "nbd+unix:///?socket=$folder/$it.sock" $hot
-        for row in 'read 1' 'read 4' 'read-long 1' 'read-64k 1'; do measure $it $row $hot >>"$it.hit.$(echo "$row" | tr ' ' .)"; done
+        for row in 'read 1' 'read 4' 'read-long 1' 'read-64k 1' 'write-512 1' 'write-512 4' 'read-512 1' 'read-512 4'; do measure $it $row $hot >>"$it.hit.$(echo "$row" | tr ' ' .)"; done
         for row in 'read-long 1' 'read-64k 1'; do measure $it $row $blocks >>"$it.$(echo "$row" | tr ' ' .)"; done
         sync
         timeout 100 ./client stall "nbd+unix:///?socket=$folder/$it.sock" "$seconds" $blocks >>$it.stall
@@ -124,6 +124,14 @@ row 'READ 1 MiB in sequence that hits' 'MiB/s' 0.9 hit.read-long.1
 row 'READ 1 MiB in sequence that misses' 'MiB/s' 0.9 read-long.1
 row 'READ 64 KiB in sequence that hits' '1/s' 0.9 hit.read-64k.1
 row 'READ 64 KiB in sequence that misses' '1/s' 0.9 read-64k.1
+# (the old bytes of a block that was written last are in memory, and those of one at random anywhere are read)
+for connections in 1 4; do
+    many=$([ $connections -eq 1 ] && echo '1 connection' || echo '4 connections')
+    row "WRITE 512 bytes at random over blocks in memory, $many" '1/s' '' hit.write-512.$connections
+    row "WRITE 512 bytes at random over the image, $many" '1/s' '' write-512.$connections
+    row "READ 512 bytes at random that hits, $many" '1/s' '' hit.read-512.$connections
+    row "READ 512 bytes at random over the image, $many" '1/s' '' read-512.$connections
+done
 echo "| start until the greeting | ms | $(cat nbdj.ms) | $(cat nbdkit.ms) | $(cat cache.ms) | $(cat qemu.ms) | | 20 at most |"
 # The map of the image has two bits a block.
 most=$((frames * 4096 + blocks / 4 + 8388608))

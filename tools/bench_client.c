@@ -11,6 +11,8 @@
  *         read-long  1 MiB one behind the other, 4 on their way
  *         read-64k 64 KiB one behind the other, 4 on their way
  *         mixed      4 KiB at random places, 7 of 10 read and the others written, 16 on their way
+ *         write-512  512 bytes at random places, 16 on their way
+ *         read-512   the same, read
  * bench_client fill URI BLOCKS
  *     Writes all those blocks, and a FLUSH.
  * bench_client beside URI LENGTH FLUSHERS SECONDS BLOCKS
@@ -39,26 +41,32 @@
 #include <unistd.h>
 
 #define BLOCK 4096u
+#define SECTOR 512u
+#define SECTORS (BLOCK / SECTOR)
 #define LONG_BLOCKS 256u
 #define MOST_DEPTH 16
 #define MOST_CONNECTIONS 64
 
 struct kind {
     const char *name;
-    unsigned blocks, depth;
+    unsigned sectors, depth;
     int is_read, is_random, flushes, has_fua, is_one_pass, is_mixed;
 };
 
 static const struct kind kinds[] = {
-    {"write", 1, 16, 0, 1, 0, 0, 0, 0},
-    {"flushed", 1, 1, 0, 1, 1, 0, 0, 0},
-    {"fua", 1, 1, 0, 1, 0, 1, 0, 0},
-    {"sequential", LONG_BLOCKS, 4, 0, 0, 0, 0, 1, 0},
-    {"read", 1, 16, 1, 1, 0, 0, 0, 0},
-    {"read-long", LONG_BLOCKS, 4, 1, 0, 0, 0, 0, 0},
-    {"read-64k", 16, 4, 1, 0, 0, 0, 0, 0},
-    {"mixed", 1, 16, 0, 1, 0, 0, 0, 1},
+    {"write", SECTORS, 16, 0, 1, 0, 0, 0, 0},
+    {"flushed", SECTORS, 1, 0, 1, 1, 0, 0, 0},
+    {"fua", SECTORS, 1, 0, 1, 0, 1, 0, 0},
+    {"sequential", LONG_BLOCKS * SECTORS, 4, 0, 0, 0, 0, 1, 0},
+    {"read", SECTORS, 16, 1, 1, 0, 0, 0, 0},
+    {"read-long", LONG_BLOCKS * SECTORS, 4, 1, 0, 0, 0, 0, 0},
+    {"read-64k", 16 * SECTORS, 4, 1, 0, 0, 0, 0, 0},
+    {"mixed", SECTORS, 16, 0, 1, 0, 0, 0, 1},
+    {"write-512", 1, 16, 0, 1, 0, 0, 0, 0},
+    {"read-512", 1, 16, 1, 1, 0, 0, 0, 0},
 };
+
+static size_t length_of(const struct kind *kind) { return (size_t)kind->sectors * SECTOR; }
 
 struct connection;
 
@@ -101,13 +109,15 @@ static uint64_t any(struct connection *it) {
 /* Data that no server can take for those of another write: the number stands in each block. */
 static void mark(struct connection *it, char *data) {
     it->number++;
-    for (unsigned block = 0; block < it->kind->blocks; block++) memcpy(data + block * BLOCK, &it->number, sizeof it->number);
+    for (size_t at = 0; at < length_of(it->kind); at += BLOCK) memcpy(data + at, &it->number, sizeof it->number);
 }
 
+/* How many requests go into the blocks one behind the other. */
+static uint64_t places(struct connection *it) { return it->blocks * SECTORS / it->kind->sectors; }
+
 static uint64_t place(struct connection *it) {
-    uint64_t most = it->blocks / it->kind->blocks;
-    uint64_t index = it->kind->is_random ? any(it) % most : it->next++ % most;
-    return index * it->kind->blocks * BLOCK;
+    uint64_t index = it->kind->is_random ? any(it) % places(it) : it->next++ % places(it);
+    return index * length_of(it->kind);
 }
 
 static int completed(void *data, int *error) {
@@ -125,7 +135,7 @@ static int completed(void *data, int *error) {
 
 static void ask(struct connection *it, struct slot *slot) {
     nbd_completion_callback done = {.callback = completed, .user_data = slot};
-    size_t length = (size_t)it->kind->blocks * BLOCK;
+    size_t length = length_of(it->kind);
     int64_t cookie;
     slot->is_busy = 1;
     slot->begun = now();
@@ -139,7 +149,7 @@ static void ask(struct connection *it, struct slot *slot) {
 }
 
 static int goes_on(struct connection *it) {
-    return it->kind->is_one_pass ? it->next < it->blocks / it->kind->blocks : now() < it->end;
+    return it->kind->is_one_pass ? it->next < places(it) : now() < it->end;
 }
 
 /* Keeps as many requests on their way as the kind says, and waits for the last ones. */
@@ -191,9 +201,9 @@ static void prepare(struct connection *it, const char *uri, const struct kind *k
     if (!it->nbd || nbd_connect_uri(it->nbd, uri) == -1) fail("connect");
     for (unsigned k = 0; k < kind->depth; k++) {
         it->slots[k].connection = it;
-        it->slots[k].data = malloc((size_t)kind->blocks * BLOCK);
+        it->slots[k].data = malloc(length_of(kind));
         if (!it->slots[k].data) fail("memory");
-        for (size_t at = 0; at < (size_t)kind->blocks * BLOCK; at++) it->slots[k].data[at] = (char)(at * 31 + at / 251 + 1);
+        for (size_t at = 0; at < length_of(kind); at++) it->slots[k].data[at] = (char)(at * 31 + at / 251 + 1);
     }
 }
 

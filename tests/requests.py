@@ -1,0 +1,202 @@
+#!/usr/bin/env python3
+"""Requests of any bytes, and the ways to begin a session, over sockets of `serve` of the built program NBDJ: bytes in, bytes out.
+
+Each stream is sent in one piece and, where it is shorter than 400 bytes, in two that are parted at each place. What it has to be answered
+was computed by hand. Prints a line for each check that fails, and last 'N passed, M failed'.
+"""
+import contextlib
+import os
+import socket
+import subprocess
+import sys
+import tempfile
+
+import hostile
+from hostile import BLOCK, DISC, FLUSH, MIB, NBDJ, READ, STATUS, TRIM, WRITE, ZEROES, check, request, take
+
+FUA, NO_HOLE, DF, REQ_ONE = 1, 2, 4, 8
+MOST_PARTED = 400
+GREETING = bytes.fromhex("4e42444d41474943 49484156454f5054 0003")
+
+
+def simple(cookie, error=0):
+    return hostile.struct.pack(">IIQ", 0x67446698, error, cookie)
+
+
+def of(*parts):
+    """Bytes, and hexadecimal digits."""
+    return b"".join(bytes.fromhex(part) if isinstance(part, str) else part for part in parts)
+
+
+@contextlib.contextmanager
+def served(folder, name, blocks):
+    """The path of the socket of a server of a new image."""
+    image, path = os.path.join(folder, f"{name}.img"), os.path.join(folder, f"{name}.sock")
+    subprocess.run([NBDJ, "format", image, "--blocks", str(blocks), "--area", "2097152"], check=True, stdout=subprocess.DEVNULL, timeout=60)
+    with subprocess.Popen([NBDJ, "serve", image, "--unix", path], stdin=subprocess.DEVNULL, stdout=subprocess.PIPE, text=True) as server:
+        try:
+            check(f"{name}: it listens", f"listening {path}\n", server.stdout.readline())
+            yield path
+            check(f"{name}: it lives", None, server.poll())
+        finally:
+            server.kill()
+    os.unlink(image)
+
+
+def connected(path):
+    client = socket.socket(socket.AF_UNIX)
+    client.settimeout(20)
+    client.connect(path)
+    return client
+
+
+def shaken(path):
+    """A client that has structured replies and the context."""
+    client = connected(path)
+    client.sendall(hostile.LONG_HANDSHAKE)
+    take(client, 18)
+    answered = (0, 0)
+    while answered != (hostile.GO, 1):
+        _, asked, kind, length = hostile.struct.unpack(">QIII", take(client, 20))
+        take(client, length)
+        answered = asked, kind
+    return client
+
+
+def answers(begin, path, pieces, count):
+    """What the pieces are answered, up to one byte more than so many; the client ends its side behind them."""
+    with begin(path) as client:
+        for piece in pieces:
+            # (the server may close in the midst of it)
+            with contextlib.suppress(OSError):
+                client.sendall(piece)
+        with contextlib.suppress(OSError):
+            client.shutdown(socket.SHUT_WR)
+        return take(client, count + 1)
+
+
+def hold(name, begin, path, sent, wanted):
+    """A stream in one piece, and parted at each place."""
+    check(name, wanted.hex(" ", 4), answers(begin, path, [sent], len(wanted)).hex(" ", 4))
+    if len(sent) < MOST_PARTED:
+        wrong = [place for place in range(1, len(sent)) if answers(begin, path, [sent[:place], sent[place:]], len(wanted)) != wanted]
+        check(f"{name}: parted, where other bytes are written", [], wrong[:9])
+
+
+# A WRITE of block 0 in an image of 16 blocks, all bytes 'A', stands before each of these. Each leaves an image that answers it alike again.
+FIRST = request(WRITE, 1, 0, BLOCK) + b"A" * BLOCK
+
+REQUESTS = [
+    ("the states of a range within blocks", request(STATUS, 11, 100, 5000),
+     of("668e33ef 0001 0005 000000000000000b 00000014 00000001 00000f9c 00000000 000003ec 00000003")),
+    ("one state of it", request(STATUS, 12, 100, 5000, REQ_ONE),
+     of("668e33ef 0001 0005 000000000000000c 0000000c 00000001 00000f9c 00000000")),
+    ("a read over the end of data", request(READ, 13, 4000, 200),
+     of("668e33ef 0000 0001 000000000000000d 00000068 0000000000000fa0", b"A" * 96,
+        "668e33ef 0001 0002 000000000000000d 0000000c 0000000000001000 00000068")),
+    ("the same as one chunk", request(READ, 14, 4000, 200, DF),
+     of("668e33ef 0001 0001 000000000000000e 000000d0 0000000000000fa0", b"A" * 96, bytes(104))),
+    ("a read of the last byte", request(READ, 15, 65535, 1),
+     of("668e33ef 0001 0002 000000000000000f 0000000c 000000000000ffff 00000001")),
+    ("a read of one byte more", request(READ, 16, 65535, 2),
+     of("668e33ef 0001 8001 0000000000000010 00000006 00000016 0000")),
+    ("a write of one byte more", request(WRITE, 17, 65535, 2) + b"xy", simple(17, 28)),
+    ("zeroes of a block, and states from a byte before to a byte behind", request(ZEROES, 18, BLOCK, BLOCK, NO_HOLE) + request(STATUS, 19, 4095, 4098),
+     of(simple(18), "668e33ef 0001 0005 0000000000000013 0000001c 00000001 00000001 00000000 00001000 00000002 00000001 00000003")),
+    ("the state of a range inside a block", request(STATUS, 20, 4097, 10),
+     of("668e33ef 0001 0005 0000000000000014 0000000c 00000001 0000000a 00000003")),
+    ("a write with FUA over two holes, and a read around it", request(WRITE, 21, 8191, 3, FUA) + b"abc" + request(READ, 22, 8190, 6),
+     of(simple(21), "668e33ef 0001 0001 0000000000000016 0000000e 0000000000001ffe 006162630000")),
+    ("zeroes over the end of data, its states and its bytes",
+     request(ZEROES, 23, 3840, 512) + request(STATUS, 24, 0, 12288) + request(READ, 25, 3839, 2),
+     of(simple(23), "668e33ef 0001 0005 0000000000000018 00000014 00000001 00001000 00000000 00002000 00000003",
+        "668e33ef 0001 0001 0000000000000019 0000000a 0000000000000eff 4100")),
+    ("a trim inside blocks", request(TRIM, 26, 1, 8190) + request(READ, 27, 4095, 1),
+     of(simple(26), "668e33ef 0001 0001 000000000000001b 00000009 0000000000000fff 41")),
+    ("a trim of a block and a byte, and the block written again", request(TRIM, 28, 0, 4097) + request(READ, 29, 4095, 2) + FIRST,
+     of(simple(28), "668e33ef 0001 0002 000000000000001d 0000000c 0000000000000fff 00000002", simple(1))),
+]
+
+NOTHING = [
+    (f"{what} of no byte at {place}", request(kind, 30, place, 0),
+     of("668e33ef 0001 8001 000000000000001e 00000006 00000016 0000") if kind in (READ, STATUS) else simple(30, 22))
+    for what, kind in (("a read", READ), ("a write", WRITE), ("a trim", TRIM), ("zeroes", ZEROES), ("states", STATUS))
+    for place in (0, 5, 65536, 65537)
+]
+
+EXPORT_NAME = "49484156454f5054 00000001 00000000"
+# The export of 16 blocks, with simple replies.
+EXPORT = "0000000000010000 016d"
+
+BEGINNINGS = [
+    ("the name of the export, without zeroes", of("00000003", EXPORT_NAME), of(GREETING, EXPORT)),
+    ("the name of the export, with zeroes", of("00000001", EXPORT_NAME), of(GREETING, EXPORT, bytes(124))),
+    ("the name behind structured replies", of("00000003 49484156454f5054 00000008 00000000", EXPORT_NAME),
+     of(GREETING, "0003e889045565a9 00000008 00000001 00000000", "0000000000010000 01ed")),
+    ("the name of another export", of("00000003 49484156454f5054 00000001 00000001 61"), GREETING),
+    ("a GO that asks for nothing, and a read of a byte",
+     of("00000003 49484156454f5054 00000007 00000006 00000000 0000", request(READ, 2, 0, 1)),
+     of(GREETING, "0003e889045565a9 00000007 00000003 0000000c 0000", EXPORT, "0003e889045565a9 00000007 00000001 00000000",
+        simple(2), "00")),
+    ("an INFO that asks for sizes, and an ABORT",
+     of("00000003 49484156454f5054 00000006 00000008 00000000 0001 0003", "49484156454f5054 00000002 00000000"),
+     of(GREETING, "0003e889045565a9 00000006 00000003 0000000c 0000", EXPORT,
+        "0003e889045565a9 00000006 00000003 0000000e 0003 00000001 00001000 00100000", "0003e889045565a9 00000006 00000001 00000000",
+        "0003e889045565a9 00000002 00000001 00000000")),
+    ("the name of the export and a flush at once", of("00000001", EXPORT_NAME, request(FLUSH, 5, 0, 0)),
+     of(GREETING, EXPORT, bytes(124), simple(5))),
+]
+
+
+def requests(folder):
+    for number, (name, sent, wanted) in enumerate(REQUESTS):
+        with served(folder, f"requests-{number}", 16) as path:
+            check(f"{name}: the first write", simple(1), answers(shaken, path, [FIRST], 16))
+            hold(name, shaken, path, sent, wanted)
+            hold(f"{name}, and a DISC", shaken, path, sent + request(DISC, 9, 7, 7), wanted)
+
+
+def nothing(folder):
+    with served(folder, "nothing", 16) as path:
+        for name, sent, wanted in NOTHING:
+            hold(name, shaken, path, sent, wanted)
+
+
+def beginnings(folder):
+    with served(folder, "beginnings", 16) as path:
+        for name, sent, wanted in BEGINNINGS:
+            hold(name, connected, path, sent, wanted)
+
+
+def by_turns(folder):
+    """2,050 blocks, of which the even ones are data, all bytes 'A': states and bytes from byte 1 on."""
+    with served(folder, "turns", 2050) as path:
+        for begin in range(0, 2050, 256):
+            even = range(begin, min(begin + 256, 2050), 2)
+            sent = b"".join(request(WRITE, 1, block * BLOCK, BLOCK) + b"A" * BLOCK for block in even)
+            check(f"the even blocks from {begin} on", True, answers(shaken, path, [sent], 16 * len(even)) == simple(1) * len(even))
+        hold("1,024 states of many", shaken, path, request(STATUS, 255, 1, 2050 * BLOCK - 2),
+             of("668e33ef 0001 0005 00000000000000ff 00002004 00000001 00000fff 00000000", "00001000 00000003 00001000 00000000" * 511, "00001000 00000003"))
+        # 257 blocks are touched, the last one by one byte.
+        wanted = of("668e33ef 0000 0001 0000000000000007 00001007 0000000000000001", b"A" * 4095)
+        for block in range(1, 256, 2):
+            place = hostile.struct.pack(">Q", block * BLOCK)
+            wanted += of("668e33ef 0000 0002 0000000000000007 0000000c", place, "00001000")
+            if block < 255:
+                place = hostile.struct.pack(">Q", (block + 1) * BLOCK)
+                wanted += of("668e33ef 0000 0001 0000000000000007 00001008", place, b"A" * BLOCK)
+        wanted += of("668e33ef 0001 0001 0000000000000007 00000009 0000000000100000 41")
+        found = answers(shaken, path, [request(READ, 7, 1, MIB)], len(wanted))
+        check("a read of 1 MiB from byte 1 on", True, found == wanted or (len(wanted), len(found)))
+
+
+def main():
+    with tempfile.TemporaryDirectory() as folder:
+        for scenario in (requests, nothing, beginnings, by_turns):
+            hostile.guarded(scenario, folder)
+    print(f"{hostile.passed} passed, {hostile.failed} failed")
+    return hostile.failed > 0
+
+
+if __name__ == "__main__":
+    sys.exit(main())
