@@ -8,7 +8,8 @@
 - The shell block of README.md, a first served image, runs to its end, where its client is installed.
 - The man page, docs/nbdj.1: its synopsis, and of each command the texts, arguments, options, names of values, defaults and values, as
   the command's `--help` has them.
-- docs/DESIGN.md has the table of the crates that tools/crate-table makes of crates.txt.
+- docs/DESIGN.md has the table of the crates that tools/crate-table makes of crates.txt, and docs/HEADLINE.md those of the definitions
+  that tools/headline-definitions makes of the sources.
 - Prose wraps at 100 columns.
 """
 import glob
@@ -163,6 +164,12 @@ def check_design():
     check("the crates of the design", wanted, found and found[0])
 
 
+def check_headline():
+    wanted = subprocess.run([f"{TOP}/tools/headline-definitions"], capture_output=True, text=True, check=True).stdout.strip().split("\n\n")
+    found = re.findall(r"(?:^\|.*\n)+", read(f"{TOP}/docs/HEADLINE.md"), re.M)
+    check("the definitions of the guarantee", wanted, [it.rstrip("\n") for it in found])
+
+
 def check_columns():
     """Lines of prose and of lists; a table's row can't be broken, and a block of code has its own width."""
     for path in documents():
@@ -174,6 +181,7 @@ def check_columns():
 def main():
     check_refusals()
     check_design()
+    check_headline()
     check_columns()
     program = os.environ.get("NBDJ")
     if program and os.access(program, os.X_OK):
