@@ -71,6 +71,7 @@ fn with_threads<B: ExportName + Send + Sync, R: Threads + Wait + Clock + Sync>(
     export: &Export<B, SimDisk, ()>,
     mut pass: Pass<B>,
 ) -> Option<bool> {
+    export.store_within(rt, Duration::from_millis(5));
     thread::scope(thread::scope_env(), rt, move |scope| {
         let flusher = scope.spawn(move || export.flusher(rt, &mut ()));
         if flusher.is_err()
@@ -83,7 +84,6 @@ fn with_threads<B: ExportName + Send + Sync, R: Threads + Wait + Clock + Sync>(
         }
         let mut good = change_bytes(rt, alloc, export, &mut pass);
         good &= flush(rt, alloc, export, &mut pass);
-        export.store_within(rt, Duration::from_millis(5));
         good &= write_byte(rt, alloc, export, &mut pass, 0, place_of(0));
         good &= is_stored_in_time(rt, export, &mut pass);
         export.leave(rt, pass);
