@@ -1,15 +1,15 @@
 //! What a journal costs: the last touches of an area that is full of commands, a scan of it, and the opening of a device
 //! that has to be recovered.
 ghost use Rattle.std.specs.Prelude.{◌≤◌};
-ghost use Rattle.group_list.specs.Touches.{AreWithin};
+ghost use Rattle.journal_format.specs.Touches.{AreWithin};
 
 mod opening;
 mod scanning;
 pub mod touches;
 
 use anyhow::Result;
-use group_list::TouchedRange;
-use last_touches::LastTouches;
+use journal_format::TouchedRange;
+use latest_writes::LastTouches;
 use std::alloc::Global;
 use std::time::Instant;
 

@@ -7,12 +7,12 @@ use Rattle.header_slots.specs.declared.header.Areas.{Areas}
 use Rattle.image_model.specs.Side.{other_of}
 use Rattle.image_model.specs.Image.{Image, apply_all}
 use Rattle.checkpoint.specs.declared.fault.KeeperFault.TheVariants.{OutOfOrder}
-use Rattle.group_list.specs.declared.fault.JournalFault.{JournalFault}
-use Rattle.group_list.specs.declared.fault.JournalFault.TheVariants as journals
-use Rattle.group_list.specs.Area.{AreaState}
-use Rattle.group_list.specs.GroupList.{IsListStored, LeavesEither, size_of}
-use Rattle.group_list.specs.Spelling.{StoredGroup}
-use Rattle.group_list.specs.laws.Spelled.{sizes-push}
+use Rattle.journal_format.specs.declared.fault.JournalFault.{JournalFault}
+use Rattle.journal_format.specs.declared.fault.JournalFault.TheVariants as journals
+use Rattle.journal_format.specs.Area.{AreaState}
+use Rattle.journal_format.specs.GroupList.{IsListStored, LeavesEither, size_of}
+use Rattle.journal_format.specs.Spelling.{StoredGroup}
+use Rattle.journal_format.specs.laws.Spelled.{sizes-push}
 use Rattle.regions.specs.Layout.{block_at, area_at, behind}
 use Rattle.checkpoint.specs.Faults.{of_journal}
 use Rattle.device_image.specs.Keeper.{KeeperState, PlanState, earlier_of, phase_of}
@@ -24,7 +24,7 @@ use Rattle.device_image.specs.laws.Kept.{first, in_area, stands_more, stands_sam
 use Rattle.device_image.specs.laws.Lists.{KeepsLists}
 use Rattle.image_model.specs.Change.{Change}
 use Rattle.device_image.specs.Holds.{Holds}
-use Rattle.device_image.specs.laws.Holding.{holds_more}
+use Rattle.device_image.specs.laws.AfterCall.{holds_more}
 
 module _ {D : Type 0} (keeper : KeeperState D) (state : State) (image : Image) (number : ℕ) (keeps : Keeps keeper state image number) where
   torn_same : (content : List ℕ) → MayLeaveTorn state keeper.memory.area.from keeper.memory.area.bytes content → (place : ℕ)

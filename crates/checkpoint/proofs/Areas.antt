@@ -6,12 +6,12 @@ use Rattle.header_slots.specs.Header.{mode_of}
 use Rattle.header_slots.specs.declared.header.Areas.{Areas}
 use Rattle.header_slots.specs.declared.header.Header.{Header}
 use Rattle.image_model.specs.declared.side.Side.{Side}
-use Rattle.group_list.specs.Area.{AreaState}
-use Rattle.group_list.specs.GroupList.{HoldsList, IsDamaged, IsHeld, IsList, IsNextGroup, IsOpen, Lead, StandsAt, next_behind, size_of, sizes_of}
-use Rattle.group_list.specs.Spelling.{StoredGroup, group_bytes}
-use Rattle.group_list.specs.Scanning.{IsScanFault}
-use Rattle.group_list.specs.declared.fault.JournalFault.{JournalFault}
-use Rattle.group_list.specs.declared.fault.JournalFault.TheVariants as journals
+use Rattle.journal_format.specs.Area.{AreaState}
+use Rattle.journal_format.specs.GroupList.{HoldsList, IsDamaged, IsHeld, IsList, IsNextGroup, IsOpen, Lead, StandsAt, next_behind, size_of, sizes_of}
+use Rattle.journal_format.specs.Spelling.{StoredGroup, group_bytes}
+use Rattle.journal_format.specs.Scanning.{IsScanFault}
+use Rattle.journal_format.specs.declared.fault.JournalFault.{JournalFault}
+use Rattle.journal_format.specs.declared.fault.JournalFault.TheVariants as journals
 use Rattle.checkpoint.specs.Faults.{of_journal}
 use Rattle.device_image.specs.Keeps.{AreHeld, HoldsAreas, IsPlaced}
 use Rattle.device_image.specs.Damage.{IsAreaDamaged, IsOneDamaged}

@@ -7,7 +7,7 @@ use Rattle.header_slots.specs.Slots.{HoldsHeader}
 use Rattle.image_model.specs.Change.{Change}
 use Rattle.image_model.specs.Image.{Image, apply_all}
 use Rattle.image_model.specs.declared.command.Kind.TheVariants.{Data}
-use Rattle.group_list.specs.Reading.{IsOnlyRead}
+use Rattle.journal_format.specs.Reading.{IsOnlyRead}
 use Rattle.regions.specs.Layout.{behind, block_at, map_at}
 use Rattle.regions.specs.Map.{HoldsMap}
 use Rattle.device_image.specs.Holds.{Holds, IsBase, is_written}
@@ -16,7 +16,7 @@ use Rattle.device_image.specs.Keeps.{Keeps}
 use Rattle.device_image.specs.Stands.{StandsFor, HoldLists, all_changes, in_use, is_data, next_number, stored_image}
 use Rattle.device_image.specs.laws.Copied.{phase_on}
 use Rattle.device_image.specs.laws.Frame.{area_high, held_kept, one_kept, others_in_use}
-use Rattle.device_image.specs.laws.Holds.{holds_lists}
+use Rattle.device_image.specs.laws.AfterWrite.{holds_lists}
 use Rattle.device_image.specs.laws.Kept.{low_synced}
 use Rattle.device_image.specs.laws.Lists.{KeepsLists}
 use Rattle.checkpoint.proofs.Readings.{seen_steady}

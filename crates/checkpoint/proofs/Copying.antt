@@ -5,12 +5,12 @@ use Rattle.header_slots.specs.Header.{mode_of}
 use Rattle.header_slots.specs.declared.header.Areas.{Areas}
 use Rattle.header_slots.specs.declared.header.Header.{Header}
 use Rattle.image_model.specs.Image.{Image}
-use Rattle.group_list.specs.Area.{AreaState}
-use Rattle.group_list.specs.Spelling.{StoredGroup}
-use Rattle.group_list.specs.Touches.{last_touch, touched_by_groups}
-use Rattle.group_list.specs.declared.touch.Touch.TheVariants.{Put}
-use Rattle.group_list.specs.declared.touch.TouchedRange.{TouchedRange}
-use Rattle.last_touches.specs.declared.range.PutRange.{PutRange}
+use Rattle.journal_format.specs.Area.{AreaState}
+use Rattle.journal_format.specs.Spelling.{StoredGroup}
+use Rattle.journal_format.specs.Touches.{last_touch, touched_by_groups}
+use Rattle.journal_format.specs.declared.touch.Touch.TheVariants.{Put}
+use Rattle.journal_format.specs.declared.touch.TouchedRange.{TouchedRange}
+use Rattle.latest_writes.specs.declared.range.PutRange.{PutRange}
 use Rattle.regions.specs.Layout.{block_at, ring}
 use Rattle.device_image.specs.Copied.{IsCopiedOver}
 use Rattle.device_image.specs.Free.{to_be_copied}
@@ -24,7 +24,7 @@ use Rattle.device_image.specs.laws.Puts.{all_counted, none_counted}
 use Rattle.device_image.specs.laws.Lists.{KeepsLists}
 use Rattle.image_model.specs.Change.{Change}
 use Rattle.device_image.specs.Holds.{Holds}
-use Rattle.device_image.specs.laws.Holding.{holds_still}
+use Rattle.device_image.specs.laws.AfterCall.{holds_still}
 
 -- the first area, where two are in use
 pub record IsFirst (area : AreaState) (header : Header) (front : List (List StoredGroup)) : Type 0 where

@@ -9,7 +9,7 @@ use Rattle.regions.specs.Layout.{map_at}
 use Rattle.regions.specs.Map.{HoldsMap}
 use Rattle.regions.specs.Writes.{IsMapWritten, IsSameOutside}
 use Rattle.device_image.specs.Copied.{IsMapStored}
-use Rattle.device_image.specs.laws.Turned.{slot_kept}
+use Rattle.device_image.specs.laws.HeaderReplaced.{slot_kept}
 
 pub map_stored : (before mid after : State) (geometry : Geometry) (slot : Side) (states : List Kind) {extent other : ℕ} → IsSound extent before → IsSound other mid → other ≡ extent → IsSteady before
     → HoldsMap mid.seen (map_at geometry slot) geometry.blocks states → IsMapWritten before (map_at geometry slot) states mid

@@ -5,7 +5,7 @@ use Rattle.image_model.specs.Geometry.{map_bytes_of}
 use Rattle.image_model.specs.Image.{Image}
 use Rattle.image_model.specs.Side.{other_of}
 use Rattle.image_model.specs.declared.command.Kind.{Kind}
-use Rattle.group_list.specs.declared.touch.TouchedRange.{TouchedRange}
+use Rattle.journal_format.specs.declared.touch.TouchedRange.{TouchedRange}
 use Rattle.regions.specs.Layout.{block_at, map_at}
 use Rattle.device_image.specs.Copied.{IsMapStored}
 use Rattle.device_image.specs.Free.{in_spare_map}
@@ -20,7 +20,7 @@ use Rattle.checkpoint.proofs.Copying.{copying, first}
 use Rattle.device_image.specs.laws.Lists.{KeepsLists}
 use Rattle.image_model.specs.Change.{Change}
 use Rattle.device_image.specs.Holds.{Holds}
-use Rattle.device_image.specs.laws.Holding.{holds_still}
+use Rattle.device_image.specs.laws.AfterCall.{holds_still}
 
 module _ {D : Type 0} (keeper : KeeperState D) (state : State) (image : Image) (number : ℕ) (keeps : Keeps keeper state image number) where
   -- while the map slot that isn't in force is written

@@ -11,10 +11,10 @@ use Rattle.image_model.specs.declared.geometry.Geometry.{Geometry}
 use Rattle.image_model.specs.declared.side.Side.{Side}
 use Rattle.image_model.specs.Image.{Image, apply_all}
 use Rattle.image_model.specs.declared.command.Kind.{Kind}
-use Rattle.group_list.specs.Area.{AreaState}
-use Rattle.group_list.specs.GroupList.{IsHeld, next_behind, changes_of}
-use Rattle.group_list.specs.Spelling.{StoredGroup}
-use Rattle.group_list.specs.Touches.{touched_by_groups}
+use Rattle.journal_format.specs.Area.{AreaState}
+use Rattle.journal_format.specs.GroupList.{IsHeld, next_behind, changes_of}
+use Rattle.journal_format.specs.Spelling.{StoredGroup}
+use Rattle.journal_format.specs.Touches.{touched_by_groups}
 use Rattle.regions.specs.Layout.{area_at, behind, ring}
 use Rattle.device_image.specs.Keeper.{KeeperState, PlanState, count_puts, earlier_of, phase_in, phase_of}
 use Rattle.device_image.specs.Keeps.{AreHeld, IsCopying, IsInPhase, IsMapWritten, IsPlaced, Keeps, behind_lists}
@@ -25,7 +25,7 @@ use Rattle.checkpoint.specs.declared.fault.KeeperFault.{KeeperFault}
 use Rattle.checkpoint.specs.declared.fault.KeeperFault.TheVariants.{NoMemory, DeviceFault, BadMap, NoHeader, BadHeader, NumbersFull, AreaFull, OutOfOrder, DamagedGroup, NotNow, Failed}
 use Rattle.device_image.specs.laws.Frame.{all_changes-append, held_lists, moved_list, ring-last, with_last}
 use Rattle.device_image.specs.laws.Sole.{one_image, one_number}
-use Rattle.device_image.specs.laws.Turned.{follows}
+use Rattle.device_image.specs.laws.HeaderReplaced.{follows}
 use Rattle.device_image.specs.laws.Puts.{count_zero}
 use Rattle.checkpoint.proofs.Refused.{never_refused}
 

@@ -9,7 +9,7 @@ use Rattle.header_slots.specs.declared.fault.HeaderFault.TheVariants as headers
 use Rattle.header_slots.specs.declared.header.Header.{Header}
 use Rattle.image_model.specs.declared.side.Side.{Side}
 use Rattle.image_model.specs.declared.command.Kind.{Kind}
-use Rattle.group_list.specs.Reading.{IsOnlyRead}
+use Rattle.journal_format.specs.Reading.{IsOnlyRead}
 use Rattle.regions.specs.Layout.{map_at}
 use Rattle.regions.specs.Map.{HoldsMap, IsMapReading}
 use Rattle.regions.specs.declared.fault.RegionFault.{RegionFault}

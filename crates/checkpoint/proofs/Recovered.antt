@@ -7,7 +7,7 @@ use Rattle.image_model.specs.Image.{Image, apply_all}
 use Rattle.checkpoint.specs.Keeper.{refused_by}
 use Rattle.checkpoint.specs.Steps.{copied_by, finished_by, left_in}
 use Rattle.device_image.specs.Holds.{Holds}
-use Rattle.device_image.specs.laws.Holding.{held_as, keeps_again}
+use Rattle.device_image.specs.laws.AfterCall.{held_as, keeps_again}
 use Rattle.image_model.specs.Change.{Change}
 use Rattle.checkpoint.specs.declared.fault.KeeperFault.{KeeperFault}
 use Rattle.checkpoint.specs.declared.fault.KeeperFault.TheVariants.{NoMemory, DeviceFault, BadMap, NoHeader, BadHeader, NumbersFull, AreaFull, OutOfOrder, DamagedGroup, NotNow, Failed}

@@ -11,10 +11,10 @@ use Rattle.image_model.specs.Image.{Image}
 use Rattle.image_model.specs.declared.command.Kind.{Kind}
 use Rattle.image_model.specs.declared.geometry.Geometry.{Geometry}
 use Rattle.image_model.specs.declared.side.Side.{Side}
-use Rattle.group_list.specs.Area.{AreaState}
-use Rattle.group_list.specs.GroupList.{Stand, size_of, sizes_of}
-use Rattle.group_list.specs.Spelling.{StoredGroup}
-use Rattle.group_list.specs.laws.OneList.{one_list}
+use Rattle.journal_format.specs.Area.{AreaState}
+use Rattle.journal_format.specs.GroupList.{Stand, size_of, sizes_of}
+use Rattle.journal_format.specs.Spelling.{StoredGroup}
+use Rattle.journal_format.specs.laws.OneList.{one_list}
 use Rattle.regions.specs.Layout.{area_at, behind, ring}
 use Rattle.device_image.specs.Keeper.{KeeperState, One, PlanState, earlier_of, phase_in, phase_of}
 use Rattle.device_image.specs.Keeps.{AreHeld, IsInPhase, Keeps, behind_lists}

@@ -13,11 +13,11 @@ use Rattle.image_model.specs.Image.{Image, apply_all}
 use Rattle.image_model.specs.declared.command.Kind.{Kind}
 use Rattle.image_model.specs.declared.command.Kind.TheVariants.{Data, Zero, Hole}
 use Rattle.image_model.specs.declared.side.Side.{Side}
-use Rattle.group_list.specs.Area.{AreaState}
-use Rattle.group_list.specs.GroupList.{changes_of, next_behind}
-use Rattle.group_list.specs.Touches.{kind_after, last_touch, later}
-use Rattle.group_list.specs.declared.touch.TouchedRange.{TouchedRange}
-use Rattle.group_list.specs.laws.LastTouches.{groups_kind}
+use Rattle.journal_format.specs.Area.{AreaState}
+use Rattle.journal_format.specs.GroupList.{changes_of, next_behind}
+use Rattle.journal_format.specs.Touches.{kind_after, last_touch, later}
+use Rattle.journal_format.specs.declared.touch.TouchedRange.{TouchedRange}
+use Rattle.journal_format.specs.laws.LastTouches.{groups_kind}
 use Rattle.regions.specs.Layout.{ring}
 use Rattle.device_image.specs.Keeper.{PlanState, earlier_of}
 use Rattle.device_image.specs.Keeps.{AreHeld}
@@ -26,9 +26,9 @@ use Rattle.device_image.specs.laws.Frame.{all_changes-append, apply_all-append, 
 use Rattle.checkpoint.specs.Opening.{IsOpened}
 use Rattle.checkpoint.specs.Report.{AreStatesBehind, IsReport, blocks_of}
 use Rattle.checkpoint.proofs.Opened.{last_number, opened_image, opened_stands}
-use Rattle.group_list.specs.declared.touch.Touch.{Touch}
-use Rattle.group_list.specs.declared.touch.Touch.TheVariants.{Put, Clear}
-use Rattle.group_list.specs.Spelling.{StoredGroup}
+use Rattle.journal_format.specs.declared.touch.Touch.{Touch}
+use Rattle.journal_format.specs.declared.touch.Touch.TheVariants.{Put, Clear}
+use Rattle.journal_format.specs.Spelling.{StoredGroup}
 use Rattle.image_model.specs.declared.geometry.Geometry.{Geometry}
 
 count_map : (p : Kind → Bool) (f : ℕ → Kind) (places : List ℕ) → count_by p (map f places) ≡ count_by (λ place. p (f place)) places

@@ -10,22 +10,22 @@ use Rattle.image_model.specs.Side.{other_of}
 use Rattle.image_model.specs.declared.command.Kind.{Kind}
 use Rattle.image_model.specs.declared.geometry.Geometry.{Geometry}
 use Rattle.image_model.specs.declared.side.Side.{Side}
-use Rattle.group_list.specs.Area.{AreaState}
-use Rattle.group_list.specs.GroupList.{changes_of}
+use Rattle.journal_format.specs.Area.{AreaState}
+use Rattle.journal_format.specs.GroupList.{changes_of}
 use Rattle.regions.specs.Layout.{block_at, area_at}
 use Rattle.device_image.specs.Copied.{IsTurnBegun, LeavesTurn}
 use Rattle.checkpoint.specs.Steps.{IsFinishTime, map_after, map_in}
 use Rattle.device_image.specs.Keeper.{KeeperState, PlanState, count_puts, phase_in, phase_of, turned_of, Copying}
 use Rattle.device_image.specs.Keeps.{IsInPhase, Keeps}
 use Rattle.device_image.specs.Stands.{StandsFor}
-use Rattle.device_image.specs.Turn.{begun, ended}
+use Rattle.device_image.specs.CheckpointHeader.{begun, ended}
 use Rattle.device_image.specs.laws.Frame.{area_high, area_low}
-use Rattle.device_image.specs.laws.Turning.{all_synced, base_is, begin_left, end_left, keeps_begun, keeps_ended, two}
+use Rattle.device_image.specs.laws.CheckpointBounds.{all_synced, base_is, begin_left, end_left, keeps_begun, keeps_ended, two}
 use Rattle.device_image.specs.laws.Puts.{count_zero}
 use Rattle.device_image.specs.laws.Lists.{KeepsLists}
 use Rattle.image_model.specs.Change.{Change}
 use Rattle.device_image.specs.Holds.{Holds}
-use Rattle.device_image.specs.laws.Holding.{holds_begun, holds_ended}
+use Rattle.device_image.specs.laws.AfterCall.{holds_begun, holds_ended}
 use Rattle.device_image.specs.Remembers.{Remembers}
 use Rattle.device_image.specs.laws.Counted.{left_dirty}
 use Rattle.std.specs.FinMap.{len}

@@ -3,8 +3,8 @@ use Rattle.checkpoint.specs.declared.fault.KeeperFault.{KeeperFault}
 use Rattle.checkpoint.specs.declared.fault.KeeperFault.TheVariants.{NoMemory, DeviceFault, BadMap, NoHeader, BadHeader, AreaFull, OutOfOrder, DamagedGroup}
 use Rattle.header_slots.specs.declared.fault.HeaderFault.{HeaderFault}
 use Rattle.header_slots.specs.declared.fault.HeaderFault.TheVariants as headers
-use Rattle.group_list.specs.declared.fault.JournalFault.{JournalFault}
-use Rattle.group_list.specs.declared.fault.JournalFault.TheVariants as journals
+use Rattle.journal_format.specs.declared.fault.JournalFault.{JournalFault}
+use Rattle.journal_format.specs.declared.fault.JournalFault.TheVariants as journals
 use Rattle.regions.specs.declared.fault.RegionFault.{RegionFault}
 use Rattle.regions.specs.declared.fault.RegionFault.TheVariants as regions
 

@@ -4,8 +4,8 @@ use Rattle.device_image.specs.Keeper.{KeeperState, Memory}
 use Rattle.disk_model.specs.Faults.{counted}
 use Rattle.image_model.specs.Command.{bodies_of}
 use Rattle.image_model.specs.declared.geometry.Geometry.{Geometry}
-use Rattle.group_list.specs.Area.{AreaState}
-use Rattle.group_list.specs.Group.{Numbered}
+use Rattle.journal_format.specs.Area.{AreaState}
+use Rattle.journal_format.specs.Group.{Numbered}
 use Rattle.checkpoint.specs.declared.fault.KeeperFault.{KeeperFault}
 use Rattle.checkpoint.specs.declared.fault.KeeperFault.TheVariants.{NoMemory, DeviceFault, BadMap, NoHeader, BadHeader, NumbersFull, AreaFull, OutOfOrder, DamagedGroup, NotNow, Failed}
 

@@ -7,9 +7,9 @@ use Rattle.image_model.specs.declared.side.Side.{Side}
 use Rattle.image_model.specs.Image.{Image}
 use Rattle.image_model.specs.declared.command.Kind.{Kind}
 use Rattle.disk_model.specs.Disk.{State, IsAllSynced, LeavesOnly, MayLeave}
-use Rattle.group_list.specs.Area.{AreaState}
-use Rattle.group_list.specs.GroupList.{IsList}
-use Rattle.group_list.specs.Spelling.{StoredGroup}
+use Rattle.journal_format.specs.Area.{AreaState}
+use Rattle.journal_format.specs.GroupList.{IsList}
+use Rattle.journal_format.specs.Spelling.{StoredGroup}
 use Rattle.regions.specs.Layout.{map_at}
 use Rattle.regions.specs.Map.{HoldsMap}
 use Rattle.device_image.specs.Keeper.{KeeperState, PlanState, count_puts, earlier_of}

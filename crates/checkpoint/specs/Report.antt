@@ -5,7 +5,7 @@ use Rattle.alloc_map.specs.Codes.{is_state}
 use Rattle.image_model.specs.Image.{Image}
 use Rattle.image_model.specs.declared.command.Kind.{Kind}
 use Rattle.image_model.specs.declared.command.Kind.TheVariants.{Data, Zero, Hole}
-use Rattle.group_list.specs.Area.{AreaState}
+use Rattle.journal_format.specs.Area.{AreaState}
 use Rattle.device_image.specs.Keeper.{AreStatesAfter, PlanState}
 use Rattle.device_image.specs.Stands.{StandsFor}
 use Rattle.checkpoint.specs.declared.report.Report.{Report}

@@ -3,8 +3,8 @@ ghost use Rattle.checkpoint.specs.Faults.{of_header, of_journal, of_region};
 ghost use Rattle.checkpoint.specs.declared.fault.KeeperFault.TheVariants as KeeperFault;
 
 use disk_model::DeviceFault;
-use group_list::JournalFault;
 use header_slots::HeaderFault;
+use journal_format::JournalFault;
 use regions::RegionFault;
 use std::alloc::AllocError;
 use thiserror::Error;

@@ -6,20 +6,20 @@ ghost use Rattle.checkpoint.specs.Opening.{IsGroupsRefused, IsOpened, IsRefused,
 ghost use Rattle.checkpoint.specs.Recovery.{IsBegun};
 ghost use Rattle.checkpoint.specs.declared.fault.KeeperFault.TheVariants as KeeperFault;
 ghost use Rattle.device_image.specs.Keeper.{earlier_of, turned_of};
-ghost use Rattle.group_list.specs.GroupList.{HoldsList, IsDamaged};
+ghost use Rattle.journal_format.specs.GroupList.{HoldsList, IsDamaged};
 ghost use Rattle.device_image.specs.Stands.{area_of, next_number};
 ghost use Rattle.disk_model.specs.Disk.{IsAllSynced, LeavesOnly, MayLeave};
 ghost use Rattle.image_model.specs.Geometry.{device_bytes_of};
 ghost use Rattle.image_model.specs.Image.{Image};
 ghost use Rattle.header_slots.specs.Header.{mode_of};
-ghost use Rattle.group_list.specs.Reading.{IsOnlyRead};
-ghost use Rattle.group_list.specs.Spelling.{StoredGroup};
+ghost use Rattle.journal_format.specs.Reading.{IsOnlyRead};
+ghost use Rattle.journal_format.specs.Spelling.{StoredGroup};
 ghost use Rattle.regions.specs.Layout.{behind};
 
 use crate::fault::KeeperFault;
 use crate::keeper::Keeper;
 use alloc_map::AllocMap;
-use copy_plan::{CopyPlan, last_touches};
+use copy_plan::{CopyPlan, latest_writes};
 use disk_model::Disk;
 use header_slots::{Areas, Header, read_current};
 use image_model::{Geometry, Side};
@@ -168,7 +168,7 @@ fn read_areas<D: Disk>(
         Areas::Two => {
             let first = read_area(alloc, disk, geometry, header.first_area, next)?;
             let side = header.first_area.other();
-            let touches = last_touches(alloc, &first, geometry.blocks as u32)?;
+            let touches = latest_writes(alloc, &first, geometry.blocks as u32)?;
             let area = read_area(alloc, disk, geometry, side, first.next())?;
             Ok((Some(CopyPlan::of(first, touches)), area))
         }

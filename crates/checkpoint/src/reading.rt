@@ -6,7 +6,7 @@ ghost use Rattle.device_image.specs.Holds.{Holds, is_written};
 ghost use Rattle.image_model.specs.Change.{Change};
 ghost use Rattle.image_model.specs.Image.{Image};
 ghost use Rattle.image_model.specs.declared.command.Kind.TheVariants.{Data};
-ghost use Rattle.group_list.specs.Reading.{IsOnlyRead};
+ghost use Rattle.journal_format.specs.Reading.{IsOnlyRead};
 
 use crate::fault::KeeperFault;
 use crate::keeper::Keeper;

@@ -3,7 +3,7 @@ ghost use Rattle.checkpoint.specs.Keeper.{faults_by};
 ghost use Rattle.checkpoint.specs.Opening.{IsRefused};
 ghost use Rattle.checkpoint.specs.Report.{AreStatesBehind, IsReport};
 ghost use Rattle.disk_model.specs.Disk.{IsAllSynced};
-ghost use Rattle.group_list.specs.Reading.{IsOnlyRead};
+ghost use Rattle.journal_format.specs.Reading.{IsOnlyRead};
 
 use crate::fault::KeeperFault;
 use crate::keeper::Keeper;

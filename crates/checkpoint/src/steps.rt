@@ -9,7 +9,7 @@ ghost use Rattle.device_image.specs.Remembers.{Remembers};
 ghost use Rattle.image_model.specs.Dirty.{dirty_blocks};
 ghost use Rattle.std.specs.FinMap.{len};
 ghost use Rattle.device_image.specs.Stands.{StandsFor};
-ghost use Rattle.device_image.specs.Turn.{with_both, with_second};
+ghost use Rattle.device_image.specs.CheckpointHeader.{with_both, with_second};
 ghost use Rattle.disk_model.specs.Disk.{LeavesOnly};
 ghost use Rattle.image_model.specs.Change.{Change};
 ghost use Rattle.image_model.specs.Image.{Image, apply_all};
@@ -19,7 +19,7 @@ ghost use Rattle.regions.specs.Layout.{area_at};
 use crate::device_steps::{begin_turn, copy_over, store_map};
 use crate::fault::KeeperFault;
 use crate::keeper::Keeper;
-use copy_plan::{CopyPlan, last_touches};
+use copy_plan::{CopyPlan, latest_writes};
 use disk_model::Disk;
 use header_slots::{Areas, Header, HeaderChange, change_header};
 use image_model::BLOCK_BYTES;
@@ -151,7 +151,7 @@ impl<D: Disk> Keeper<D> {
             return Err(KeeperFault::NumbersFull);
         };
         let geometry = self.header.geometry;
-        let touches = last_touches(self.alloc, &self.area, geometry.blocks as u32)?;
+        let touches = latest_writes(self.alloc, &self.area, geometry.blocks as u32)?;
         let mut next = self.other_area();
         match begin_turn(&mut self.disk, &mut next, self.slot, &header) {
             Ok(()) => {

@@ -7,17 +7,17 @@ use Rattle.image_model.specs.Patched.{patched}
 use Rattle.image_model.specs.declared.command.Kind.{Kind}
 use Rattle.image_model.specs.declared.command.Kind.TheVariants.{Hole}
 use Rattle.image_model.specs.laws.Positions.{filled_at}
-use Rattle.group_list.specs.Touches.{kind_after}
-use Rattle.group_list.specs.declared.touch.Touch.{Touch}
-use Rattle.group_list.specs.declared.touch.TouchedRange.{TouchedRange}
+use Rattle.journal_format.specs.Touches.{kind_after}
+use Rattle.journal_format.specs.declared.touch.Touch.{Touch}
+use Rattle.journal_format.specs.declared.touch.TouchedRange.{TouchedRange}
 use Rattle.device_image.specs.Keeper.{AreStatesAfter}
-use Rattle.last_touches.specs.declared.touch.LastTouch.{LastTouch}
-use Rattle.last_touches.specs.declared.touch.LastTouch.TheVariants.{Put, Clear}
-use Rattle.last_touches.specs.declared.range.LastRange.{LastRange}
-use Rattle.last_touches.specs.Touches.{later, said_by, touch_on_device, touch_within}
-use Rattle.last_touches.specs.Ranges.{AreLastTouches, AreRanges, touch_at}
+use Rattle.latest_writes.specs.declared.touch.LastTouch.{LastTouch}
+use Rattle.latest_writes.specs.declared.touch.LastTouch.TheVariants.{Put, Clear}
+use Rattle.latest_writes.specs.declared.range.LastRange.{LastRange}
+use Rattle.latest_writes.specs.Touches.{later, said_by, touch_on_device, touch_within}
+use Rattle.latest_writes.specs.Ranges.{AreLastTouches, AreRanges, touch_at}
 use Rattle.copy_plan.specs.Plan.{kind_given}
-use Rattle.last_touches.specs.laws.Said.{AreRanges-order, touch_at-append}
+use Rattle.latest_writes.specs.laws.Said.{AreRanges-order, touch_at-append}
 
 -- ranges end in time
 pub range_ends : (from to : ℕ) (ranges : List LastRange) (index : ℕ) (d : LastRange) → AreRanges from to ranges → index < length ranges → (get_or ranges index d).first + (get_or ranges index d).blocks ≤ to

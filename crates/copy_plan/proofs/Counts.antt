@@ -2,14 +2,14 @@
 use Rattle.std.proofs.Common.{◌≡◌, ℕ, zero, suc, ◌+◌, ◌≤◌, ◌<◌, cond, if◌then◌else◌, count_by, Option, Some, None, List, [], ◌∷◌, ◌++◌, sym, ◌∙◌, ap, refl, arith}
 use Rattle.std.specs.List.{range_with_len}
 use Rattle.std.proofs.lemmas.List.Sums.{sum_by_push}
-use Rattle.group_list.specs.Touches.{last_touch}
-use Rattle.group_list.specs.declared.touch.TouchedRange.{TouchedRange}
-use Rattle.last_touches.specs.declared.touch.LastTouch.{LastTouch}
-use Rattle.last_touches.specs.declared.touch.LastTouch.TheVariants.{Put, Clear}
-use Rattle.last_touches.specs.declared.range.LastRange.{LastRange}
-use Rattle.last_touches.specs.Touches.{touch_on_device}
-use Rattle.last_touches.specs.Ranges.{AreLastTouches, touch_at}
-use Rattle.last_touches.specs.Puts as puts
+use Rattle.journal_format.specs.Touches.{last_touch}
+use Rattle.journal_format.specs.declared.touch.TouchedRange.{TouchedRange}
+use Rattle.latest_writes.specs.declared.touch.LastTouch.{LastTouch}
+use Rattle.latest_writes.specs.declared.touch.LastTouch.TheVariants.{Put, Clear}
+use Rattle.latest_writes.specs.declared.range.LastRange.{LastRange}
+use Rattle.latest_writes.specs.Touches.{touch_on_device}
+use Rattle.latest_writes.specs.Ranges.{AreLastTouches, touch_at}
+use Rattle.latest_writes.specs.Puts as puts
 use Rattle.device_image.specs.Keeper.{count_puts, is_put}
 use Rattle.device_image.specs.laws.Puts.{count_suc, count_zero, one_if}
 

@@ -3,14 +3,14 @@ use Rattle.std.proofs.Common.{◌≡◌, ⊎_elim, ℕ, ◌+◌, ◌-◌, ◌*�
 use Rattle.std.proofs.lemmas.Bool.{cases_lt}
 use Rattle.std.specs.Prelude.{IfSome}
 use Rattle.image_model.specs.declared.command.Kind.{Kind}
-use Rattle.group_list.specs.Touches.{last_touch}
-use Rattle.group_list.specs.declared.touch.Touch.TheVariants as journal
-use Rattle.group_list.specs.laws.Within.{last_put_within}
-use Rattle.last_touches.specs.Resolved.{ResolvedTouches}
-use Rattle.last_touches.specs.Touches.{touch_on_device}
-use Rattle.last_touches.specs.Puts.{HasNoPut, IsNextPut}
-use Rattle.last_touches.specs.declared.range.PutRange.{PutRange}
-use Rattle.last_touches.specs.declared.touch.LastTouch.{LastTouch}
+use Rattle.journal_format.specs.Touches.{last_touch}
+use Rattle.journal_format.specs.declared.touch.Touch.TheVariants as journal
+use Rattle.journal_format.specs.laws.Within.{last_put_within}
+use Rattle.latest_writes.specs.Resolved.{ResolvedTouches}
+use Rattle.latest_writes.specs.Touches.{touch_on_device}
+use Rattle.latest_writes.specs.Puts.{HasNoPut, IsNextPut}
+use Rattle.latest_writes.specs.declared.range.PutRange.{PutRange}
+use Rattle.latest_writes.specs.declared.touch.LastTouch.{LastTouch}
 use Rattle.device_image.specs.Keeper.{PlanState, count_puts, is_put}
 use Rattle.copy_plan.specs.Plan.{IsNextCopy, IsPlan}
 use Rattle.copy_plan.proofs.Counts.{is_put_at}

@@ -1,15 +1,15 @@
 -- A checkpoint that is under way, in memory: what is left of it, and what comes next.
 use Rattle.std.specs.Prelude.{ℕ, ◌≡◌, ◌+◌, ◌*◌, ◌<◌, ◌≤◌, false, List, length, Option, Some, IfSome}
-use Rattle.group_list.specs.Area.{AreaState}
-use Rattle.group_list.specs.Touches.{AreWithin, last_touch}
+use Rattle.journal_format.specs.Area.{AreaState}
+use Rattle.journal_format.specs.Touches.{AreWithin, last_touch}
 use Rattle.image_model.specs.declared.command.Kind.{Kind}
 use Rattle.image_model.specs.declared.command.Kind.TheVariants.{Data}
-use Rattle.group_list.specs.declared.touch.Touch.TheVariants.{Put}
-use Rattle.last_touches.specs.Ranges.{AreLastTouches}
-use Rattle.last_touches.specs.Resolved.{ResolvedTouches}
-use Rattle.last_touches.specs.declared.range.PutRange.{PutRange}
-use Rattle.last_touches.specs.declared.touch.LastTouch.{LastTouch}
-use Rattle.last_touches.specs.declared.touch.LastTouch.TheVariants as last
+use Rattle.journal_format.specs.declared.touch.Touch.TheVariants.{Put}
+use Rattle.latest_writes.specs.Ranges.{AreLastTouches}
+use Rattle.latest_writes.specs.Resolved.{ResolvedTouches}
+use Rattle.latest_writes.specs.declared.range.PutRange.{PutRange}
+use Rattle.latest_writes.specs.declared.touch.LastTouch.{LastTouch}
+use Rattle.latest_writes.specs.declared.touch.LastTouch.TheVariants as last
 use Rattle.device_image.specs.Keeper.{PlanState, count_puts, is_put}
 
 -- what is kept with the first area: the last touches of its blocks, and how many of them are left to copy

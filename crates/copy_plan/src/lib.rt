@@ -3,4 +3,4 @@
 
 mod plan;
 
-pub use plan::{CopyPlan, last_touches, map_behind};
+pub use plan::{CopyPlan, latest_writes, map_behind};

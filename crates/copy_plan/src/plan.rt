@@ -1,14 +1,14 @@
 ghost use Rattle.std.specs.Prelude.{◌≡◌, ℕ, ◌+◌, ◌-◌, ◌*◌, ◌≤◌, List, length, is_some, IfNone, IfOk, IfSome, None, Some};
 ghost use Rattle.copy_plan.specs.Plan.{IsNextCopy, kind_given};
 ghost use Rattle.device_image.specs.Keeper.{AreStatesAfter, count_puts};
-ghost use Rattle.group_list.specs.Touches.{AreWithin};
-ghost use Rattle.group_list.specs.declared.touch.TouchedRange.{TouchedRange};
-ghost use Rattle.last_touches.specs.Ranges.{AreLastTouches};
+ghost use Rattle.journal_format.specs.Touches.{AreWithin};
+ghost use Rattle.journal_format.specs.declared.touch.TouchedRange.{TouchedRange};
+ghost use Rattle.latest_writes.specs.Ranges.{AreLastTouches};
 
 use alloc_map::AllocMap;
 use image_model::Kind;
 use journal::Area;
-use last_touches::{LastTouch, LastTouches, PutRange};
+use latest_writes::{LastTouch, LastTouches, PutRange};
 use std::alloc::{AllocError, Global};
 use std::marker::Model;
 
@@ -35,7 +35,7 @@ impl Model for CopyPlan {
 }
 
 /// The last touches of the blocks of an area. Refusal 0 (no memory).
-pub fn last_touches(alloc: Global, area: &Area, blocks: u32) -> Result<LastTouches, AllocError>
+pub fn latest_writes(alloc: Global, area: &Area, blocks: u32) -> Result<LastTouches, AllocError>
     requires bytes { area.now.bytes ≤ 1073741824 }
     requires blocks { blocks ≡ area.now.blocks }
     ensures blocks { IfOk result (λ touches. touches.blocks ≡ area.now.blocks) }
@@ -68,7 +68,7 @@ pub fn map_behind(
     requires count { length map.now ≡ area.now.blocks }
     ensures { IfOk result (λ after. AreStatesAfter area.now.touched map.now after) }
 {
-    let touches = last_touches(alloc, area, blocks)?;
+    let touches = latest_writes(alloc, area, blocks)?;
     laid_over(alloc, &touches, map)
 }
 

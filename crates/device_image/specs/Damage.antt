@@ -5,8 +5,8 @@ use Rattle.header_slots.specs.declared.header.Header.{Header}
 use Rattle.image_model.specs.declared.command.Kind.{Kind}
 use Rattle.image_model.specs.declared.geometry.Geometry.{Geometry}
 use Rattle.image_model.specs.declared.side.Side.{Side}
-use Rattle.group_list.specs.GroupList.{IsDamaged, IsList, next_behind}
-use Rattle.group_list.specs.Spelling.{StoredGroup}
+use Rattle.journal_format.specs.GroupList.{IsDamaged, IsList, next_behind}
+use Rattle.journal_format.specs.Spelling.{StoredGroup}
 use Rattle.regions.specs.Layout.{map_at}
 use Rattle.regions.specs.Map.{HoldsMap, HoldsBadMap}
 use Rattle.device_image.specs.Stands.{area_of, in_use, next_number}

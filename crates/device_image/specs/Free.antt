@@ -5,7 +5,7 @@ use Rattle.header_slots.specs.declared.header.Areas.{Areas}
 use Rattle.header_slots.specs.declared.header.Header.{Header}
 use Rattle.image_model.specs.Geometry.{map_bytes_of}
 use Rattle.image_model.specs.Side.{other_of}
-use Rattle.group_list.specs.Spelling.{StoredGroup}
+use Rattle.journal_format.specs.Spelling.{StoredGroup}
 use Rattle.regions.specs.Layout.{area_at, map_at}
 use Rattle.device_image.specs.Keeps.{IsCopyPlace}
 

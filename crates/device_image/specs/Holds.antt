@@ -7,7 +7,7 @@ use Rattle.image_model.specs.Change.{Change}
 use Rattle.image_model.specs.Image.{Image, apply_all, writes}
 use Rattle.image_model.specs.declared.command.Kind.{Kind}
 use Rattle.image_model.specs.declared.geometry.Geometry.{Geometry}
-use Rattle.group_list.specs.GroupList.{changes_of}
+use Rattle.journal_format.specs.GroupList.{changes_of}
 use Rattle.device_image.specs.Keeper.{KeeperState, One}
 use Rattle.device_image.specs.Keeps.{Keeps}
 use Rattle.device_image.specs.Stands.{all_changes, stored_image}

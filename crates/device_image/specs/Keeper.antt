@@ -4,12 +4,12 @@ use Rattle.header_slots.specs.declared.header.Header.{Header}
 use Rattle.image_model.specs.declared.command.Kind.{Kind}
 use Rattle.image_model.specs.declared.side.Side.{Side}
 use Rattle.image_model.specs.declared.geometry.Geometry.{Geometry}
-use Rattle.group_list.specs.Area.{AreaState}
+use Rattle.journal_format.specs.Area.{AreaState}
 use Rattle.alloc_map.specs.Codes.{state_at}
-use Rattle.group_list.specs.Touches.{kind_after, last_touch}
-use Rattle.group_list.specs.declared.touch.Touch.{Touch}
-use Rattle.group_list.specs.declared.touch.Touch.TheVariants.{Put, Clear}
-use Rattle.group_list.specs.declared.touch.TouchedRange.{TouchedRange}
+use Rattle.journal_format.specs.Touches.{kind_after, last_touch}
+use Rattle.journal_format.specs.declared.touch.Touch.{Touch}
+use Rattle.journal_format.specs.declared.touch.Touch.TheVariants.{Put, Clear}
+use Rattle.journal_format.specs.declared.touch.TouchedRange.{TouchedRange}
 
 -- where the checkpoint is
 pub data Phase : Type 0 where

@@ -9,12 +9,12 @@ use Rattle.image_model.specs.declared.command.Kind.{Kind}
 use Rattle.image_model.specs.declared.side.Side.{Side}
 use Rattle.image_model.specs.Image.{Image}
 use Rattle.image_model.specs.declared.geometry.Geometry.{Geometry}
-use Rattle.group_list.specs.Area.{AreaState}
-use Rattle.group_list.specs.GroupList.{IsHeld, next_behind, sizes_of}
-use Rattle.group_list.specs.Spelling.{StoredGroup}
-use Rattle.group_list.specs.Touches.{last_touch, touched_by_groups}
-use Rattle.group_list.specs.declared.touch.Touch.TheVariants.{Put}
-use Rattle.group_list.specs.declared.touch.TouchedRange.{TouchedRange}
+use Rattle.journal_format.specs.Area.{AreaState}
+use Rattle.journal_format.specs.GroupList.{IsHeld, next_behind, sizes_of}
+use Rattle.journal_format.specs.Spelling.{StoredGroup}
+use Rattle.journal_format.specs.Touches.{last_touch, touched_by_groups}
+use Rattle.journal_format.specs.declared.touch.Touch.TheVariants.{Put}
+use Rattle.journal_format.specs.declared.touch.TouchedRange.{TouchedRange}
 use Rattle.regions.specs.Layout.{area_at, behind, block_at, map_at, ring}
 use Rattle.regions.specs.Map.{HoldsMap}
 use Rattle.device_image.specs.Keeper.{AreStatesAfter, KeeperState, PlanState, count_puts, earlier_of, is_put, phase_of}

@@ -6,5 +6,5 @@ pub mod Keeper
 pub mod Keeps
 pub mod Remembers
 pub mod Stands
-pub mod Turn
+pub mod CheckpointHeader
 pub mod laws

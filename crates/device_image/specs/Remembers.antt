@@ -4,8 +4,8 @@ use Rattle.std.specs.List.{list_any}
 use Rattle.std.specs.Option.{is_some}
 use Rattle.image_model.specs.Change.{Change, AreChanges}
 use Rattle.image_model.specs.Dirty.{last_write, touches}
-use Rattle.group_list.specs.Touches.{last_touch}
-use Rattle.group_list.specs.declared.touch.TouchedRange.{TouchedRange}
+use Rattle.journal_format.specs.Touches.{last_touch}
+use Rattle.journal_format.specs.declared.touch.TouchedRange.{TouchedRange}
 use Rattle.device_image.specs.Keeper.{KeeperState, is_put}
 
 -- Ranges tell of a block what commands do to it: whether one touches it, and whether the last that does writes it.

@@ -12,9 +12,9 @@ use Rattle.image_model.specs.Image.{Image, apply_all}
 use Rattle.image_model.specs.declared.command.Kind.{Kind}
 use Rattle.image_model.specs.declared.command.Kind.TheVariants.{Hole}
 use Rattle.image_model.specs.declared.geometry.Geometry.{Geometry}
-use Rattle.group_list.specs.Area.{AreaState}
-use Rattle.group_list.specs.GroupList.{IsList, changes_of, next_behind}
-use Rattle.group_list.specs.Spelling.{StoredGroup}
+use Rattle.journal_format.specs.Area.{AreaState}
+use Rattle.journal_format.specs.GroupList.{IsList, changes_of, next_behind}
+use Rattle.journal_format.specs.Spelling.{StoredGroup}
 use Rattle.regions.specs.Layout.{area_at, block_at, map_at, ring}
 use Rattle.regions.specs.Map.{HoldsMap}
 

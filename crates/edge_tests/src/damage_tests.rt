@@ -1,9 +1,9 @@
 //! Groups of one command that are whole or damaged, by what the device is found to hold and by an opening.
 use checkpoint::{Keeper, KeeperFault};
 use disk_model::{Disk, SimDisk};
-use group_list::JournalFault;
 use image_model::Geometry;
 use journal::Area;
+use journal_format::JournalFault;
 use std::alloc::{AllocError, Global};
 use std::process::Abort;
 use std::test::Fail;

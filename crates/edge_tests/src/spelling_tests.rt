@@ -1,9 +1,9 @@
 //! Groups with edges against bytes computed by hand.
 use crate::groups::{bytes_of, clear, edged, one, put, two};
 use disk_model::{Disk, SimDisk};
-use group_list::JournalFault;
 use image_model::{Edges, Kind};
 use journal::{Area, Group};
+use journal_format::JournalFault;
 use std::alloc::{AllocError, Global};
 use std::process::Abort;
 use std::test::Fail;

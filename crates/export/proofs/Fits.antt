@@ -24,12 +24,12 @@ use Rattle.order_book.specs.declared.span.Span.{Span}
 use Rattle.request_core.specs.Reading.{IsKnownBy, IsReadOverServed, IsStatusServed}
 use Rattle.request_core.specs.Serving.{IsWriteServed, ready_for, served_after}
 use Rattle.request_core.specs.declared.serving.Served.{Served}
-use Rattle.world.specs.Log.{is_flush, is_write, is_write_type, waits_for_store}
-use Rattle.world.specs.Shown.{shown_by}
-use Rattle.world.specs.Verdict.{allowed_flags, first_of_rules, is_known, range_verdict, verdict}
-use Rattle.world.specs.declared.action.Action.{Action}
-use Rattle.world.specs.declared.action.Action.TheVariants.{End, Serve}
-use Rattle.world.specs.declared.step.Mode.{Mode}
+use Rattle.export_model.specs.Log.{is_flush, is_write, is_write_type, waits_for_store}
+use Rattle.export_model.specs.Shown.{shown_by}
+use Rattle.export_model.specs.Verdict.{allowed_flags, first_of_rules, is_known, range_verdict, verdict}
+use Rattle.export_model.specs.declared.action.Action.{Action}
+use Rattle.export_model.specs.declared.action.Action.TheVariants.{End, Serve}
+use Rattle.export_model.specs.declared.step.Mode.{Mode}
 use Rattle.export.specs.Submits.{FitsServed, IsJudged}
 
 -- the sixth rule didn't apply where none of them is the fourth

@@ -25,11 +25,11 @@ use Rattle.request_core.specs.Reading.{IsKnownBy, IsReadOverServed, IsStatusServ
 use Rattle.request_core.specs.Serving.{IsPassServed, IsWriteServed, accepted_for, ready_for, served_after}
 use Rattle.request_core.specs.declared.serving.Served.{Served}
 use Rattle.request_core.specs.declared.serving.Served.TheVariants as served
-use Rattle.world.specs.Log.{is_flush, is_write, is_write_type, waits_for_store}
-use Rattle.world.specs.Shown.{shown_by}
-use Rattle.world.specs.declared.action.Action.{Action}
-use Rattle.world.specs.declared.action.Action.TheVariants.{End, Serve}
-use Rattle.world.specs.declared.step.Mode.{Mode}
+use Rattle.export_model.specs.Log.{is_flush, is_write, is_write_type, waits_for_store}
+use Rattle.export_model.specs.Shown.{shown_by}
+use Rattle.export_model.specs.declared.action.Action.{Action}
+use Rattle.export_model.specs.declared.action.Action.TheVariants.{End, Serve}
+use Rattle.export_model.specs.declared.step.Mode.{Mode}
 use Rattle.export.specs.Submits.{IsAccepted, IsServedFor, IsSubmitted, IsWaitedFor}
 
 write_flushes_none : (kind : ℕ) → is_write_type kind ≡ true → (kind == 3) ≡ false

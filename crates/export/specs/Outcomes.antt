@@ -5,9 +5,9 @@ use Rattle.marks.specs.Known.{PassState, known}
 use Rattle.nbd_reply.specs.Reply.{IsAnswerTo}
 use Rattle.nbd_wire.specs.Request.{Message}
 use Rattle.nbd_wire.specs.declared.message.SessionFlags.{SessionFlags}
-use Rattle.world.specs.Log.{is_flush, is_write}
-use Rattle.world.specs.Verdict.{verdict}
-use Rattle.world.specs.declared.step.Mode.{Mode}
+use Rattle.export_model.specs.Log.{is_flush, is_write}
+use Rattle.export_model.specs.Verdict.{verdict}
+use Rattle.export_model.specs.declared.step.Mode.{Mode}
 use Rattle.export.specs.Submits.{IsAccepted, IsJudged, IsSubmitted, IsWaiting}
 use Rattle.export.specs.declared.submitting.Outcome.{Outcome}
 use Rattle.export.specs.declared.submitting.Outcome.TheVariants.{Answered, Waits}

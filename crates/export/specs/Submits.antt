@@ -13,12 +13,12 @@ use Rattle.nbd_wire.specs.declared.message.Answer.TheVariants.{Done, Refused}
 use Rattle.nbd_wire.specs.declared.message.SessionFlags.{SessionFlags}
 use Rattle.request_core.specs.declared.serving.Served.{Served}
 use Rattle.request_core.specs.declared.serving.Served.TheVariants as served
-use Rattle.world.specs.Log.{edit_asked, is_flush, is_write, waits_for_store}
-use Rattle.world.specs.Shown.{shown_by}
-use Rattle.world.specs.Verdict.{verdict}
-use Rattle.world.specs.declared.action.Action.{Action}
-use Rattle.world.specs.declared.action.Action.TheVariants.{End, Serve}
-use Rattle.world.specs.declared.step.Mode.{Mode}
+use Rattle.export_model.specs.Log.{edit_asked, is_flush, is_write, waits_for_store}
+use Rattle.export_model.specs.Shown.{shown_by}
+use Rattle.export_model.specs.Verdict.{verdict}
+use Rattle.export_model.specs.declared.action.Action.{Action}
+use Rattle.export_model.specs.declared.action.Action.TheVariants.{End, Serve}
+use Rattle.export_model.specs.declared.step.Mode.{Mode}
 
 -- the pass's own command is what the request's edit becomes over an image, under a number above all that it knew before
 pub record IsAccepted (request : Message) (number : ℕ) (old new : PassState) : Type 0 where

@@ -1,8 +1,8 @@
 use crate::beside::ReadBeside;
 use crate::export::Export;
-use crate::gate::{Gate, Point};
 use crate::name::ExportName;
-use crate::store::{Stage, Store};
+use crate::storage_engine::{Stage, StorageEngine};
+use crate::sync_points::{Point, SyncPoints};
 use checkpoint::KeeperFault;
 use disk_model::Disk;
 use std::rt::Clock;
@@ -11,7 +11,7 @@ use std::thread;
 use std::time::{Duration, Instant};
 
 // What a step of a checkpoint came to.
-enum Turn {
+enum NextStep {
     // This step is next.
     Next(Stage),
     // There is nothing to copy.
@@ -34,9 +34,9 @@ impl<B: ExportName, D: Disk, H: ReadBeside> Export<B, D, H> {
     /// It ends once the flusher has, so it is started behind one that was, and a checkpoint that has begun is then carried to
     /// its end; when a call of the device has failed; and where no greater generation of a header is left, after which what
     /// finds no room waits for good.
-    pub fn checkpointer<R: Wait + Clock, G: Gate>(&self, rt: &R, gate: &mut G) {
+    pub fn checkpointer<R: Wait + Clock, G: SyncPoints>(&self, rt: &R, points: &mut G) {
         for _ in rt.forever() {
-            if !self.wait_for_checkpoint(rt) || !self.checkpoint(rt, gate) {
+            if !self.wait_for_checkpoint(rt) || !self.checkpoint(rt, points) {
                 return;
             }
         }
@@ -45,36 +45,36 @@ impl<B: ExportName, D: Disk, H: ReadBeside> Export<B, D, H> {
     // Waits until a checkpoint is to be begun; not where none will be.
     fn wait_for_checkpoint<R: Wait>(&self, rt: &R) -> bool {
         for _ in rt.forever() {
-            let book = self.book.lock(rt);
-            if book.stopped() || book.is_flushed() {
+            let queue = self.queue.lock(rt);
+            if queue.stopped() || queue.is_flushed() {
                 return false;
             }
-            if book.is_checkpoint_due() {
+            if queue.is_checkpoint_due() {
                 return true;
             }
-            let _woken = self.turn.wait(rt, book);
+            let _woken = self.checkpoint_due.wait(rt, queue);
         }
         unreachable!()
     }
 
     // Carries out a checkpoint; whether there may be another one.
-    fn checkpoint<R: Wait + Clock, G: Gate>(&self, rt: &R, gate: &mut G) -> bool {
+    fn checkpoint<R: Wait + Clock, G: SyncPoints>(&self, rt: &R, points: &mut G) -> bool {
         let began = Instant::now(rt).ok();
         let mut blocks = 0;
         let mut stage = Stage::Rotate;
         for _ in rt.forever() {
             if stage == Stage::Done {
                 if let Some(took) = time_since(rt, began) {
-                    gate.reach(Point::Copied { blocks, took });
+                    points.reach(Point::Copied { blocks, took });
                 }
                 return true;
             }
-            gate.reach(Point::Step);
+            points.reach(Point::Step);
             match self.take_step(rt, stage, &mut blocks) {
-                Turn::Next(next) => stage = next,
-                Turn::Idle => return true,
-                Turn::Again => thread::yield_now(),
-                Turn::Ended => return false,
+                NextStep::Next(next) => stage = next,
+                NextStep::Idle => return true,
+                NextStep::Again => thread::yield_now(),
+                NextStep::Ended => return false,
             }
         }
         unreachable!()
@@ -83,37 +83,37 @@ impl<B: ExportName, D: Disk, H: ReadBeside> Export<B, D, H> {
     // Carries out a step in one hold of the keeper's lock, and the clean behind the last one too. So no other checkpoint begins,
     // which would write the data of blocks, before the order knows the base that the last one has left: who reads beside the
     // locks rests on it.
-    fn take_step<R: Wait>(&self, rt: &R, stage: Stage, copied: &mut u64) -> Turn {
+    fn take_step<R: Wait>(&self, rt: &R, stage: Stage, copied: &mut u64) -> NextStep {
         let mut store = self.store.lock(rt);
         match store.take(stage, copied) {
             Ok(next) => {
                 self.note(rt, stage, next, &*store);
-                Turn::Next(next)
+                NextStep::Next(next)
             }
-            Err(KeeperFault::NoMemory) => Turn::Again,
+            Err(KeeperFault::NoMemory) => NextStep::Again,
             Err(KeeperFault::NotNow) => {
                 // Nothing was stored since the last one.
-                self.book.lock(rt).forget_wish();
+                self.queue.lock(rt).forget_wish();
                 self.settled.notify_all();
-                Turn::Idle
+                NextStep::Idle
             }
-            Err(KeeperFault::NumbersFull) => Turn::Ended,
+            Err(KeeperFault::NumbersFull) => NextStep::Ended,
             Err(_) => {
-                self.book.lock(rt).stop();
+                self.queue.lock(rt).stop();
                 self.tell_all();
-                Turn::Ended
+                NextStep::Ended
             }
         }
     }
 
     // Notes in the order what a step has changed: the area is empty, or frames can be let go.
-    fn note<R: Wait>(&self, rt: &R, stage: Stage, next: Stage, store: &Store<B, D>) {
+    fn note<R: Wait>(&self, rt: &R, stage: Stage, next: Stage, store: &StorageEngine<B, D>) {
         if stage == Stage::Rotate {
-            self.book.lock(rt).find_empty();
+            self.queue.lock(rt).find_empty();
             self.work.notify_one();
         }
         if next == Stage::Done {
-            self.book.lock(rt).clean(store.keeper());
+            self.queue.lock(rt).clean(store.keeper());
             self.settled.notify_all();
             self.signal(true, true);
         }

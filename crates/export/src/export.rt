@@ -7,10 +7,10 @@ ghost use Rattle.device_image.specs.Keeper.{KeeperState};
 ghost use Rattle.marks.specs.Known.{new_pass};
 
 use crate::beside::ReadBeside;
-use crate::book::Book;
+use crate::buffer_pool::BufferPool;
+use crate::commit_queue::CommitQueue;
 use crate::name::ExportName;
-use crate::rooms::Rooms;
-use crate::store::Store;
+use crate::storage_engine::StorageEngine;
 use checkpoint::{Keeper, KeeperFault};
 use disk_model::Disk;
 use image_model::Geometry;
@@ -69,17 +69,17 @@ pub struct Export<B: ExportName, D: Disk, H: ReadBeside> {
     pub geometry: Geometry,
     /// When a write command is answered.
     pub mode: Mode,
-    pub(crate) store: Mutex<Store<B, D>>,
-    pub(crate) book: Mutex<Book<B>>,
+    pub(crate) store: Mutex<StorageEngine<B, D>>,
+    pub(crate) queue: Mutex<CommitQueue<B>>,
     // By which the device is read with neither lock held.
     pub(crate) beside: Option<H>,
     // Into which it is read.
-    pub(crate) rooms: Mutex<Rooms>,
+    pub(crate) buffers: Mutex<BufferPool>,
     // Told after each publish, after each clean and after the stop.
     pub(crate) settled: Condvar,
     // Told where the flusher has work, and the checkpointer.
     pub(crate) work: Condvar,
-    pub(crate) turn: Condvar,
+    pub(crate) checkpoint_due: Condvar,
     ghost sized: { geometry ≡ B.geometry },
 }
 
@@ -92,12 +92,12 @@ impl<B: ExportName, D: Disk + Drop, H: ReadBeside> Drop for Export<B, D, H> {
             geometry: _,
             mode: _,
             store: _,
-            book: _,
+            queue: _,
             beside: _,
-            rooms: _,
+            buffers: _,
             settled: _,
             work: _,
-            turn: _,
+            checkpoint_due: _,
         } = self;
     }
 }
@@ -132,13 +132,13 @@ impl<B: ExportName, D: Disk, H: ReadBeside> Export<B, D, H> {
                     board,
                     geometry: keeper.geometry(),
                     mode,
-                    store: Mutex::new(Store::new(keeper, seat)),
-                    book: Mutex::new(Book::new(order, frames, workers, settled)),
+                    store: Mutex::new(StorageEngine::new(keeper, seat)),
+                    queue: Mutex::new(CommitQueue::new(order, frames, workers, settled)),
                     beside,
-                    rooms: Mutex::new(Rooms::new(alloc)),
+                    buffers: Mutex::new(BufferPool::new(alloc)),
                     settled: Condvar::new(),
                     work: Condvar::new(),
-                    turn: Condvar::new(),
+                    checkpoint_due: Condvar::new(),
                 };
                 Ok((made, passes))
             }
@@ -148,7 +148,7 @@ impl<B: ExportName, D: Disk, H: ReadBeside> Export<B, D, H> {
 
     /// Whether a call of the device has failed: commands are refused from then on.
     pub fn stopped<R: Wait>(&self, rt: &R) -> bool {
-        self.book.lock(rt).stopped()
+        self.queue.lock(rt).stopped()
     }
 
     /// The device, as it is. What is pending is lost.
@@ -159,12 +159,12 @@ impl<B: ExportName, D: Disk, H: ReadBeside> Export<B, D, H> {
             geometry: _,
             mode: _,
             store,
-            book: _,
+            queue: _,
             beside: _,
-            rooms: _,
+            buffers: _,
             settled: _,
             work: _,
-            turn: _,
+            checkpoint_due: _,
         } = self;
         store.into_inner().into_keeper().into_disk()
     }

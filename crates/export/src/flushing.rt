@@ -1,10 +1,10 @@
 use crate::beside::ReadBeside;
-use crate::book::Book;
+use crate::commit_queue::CommitQueue;
 use crate::export::Export;
-use crate::gate::{Gate, Point};
 use crate::gathering::Pace;
 use crate::name::ExportName;
-use crate::store::Store;
+use crate::storage_engine::StorageEngine;
+use crate::sync_points::{Point, SyncPoints};
 use checkpoint::KeeperFault;
 use disk_model::Disk;
 use journal::Group;
@@ -20,35 +20,35 @@ impl<B: ExportName, D: Disk, H: ReadBeside> Export<B, D, H> {
     ///
     /// A group is sealed a little later than somebody waits for it, where storing one takes long and more are likely to wait
     /// for the same one.
-    pub fn flusher<R: Wait + Clock, G: Gate>(&self, rt: &R, gate: &mut G) {
+    pub fn flusher<R: Wait + Clock, G: SyncPoints>(&self, rt: &R, points: &mut G) {
         let mut pace = Pace::new();
         for _ in rt.forever() {
             let Some(group) = self.next_group(rt, &mut pace) else {
                 break;
             };
-            self.store_group(rt, gate, &mut pace, group);
+            self.store_group(rt, points, &mut pace, group);
         }
-        self.book.lock(rt).end();
-        self.turn.notify_all();
+        self.queue.lock(rt).end();
+        self.checkpoint_due.notify_all();
     }
 
     // The next group that is to be stored, once there is one.
     fn next_group<R: Wait + Clock>(&self, rt: &R, pace: &mut Pace) -> Option<Group> {
         for _ in rt.forever() {
-            let mut book = self.book.lock(rt);
-            if book.stopped() || book.is_done() {
+            let mut queue = self.queue.lock(rt);
+            if queue.stopped() || queue.is_done() {
                 return None;
             }
-            if !book.is_group_due() {
-                self.wait_for_work(rt, book);
-            } else if let Some(left) = time_to_gather(rt, &*book, pace) {
-                let _woken = self.work.wait_timeout(rt, book, left);
-            } else if let Ok(Some(group)) = book.seal() {
+            if !queue.is_group_due() {
+                self.wait_for_work(rt, queue);
+            } else if let Some(left) = time_to_gather(rt, &*queue, pace) {
+                let _woken = self.work.wait_timeout(rt, queue, left);
+            } else if let Ok(Some(group)) = queue.seal() {
                 pace.seal();
                 return Some(group);
             } else {
                 // No memory for it: others may let some go meanwhile.
-                drop(book);
+                drop(queue);
                 thread::yield_now();
             }
         }
@@ -56,10 +56,10 @@ impl<B: ExportName, D: Disk, H: ReadBeside> Export<B, D, H> {
     }
 
     // Stores a group; where memory is refused it stays in hand, and is stored later.
-    fn store_group<R: Wait + Clock, G: Gate>(
+    fn store_group<R: Wait + Clock, G: SyncPoints>(
         &self,
         rt: &R,
-        gate: &mut G,
+        points: &mut G,
         pace: &mut Pace,
         group: Group,
     ) {
@@ -68,7 +68,7 @@ impl<B: ExportName, D: Disk, H: ReadBeside> Export<B, D, H> {
             let Some(group) = waiting else {
                 return;
             };
-            waiting = self.try_group(rt, gate, pace, group);
+            waiting = self.try_group(rt, points, pace, group);
         }
         // The loop has no end but that one; a group has to be spent on each way out.
         if let Some(group) = waiting {
@@ -77,16 +77,16 @@ impl<B: ExportName, D: Disk, H: ReadBeside> Export<B, D, H> {
     }
 
     // Stores a group in one hold of the keeper's lock, or gives it back where memory was refused.
-    fn try_group<R: Wait + Clock, G: Gate>(
+    fn try_group<R: Wait + Clock, G: SyncPoints>(
         &self,
         rt: &R,
-        gate: &mut G,
+        points: &mut G,
         pace: &mut Pace,
         group: Group,
     ) -> Option<Group> {
         let mut store = self.store.lock(rt);
         let begin = Instant::now(rt).ok();
-        gate.reach(Point::Append);
+        points.reach(Point::Append);
         match store.append(group) {
             Ok(()) => {
                 pace.note(rt, begin);
@@ -106,31 +106,31 @@ impl<B: ExportName, D: Disk, H: ReadBeside> Export<B, D, H> {
     }
 
     // Makes durable what is stored, and tells those who wait.
-    fn publish<R: Wait>(&self, rt: &R, store: &mut Store<B, D>) {
-        let mut book = self.book.lock(rt);
-        book.publish(&self.board, store);
+    fn publish<R: Wait>(&self, rt: &R, store: &mut StorageEngine<B, D>) {
+        let mut queue = self.queue.lock(rt);
+        queue.publish(&self.board, store);
         if store.is_filling() {
-            book.wish_checkpoint();
+            queue.wish_checkpoint();
         }
-        book.look_at_frames();
-        let wanted = book.wants_checkpoint();
-        drop(book);
+        queue.look_at_frames();
+        let wanted = queue.wants_checkpoint();
+        drop(queue);
         self.settled.notify_all();
         self.signal(false, wanted);
     }
 
     // Makes a group pending again that doesn't fit the area, or that the device didn't take.
     fn take_back<R: Wait>(&self, rt: &R, fault: KeeperFault, group: Group) {
-        let mut book = self.book.lock(rt);
-        book.take_back(group);
+        let mut queue = self.queue.lock(rt);
+        queue.take_back(group);
         if fault == KeeperFault::AreaFull {
-            book.find_full();
-            drop(book);
+            queue.find_full();
+            drop(queue);
             self.signal(false, true);
         } else {
             // Groups follow one another, so the device has failed.
-            book.stop();
-            drop(book);
+            queue.stop();
+            drop(queue);
             self.tell_all();
         }
     }
@@ -139,10 +139,10 @@ impl<B: ExportName, D: Disk, H: ReadBeside> Export<B, D, H> {
 // How long the next group is to be gathered still; none where it is sealed now.
 fn time_to_gather<B: ExportName, R: Clock>(
     rt: &R,
-    book: &Book<B>,
+    queue: &CommitQueue<B>,
     pace: &mut Pace,
 ) -> Option<Duration> {
-    if !book.is_worth_gathering() {
+    if !queue.is_worth_gathering() {
         return None;
     }
     pace.left(rt)

@@ -11,7 +11,7 @@ const MOST_GATHERED: u64 = 25;
 
 /// Who waits until a number is durable, counted.
 #[derive(Clone, Copy, Debug, PartialEq, Eq)]
-pub(crate) struct Crowd {
+pub(crate) struct Waiters {
     // Those whose number is in a group, and those whose number isn't yet.
     sealed: usize,
     behind: usize,
@@ -19,9 +19,9 @@ pub(crate) struct Crowd {
     expected: usize,
 }
 
-impl Crowd {
-    pub(crate) fn new() -> Crowd {
-        Crowd {
+impl Waiters {
+    pub(crate) fn new() -> Waiters {
+        Waiters {
             sealed: 0,
             behind: 0,
             expected: 0,

@@ -3,19 +3,19 @@
 #![tactic(auto)]
 
 mod beside;
-mod book;
+mod buffer_pool;
 mod checkpointing;
+mod commit_queue;
 mod export;
 mod flushing;
-mod gate;
 mod gathering;
 mod name;
-mod rooms;
 mod settling;
-mod store;
+mod storage_engine;
 mod submitting;
+mod sync_points;
 
 pub use beside::ReadBeside;
 pub use export::{Export, OpenDevice};
-pub use gate::{Gate, Point};
 pub use name::ExportName;
+pub use sync_points::{Point, SyncPoints};

@@ -3,7 +3,7 @@ ghost use Rattle.std.specs.Prelude.{◌≡◌, ◌≤◌};
 ghost use Rattle.export.specs.Submits.{IsSettled};
 
 use crate::beside::ReadBeside;
-use crate::book::Book;
+use crate::commit_queue::CommitQueue;
 use crate::export::Export;
 use crate::name::ExportName;
 use disk_model::Disk;
@@ -15,7 +15,7 @@ use std::time::{Duration, Instant};
 
 /// How long a command may be pending though nobody waits for it.
 #[derive(Drop)]
-pub(crate) struct Patience {
+pub(crate) struct FlushInterval {
     // None for as long as it likes.
     limit: Option<Duration>,
     // When the flusher first saw what is pending.
@@ -24,9 +24,9 @@ pub(crate) struct Patience {
     awaits_first: bool,
 }
 
-impl Patience {
-    pub(crate) fn endless() -> Patience {
-        Patience {
+impl FlushInterval {
+    pub(crate) fn endless() -> FlushInterval {
+        FlushInterval {
             limit: None,
             since: None,
             awaits_first: false,
@@ -58,7 +58,7 @@ impl Patience {
 impl<B: ExportName, D: Disk, H: ReadBeside> Export<B, D, H> {
     /// Has the flusher store what has been pending for so long, though nobody waits for it.
     pub fn store_within<R: Wait>(&self, rt: &R, limit: Duration) {
-        self.book.lock(rt).patience().limit = Some(limit);
+        self.queue.lock(rt).interval().limit = Some(limit);
     }
 
     /// Stores what was accepted by now, as a FLUSH does. It waits until that is durable, or never will be.
@@ -70,32 +70,36 @@ impl<B: ExportName, D: Disk, H: ReadBeside> Export<B, D, H> {
     }
 
     // Waits for the flusher's next work, which comes to be where what is pending has waited for long enough.
-    pub(crate) fn wait_for_work<R: Wait + Clock>(&self, rt: &R, book: MutexGuard<'_, Book<B>>) {
-        let mut book = book;
-        let is_pending = book.is_pending();
-        let patience = book.patience();
-        let left = match patience.limit {
+    pub(crate) fn wait_for_work<R: Wait + Clock>(
+        &self,
+        rt: &R,
+        queue: MutexGuard<'_, CommitQueue<B>>,
+    ) {
+        let mut queue = queue;
+        let is_pending = queue.is_pending();
+        let interval = queue.interval();
+        let left = match interval.limit {
             None => None,
             Some(_) if !is_pending => {
-                patience.since = None;
-                patience.awaits_first = true;
+                interval.since = None;
+                interval.awaits_first = true;
                 None
             }
-            Some(limit) => match patience.left(rt, limit) {
+            Some(limit) => match interval.left(rt, limit) {
                 Some(left) => Some(left),
                 None => {
-                    patience.since = None;
-                    book.want_pending();
+                    interval.since = None;
+                    queue.want_pending();
                     return;
                 }
             },
         };
         match left {
             Some(left) => {
-                let _woken = self.work.wait_timeout(rt, book, left);
+                let _woken = self.work.wait_timeout(rt, queue, left);
             }
             None => {
-                let _woken = self.work.wait(rt, book);
+                let _woken = self.work.wait(rt, queue);
             }
         }
     }

@@ -6,13 +6,13 @@ ghost use Rattle.nbd_reply.specs.Reply.{IsAnswerTo};
 ghost use Rattle.nbd_wire.specs.declared.message.Answer.TheVariants as Answer;
 ghost use Rattle.regions.specs.Layout.{block_at};
 ghost use Rattle.request_core.specs.Reading.{IsPlanned};
-ghost use Rattle.world.specs.Verdict.{verdict};
+ghost use Rattle.export_model.specs.Verdict.{verdict};
 
 use crate::beside::ReadBeside;
-use crate::book::Planned;
+use crate::buffer_pool::LEAST_KEPT;
+use crate::commit_queue::Planned;
 use crate::export::Export;
 use crate::name::ExportName;
-use crate::rooms::LEAST_KEPT;
 use disk_model::{DeviceFault, Disk};
 use image_model::BLOCK_BYTES;
 use marks::{Pass, Told};
@@ -101,7 +101,7 @@ impl<B: ExportName, D: Disk, H: ReadBeside> Export<B, D, H> {
     // Keeps room for another READ, where it is long.
     fn keep_room<R: Wait>(&self, rt: &R, room: Vec<u8>) {
         if room.len() >= LEAST_KEPT {
-            self.rooms.lock(rt).put(room);
+            self.buffers.lock(rt).put(room);
         }
     }
 
@@ -114,24 +114,24 @@ impl<B: ExportName, D: Disk, H: ReadBeside> Export<B, D, H> {
     {
         let mut request = request;
         for _ in rt.forever() {
-            let mut book = self.book.lock(rt);
-            match book.serve(self.alloc, request, &self.board, pass, terms) {
+            let mut queue = self.queue.lock(rt);
+            match queue.serve(self.alloc, request, &self.board, pass, terms) {
                 Ok(Served::Ready(reply)) => {
-                    let (work, turn) = book.next_work();
-                    drop(book);
-                    self.signal(work, turn);
+                    let (work, is_due) = queue.next_work();
+                    drop(queue);
+                    self.signal(work, is_due);
                     return Outcome::Answered(reply.answer);
                 }
                 Ok(Served::Wait(number)) => return Outcome::Waits(number),
                 Ok(Served::NoRoom(back)) => {
                     request = back;
-                    book.miss_room();
+                    queue.miss_room();
                     self.signal(true, true);
-                    let _woken = self.settled.wait(rt, book);
+                    let _woken = self.settled.wait(rt, queue);
                 }
                 Err(NeedsKeeper(back)) => {
-                    let planned = book.plan(&back, &terms);
-                    drop(book);
+                    let planned = queue.plan(&back, &terms);
+                    drop(queue);
                     match self.serve_missing(rt, pass, back, planned, terms) {
                         Served::Ready(reply) => return Outcome::Answered(reply.answer),
                         Served::Wait(number) => return Outcome::Waits(number),
@@ -151,7 +151,7 @@ impl<B: ExportName, D: Disk, H: ReadBeside> Export<B, D, H> {
             self.work.notify_one();
         }
         if checkpointer {
-            self.turn.notify_one();
+            self.checkpoint_due.notify_one();
         }
     }
 
@@ -159,7 +159,7 @@ impl<B: ExportName, D: Disk, H: ReadBeside> Export<B, D, H> {
     pub(crate) fn tell_all(&self) {
         self.settled.notify_all();
         self.work.notify_all();
-        self.turn.notify_all();
+        self.checkpoint_due.notify_all();
     }
 
     // Serves a request for which the device is needed: a planned one beside the locks, where that can be, else with the keeper.
@@ -208,12 +208,12 @@ impl<B: ExportName, D: Disk, H: ReadBeside> Export<B, D, H> {
         for _ in 0..MOST_TRIES {
             self.read_span(handle, blocks.first, planned.span, &mut bytes)
                 .ok()?;
-            let mut book = self.book.lock(rt);
-            match book.serve_over(self.alloc, request, planned, bytes, terms) {
+            let mut queue = self.queue.lock(rt);
+            match queue.serve_over(self.alloc, request, planned, bytes, terms) {
                 Ok(served) => return Some(served),
                 Err(back) => bytes = back,
             }
-            planned = book.plan(request, terms)?;
+            planned = queue.plan(request, terms)?;
         }
         None
     }
@@ -223,7 +223,7 @@ impl<B: ExportName, D: Disk, H: ReadBeside> Export<B, D, H> {
         ensures { IfSome result (λ room. vec_len room ≡ length) }
     {
         if length >= LEAST_KEPT {
-            let kept = self.rooms.lock(rt).take(length);
+            let kept = self.buffers.lock(rt).take(length);
             if kept.is_some() {
                 return kept;
             }
@@ -268,16 +268,16 @@ impl<B: ExportName, D: Disk, H: ReadBeside> Export<B, D, H> {
         ensures fits { FitsServed terms.geometry terms.flags request result }
     {
         let mut store = self.store.lock(rt);
-        let mut book = self.book.lock(rt);
-        let served = store.serve(&mut book, self.alloc, request, &self.board, pass, terms);
-        if book.stopped() {
+        let mut queue = self.queue.lock(rt);
+        let served = store.serve(&mut queue, self.alloc, request, &self.board, pass, terms);
+        if queue.stopped() {
             self.tell_all();
             return served;
         }
-        let (work, turn) = book.next_work();
-        drop(book);
+        let (work, is_due) = queue.next_work();
+        drop(queue);
         drop(store);
-        self.signal(work, turn);
+        self.signal(work, is_due);
         served
     }
 
@@ -288,21 +288,21 @@ impl<B: ExportName, D: Disk, H: ReadBeside> Export<B, D, H> {
         if self.board.look_durable(pass) >= number {
             return Answer::Done;
         }
-        let mut book = self.book.lock(rt);
+        let mut queue = self.queue.lock(rt);
         // Who finds it durable by now doesn't wait, and isn't counted.
         if self.board.look_durable(pass) >= number {
             return Answer::Done;
         }
-        book.begin_wait(number);
+        queue.begin_wait(number);
         self.work.notify_one();
         for _ in rt.forever() {
             if self.board.look_durable(pass) >= number {
                 return Answer::Done;
             }
-            if book.stopped() {
+            if queue.stopped() {
                 return Answer::Refused(Errno::Io);
             }
-            book = self.settled.wait(rt, book);
+            queue = self.settled.wait(rt, queue);
         }
         unreachable!()
     }
@@ -310,7 +310,7 @@ impl<B: ExportName, D: Disk, H: ReadBeside> Export<B, D, H> {
     /// Takes a pass for good: no request is submitted for it any more.
     pub fn leave<R: Wait>(&self, rt: &R, pass: Pass<B>) {
         drop(pass);
-        self.book.lock(rt).leave();
+        self.queue.lock(rt).leave();
         self.work.notify_one();
     }
 }

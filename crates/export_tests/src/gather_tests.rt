@@ -3,7 +3,7 @@ ghost use Rattle.std.specs.Prelude.{◌≡◌, ◌+◌, ◌<◌, ◌^◌};
 
 use crate::requests::{flush, fresh, write_block};
 use disk_model::SimDisk;
-use export::{Export, ExportName, Gate, OpenDevice, Point};
+use export::{Export, ExportName, OpenDevice, Point, SyncPoints};
 use marks::Pass;
 use request_core::Mode;
 use std::alloc::Global;
@@ -25,7 +25,7 @@ struct Slow<'a, R: Clock> {
     rt: &'a R,
 }
 
-impl<'a, R: Clock> Gate for Slow<'a, R> {
+impl<'a, R: Clock> SyncPoints for Slow<'a, R> {
     fn reach(&mut self, at: Point) {
         if at == Point::Append {
             thread::sleep(self.rt, Duration::from_millis(4));

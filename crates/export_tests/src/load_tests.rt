@@ -4,7 +4,7 @@ ghost use Rattle.std.specs.Prelude.{◌≡◌, ◌*◌, ◌+◌, ◌<◌, ◌≤
 use crate::requests::{flush, fresh, reads_back, write_block};
 use checkpoint::Keeper;
 use disk_model::SimDisk;
-use export::{Export, ExportName, Gate, OpenDevice, Point};
+use export::{Export, ExportName, OpenDevice, Point, SyncPoints};
 use marks::Pass;
 use request_core::Mode;
 use std::alloc::Global;
@@ -159,7 +159,7 @@ struct HoldsSteps<'a, R: Clock> {
     answered: &'a AtomicBool,
 }
 
-impl<'a, R: Clock> Gate for HoldsSteps<'a, R> {
+impl<'a, R: Clock> SyncPoints for HoldsSteps<'a, R> {
     fn reach(&mut self, at: Point) {
         if at != Point::Step {
             return;
@@ -239,13 +239,13 @@ fn check_held<B: ExportName, R: Wait + Clock>(
     held: &AtomicBool,
     answered: &AtomicBool,
 ) {
-    let mut gate = HoldsSteps {
+    let mut points = HoldsSteps {
         rt,
         steps: 0,
         held,
         answered,
     };
-    export.checkpointer(rt, &mut gate);
+    export.checkpointer(rt, &mut points);
 }
 
 fn run_held<B: ExportName + Send + Sync, R: Threads + Wait + Clock + Sync>(

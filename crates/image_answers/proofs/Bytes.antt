@@ -9,7 +9,7 @@ use Rattle.image_model.specs.Image.{Image}
 use Rattle.image_model.specs.declared.command.Kind.{Kind}
 use Rattle.image_model.specs.declared.command.Kind.TheVariants.{Data, Zero, Hole}
 use Rattle.nbd_wire.specs.Answer.{IsInState}
-use Rattle.world.specs.Shown.{bytes_from, read_status_of}
+use Rattle.export_model.specs.Shown.{bytes_from, read_status_of}
 use Rattle.image_answers.proofs.Parts.{AreInStates}
 
 -- a byte of a block among others

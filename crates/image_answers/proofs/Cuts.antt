@@ -10,7 +10,7 @@ use Rattle.std.proofs.lemmas.List.{drop-append-le, take-append-le, take_all}
 use Rattle.alloc_map.specs.declared.run.Run.{Run as Stretch}
 use Rattle.nbd_wire.specs.Answer.{DiffersFrom, IsInState, IsJoined, PartsBytes}
 use Rattle.nbd_wire.specs.declared.message.Run.{Run}
-use Rattle.world.specs.Shown.{cut_behind, cut_front, runs_from, status_of, with_block}
+use Rattle.export_model.specs.Shown.{cut_behind, cut_front, runs_from, status_of, with_block}
 use Rattle.image_answers.proofs.Joined.{run_of}
 use Rattle.image_answers.proofs.Stretches.{as_run}
 

@@ -3,7 +3,7 @@ use Rattle.std.proofs.Common.{◌≡◌, ℕ, zero, suc, ◌+◌, ◌==◌, inl,
 use Rattle.std.proofs.lemmas.Bool.{cases_Bool, eq-eqb, ne_eqb}
 use Rattle.std.proofs.lemmas.Bool.Decides.{eqb_tells}
 use Rattle.nbd_wire.specs.declared.message.Run.{Run}
-use Rattle.world.specs.Shown.{runs_from, with_block}
+use Rattle.export_model.specs.Shown.{runs_from, with_block}
 
 abbrev pub run_of : ℕ → ℕ → Run
 run_of count given = record { length = count; status = given }

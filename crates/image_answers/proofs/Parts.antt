@@ -6,7 +6,7 @@ use Rattle.std.proofs.lemmas.Bool.Decides.{eqb_tells}
 use Rattle.std.proofs.lemmas.List.{drop-drop, replicate-append-replicate}
 use Rattle.nbd_wire.specs.Answer.{DiffersFrom, IsInState, IsJoined, PartsBytes}
 use Rattle.nbd_wire.specs.declared.message.Run.{Run}
-use Rattle.world.specs.Shown.{runs_from, with_block}
+use Rattle.export_model.specs.Shown.{runs_from, with_block}
 use Rattle.image_answers.proofs.Joined.{run_of}
 
 -- what holds of both sides of a choice holds of the choice

@@ -8,7 +8,7 @@ use Rattle.alloc_map.specs.declared.run.Run.{Run as Stretch}
 use Rattle.image_model.specs.declared.command.Kind.{Kind}
 use Rattle.image_model.specs.declared.command.Kind.TheVariants.{Data, Zero, Hole}
 use Rattle.nbd_wire.specs.declared.message.Run.{Run}
-use Rattle.world.specs.Shown.{runs_from, status_of, with_block}
+use Rattle.export_model.specs.Shown.{runs_from, status_of, with_block}
 use Rattle.image_answers.proofs.Joined.{run_of}
 
 -- a stretch as a run of its status

@@ -2,7 +2,7 @@ ghost use Rattle.std.specs.Prelude.{◌≡◌, ◌≢◌, ◌+◌, ◌*◌, ◌/
 ghost use Rattle.alloc_map.specs.Codes.{state_at};
 ghost use Rattle.image_model.specs.Image.{Image};
 ghost use Rattle.image_model.specs.declared.command.Kind.TheVariants.{Data};
-ghost use Rattle.world.specs.Shown.{cut_to, most_runs, read_status_of, runs_met, shown_by};
+ghost use Rattle.export_model.specs.Shown.{cut_to, most_runs, read_status_of, runs_met, shown_by};
 
 use crate::runs::status_runs;
 use bitflags::Flags;

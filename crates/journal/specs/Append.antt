@@ -1,10 +1,10 @@
 -- what adding a group does to an area, and when it is refused
 use Rattle.std.specs.Prelude.{ℕ, ◌≡◌, ◌+◌, ◌≤◌, ◌++◌}
 use Rattle.image_model.specs.Command.{bodies_of}
-use Rattle.group_list.specs.Area.{AreaState}
-use Rattle.group_list.specs.Group.{Numbered, number_after}
-use Rattle.group_list.specs.Spelling.{stored_of}
-use Rattle.group_list.specs.Touches.{touched_by_changes}
+use Rattle.journal_format.specs.Area.{AreaState}
+use Rattle.journal_format.specs.Group.{Numbered, number_after}
+use Rattle.journal_format.specs.Spelling.{stored_of}
+use Rattle.journal_format.specs.Touches.{touched_by_changes}
 
 -- where in the area the gate behind the group would end
 abbrev pub end_after : AreaState → Numbered → ℕ

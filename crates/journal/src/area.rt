@@ -3,18 +3,18 @@ ghost use Rattle.disk_model.specs.Disk.{IsSyncedIn, IsWritten, IsWriteFailed, Le
 ghost use Rattle.disk_model.specs.Faults.{faults_after};
 ghost use Rattle.image_model.specs.Change.{AreChanges};
 ghost use Rattle.journal.specs.Append.{end_after, grown, IsNext};
-ghost use Rattle.group_list.specs.Faults.{faults_by};
-ghost use Rattle.group_list.specs.Group.{IsGroup};
-ghost use Rattle.group_list.specs.GroupList.{HoldsList, IsDamaged, IsHeld, IsList, IsListStored, IsOpenBefore, LeavesEither, LeavesGateOrBytes};
-ghost use Rattle.group_list.specs.Reading.{IsOnlyRead};
-ghost use Rattle.group_list.specs.Scanning.{IsScanFault};
-ghost use Rattle.group_list.specs.Spelling.{StoredGroup, stored_of};
-ghost use Rattle.group_list.specs.Touches.{AreWithin};
+ghost use Rattle.journal_format.specs.Faults.{faults_by};
+ghost use Rattle.journal_format.specs.Group.{IsGroup};
+ghost use Rattle.journal_format.specs.GroupList.{HoldsList, IsDamaged, IsHeld, IsList, IsListStored, IsOpenBefore, LeavesEither, LeavesGateOrBytes};
+ghost use Rattle.journal_format.specs.Reading.{IsOnlyRead};
+ghost use Rattle.journal_format.specs.Scanning.{IsScanFault};
+ghost use Rattle.journal_format.specs.Spelling.{StoredGroup, stored_of};
+ghost use Rattle.journal_format.specs.Touches.{AreWithin};
 
 use crate::group::Group;
 use disk_model::{DeviceFault, Disk, write_synced};
-use group_list::{GROUP_HEAD_BYTES, JournalFault, Place, TouchedRange};
 use image_model::{CLOSED, OPEN};
+use journal_format::{GROUP_HEAD_BYTES, JournalFault, Place, TouchedRange};
 use std::alloc::Global;
 use std::marker::Model;
 
@@ -52,8 +52,8 @@ impl Drop for Area {
 
 impl Model for Area {
     ghost use Rattle.std.specs.Prelude.{◌+◌, ◌<◌, ◌^◌};
-    ghost use Rattle.group_list.specs.Area.{AreaState};
-    ghost use Rattle.group_list.specs.Touches.{AreWithin};
+    ghost use Rattle.journal_format.specs.Area.{AreaState};
+    ghost use Rattle.journal_format.specs.Touches.{AreWithin};
 
     ghost Value = { AreaState };
 

@@ -1,16 +1,16 @@
 ghost use Rattle.std.specs.Prelude.{◌≡◌, ℕ, take, ◌+◌, ◌≤◌, ◌<◌, ◌^◌, [], ◌∷◌, ◌++◌, length, OnOk};
 ghost use Rattle.image_model.specs.Change.{change_of};
 ghost use Rattle.image_model.specs.Command.{bodies_of, body_of};
-ghost use Rattle.group_list.specs.Group.{IsGroup, number_after};
-ghost use Rattle.group_list.specs.Touches.{AreWithin, ranges_of, touched_by, touched_by_changes};
-ghost use Rattle.group_list.specs.Spelling.{stored_of, clear_byte, edged_byte, edges_byte, change_head, change_bytes, group_head, group_bytes};
-ghost use Rattle.group_list.specs.declared.touch.Touch.TheVariants as Touch;
+ghost use Rattle.journal_format.specs.Group.{IsGroup, number_after};
+ghost use Rattle.journal_format.specs.Touches.{AreWithin, ranges_of, touched_by, touched_by_changes};
+ghost use Rattle.journal_format.specs.Spelling.{stored_of, clear_byte, edged_byte, edges_byte, change_head, change_bytes, group_head, group_bytes};
+ghost use Rattle.journal_format.specs.declared.touch.Touch.TheVariants as Touch;
 
-use group_list::{
+use image_model::{BLOCK_BYTES, CLOSED, Command, Edges, Kind};
+use journal_format::{
     ALLOCATED_ZERO, BOTH, COMMAND_HEAD_BYTES, CommandTouch, EDGED_ALLOCATED_ZERO, EDGED_HOLE, HEAD,
     HOLE, PUT, StoredEdges, TAIL, Touch, TouchedRange,
 };
-use image_model::{BLOCK_BYTES, CLOSED, Command, Edges, Kind};
 use std::alloc::AllocError;
 use std::marker::Model;
 
@@ -27,7 +27,7 @@ pub struct Group {
 impl Model for Group {
     ghost use Rattle.std.specs.Prelude.{◌≡◌};
     ghost use Rattle.image_model.specs.Command.{bodies_of};
-    ghost use Rattle.group_list.specs.Group.{IsGroup, Numbered};
+    ghost use Rattle.journal_format.specs.Group.{IsGroup, Numbered};
 
     ghost Value = { Numbered };
 
@@ -209,7 +209,7 @@ fn cleared(first: u64, blocks: u32, kind: Kind) -> TouchedRange
 }
 
 // The head of a group behind its gate: the length of its body, its first number, its count of commands.
-#[tactic(auto, unfolding(group_list::specs::Spelling::group_head))]
+#[tactic(auto, unfolding(journal_format::specs::Spelling::group_head))]
 fn spell_group_head(
     body: u32,
     first: u64,
@@ -224,7 +224,7 @@ fn spell_group_head(
 }
 
 // A command of a group: its head, and its bytes, with edges behind the byte that says which.
-#[tactic(auto, unfolding(group_list::specs::Spelling::change_bytes))]
+#[tactic(auto, unfolding(journal_format::specs::Spelling::change_bytes))]
 fn spell_command(command: &Command, buffer: &mut Vec<u8>) -> Result<(), AllocError>
     requires { body_of command.now ≤ 8388608 }
     ensures { OnOk result (buffer.new.items ≡ buffer.old.items ++ change_bytes (change_of command.now)) }
@@ -255,7 +255,7 @@ fn spell_command(command: &Command, buffer: &mut Vec<u8>) -> Result<(), AllocErr
 }
 
 // The head of a command: its kind, its first block, its blocks.
-#[tactic(auto, unfolding(group_list::specs::Spelling::change_head))]
+#[tactic(auto, unfolding(journal_format::specs::Spelling::change_head))]
 fn spell_head(kind: u8, first: u64, blocks: u32, buffer: &mut Vec<u8>) -> Result<(), AllocError>
     ensures { OnOk result (buffer.new.items ≡ buffer.old.items ++ change_head kind first blocks) }
 {

@@ -1,7 +1,7 @@
-//! The program `nbdj`: the command line, files and streams round the plans of `nbdj_run`.
+//! The program `nbdj`: the command line, files and streams round the plans of `subcommands`.
 #![tactic(auto)]
 
-ghost use Rattle.nbdj_run.specs.Plan.{Suits};
+ghost use Rattle.subcommands.specs.Plan.{Suits};
 
 mod beside;
 mod files;
@@ -20,18 +20,18 @@ use crate::streams::ClosedStreams;
 use crate::teller::Teller;
 use crate::told::ToldFile;
 use clap::error::ErrorKind;
+use command_line::line;
 use disk_model::{Disk, FileDisk};
-use nbdj_line::line;
 use nbdj_pipe::Refusal;
-use nbdj_run::{Course, Errand, Plan, exit_status, perform};
-use nbdj_script::script;
 use nbdj_sweep::{faults, sweep};
+use script_runner::script;
 use std::fs::File;
 use std::process::ExitCode;
 use std::rt::Clock;
 use std::sync::Wait;
 use std::thread::Threads;
 use std::{env, io};
+use subcommands::{Course, Invocation, Plan, exit_status, perform};
 
 fn main(rt: HostRuntime) -> ExitCode {
     // Before anything else is opened, and kept to the end.
@@ -53,7 +53,7 @@ where
     let arguments: Vec<String> = env::args(rt)?.collect(alloc)?;
     let words: Vec<&str> = arguments.iter().map(|word| word.as_str()).collect(alloc)?;
     match line(alloc, &words) {
-        Ok(errand) => Ok(run(rt, threads, errand)),
+        Ok(invocation) => Ok(run(rt, threads, invocation)),
         Err(fault) if fault.kind() == ErrorKind::OutOfMemory => Ok(no_memory(rt)),
         Err(fault) => {
             // Where not even that can be written, the status alone tells.
@@ -69,23 +69,23 @@ fn no_memory(rt: &HostRuntime) -> u8 {
 }
 
 // Carries out the plan, and gives the exit status. The lock on a device's file is held as long as the file is open.
-fn run<R>(rt: &HostRuntime, threads: &R, errand: Errand<'_>) -> u8
+fn run<R>(rt: &HostRuntime, threads: &R, invocation: Invocation<'_>) -> u8
 where
     R: Threads + Wait + Clock + Copy + Send + Sync + Drop + 'static,
 {
-    let teller = Teller::new(rt, errand.is_verbose);
-    match errand.plan {
+    let teller = Teller::new(rt, invocation.is_verbose);
+    match invocation.plan {
         Plan::Format {
             path,
             geometry,
             preallocates,
         } => match open_fresh(rt, path, geometry.device_bytes()) {
             Ok((file, size)) => {
-                let file = ToldFile::new(rt, file, path, errand.is_verbose);
+                let file = ToldFile::new(rt, file, path, invocation.is_verbose);
                 if preallocates && fill(rt, &file, size).is_err() {
                     return exit_status(Err(Refusal::DeviceFault), &mut rt.stderr());
                 }
-                run_on(rt, &errand.plan, FileDisk::new(file, size))
+                run_on(rt, &invocation.plan, FileDisk::new(file, size))
             }
             Err(fault) => no_file(rt, teller, path, fault),
         },
@@ -103,15 +103,15 @@ where
         },
         Plan::Pipe { path, .. } | Plan::Recover { path } => match open(rt, path) {
             Ok(opened) => {
-                let disk = disk_of(rt, teller, opened, path, errand.is_verbose);
-                run_on(rt, &errand.plan, disk)
+                let disk = disk_of(rt, teller, opened, path, invocation.is_verbose);
+                run_on(rt, &invocation.plan, disk)
             }
             Err(fault) => no_file(rt, teller, path, fault),
         },
         Plan::Check { path } => match open_for_reading(rt, path) {
             Ok(opened) => {
-                let disk = disk_of(rt, teller, opened, path, errand.is_verbose);
-                run_on(rt, &errand.plan, disk)
+                let disk = disk_of(rt, teller, opened, path, invocation.is_verbose);
+                run_on(rt, &invocation.plan, disk)
             }
             Err(fault) => no_file(rt, teller, path, fault),
         },

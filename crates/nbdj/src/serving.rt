@@ -7,7 +7,6 @@ use disk_model::{Disk, FileDisk};
 use export::OpenDevice;
 use header_slots::read_current;
 use nbdj_pipe::Refusal;
-use nbdj_run::{Address, exit_status};
 use server::{Listener, ServeOptions, serve};
 use std::fmt::Display;
 use std::fs::{self, File};
@@ -19,6 +18,7 @@ use std::rt::Clock;
 use std::sync::Wait;
 use std::thread::Threads;
 use std::time::{Duration, Instant};
+use subcommands::{Address, exit_status};
 
 // Opens a device, serves it at an address, and gives the exit status.
 pub fn serve_at<R: Threads + Wait + Clock + Copy + Send + Sync + Drop + 'static>(

@@ -2,7 +2,7 @@
 
 use crate::files::{FileFault, header_of};
 use disk_model::{Disk, FileDisk};
-use export::{Gate, Point};
+use export::{Point, SyncPoints};
 use header_slots::{HeaderFault, read_current};
 use nbd_wire::SessionFlags;
 use negotiation::End;
@@ -114,7 +114,7 @@ impl Teller {
 }
 
 // It holds no thread.
-impl Gate for Teller {
+impl SyncPoints for Teller {
     fn reach(&mut self, at: Point) {
         if let Point::Copied { blocks, took } = at {
             self.report(format_args!("checkpoint of {blocks} blocks in {}", Seconds(took)));

@@ -11,16 +11,16 @@ use Rattle.order_book.specs.Pending.{most_body}
 use Rattle.request_core.specs.Bench.{ConnectionsState}
 use Rattle.request_core.specs.Parts.{IsOrderOf}
 use Rattle.request_core.specs.laws.Lives.{all_behind}
-use Rattle.world.specs.declared.connection.Connection.TheVariants.{Waiting}
-use Rattle.world.specs.declared.event.Event.{Event}
-use Rattle.world.specs.declared.event.Event.TheVariants.{Took, Held, Failed}
-use Rattle.world.specs.declared.event.StepFault.TheVariants as fault
-use Rattle.world.specs.declared.step.Step.{Step}
-use Rattle.world.specs.Run.{IsRun}
-use Rattle.world.specs.Serve.{Failure, Nothing, OutOfMemory, DeviceFailure, Misread}
-use Rattle.world.specs.Step.{after_step, append, publish, seal, sealed_more, stored_more}
-use Rattle.world.specs.World.{World, fits, last_number}
-use Rattle.world_law.specs.Law.{Grows, IsWithin}
+use Rattle.export_model.specs.declared.connection.Connection.TheVariants.{Waiting}
+use Rattle.export_model.specs.declared.event.Event.{Event}
+use Rattle.export_model.specs.declared.event.Event.TheVariants.{Took, Held, Failed}
+use Rattle.export_model.specs.declared.event.StepFault.TheVariants as fault
+use Rattle.export_model.specs.declared.step.Step.{Step}
+use Rattle.export_model.specs.Run.{IsRun}
+use Rattle.export_model.specs.Serve.{Failure, Nothing, OutOfMemory, DeviceFailure, Misread}
+use Rattle.export_model.specs.Step.{after_step, append, publish, seal, sealed_more, stored_more}
+use Rattle.export_model.specs.World.{World, fits, last_number}
+use Rattle.export_model_laws.specs.Law.{Grows, IsWithin}
 use Rattle.nbdj_pipe.specs.Causes.{HasCause, HasNoGeneration, Passes}
 use Rattle.nbdj_pipe.specs.Checkpoint.{HasFullArea, IsUnfit}
 use Rattle.nbdj_pipe.specs.Export.{CameTo, GetsOn, IsSettled, IsWaiting, StoredBy}

@@ -23,19 +23,19 @@ use Rattle.order_book.specs.Order.{OrderState}
 use Rattle.request_core.specs.Bench.{ConnectionsState}
 use Rattle.request_core.specs.Copies.{copied}
 use Rattle.request_core.specs.Life.{IsStepped, Leads, LeadsLaw, Trusts}
-use Rattle.world.specs.declared.connection.Connection.{Connection}
-use Rattle.world.specs.declared.event.Event.{Event}
-use Rattle.world.specs.declared.event.Event.TheVariants.{Took, Failed}
-use Rattle.world.specs.declared.event.StepFault.TheVariants as fault
-use Rattle.world.specs.declared.step.Step.{Step}
-use Rattle.world.specs.declared.step.Step.TheVariants as steps
-use Rattle.world.specs.Checkpoint.{can_clean, can_copy, can_finish, can_map, can_rotate, finished, is_full, is_turned, last_turned, rotated}
-use Rattle.world.specs.Log.{cleared_as, edit_asked}
-use Rattle.world.specs.Run.{IsReached, IsRun}
-use Rattle.world.specs.Serve.{Failure, Nothing, OutOfMemory, DeviceFailure, Misread, image_shown}
-use Rattle.world.specs.Step.{after_step, clean, copy_block, finish, in_time, rotate, seal, sealed_more, with_generation, without_memory, write_map, written}
-use Rattle.world.specs.World.{Setting, Stage, World, dirty_behind, has_room, last_number}
-use Rattle.world_law.specs.Law.{Grows, IsRising, IsWithin}
+use Rattle.export_model.specs.declared.connection.Connection.{Connection}
+use Rattle.export_model.specs.declared.event.Event.{Event}
+use Rattle.export_model.specs.declared.event.Event.TheVariants.{Took, Failed}
+use Rattle.export_model.specs.declared.event.StepFault.TheVariants as fault
+use Rattle.export_model.specs.declared.step.Step.{Step}
+use Rattle.export_model.specs.declared.step.Step.TheVariants as steps
+use Rattle.export_model.specs.Checkpoint.{can_clean, can_copy, can_finish, can_map, can_rotate, finished, is_full, is_turned, last_turned, rotated}
+use Rattle.export_model.specs.Log.{cleared_as, edit_asked}
+use Rattle.export_model.specs.Run.{IsReached, IsRun}
+use Rattle.export_model.specs.Serve.{Failure, Nothing, OutOfMemory, DeviceFailure, Misread, image_shown}
+use Rattle.export_model.specs.Step.{after_step, clean, copy_block, finish, in_time, rotate, seal, sealed_more, with_generation, without_memory, write_map, written}
+use Rattle.export_model.specs.World.{Setting, Stage, World, dirty_behind, has_room, last_number}
+use Rattle.export_model_laws.specs.Law.{Grows, IsRising, IsWithin}
 use Rattle.nbdj_pipe.specs.Causes.{HasCause, LacksRoom}
 use Rattle.nbdj_pipe.specs.Checkpoint.{EndsBy, HasCopied, HasCopiedAll, HasFullArea, IsCopied, IsDone, IsEmptied, IsFine, IsFinished, KeepsOrder, OrStopped}
 use Rattle.nbdj_pipe.specs.Export.{IsJudged, IsStoring, Settles}

@@ -3,8 +3,8 @@ use Rattle.std.proofs.Common.{◌≡◌, ◌≢◌, ℕ, List, [], ◌∷◌, �
 use Rattle.std.proofs.lemmas.List.{append-nil}
 use Rattle.std.specs.List.{AllByRecursion}
 use Rattle.nbd_wire.specs.Request.{Message}
-use Rattle.world.specs.declared.event.Event.{Event}
-use Rattle.world.specs.declared.event.Event.TheVariants.{Sent, Answered}
+use Rattle.export_model.specs.declared.event.Event.{Event}
+use Rattle.export_model.specs.declared.event.Event.TheVariants.{Sent, Answered}
 use Rattle.nbdj_pipe.specs.Talk.{Exchange, asked, dialog, reply_to, talk, talk_to}
 use Rattle.nbdj_pipe.specs.Pipe.{Conversation, IsServed, IsToDisc, IsWhole}
 

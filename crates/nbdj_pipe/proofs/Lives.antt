@@ -20,14 +20,14 @@ use Rattle.order_book.specs.Shown.{ShowsImage}
 use Rattle.request_core.specs.Bench.{ConnectionsState, new_connections}
 use Rattle.request_core.specs.Life.{LeadsLaw, Trusts, first_world}
 use Rattle.request_core.specs.Parts.{IsExportOf, StandsAfter}
-use Rattle.world.specs.Fits.{EditsFit, ReadsFit}
-use Rattle.world.specs.Log.{StandsAt}
-use Rattle.world.specs.Run.{IsReached, Fresh}
-use Rattle.world.specs.World.{Setting, World}
-use Rattle.world.specs.declared.event.Event.{Event}
-use Rattle.world.specs.declared.event.Event.TheVariants.{Sent, Answered, Numbered, Took, Held, Failed}
-use Rattle.world.specs.declared.step.Mode.{Mode}
-use Rattle.world_law.specs.Law.{HasFailed, IsWithin, TellsFault, TellsTruth}
+use Rattle.export_model.specs.Fits.{EditsFit, ReadsFit}
+use Rattle.export_model.specs.Log.{StandsAt}
+use Rattle.export_model.specs.Run.{IsReached, Fresh}
+use Rattle.export_model.specs.World.{Setting, World}
+use Rattle.export_model.specs.declared.event.Event.{Event}
+use Rattle.export_model.specs.declared.event.Event.TheVariants.{Sent, Answered, Numbered, Took, Held, Failed}
+use Rattle.export_model.specs.declared.step.Mode.{Mode}
+use Rattle.export_model_laws.specs.Law.{HasFailed, IsWithin, TellsFault, TellsTruth}
 use Rattle.nbdj_pipe.specs.Causes.{HasCause}
 use Rattle.nbdj_pipe.specs.Export.{Follows, IsSettled, Settles}
 use Rattle.nbdj_pipe.specs.Life.{IsFound, IsLife, IsLived}

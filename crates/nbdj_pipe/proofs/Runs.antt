@@ -11,10 +11,10 @@ use Rattle.order_book.specs.Order.{OrderState}
 use Rattle.request_core.specs.Bench.{ConnectionsState}
 use Rattle.request_core.specs.Life.{LeadsLaw, Trusts}
 use Rattle.request_core.specs.Parts.{IsExportOf}
-use Rattle.world.specs.World.{World, Setting}
-use Rattle.world.specs.declared.connection.Connection.TheVariants.{Idle}
-use Rattle.world.specs.declared.event.Event.{Event}
-use Rattle.world.specs.declared.event.Event.TheVariants.{Sent}
+use Rattle.export_model.specs.World.{World, Setting}
+use Rattle.export_model.specs.declared.connection.Connection.TheVariants.{Idle}
+use Rattle.export_model.specs.declared.event.Event.{Event}
+use Rattle.export_model.specs.declared.event.Event.TheVariants.{Sent}
 use Rattle.nbdj_pipe.specs.Causes.{HasCause}
 use Rattle.nbdj_pipe.specs.Export.{Follows, HasAnswer, said_of}
 use Rattle.nbdj_pipe.specs.Refusals.{of_wire}

@@ -8,7 +8,7 @@ use Rattle.nbd_wire.specs.declared.error.Errno.TheVariants.{Io, Invalid, NoMemor
 use Rattle.nbd_wire.specs.declared.head.RequestHead.{RequestHead}
 use Rattle.nbd_wire.specs.declared.message.SessionFlags.{SessionFlags}
 use Rattle.image_model.specs.declared.geometry.Geometry.{Geometry}
-use Rattle.world.specs.Verdict.{allowed_flags, first_of_rules, is_known, past_end}
+use Rattle.export_model.specs.Verdict.{allowed_flags, first_of_rules, is_known, past_end}
 use Rattle.std.proofs.lemmas.Bool.{both_ways, eqb-false, eqb-true, leb-false}
 use Rattle.nbd_wire.specs.declared.message.Answer.{Answer}
 use Rattle.nbd_wire.specs.declared.message.Answer.TheVariants.{Done, Refused, States}
@@ -20,24 +20,24 @@ use Rattle.order_book.specs.Order.{OrderState}
 use Rattle.request_core.specs.Bench.{ConnectionsState}
 use Rattle.request_core.specs.Life.{LeadsLaw, Trusts}
 use Rattle.request_core.specs.Parts.{IsExportOf}
-use Rattle.world.specs.declared.action.Action.{Action}
-use Rattle.world.specs.declared.action.Action.TheVariants.{End}
-use Rattle.world.specs.declared.connection.Connection.{Connection}
-use Rattle.world.specs.declared.connection.Connection.TheVariants.{Idle, Requested, Waiting, Ready, Closed}
-use Rattle.world.specs.declared.event.Event.{Event}
-use Rattle.world.specs.declared.event.Event.TheVariants.{Sent, Answered, Numbered, Took, Held, Failed}
-use Rattle.world.specs.declared.step.Step.{Step}
-use Rattle.world.specs.declared.step.Step.TheVariants as steps
-use Rattle.world.specs.declared.step.Step.TheVariants.{Send, Serve, Seal, Append, Publish, Rotate, Copy, Map, Finish, Clean}
-use Rattle.world.specs.Log.{edit_asked, is_flush, is_write}
-use Rattle.world.specs.Serve.{Failure, Nothing, OutOfMemory, DeviceFailure, Misread, accepted, answer, answered, held, image_shown, judged, logged, moved, ordered, passed, read_served, ready, shown, state_after, status_served, takes_old_bytes}
-use Rattle.world.specs.Shown.{bytes_from, shown_by}
-use Rattle.world.specs.Step.{after_step, append, publish, seal, sealed_more, stored_more, clean, in_time, with_generation, without_memory, written}
-use Rattle.world.specs.World.{World, fits, has_room, last_number, put, Stage}
+use Rattle.export_model.specs.declared.action.Action.{Action}
+use Rattle.export_model.specs.declared.action.Action.TheVariants.{End}
+use Rattle.export_model.specs.declared.connection.Connection.{Connection}
+use Rattle.export_model.specs.declared.connection.Connection.TheVariants.{Idle, Requested, Waiting, Ready, Closed}
+use Rattle.export_model.specs.declared.event.Event.{Event}
+use Rattle.export_model.specs.declared.event.Event.TheVariants.{Sent, Answered, Numbered, Took, Held, Failed}
+use Rattle.export_model.specs.declared.step.Step.{Step}
+use Rattle.export_model.specs.declared.step.Step.TheVariants as steps
+use Rattle.export_model.specs.declared.step.Step.TheVariants.{Send, Serve, Seal, Append, Publish, Rotate, Copy, Map, Finish, Clean}
+use Rattle.export_model.specs.Log.{edit_asked, is_flush, is_write}
+use Rattle.export_model.specs.Serve.{Failure, Nothing, OutOfMemory, DeviceFailure, Misread, accepted, answer, answered, held, image_shown, judged, logged, moved, ordered, passed, read_served, ready, shown, state_after, status_served, takes_old_bytes}
+use Rattle.export_model.specs.Shown.{bytes_from, shown_by}
+use Rattle.export_model.specs.Step.{after_step, append, publish, seal, sealed_more, stored_more, clean, in_time, with_generation, without_memory, written}
+use Rattle.export_model.specs.World.{World, fits, has_room, last_number, put, Stage}
 use Rattle.nbdj_pipe.specs.Export.{AwaitsAnswer, Follows, IsGiven, IsJudged, IsStoring, HasAnswer, Settles, said_of, told_by}
 use Rattle.nbdj_pipe.specs.declared.refusal.Refusal.{Refusal}
 use Rattle.nbdj_pipe.specs.Talk.{IsAnswerOf, plain, spoken, verdict_on}
-use Rattle.world.specs.Checkpoint.{can_clean, can_copy, can_finish, can_map, can_rotate, is_full}
+use Rattle.export_model.specs.Checkpoint.{can_clean, can_copy, can_finish, can_map, can_rotate, is_full}
 
 pub spoken_on : (log more : List Event) → spoken (log ++ more) ≡ spoken log ++ spoken more
 spoken_on [] more = refl

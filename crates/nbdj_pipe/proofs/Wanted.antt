@@ -1,15 +1,15 @@
 -- that a header was wanted where no generation is left for one
 use Rattle.std.proofs.Common.{◌≡◌, ◌⊎◌, inl, inr, ◌+◌, ◌-◌, ◌==◌, ◌&&◌, Bool, true, false, nat_lt, List, [], ◌∷◌, ◌++◌, length}
-use Rattle.world.specs.declared.event.Event.{Event}
-use Rattle.world.specs.declared.event.Event.TheVariants.{Took, Held, Failed}
-use Rattle.world.specs.declared.event.StepFault.TheVariants as fault
-use Rattle.world.specs.declared.step.Step.{Step}
-use Rattle.world.specs.declared.step.Step.TheVariants.{Send, Serve, Answer, Seal, Append, Publish, Rotate, Copy, Map, Finish, Clean}
-use Rattle.world.specs.Checkpoint.{can_clean, can_copy, can_finish, can_map, can_rotate, finished, is_full, rotated}
-use Rattle.world.specs.Serve.{Failure, Nothing, OutOfMemory, DeviceFailure, Misread}
-use Rattle.world.specs.Step.{after_step, append_in_hand, in_time, sealed_more, with_generation, without_memory, written}
+use Rattle.export_model.specs.declared.event.Event.{Event}
+use Rattle.export_model.specs.declared.event.Event.TheVariants.{Took, Held, Failed}
+use Rattle.export_model.specs.declared.event.StepFault.TheVariants as fault
+use Rattle.export_model.specs.declared.step.Step.{Step}
+use Rattle.export_model.specs.declared.step.Step.TheVariants.{Send, Serve, Answer, Seal, Append, Publish, Rotate, Copy, Map, Finish, Clean}
+use Rattle.export_model.specs.Checkpoint.{can_clean, can_copy, can_finish, can_map, can_rotate, finished, is_full, rotated}
+use Rattle.export_model.specs.Serve.{Failure, Nothing, OutOfMemory, DeviceFailure, Misread}
+use Rattle.export_model.specs.Step.{after_step, append_in_hand, in_time, sealed_more, with_generation, without_memory, written}
 use Rattle.image_model.specs.Bodies.{bodies_bytes}
-use Rattle.world.specs.World.{Stage, World, fits, in_hand}
+use Rattle.export_model.specs.World.{Stage, World, fits, in_hand}
 use Rattle.nbdj_pipe.specs.Causes.{HasNoGeneration}
 use Rattle.nbdj_pipe.specs.Export.{IsStoring}
 use Rattle.nbdj_pipe.proofs.Steps.{last_same, of_test}

@@ -2,13 +2,13 @@
 use Rattle.std.specs.Prelude.{◌≡◌, ◌⊎◌, true, false, List, Ok}
 use Rattle.image_model.specs.Edit.{becomes}
 use Rattle.nbd_wire.specs.Request.{Message}
-use Rattle.world.specs.declared.action.Action.TheVariants.{Serve}
-use Rattle.world.specs.declared.step.Step.{Step}
-use Rattle.world.specs.Log.{edit_asked, is_write}
-use Rattle.world.specs.Run.{IsRun}
-use Rattle.world.specs.Checkpoint.{can_finish, can_rotate, is_full}
-use Rattle.world.specs.Serve.{Failure, image_shown}
-use Rattle.world.specs.World.{World, has_room}
+use Rattle.export_model.specs.declared.action.Action.TheVariants.{Serve}
+use Rattle.export_model.specs.declared.step.Step.{Step}
+use Rattle.export_model.specs.Log.{edit_asked, is_write}
+use Rattle.export_model.specs.Run.{IsRun}
+use Rattle.export_model.specs.Checkpoint.{can_finish, can_rotate, is_full}
+use Rattle.export_model.specs.Serve.{Failure, image_shown}
+use Rattle.export_model.specs.World.{World, has_room}
 use Rattle.nbdj_pipe.specs.Talk.{verdict_on}
 use Rattle.nbdj_pipe.specs.declared.refusal.Refusal.{Refusal}
 use Rattle.nbdj_pipe.specs.declared.refusal.Refusal.TheVariants.{NoMemory, DeviceFault, BadMap, NoHeader, BadHeader, NumbersFull, AreaFull, OutOfOrder, DamagedGroup, NotNow, Failed, NoRoom, PeerClosed, ProtocolEnd, StreamFault}

@@ -2,14 +2,14 @@
 use Rattle.std.specs.Prelude.{ℕ, ◌≡◌, ◌≢◌, ◌<◌, ◌≤◌, ◌⊎◌, ◌∷◌, ◌++◌, true, false, [], Result, Ok, Err}
 use Rattle.std.specs.FinMap.{len}
 use Rattle.request_core.specs.Copies.{copied}
-use Rattle.world.specs.declared.event.Event.{Event}
-use Rattle.world.specs.declared.event.Event.TheVariants.{Failed}
-use Rattle.world.specs.declared.event.StepFault.TheVariants as fault
-use Rattle.world.specs.declared.step.Step.TheVariants.{Copy}
-use Rattle.world.specs.Checkpoint.{can_copy, last_turned}
-use Rattle.world.specs.Serve.{Failure}
-use Rattle.world.specs.Step.{after_step, seal}
-use Rattle.world.specs.World.{Stage, World, dirty_behind, fits}
+use Rattle.export_model.specs.declared.event.Event.{Event}
+use Rattle.export_model.specs.declared.event.Event.TheVariants.{Failed}
+use Rattle.export_model.specs.declared.event.StepFault.TheVariants as fault
+use Rattle.export_model.specs.declared.step.Step.TheVariants.{Copy}
+use Rattle.export_model.specs.Checkpoint.{can_copy, last_turned}
+use Rattle.export_model.specs.Serve.{Failure}
+use Rattle.export_model.specs.Step.{after_step, seal}
+use Rattle.export_model.specs.World.{Stage, World, dirty_behind, fits}
 use Rattle.nbdj_pipe.specs.declared.refusal.Refusal.{Refusal}
 use Rattle.nbdj_pipe.specs.declared.refusal.Refusal.TheVariants.{NoMemory, NumbersFull}
 

@@ -10,17 +10,17 @@ use Rattle.nbd_wire.specs.declared.message.Answer.TheVariants.{Done, Refused}
 use Rattle.order_book.specs.Order.{OrderState}
 use Rattle.request_core.specs.Bench.{ConnectionsState}
 use Rattle.request_core.specs.Life.{Leads}
-use Rattle.world.specs.declared.action.Action.{Action}
-use Rattle.world.specs.declared.action.Action.TheVariants.{End}
-use Rattle.world.specs.declared.connection.Connection.{Connection}
-use Rattle.world.specs.declared.connection.Connection.TheVariants.{Idle, Requested, Waiting, Ready, Closed}
-use Rattle.world.specs.declared.event.Event.{Event}
-use Rattle.world.specs.declared.step.Step.{Step}
-use Rattle.world.specs.declared.step.Step.TheVariants as steps
-use Rattle.world.specs.declared.step.Step.TheVariants.{Send, Serve, Seal, Append, Publish, Rotate, Copy, Map, Finish, Clean}
-use Rattle.world.specs.World.{World}
-use Rattle.world.specs.declared.event.Event.TheVariants.{Answered}
-use Rattle.world.specs.declared.event.StepFault.{StepFault}
+use Rattle.export_model.specs.declared.action.Action.{Action}
+use Rattle.export_model.specs.declared.action.Action.TheVariants.{End}
+use Rattle.export_model.specs.declared.connection.Connection.{Connection}
+use Rattle.export_model.specs.declared.connection.Connection.TheVariants.{Idle, Requested, Waiting, Ready, Closed}
+use Rattle.export_model.specs.declared.event.Event.{Event}
+use Rattle.export_model.specs.declared.step.Step.{Step}
+use Rattle.export_model.specs.declared.step.Step.TheVariants as steps
+use Rattle.export_model.specs.declared.step.Step.TheVariants.{Send, Serve, Seal, Append, Publish, Rotate, Copy, Map, Finish, Clean}
+use Rattle.export_model.specs.World.{World}
+use Rattle.export_model.specs.declared.event.Event.TheVariants.{Answered}
+use Rattle.export_model.specs.declared.event.StepFault.{StepFault}
 use Rattle.nbdj_pipe.specs.declared.refusal.Refusal.{Refusal}
 use Rattle.nbdj_pipe.specs.declared.refusal.Refusal.TheVariants.{NoMemory}
 use Rattle.nbdj_pipe.specs.Checkpoint.{IsUnfit}

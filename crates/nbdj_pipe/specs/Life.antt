@@ -12,11 +12,11 @@ use Rattle.nbd_wire.specs.declared.error.Errno.TheVariants.{Io}
 use Rattle.nbd_wire.specs.declared.message.Answer.TheVariants.{Refused}
 use Rattle.request_core.specs.Life.{IsDurable}
 use Rattle.request_core.specs.Parts.{StandsAfter}
-use Rattle.world.specs.Fits.{EditsFit, ReadsFit}
-use Rattle.world.specs.Run.{IsRun}
-use Rattle.world.specs.World.{Setting, World, fresh}
-use Rattle.world.specs.declared.step.Mode.{Mode}
-use Rattle.world.specs.declared.step.Step.{Step}
+use Rattle.export_model.specs.Fits.{EditsFit, ReadsFit}
+use Rattle.export_model.specs.Run.{IsRun}
+use Rattle.export_model.specs.World.{Setting, World, fresh}
+use Rattle.export_model.specs.declared.step.Mode.{Mode}
+use Rattle.export_model.specs.declared.step.Step.{Step}
 use Rattle.nbdj_pipe.specs.Causes.{HasCause}
 use Rattle.nbdj_pipe.specs.Pipe.{IsOrderly}
 use Rattle.nbdj_pipe.specs.Talk.{AreAnswered, Exchange, plain, spoken, talk_to}

@@ -9,8 +9,8 @@ use Rattle.order_book.specs.Order.{OrderState}
 use Rattle.request_core.specs.Bench.{ConnectionsState}
 use Rattle.request_core.specs.Life.{Trusts}
 use Rattle.request_core.specs.Parts.{IsExportOf}
-use Rattle.world.specs.World.{World}
-use Rattle.world.specs.declared.connection.Connection.TheVariants.{Idle}
+use Rattle.export_model.specs.World.{World}
+use Rattle.export_model.specs.declared.connection.Connection.TheVariants.{Idle}
 use Rattle.nbdj_pipe.specs.Causes.{HasCause}
 use Rattle.nbdj_pipe.specs.Export.{Follows}
 use Rattle.nbdj_pipe.specs.Pipe.{Conversation, IsFaulty, IsOpen, IsOrderly, IsServed, IsToDisc, IsWhole, ReadsTo}

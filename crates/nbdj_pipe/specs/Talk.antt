@@ -11,10 +11,10 @@ use Rattle.nbd_wire.specs.declared.message.Answer.{Answer}
 use Rattle.nbd_wire.specs.declared.message.Answer.TheVariants.{Done, Refused, Bytes, States}
 use Rattle.nbd_wire.specs.declared.message.Run.{Run}
 use Rattle.nbd_wire.specs.declared.message.SessionFlags.{SessionFlags}
-use Rattle.world.specs.declared.action.Action.{Action}
-use Rattle.world.specs.declared.event.Event.{Event}
-use Rattle.world.specs.declared.event.Event.TheVariants.{Sent, Answered, Numbered, Took, Held, Failed}
-use Rattle.world.specs.Verdict.{verdict}
+use Rattle.export_model.specs.declared.action.Action.{Action}
+use Rattle.export_model.specs.declared.event.Event.{Event}
+use Rattle.export_model.specs.declared.event.Event.TheVariants.{Sent, Answered, Numbered, Took, Held, Failed}
+use Rattle.export_model.specs.Verdict.{verdict}
 
 -- what a log says of requests and answers: the events that send or answer one
 abbrev pub spoken : List Event → List Event

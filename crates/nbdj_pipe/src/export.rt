@@ -10,21 +10,21 @@ ghost use Rattle.nbdj_pipe.specs.Talk.{plain, spoken, verdict_on};
 ghost use Rattle.order_book.specs.Order.{IsInHand};
 ghost use Rattle.request_core.specs.Life.{Trusts};
 ghost use Rattle.request_core.specs.Parts.{IsExportOf};
-ghost use Rattle.world.specs.Serve.{Failure};
-ghost use Rattle.world.specs.Step.{after_step};
-ghost use Rattle.world.specs.World.{World};
-ghost use Rattle.world.specs.declared.connection.Connection.TheVariants as Connection;
-ghost use Rattle.world.specs.declared.event.Event.TheVariants as Event;
+ghost use Rattle.export_model.specs.Serve.{Failure};
+ghost use Rattle.export_model.specs.Step.{after_step};
+ghost use Rattle.export_model.specs.World.{World};
+ghost use Rattle.export_model.specs.declared.connection.Connection.TheVariants as Connection;
+ghost use Rattle.export_model.specs.declared.event.Event.TheVariants as Event;
 
 use crate::refusal::Refusal;
 use checkpoint::Keeper;
 use disk_model::Disk;
+use export_model_laws::schedule_law;
 use marks::{Board, BoardName, KeeperSeat};
 use nbd_wire::{Answer, DISCONNECT, Request};
 use order_book::Order;
 use request_core::{Connections, Event, Step, StepFault, copy_some, leads_law, take_step};
 use std::alloc::Global;
-use world_law::schedule_law;
 
 // The most blocks that are copied at once: 1 MiB.
 const MOST_COPIED: u32 = 256;

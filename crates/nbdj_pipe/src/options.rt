@@ -1,6 +1,6 @@
 ghost use Rattle.std.specs.Prelude.{◌≡◌, ◌≤◌, MatchOption};
 
-use world::Mode;
+use export_model::Mode;
 
 /// The fewest blocks that may be allowed to wait for the checkpoint.
 pub const LEAST_FRAMES: u64 = 512;

@@ -17,7 +17,7 @@ ghost use Rattle.order_book.specs.Shown.{ShowsImage};
 ghost use Rattle.request_core.specs.Bench.{new_connections};
 ghost use Rattle.request_core.specs.Life.{Trusts};
 ghost use Rattle.request_core.specs.Parts.{IsExportOf};
-ghost use Rattle.world.specs.World.{World};
+ghost use Rattle.export_model.specs.World.{World};
 
 use crate::export::Export;
 use crate::options::PipeOptions;
@@ -26,6 +26,7 @@ use byte_streams::{StreamFault, read_some, write_whole};
 use checkpoint::Keeper;
 use device_image::keeper_laws;
 use disk_model::Disk;
+use export_model_laws::schedule_law;
 use marks::{BlankBoard, Board, BoardName, KeeperSeat, Opened};
 use nbd_reply::encode_simple_reply;
 use nbd_wire::{Answer, Request, SessionFlags, StreamReader, one_reading};
@@ -34,7 +35,6 @@ use request_core::{Connections, fresh_order, fresh_parts_law, leads_law};
 use std::alloc::{AllocError, Global};
 use std::io::{Read, Write};
 use std::marker::Brand;
-use world_law::schedule_law;
 
 // The most bytes that one read takes, and the most of them behind the data at hand: 8 heads of requests. The replies to as many
 // READs of 1 MiB still lie in a cache when they are written.

@@ -1,8 +1,8 @@
 use bitflags::Flags;
+use export_model::{Event, Mode};
 use image_model::{Edit, Kind, PlainImage};
 use nbd_wire::{Answer, CommandFlags, FLUSH, Request, RequestHead, TRIM, WRITE, WRITE_ZEROES};
 use std::alloc::{AllocError, Global};
-use world::{Event, Mode};
 
 /// The most connections of a script.
 const CONNECTIONS: usize = 16;

@@ -4,10 +4,10 @@ use crate::opening::{Judged, judge, restored};
 use crate::promise::Promise;
 use checkpoint::{Keeper, KeeperFault};
 use disk_model::{CrashChoice, Disk, SimDisk};
+use export_model::{Event, StepFault};
 use nbd_wire::{Answer, Errno};
-use nbdj_script::{Played, Schedule, Setup, Trouble};
+use script_runner::{Played, Schedule, Setup, Trouble};
 use std::alloc::Global;
-use world::{Event, StepFault};
 
 /// A script that is run over and over, each time from its first line on.
 #[derive(Drop)]

@@ -2,7 +2,7 @@ ghost use Rattle.std.specs.Prelude.{◌≡◌, IfOk};
 
 use crate::trial::{Outcome, Trial};
 use disk_model::{CallKind, CrashChoice, Disk, SimDisk};
-use nbdj_script::{End, Schedule, Trouble, exit_status, failed, print};
+use script_runner::{End, Schedule, Trouble, exit_status, failed, print};
 use std::alloc::Global;
 use std::fmt;
 use std::fmt::{Display, Formatter};

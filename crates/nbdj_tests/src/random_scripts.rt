@@ -2,7 +2,7 @@
 ghost use Rattle.std.specs.Prelude.{◌≡◌, ◌≤◌, ◌<◌, ◌+◌, ◌*◌, vec_len};
 
 use crate::draws::Draws;
-use nbdj_script::script;
+use script_runner::script;
 use std::alloc::{AllocError, Global};
 use std::fmt::Display;
 use std::io;

@@ -1,16 +1,16 @@
 ghost use Rattle.std.specs.Prelude.{◌≡◌, ◌≤◌, length};
-ghost use Rattle.nbdj_run.specs.Plan.{Suits};
+ghost use Rattle.subcommands.specs.Plan.{Suits};
 
 use disk_model::{Disk, SimDisk};
+use export_model::Mode;
 use image_model::Geometry;
 use nbd_wire::{RequestHead, encode_request};
 use nbdj_pipe::PipeOptions;
-use nbdj_run::{Plan, perform};
 use std::alloc::{AllocError, Global};
 use std::io::Read;
 use std::process::Abort;
 use std::test::Fail;
-use world::Mode;
+use subcommands::{Plan, perform};
 
 // What a run of a plan left.
 pub struct Ran {

@@ -1,4 +1,4 @@
-use nbdj_script::script;
+use script_runner::script;
 use std::alloc::Global;
 use std::process::Abort;
 use std::test::Fail;

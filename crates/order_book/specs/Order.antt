@@ -7,7 +7,7 @@ use Rattle.image_model.specs.Bodies.{body_bytes, body_limit}
 use Rattle.image_model.specs.Change.{Change, change_of}
 use Rattle.image_model.specs.Command.{body_of, bodies_of}
 use Rattle.image_model.specs.Dirty.{Dirty, clean_through, dirty_after, frames_suffice}
-use Rattle.group_list.specs.Group.{Numbered}
+use Rattle.journal_format.specs.Group.{Numbered}
 use Rattle.marks.specs.Known.{Marks}
 use Rattle.order_book.specs.Cached.{cache_after, cache_cleaned}
 use Rattle.order_book.specs.declared.fault.OrderFault.{OrderFault}

@@ -3,7 +3,7 @@ ghost use Rattle.alloc_map.specs.Codes.{state_at};
 ghost use Rattle.checkpoint.specs.Keeper.{faults_by, refused_by};
 ghost use Rattle.checkpoint.specs.declared.fault.KeeperFault.TheVariants as KeeperFault;
 ghost use Rattle.device_image.specs.Holds.{Holds, is_written};
-ghost use Rattle.group_list.specs.Reading.{IsOnlyRead};
+ghost use Rattle.journal_format.specs.Reading.{IsOnlyRead};
 ghost use Rattle.image_model.specs.Bodies.{body_bytes};
 ghost use Rattle.image_model.specs.Change.{Change, change_of};
 ghost use Rattle.image_model.specs.Command.{IsCleared};

@@ -5,7 +5,7 @@ ghost use Rattle.device_image.specs.Holds.{Holds, is_written};
 ghost use Rattle.image_model.specs.Change.{Change};
 ghost use Rattle.image_model.specs.Image.{Image};
 ghost use Rattle.image_model.specs.declared.command.Kind.TheVariants.{Data};
-ghost use Rattle.group_list.specs.Reading.{IsOnlyRead};
+ghost use Rattle.journal_format.specs.Reading.{IsOnlyRead};
 ghost use Rattle.order_book.specs.Cached.{frames_of};
 ghost use Rattle.order_book.specs.Reading.{LiesIn, ShowsRead};
 ghost use Rattle.shared_cache.specs.Cache.{LacksBytes, bytes_seen};

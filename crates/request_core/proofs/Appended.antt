@@ -12,20 +12,20 @@ use Rattle.disk_model.specs.Faults.{counted}
 use Rattle.disk_model.specs.laws.Moments.{begins, ends, weakens}
 use Rattle.image_model.specs.Change.{AreChanges, change_of, Change}
 use Rattle.image_model.specs.Image.{Image, apply_all}
-use Rattle.group_list.specs.Group.{Numbered}
+use Rattle.journal_format.specs.Group.{Numbered}
 use Rattle.order_book.specs.Order.{OrderState, with_group}
 use Rattle.request_core.specs.Steps.{IsAppended}
 use Rattle.request_core.specs.Parts.{IsDiskOf, IsKeeperOf, IsOrderOf, StandsAfter, first_commands, last_commands, turned_at}
 use Rattle.request_core.specs.Storing.{IsKept, event_of, hand_after, order_after}
 use Rattle.request_core.specs.laws.Lives.{either_stands, group_takes, IsOrdered, keeps_of, last_grows, ordered}
 use Rattle.request_core.proofs.Stored.{goes_failed, goes_full, goes_none, goes_on_to, kept_back, kept_faulted, kept_held, kept_out_of_memory, kept_stored, not_true_is}
-use Rattle.world.specs.declared.event.Event.{Event}
-use Rattle.world.specs.declared.event.Event.TheVariants.{Took, Held, Failed}
-use Rattle.world.specs.declared.event.StepFault.TheVariants.{NoMemory, DeviceFault, FailedBefore}
-use Rattle.world.specs.Serve.{Failure, Nothing, OutOfMemory, DeviceFailure, held, logged, faulted}
-use Rattle.world.specs.Step.{append, put_back, out_of_memory, stored_more}
-use Rattle.world.specs.World.{World, image_after}
-use Rattle.world_law.specs.Law.{IsWithin}
+use Rattle.export_model.specs.declared.event.Event.{Event}
+use Rattle.export_model.specs.declared.event.Event.TheVariants.{Took, Held, Failed}
+use Rattle.export_model.specs.declared.event.StepFault.TheVariants.{NoMemory, DeviceFault, FailedBefore}
+use Rattle.export_model.specs.Serve.{Failure, Nothing, OutOfMemory, DeviceFailure, held, logged, faulted}
+use Rattle.export_model.specs.Step.{append, put_back, out_of_memory, stored_more}
+use Rattle.export_model.specs.World.{World, image_after}
+use Rattle.export_model_laws.specs.Law.{IsWithin}
 use Rattle.device_image.specs.Holds.{Holds}
 use Rattle.device_image.specs.Remembers.{Remembers}
 

@@ -6,7 +6,7 @@ use Rattle.nbd_wire.specs.declared.head.RequestHead.{RequestHead}
 use Rattle.nbd_wire.specs.declared.message.Answer.TheVariants.{Bytes, Refused, States}
 use Rattle.nbd_wire.specs.declared.message.Run.{Run}
 use Rattle.image_model.specs.Edit.{blocks_met}
-use Rattle.world.specs.Shown.{bytes_from, cut_to, most_runs, read_status_of, runs_from, runs_met, shown_by, status_of, with_block}
+use Rattle.export_model.specs.Shown.{bytes_from, cut_to, most_runs, read_status_of, runs_from, runs_met, shown_by, status_of, with_block}
 use Rattle.device_image.specs.Keeper.{KeeperState}
 use Rattle.disk_model.specs.Disk.{State}
 use Rattle.image_model.specs.declared.geometry.Geometry.{Geometry}
@@ -16,14 +16,14 @@ use Rattle.order_book.specs.Order.{OrderState}
 use Rattle.request_core.specs.Outcomes.{IsEditRefused, IsEditServed, IsPassed, IsServedBy, IsServedWith, IsStopped, IsWriteAsked}
 use Rattle.request_core.proofs.Lifted.{Comes, passes, refused_so, written}
 use Rattle.request_core.proofs.Serves.{if_false, if_true, write_accepted, write_others}
-use Rattle.world.specs.Log.{edit_asked, is_flush, is_write}
-use Rattle.world.specs.declared.connection.Connection.{Connection}
-use Rattle.world.specs.declared.connection.Connection.TheVariants.{Closed, Idle, Ready, Requested, Waiting}
+use Rattle.export_model.specs.Log.{edit_asked, is_flush, is_write}
+use Rattle.export_model.specs.declared.connection.Connection.{Connection}
+use Rattle.export_model.specs.declared.connection.Connection.TheVariants.{Closed, Idle, Ready, Requested, Waiting}
 use Rattle.request_core.proofs.Talks.{set_put, talked_served}
 use Rattle.std.proofs.Math.ListN.{set}
 use Rattle.std.proofs.lemmas.List.{set-set}
 use Rattle.nbd_wire.specs.declared.message.SessionFlags.{SessionFlags}
-use Rattle.world.specs.Verdict.{verdict}
+use Rattle.export_model.specs.Verdict.{verdict}
 use Rattle.request_core.specs.Reading.{IsKnownBy, IsRead, IsReadServed, IsUnread}
 use Rattle.device_image.specs.laws.Counted.{remembers_still}
 use Rattle.disk_model.specs.Disk.{IsSound, LeavesOnly}
@@ -32,8 +32,8 @@ use Rattle.disk_model.specs.laws.Moments.{ends, weakens}
 use Rattle.checkpoint.specs.Keeper.{faults_by, refused_by}
 use Rattle.checkpoint.specs.declared.fault.KeeperFault.{KeeperFault}
 use Rattle.checkpoint.specs.declared.fault.KeeperFault.TheVariants as fault
-use Rattle.group_list.specs.Group.{Numbered}
-use Rattle.group_list.specs.Reading.{IsOnlyRead}
+use Rattle.journal_format.specs.Group.{Numbered}
+use Rattle.journal_format.specs.Reading.{IsOnlyRead}
 use Rattle.nbd_wire.specs.declared.message.Answer.{Answer}
 use Rattle.order_book.specs.Reading.{IsCleanAt}
 use Rattle.order_book.specs.Shown.{ShowsImage}
@@ -41,23 +41,23 @@ use Rattle.device_image.specs.Holds.{Holds}
 use Rattle.image_model.specs.Change.{Change}
 use Rattle.request_core.specs.Parts.{AreConnectionsOf, IsDiskOf, IsKeeperOf, IsOrderOf, Shows, StandsAfter, first_commands}
 use Rattle.request_core.specs.Storing.{stopped_with}
-use Rattle.request_core.proofs.Turns.{order_stopped}
+use Rattle.request_core.proofs.CheckpointSteps.{order_stopped}
 use Rattle.nbd_wire.specs.declared.error.Errno.TheVariants.{Io, NoMemory}
 use Rattle.request_core.specs.Steps.{IsAnyServed, IsAnyTalked, IsAsked, IsSure, KeepsDisk}
 use Rattle.request_core.proofs.Clean.{clean_at}
 use Rattle.request_core.specs.laws.Lives.{disk_grows, ordered}
 use Rattle.request_core.proofs.Performed.{keeper_grows}
 use Rattle.request_core.proofs.Serves.{event_quiet}
-use Rattle.world.specs.declared.event.Event.{Event}
-use Rattle.world.specs.declared.event.Event.TheVariants.{Took}
-use Rattle.world.specs.Serve.{DeviceFailure, Failure, Misread, Nothing, OutOfMemory, faulted, held, image_shown, judged, passed, read_served, ready, serve, shown, takes_old_bytes, write_served}
-use Rattle.world.specs.World.{World, Stage, image_after, put}
-use Rattle.world_law.specs.Law.{IsWithin}
+use Rattle.export_model.specs.declared.event.Event.{Event}
+use Rattle.export_model.specs.declared.event.Event.TheVariants.{Took}
+use Rattle.export_model.specs.Serve.{DeviceFailure, Failure, Misread, Nothing, OutOfMemory, faulted, held, image_shown, judged, passed, read_served, ready, serve, shown, takes_old_bytes, write_served}
+use Rattle.export_model.specs.World.{World, Stage, image_after, put}
+use Rattle.export_model_laws.specs.Law.{IsWithin}
 use Rattle.request_core.specs.Serving.{IsWriteServed, event_for, quiet_event, ready_for, request_in, state_of}
 use Rattle.request_core.specs.declared.serving.Served.{Served}
-use Rattle.world.specs.declared.action.Action.{Action}
-use Rattle.world.specs.declared.action.Action.TheVariants.{End, Serve}
-use Rattle.world.specs.declared.step.Mode.{Mode}
+use Rattle.export_model.specs.declared.action.Action.{Action}
+use Rattle.export_model.specs.declared.action.Action.TheVariants.{End, Serve}
+use Rattle.export_model.specs.declared.step.Mode.{Mode}
 
 module _ {D : Type 0} (state : D → State) (faults : D → ℕ) (honest : D → Type 0) (request : Message) (geometry : Geometry) (kept : Mode) (old new : OrderState) (keeper next : KeeperState D) (result : Served)
     (works : old.stopped ≡ false) (stopped : new.stopped ≡ true) where

@@ -16,7 +16,7 @@ use Rattle.image_model.specs.laws.Slots.{byte-apply, untouched_byte}
 use Rattle.order_book.specs.Reading.{IsCleanAt}
 use Rattle.request_core.specs.Parts.{first_commands, part, turned_at}
 use Rattle.request_core.specs.laws.Lives.{IsOrdered, all_behind, apply_append, take_part}
-use Rattle.world.specs.World.{Stage, dirty_behind, image_after}
+use Rattle.export_model.specs.World.{Stage, dirty_behind, image_after}
 
 -- a block that no command touches keeps its state
 kind_stays : (block : ℕ) (changes : List Change) (image : Image) → list_any (touches block) changes ≡ false → (apply_all changes image).kind block ≡ image.kind block

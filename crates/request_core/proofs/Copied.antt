@@ -13,15 +13,15 @@ use Rattle.request_core.specs.Life.{Leads}
 use Rattle.request_core.specs.Parts.{IsExportOf}
 use Rattle.request_core.specs.Steps.{IsAppended}
 use Rattle.request_core.specs.laws.Lives.{stands_less}
-use Rattle.world.specs.declared.event.Event.TheVariants.{Took, Failed}
-use Rattle.world.specs.declared.event.StepFault.TheVariants.{FailedBefore}
-use Rattle.world.specs.declared.step.Step.TheVariants.{Copy}
-use Rattle.world.specs.Checkpoint.{is_turned}
-use Rattle.world.specs.Run.{IsReached, IsRun}
-use Rattle.world.specs.Serve.{Nothing, held, logged, staged}
-use Rattle.world.specs.Step.{after_step}
-use Rattle.world.specs.World.{World}
-use Rattle.world_law.specs.Law.{IsWithin}
+use Rattle.export_model.specs.declared.event.Event.TheVariants.{Took, Failed}
+use Rattle.export_model.specs.declared.event.StepFault.TheVariants.{FailedBefore}
+use Rattle.export_model.specs.declared.step.Step.TheVariants.{Copy}
+use Rattle.export_model.specs.Checkpoint.{is_turned}
+use Rattle.export_model.specs.Run.{IsReached, IsRun}
+use Rattle.export_model.specs.Serve.{Nothing, held, logged, staged}
+use Rattle.export_model.specs.Step.{after_step}
+use Rattle.export_model.specs.World.{World}
+use Rattle.export_model_laws.specs.Law.{IsWithin}
 
 -- the world with so many blocks less to copy, and so many steps more in its log
 abbrev pub with_copies : World → ℕ → World

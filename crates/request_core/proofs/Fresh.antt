@@ -17,9 +17,9 @@ use Rattle.order_book.specs.Shown.{ShowsImage}
 use Rattle.request_core.specs.Bench.{new_connections}
 use Rattle.request_core.specs.Life.{first_world}
 use Rattle.request_core.specs.Parts.{IsExportOf}
-use Rattle.world.specs.declared.connection.Connection.TheVariants.{Idle, Closed}
-use Rattle.world.specs.declared.step.Mode.{Mode}
-use Rattle.world.specs.Run.{Fresh}
+use Rattle.export_model.specs.declared.connection.Connection.TheVariants.{Idle, Closed}
+use Rattle.export_model.specs.declared.step.Mode.{Mode}
+use Rattle.export_model.specs.Run.{Fresh}
 
 -- as many connections as there are have no request open, and there are no others
 idle_here : (count connection : ℕ) → get_or (replicate count Idle) connection Closed ≡ (if nat_lt connection count then Idle else Closed)

@@ -6,7 +6,7 @@ use Rattle.device_image.specs.Keeper.{KeeperState}
 use Rattle.disk_model.specs.Disk.{State}
 use Rattle.image_model.specs.Image.{Image}
 use Rattle.image_model.specs.declared.geometry.Geometry.{Geometry}
-use Rattle.group_list.specs.Reading.{IsOnlyRead}
+use Rattle.journal_format.specs.Reading.{IsOnlyRead}
 use Rattle.marks.specs.Known.{PassState, known}
 use Rattle.nbd_wire.specs.Request.{Message}
 use Rattle.nbd_wire.specs.declared.error.Errno.{Errno}
@@ -17,9 +17,9 @@ use Rattle.request_core.specs.Outcomes.{IsServedBy, IsServedHere}
 use Rattle.request_core.specs.Reading.{IsHeldRead, IsHeldReadServed, IsRead, IsReadServed}
 use Rattle.request_core.specs.Serving.{IsPassServed, accepted_for, ready_for}
 use Rattle.request_core.specs.declared.serving.Served.{Served}
-use Rattle.world.specs.declared.action.Action.{Action}
-use Rattle.world.specs.declared.action.Action.TheVariants.{End, Serve}
-use Rattle.world.specs.declared.step.Mode.{Mode}
+use Rattle.export_model.specs.declared.action.Action.{Action}
+use Rattle.export_model.specs.declared.action.Action.TheVariants.{End, Serve}
+use Rattle.export_model.specs.declared.step.Mode.{Mode}
 
 -- a READ that is served so leaves the order as it was
 pub read_leaves : (given : Result Action Errno) (request : Message) (geometry : Geometry) (kept : Mode) (old new : OrderState) (result : Served)

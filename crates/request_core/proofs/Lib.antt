@@ -14,7 +14,7 @@ mod Steady
 mod Stored
 mod Talks
 mod Times
-mod Turns
+mod CheckpointSteps
 mod Opened
 mod Owned
 mod Passes

@@ -8,7 +8,7 @@ use Rattle.image_model.specs.Image.{Image, apply, apply_all}
 use Rattle.order_book.specs.Shown.{ShowsImage}
 use Rattle.request_core.specs.laws.Lives.{apply_append}
 use Rattle.std.proofs.lemmas.List.{take_all}
-use Rattle.group_list.specs.Group.{Numbered}
+use Rattle.journal_format.specs.Group.{Numbered}
 use Rattle.nbd_wire.specs.Request.{Message}
 use Rattle.nbd_wire.specs.declared.error.Errno.{Errno}
 use Rattle.nbd_wire.specs.declared.error.Errno.TheVariants as errno
@@ -22,13 +22,13 @@ use Rattle.request_core.specs.Reading.{IsStatusServed}
 use Rattle.request_core.specs.declared.serving.Served.{Served}
 use Rattle.request_core.specs.declared.serving.Served.TheVariants as served
 use Rattle.request_core.proofs.Serves.{grown_same, if_false, if_true, served_accepted, served_held, served_moved, served_numbered, served_quiet, write_accepted, write_full, write_held}
-use Rattle.world.specs.Log.{edit_asked, is_flush, waits_for_store}
-use Rattle.world.specs.Serve.{Failure, Misread, Nothing, OutOfMemory, accepted, held, image_shown, logged, moved, numbered as got_number, passed, ready, shown, status_served, write_served}
-use Rattle.world.specs.Shown.{shown_by}
-use Rattle.world.specs.World.{World, image_after, last_number}
-use Rattle.world.specs.declared.connection.Connection.TheVariants.{Requested, Waiting, Ready}
-use Rattle.world.specs.declared.event.Event.TheVariants.{Took}
-use Rattle.world_law.specs.Law.{IsWithin}
+use Rattle.export_model.specs.Log.{edit_asked, is_flush, waits_for_store}
+use Rattle.export_model.specs.Serve.{Failure, Misread, Nothing, OutOfMemory, accepted, held, image_shown, logged, moved, numbered as got_number, passed, ready, shown, status_served, write_served}
+use Rattle.export_model.specs.Shown.{shown_by}
+use Rattle.export_model.specs.World.{World, image_after, last_number}
+use Rattle.export_model.specs.declared.connection.Connection.TheVariants.{Requested, Waiting, Ready}
+use Rattle.export_model.specs.declared.event.Event.TheVariants.{Took}
+use Rattle.export_model_laws.specs.Law.{IsWithin}
 
 module _ (world : World) (c : ℕ) (request : Message) (old : OrderState) (group : Option Numbered) (within : IsWithin world) (of : IsOrderOf world.stage old group)
     (here : world.connections c ≡ Requested request) (new : OrderState) (kept : length new.cache.states ≡ length old.cache.states) (result : Served) where

@@ -5,7 +5,7 @@ use Rattle.image_model.specs.Edit.{blocks_met, is_partial_data, meets, spans}
 use Rattle.image_model.specs.Image.{Image, is_data, last_of}
 use Rattle.image_model.specs.declared.command.Kind.{Kind}
 use Rattle.image_model.specs.declared.command.Kind.TheVariants.{Data}
-use Rattle.world.specs.Serve.{covers_data_in_part}
+use Rattle.export_model.specs.Serve.{covers_data_in_part}
 
 -- a block that bytes touch and don't cover is the first that they touch, or the last
 edge_block : (offset count block : ℕ) → 1 ≤ count → meets offset count block ≡ true → spans offset count block ≡ false

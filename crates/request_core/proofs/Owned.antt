@@ -25,9 +25,9 @@ use Rattle.request_core.specs.Reading.{IsUnread}
 use Rattle.request_core.specs.Serving.{IsPassServed, IsRoom, IsTaken, accepted_for, served_after}
 use Rattle.request_core.specs.declared.serving.Served.{Served}
 use Rattle.request_core.proofs.Olds.{takes_there}
-use Rattle.world.specs.Log.{edit_asked, is_flush, waits_for_store}
-use Rattle.world.specs.Serve.{covers_data_in_part, takes_old_bytes}
-use Rattle.world.specs.declared.step.Mode.{Mode}
+use Rattle.export_model.specs.Log.{edit_asked, is_flush, waits_for_store}
+use Rattle.export_model.specs.Serve.{covers_data_in_part, takes_old_bytes}
+use Rattle.export_model.specs.declared.step.Mode.{Mode}
 
 -- what an order took over two images is one change
 takes_same : (edit : ByteEdit) (one other : Image) (old new : OrderState) (before after : PassState)

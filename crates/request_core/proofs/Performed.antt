@@ -4,7 +4,7 @@ use Rattle.device_image.specs.Keeper.{KeeperState}
 use Rattle.disk_model.specs.Disk.{State, IsSound}
 use Rattle.disk_model.specs.laws.Moments.{begins}
 use Rattle.image_model.specs.Change.{Change, AreChanges}
-use Rattle.group_list.specs.Group.{Numbered}
+use Rattle.journal_format.specs.Group.{Numbered}
 use Rattle.order_book.specs.Order.{OrderState}
 use Rattle.request_core.specs.Bench.{ConnectionsState}
 use Rattle.request_core.specs.Steps.{IsAnyTalked, IsAppended, IsPerformed}
@@ -12,14 +12,14 @@ use Rattle.request_core.specs.Parts.{AreConnectionsOf, IsDiskOf, IsKeeperOf, IsO
 use Rattle.request_core.specs.Serving.{IsTalked, with_commands}
 use Rattle.request_core.specs.Storing.{IsKept}
 use Rattle.request_core.specs.laws.Lives.{all_both, disk_grows, IsOrdered, last_stay, ordered}
-use Rattle.world.specs.declared.connection.Connection.{Connection}
-use Rattle.world.specs.declared.event.Event.{Event}
-use Rattle.world.specs.Serve.{Failure, Nothing, OutOfMemory, DeviceFailure, Misread}
-use Rattle.world.specs.Checkpoint.{can_clean}
-use Rattle.world.specs.Step.{after_step, clean, publish, seal, sealed_more}
-use Rattle.world.specs.declared.step.Step.{Step}
-use Rattle.world.specs.World.{World, Stage}
-use Rattle.world_law.specs.Law.{IsWithin}
+use Rattle.export_model.specs.declared.connection.Connection.{Connection}
+use Rattle.export_model.specs.declared.event.Event.{Event}
+use Rattle.export_model.specs.Serve.{Failure, Nothing, OutOfMemory, DeviceFailure, Misread}
+use Rattle.export_model.specs.Checkpoint.{can_clean}
+use Rattle.export_model.specs.Step.{after_step, clean, publish, seal, sealed_more}
+use Rattle.export_model.specs.declared.step.Step.{Step}
+use Rattle.export_model.specs.World.{World, Stage}
+use Rattle.export_model_laws.specs.Law.{IsWithin}
 use Rattle.device_image.specs.Remembers.{Remembers}
 
 -- what holds of both sides of a choice holds of the choice

@@ -13,19 +13,19 @@ use Rattle.request_core.specs.Serving.{sent_state}
 use Rattle.request_core.specs.Steps.{IsPerformed}
 use Rattle.request_core.specs.laws.Lives.{stands_less, stands_more}
 use Rattle.request_core.proofs.Talks.{sent_states}
-use Rattle.world.specs.declared.event.Event.{Event}
+use Rattle.export_model.specs.declared.event.Event.{Event}
 use Rattle.nbd_wire.specs.Request.{Message}
-use Rattle.world.specs.declared.connection.Connection.TheVariants.{Idle}
-use Rattle.world.specs.declared.step.Step.{Step}
-use Rattle.world.specs.declared.step.Step.TheVariants.{Send}
-use Rattle.world.specs.Covered.{Covers}
-use Rattle.world.specs.Fits.{EditsFit, ReadsFit}
-use Rattle.world.specs.Log.{IsLegal}
-use Rattle.world.specs.Run.{IsReached, IsRun, After}
-use Rattle.world.specs.Serve.{Failure, Nothing}
-use Rattle.world.specs.Step.{after_step, send, sent}
-use Rattle.world.specs.World.{World, Setting}
-use Rattle.world_law.specs.Law.{Grows, IsWithin}
+use Rattle.export_model.specs.declared.connection.Connection.TheVariants.{Idle}
+use Rattle.export_model.specs.declared.step.Step.{Step}
+use Rattle.export_model.specs.declared.step.Step.TheVariants.{Send}
+use Rattle.export_model.specs.Covered.{Covers}
+use Rattle.export_model.specs.Fits.{EditsFit, ReadsFit}
+use Rattle.export_model.specs.Log.{IsLegal}
+use Rattle.export_model.specs.Run.{IsReached, IsRun, After}
+use Rattle.export_model.specs.Serve.{Failure, Nothing}
+use Rattle.export_model.specs.Step.{after_step, send, sent}
+use Rattle.export_model.specs.World.{World, Setting}
+use Rattle.export_model_laws.specs.Law.{Grows, IsWithin}
 
 -- a trusted device is honest
 pub trusted_honest : (trusted : Bool) (honest : Type 0) → Trusts trusted honest → honest

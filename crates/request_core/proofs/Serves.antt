@@ -4,14 +4,14 @@ use Rattle.std.proofs.lemmas.Bool.{both_ways, cases_eq, cases_Bool, eq-eqb, le-l
 use Rattle.image_model.specs.declared.command.Command.{Command}
 use Rattle.image_model.specs.declared.geometry.Geometry.{Geometry}
 use Rattle.nbd_wire.specs.declared.head.RequestHead.{RequestHead}
-use Rattle.world.specs.declared.step.Mode.{Mode}
-use Rattle.world.specs.declared.step.Mode.TheVariants.{Writeback, Writethrough}
-use Rattle.world.specs.Verdict.{IsServedRange}
+use Rattle.export_model.specs.declared.step.Mode.{Mode}
+use Rattle.export_model.specs.declared.step.Mode.TheVariants.{Writeback, Writethrough}
+use Rattle.export_model.specs.Verdict.{IsServedRange}
 use Rattle.image_model.specs.Change.{Change, IsChange, IsCleared, change_of}
 use Rattle.image_model.specs.Edit.{BytesPut, BytesTrimmed, BytesZeroed, IsEdit, becomes}
 use Rattle.image_model.specs.Image.{Image}
 use Rattle.image_model.specs.declared.command.Kind.TheVariants.{Zero, Hole}
-use Rattle.group_list.specs.Group.{Numbered}
+use Rattle.journal_format.specs.Group.{Numbered}
 use Rattle.nbd_wire.specs.Request.{Message, data_len, handed_len, payload_limit}
 use Rattle.nbd_wire.specs.declared.error.Errno.TheVariants.{NoSpace}
 use Rattle.order_book.specs.Order.{OrderState, has_room_for, with_command}
@@ -19,16 +19,16 @@ use Rattle.request_core.specs.Parts.{IsOrderOf}
 use Rattle.request_core.specs.Serving.{IsGrown, IsServed, event_for, quiet_event, request_in, served_after, state_of}
 use Rattle.request_core.specs.declared.serving.Served.{Served}
 use Rattle.request_core.specs.laws.Orders.{order_accepts, room_of}
-use Rattle.world.specs.declared.connection.Connection.{Connection}
-use Rattle.world.specs.declared.connection.Connection.TheVariants.{Idle, Requested, Waiting, Ready, Closed}
-use Rattle.world.specs.declared.event.Event.{Event}
-use Rattle.world.specs.declared.event.Event.TheVariants.{Numbered as numbered, Held}
+use Rattle.export_model.specs.declared.connection.Connection.{Connection}
+use Rattle.export_model.specs.declared.connection.Connection.TheVariants.{Idle, Requested, Waiting, Ready, Closed}
+use Rattle.export_model.specs.declared.event.Event.{Event}
+use Rattle.export_model.specs.declared.event.Event.TheVariants.{Numbered as numbered, Held}
 use Rattle.nbd_wire.specs.declared.message.Answer.TheVariants.{Refused}
-use Rattle.world.specs.Log.{cleared_as, edit_asked, is_write_type, waits_for_store}
-use Rattle.world.specs.Serve.{Failure, logged, held, moved, ready, accepted, numbered as got_number, write_served, state_after}
-use Rattle.world.specs.World.{World, put, last_number, has_room, Stage}
-use Rattle.world_law.specs.Law.{IsWithin}
-use Rattle.world_law.specs.laws.Within.{rising_through}
+use Rattle.export_model.specs.Log.{cleared_as, edit_asked, is_write_type, waits_for_store}
+use Rattle.export_model.specs.Serve.{Failure, logged, held, moved, ready, accepted, numbered as got_number, write_served, state_after}
+use Rattle.export_model.specs.World.{World, put, last_number, has_room, Stage}
+use Rattle.export_model_laws.specs.Law.{IsWithin}
+use Rattle.export_model_laws.specs.laws.Within.{rising_through}
 
 -- a choice whose test is known
 pub if_true : {X : Type 0} (P : X → Type 0) (test : Bool) (x y : X) → test ≡ true → P x → P (if test then x else y)

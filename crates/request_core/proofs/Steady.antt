@@ -7,13 +7,13 @@ use Rattle.order_book.specs.Order.{OrderState}
 use Rattle.order_book.specs.Shown.{ShowsImage}
 use Rattle.request_core.specs.Parts.{Shows}
 use Rattle.shared_cache.specs.Cache.{CacheState}
-use Rattle.world.specs.declared.connection.Connection.{Connection}
-use Rattle.world.specs.declared.connection.Connection.TheVariants.{Idle, Requested, Waiting, Ready, Closed}
-use Rattle.world.specs.Checkpoint.{can_clean, can_copy, can_finish, can_map, can_rotate, finished, is_full}
-use Rattle.world.specs.Serve.{Failure, Nothing, OutOfMemory, DeviceFailure, Misread, answer}
-use Rattle.world.specs.Step.{append, clean, copy_block, finish, in_time, publish, rotate, seal, sealed_more, send, sent, with_generation, without_memory, write_map, written}
-use Rattle.world.specs.World.{Setting, Stage, World, fits, image_after}
-use Rattle.world_law.specs.laws.Steps.{of_either}
+use Rattle.export_model.specs.declared.connection.Connection.{Connection}
+use Rattle.export_model.specs.declared.connection.Connection.TheVariants.{Idle, Requested, Waiting, Ready, Closed}
+use Rattle.export_model.specs.Checkpoint.{can_clean, can_copy, can_finish, can_map, can_rotate, finished, is_full}
+use Rattle.export_model.specs.Serve.{Failure, Nothing, OutOfMemory, DeviceFailure, Misread, answer}
+use Rattle.export_model.specs.Step.{append, clean, copy_block, finish, in_time, publish, rotate, seal, sealed_more, send, sent, with_generation, without_memory, write_map, written}
+use Rattle.export_model.specs.World.{Setting, Stage, World, fits, image_after}
+use Rattle.export_model_laws.specs.laws.Steps.{of_either}
 
 -- the order of commands stays, and what stays as long as the device isn't opened again
 pub record IsSteady (old new : Stage) : Type 0 where

@@ -8,21 +8,21 @@ use Rattle.disk_model.specs.Faults.{counted}
 use Rattle.image_model.specs.Change.{change_of}
 use Rattle.image_model.specs.Command.{bodies_of}
 use Rattle.image_model.specs.declared.geometry.Geometry.{Geometry}
-use Rattle.group_list.specs.Group.{Numbered}
+use Rattle.journal_format.specs.Group.{Numbered}
 use Rattle.order_book.specs.Order.{OrderState, Seals, with_durable, with_group, with_clean}
 use Rattle.request_core.specs.Parts.{IsKeeperOf, IsOrderOf, last_commands, turned_at}
 use Rattle.request_core.specs.Storing.{IsKept, PublishesBy, SealsBy, CleansBy}
 use Rattle.request_core.specs.laws.Orders.{bodies_same, commands_length, hand_is, order_publishes, order_puts_back, order_seals, order_stops, order_stores, clean_due, order_cleans}
 use Rattle.request_core.proofs.Serves.{if_false, if_true}
-use Rattle.world.specs.declared.event.Event.{Event}
-use Rattle.world.specs.declared.event.Event.TheVariants.{Took, Held, Failed}
-use Rattle.world.specs.declared.event.StepFault.TheVariants.{NoMemory, DeviceFault, FailedBefore}
+use Rattle.export_model.specs.declared.event.Event.{Event}
+use Rattle.export_model.specs.declared.event.Event.TheVariants.{Took, Held, Failed}
+use Rattle.export_model.specs.declared.event.StepFault.TheVariants.{NoMemory, DeviceFault, FailedBefore}
 use Rattle.image_model.specs.Bodies.{bodies_bytes}
-use Rattle.world.specs.Serve.{Failure, Nothing, OutOfMemory, held, logged, faulted}
-use Rattle.world.specs.Checkpoint.{can_clean}
-use Rattle.world.specs.Step.{append, clean, publish, put_back, seal, out_of_memory, stored_more}
-use Rattle.world.specs.World.{World, fits, in_hand, Stage}
-use Rattle.world_law.specs.Law.{IsWithin}
+use Rattle.export_model.specs.Serve.{Failure, Nothing, OutOfMemory, held, logged, faulted}
+use Rattle.export_model.specs.Checkpoint.{can_clean}
+use Rattle.export_model.specs.Step.{append, clean, publish, put_back, seal, out_of_memory, stored_more}
+use Rattle.export_model.specs.World.{World, fits, in_hand, Stage}
+use Rattle.export_model_laws.specs.Law.{IsWithin}
 use Rattle.request_core.specs.laws.Lives.{last_grows, ordered}
 use Rattle.device_image.specs.Remembers.{Remembers}
 use Rattle.device_image.specs.laws.Counted.{remembers_still}

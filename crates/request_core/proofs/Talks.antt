@@ -6,21 +6,21 @@ use Rattle.std.proofs.Math.ListN.{set, get_or-eq_default}
 use Rattle.std.proofs.lemmas.Bool.{cases_lt}
 use Rattle.nbd_wire.specs.Request.{Message}
 use Rattle.nbd_wire.specs.declared.error.Errno.TheVariants.{Io}
-use Rattle.group_list.specs.Group.{Numbered}
+use Rattle.journal_format.specs.Group.{Numbered}
 use Rattle.order_book.specs.Order.{OrderState}
 use Rattle.request_core.specs.Parts.{AreConnectionsOf, IsOrderOf}
 use Rattle.request_core.specs.Serving.{IsAnsweredBy, IsSentBy, IsServed, IsTalked, answer_due, due_of, is_idle, request_in, sent_state}
 use Rattle.request_core.proofs.Serves.{grown_same}
-use Rattle.world.specs.declared.connection.Connection.{Connection}
-use Rattle.world.specs.declared.connection.Connection.TheVariants.{Idle, Requested, Waiting, Ready, Closed}
-use Rattle.world.specs.declared.event.Event.{Event}
-use Rattle.world.specs.declared.event.Event.TheVariants.{Sent, Answered, Held, Failed}
-use Rattle.world.specs.declared.event.StepFault.TheVariants.{NoMemory}
+use Rattle.export_model.specs.declared.connection.Connection.{Connection}
+use Rattle.export_model.specs.declared.connection.Connection.TheVariants.{Idle, Requested, Waiting, Ready, Closed}
+use Rattle.export_model.specs.declared.event.Event.{Event}
+use Rattle.export_model.specs.declared.event.Event.TheVariants.{Sent, Answered, Held, Failed}
+use Rattle.export_model.specs.declared.event.StepFault.TheVariants.{NoMemory}
 use Rattle.nbd_wire.specs.declared.message.Answer.{Answer}
 use Rattle.nbd_wire.specs.declared.message.Answer.TheVariants.{Done, Refused}
-use Rattle.world.specs.Serve.{Failure, Nothing, OutOfMemory, answer, answered, held, serve}
-use Rattle.world.specs.Step.{send}
-use Rattle.world.specs.World.{World, put}
+use Rattle.export_model.specs.Serve.{Failure, Nothing, OutOfMemory, answer, answered, held, serve}
+use Rattle.export_model.specs.Step.{send}
+use Rattle.export_model.specs.World.{World, put}
 
 -- a connection set in a list is one put in a world
 pub set_put : (items : List Connection) (f : ℕ → Connection) (c : ℕ) (state : Connection) → c < length items

@@ -3,7 +3,7 @@ use Rattle.std.proofs.Common.{◌≡◌, ◌⊎◌, inl, inr, ℕ, ◌+◌, ◌-
 use Rattle.std.proofs.lemmas.Bool.{cases_eq, eq-eqb, eqb-true, lt-ltb, ltb-true}
 use Rattle.checkpoint.specs.Steps.{IsCopyTime, IsFinishTime, IsMapTime, IsRotateTime, left_in}
 use Rattle.device_image.specs.Keeper.{Phase, One, Copying, Mapped}
-use Rattle.world.specs.Checkpoint.{is_turned, last_turned}
+use Rattle.export_model.specs.Checkpoint.{is_turned, last_turned}
 
 -- the phase with these areas in use but the last, the map written or not, and so many blocks left
 abbrev pub phase_by : List ℕ → Bool → ℕ → Phase

@@ -1,11 +1,11 @@
 -- benches as callers see them
 use Rattle.std.specs.Prelude.{ℕ, Option, None, List, [], replicate}
-use Rattle.group_list.specs.Group.{Numbered}
+use Rattle.journal_format.specs.Group.{Numbered}
 use Rattle.nbd_wire.specs.declared.message.SessionFlags.{SessionFlags}
-use Rattle.world.specs.declared.connection.Connection.{Connection}
-use Rattle.world.specs.declared.connection.Connection.TheVariants.{Idle}
-use Rattle.world.specs.declared.event.Event.{Event}
-use Rattle.world.specs.declared.step.Mode.{Mode}
+use Rattle.export_model.specs.declared.connection.Connection.{Connection}
+use Rattle.export_model.specs.declared.connection.Connection.TheVariants.{Idle}
+use Rattle.export_model.specs.declared.event.Event.{Event}
+use Rattle.export_model.specs.declared.step.Mode.{Mode}
 
 -- the connections of an export, what they agreed on, and the group in hand
 pub record ConnectionsState : Type 0 where

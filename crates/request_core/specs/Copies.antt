@@ -1,9 +1,9 @@
 -- several blocks copied at once, as steps of the world
 use Rattle.std.specs.Prelude.{ℕ, zero, suc}
-use Rattle.world.specs.declared.step.Step.TheVariants.{Copy}
-use Rattle.world.specs.Serve.{Nothing}
-use Rattle.world.specs.Step.{after_step}
-use Rattle.world.specs.World.{World}
+use Rattle.export_model.specs.declared.step.Step.TheVariants.{Copy}
+use Rattle.export_model.specs.Serve.{Nothing}
+use Rattle.export_model.specs.Step.{after_step}
+use Rattle.export_model.specs.World.{World}
 
 -- the world after so many steps that copy a block each, in which nothing fails
 abbrev pub copied : World → ℕ → World

@@ -11,19 +11,19 @@ use Rattle.order_book.specs.Order.{OrderState}
 use Rattle.request_core.specs.Bench.{BenchState, ConnectionsState}
 use Rattle.request_core.specs.Serving.{sent_state}
 use Rattle.request_core.specs.Parts.{IsExportOf, IsWorldOf, StandsAfter}
-use Rattle.world.specs.declared.event.Event.{Event}
-use Rattle.world.specs.declared.step.Mode.{Mode}
+use Rattle.export_model.specs.declared.event.Event.{Event}
+use Rattle.export_model.specs.declared.step.Mode.{Mode}
 use Rattle.nbd_wire.specs.Request.{Message}
-use Rattle.world.specs.declared.connection.Connection.TheVariants.{Idle}
-use Rattle.world.specs.declared.step.Step.{Step}
-use Rattle.world.specs.declared.step.Step.TheVariants.{Send}
-use Rattle.world.specs.Covered.{Covers}
-use Rattle.world.specs.Fits.{EditsFit, ReadsFit}
-use Rattle.world.specs.Log.{IsLegal}
-use Rattle.world.specs.Run.{IsReached, IsRun}
-use Rattle.world.specs.Serve.{Failure, Nothing}
-use Rattle.world.specs.Step.{after_step, sent}
-use Rattle.world.specs.World.{World, fresh, image_after}
+use Rattle.export_model.specs.declared.connection.Connection.TheVariants.{Idle}
+use Rattle.export_model.specs.declared.step.Step.{Step}
+use Rattle.export_model.specs.declared.step.Step.TheVariants.{Send}
+use Rattle.export_model.specs.Covered.{Covers}
+use Rattle.export_model.specs.Fits.{EditsFit, ReadsFit}
+use Rattle.export_model.specs.Log.{IsLegal}
+use Rattle.export_model.specs.Run.{IsReached, IsRun}
+use Rattle.export_model.specs.Serve.{Failure, Nothing}
+use Rattle.export_model.specs.Step.{after_step, sent}
+use Rattle.export_model.specs.World.{World, fresh, image_after}
 
 -- the world in which a life begins, with a keeper that found this image and whose device counts so many faults; whether it trusts
 -- that device comes first

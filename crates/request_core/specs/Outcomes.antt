@@ -3,13 +3,13 @@ use Rattle.std.specs.Prelude.{ℕ, ◌≡◌, ◌≢◌, ◌/◌, ◌<◌, ◌�
 use Rattle.device_image.specs.Keeper.{KeeperState}
 use Rattle.disk_model.specs.Disk.{State}
 use Rattle.device_image.specs.Holds.{Holds}
-use Rattle.group_list.specs.Reading.{IsOnlyRead}
+use Rattle.journal_format.specs.Reading.{IsOnlyRead}
 use Rattle.image_model.specs.Change.{Change}
 use Rattle.image_model.specs.Edit.{becomes, blocks_met}
 use Rattle.image_model.specs.Image.{Image}
 use Rattle.order_book.specs.Shown.{ShowsImage}
 use Rattle.image_model.specs.declared.geometry.Geometry.{Geometry}
-use Rattle.group_list.specs.Group.{Numbered}
+use Rattle.journal_format.specs.Group.{Numbered}
 use Rattle.nbd_wire.specs.Request.{Message}
 use Rattle.nbd_wire.specs.declared.error.Errno.{Errno}
 use Rattle.nbd_wire.specs.declared.error.Errno.TheVariants.{Io}
@@ -22,10 +22,10 @@ use Rattle.request_core.specs.Storing.{stopped_with}
 use Rattle.request_core.specs.declared.serving.Served.{Served}
 use Rattle.request_core.specs.declared.serving.Served.TheVariants as served
 use Rattle.shared_cache.specs.Cache.{LacksBytes}
-use Rattle.world.specs.Log.{edit_asked, is_flush, is_write}
-use Rattle.world.specs.Serve.{takes_old_bytes}
-use Rattle.world.specs.declared.action.Action.{Action}
-use Rattle.world.specs.declared.step.Mode.{Mode}
+use Rattle.export_model.specs.Log.{edit_asked, is_flush, is_write}
+use Rattle.export_model.specs.Serve.{takes_old_bytes}
+use Rattle.export_model.specs.declared.action.Action.{Action}
+use Rattle.export_model.specs.declared.step.Mode.{Mode}
 
 -- What a request that passes judgement, and for which the device isn't asked, makes of an order, but for a READ: after a device
 -- fault EIO, a FLUSH waits for the last number, a BLOCK_STATUS shows the states, and an edit becomes the same over each image that

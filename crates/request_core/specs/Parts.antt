@@ -7,16 +7,16 @@ use Rattle.device_image.specs.Stands.{StandsFor}
 use Rattle.disk_model.specs.Disk.{State, MayLeave}
 use Rattle.image_model.specs.Change.{Change, AreChanges, change_of}
 use Rattle.image_model.specs.Image.{Image}
-use Rattle.group_list.specs.Group.{Numbered}
+use Rattle.journal_format.specs.Group.{Numbered}
 use Rattle.order_book.specs.Order.{OrderState}
 use Rattle.order_book.specs.Shown.{ShowsImage}
 use Rattle.request_core.specs.Bench.{BenchState, ConnectionsState}
-use Rattle.world.specs.declared.connection.Connection.{Connection}
-use Rattle.world.specs.declared.connection.Connection.TheVariants.{Closed}
+use Rattle.export_model.specs.declared.connection.Connection.{Connection}
+use Rattle.export_model.specs.declared.connection.Connection.TheVariants.{Closed}
 use Rattle.image_model.specs.Bodies.{body_bytes}
-use Rattle.world.specs.Run.{IsReached}
-use Rattle.world.specs.Checkpoint.{is_turned, last_turned}
-use Rattle.world.specs.World.{World, Stage, dirty_behind, image_after}
+use Rattle.export_model.specs.Run.{IsReached}
+use Rattle.export_model.specs.Checkpoint.{is_turned, last_turned}
+use Rattle.export_model.specs.World.{World, Stage, dirty_behind, image_after}
 
 -- The content stands for the image after some first commands of the order, `least` of them or more, and for the number
 -- of the last of these.

@@ -12,7 +12,7 @@ use Rattle.image_model.specs.Edit.{blocks_met}
 use Rattle.image_model.specs.Image.{Image}
 use Rattle.image_model.specs.declared.geometry.Geometry.{Geometry}
 use Rattle.image_model.specs.declared.command.Kind.TheVariants.{Data}
-use Rattle.group_list.specs.Reading.{IsOnlyRead}
+use Rattle.journal_format.specs.Reading.{IsOnlyRead}
 use Rattle.nbd_wire.specs.declared.error.Errno.TheVariants.{Io, NoMemory}
 use Rattle.nbd_wire.specs.declared.head.RequestHead.{RequestHead}
 use Rattle.nbd_wire.specs.declared.message.Answer.TheVariants.{Refused}
@@ -24,9 +24,9 @@ use Rattle.order_book.specs.declared.span.Span.{Span}
 use Rattle.request_core.specs.Serving.{ready_for}
 use Rattle.request_core.specs.declared.serving.Served.{Served}
 use Rattle.shared_cache.specs.Cache.{bytes_seen}
-use Rattle.world.specs.Shown.{shown_by}
-use Rattle.world.specs.Verdict.{IsServedRange, verdict}
-use Rattle.world.specs.declared.action.Action.TheVariants.{Serve}
+use Rattle.export_model.specs.Shown.{shown_by}
+use Rattle.export_model.specs.Verdict.{IsServedRange, verdict}
+use Rattle.export_model.specs.declared.action.Action.TheVariants.{Serve}
 
 -- A READ is answered with what an image shows: its states are those of the order, and the bytes of a block those in memory, where
 -- it has some, and else those of the data region. Where the keeper holds what the order has clean, it is the order's own image.

@@ -5,7 +5,7 @@ use Rattle.image_model.specs.Edit.{becomes}
 use Rattle.image_model.specs.declared.command.Command.{Command}
 use Rattle.image_model.specs.declared.geometry.Geometry.{Geometry}
 use Rattle.image_model.specs.Image.{Image, apply}
-use Rattle.group_list.specs.Group.{Numbered}
+use Rattle.journal_format.specs.Group.{Numbered}
 use Rattle.marks.specs.Known.{PassState, known}
 use Rattle.image_model.specs.declared.edit.Edit.{Edit}
 use Rattle.image_model.specs.declared.edit.Edit.TheVariants as edit
@@ -19,16 +19,16 @@ use Rattle.order_book.specs.Shown.{ShowsImage}
 use Rattle.request_core.specs.declared.serving.Served.{Served}
 use Rattle.request_core.specs.declared.serving.Served.TheVariants as served
 use Rattle.request_core.specs.Parts.{AreConnectionsOf, IsOrderOf}
-use Rattle.world.specs.Log.{edit_asked, is_flush, waits_for_store}
-use Rattle.world.specs.declared.connection.Connection.{Connection}
-use Rattle.world.specs.declared.connection.Connection.TheVariants.{Idle, Requested, Waiting, Ready, Closed}
-use Rattle.world.specs.declared.event.Event.{Event}
-use Rattle.world.specs.declared.event.Event.TheVariants.{Sent, Answered, Numbered as numbered, Took, Held, Failed}
-use Rattle.world.specs.declared.event.StepFault.TheVariants.{NoMemory}
+use Rattle.export_model.specs.Log.{edit_asked, is_flush, waits_for_store}
+use Rattle.export_model.specs.declared.connection.Connection.{Connection}
+use Rattle.export_model.specs.declared.connection.Connection.TheVariants.{Idle, Requested, Waiting, Ready, Closed}
+use Rattle.export_model.specs.declared.event.Event.{Event}
+use Rattle.export_model.specs.declared.event.Event.TheVariants.{Sent, Answered, Numbered as numbered, Took, Held, Failed}
+use Rattle.export_model.specs.declared.event.StepFault.TheVariants.{NoMemory}
 use Rattle.nbd_wire.specs.declared.message.Answer.{Answer}
 use Rattle.nbd_wire.specs.declared.message.Answer.TheVariants.{Done, Refused}
-use Rattle.world.specs.declared.step.Mode.{Mode}
-use Rattle.world.specs.World.{World, put, Stage}
+use Rattle.export_model.specs.declared.step.Mode.{Mode}
+use Rattle.export_model.specs.World.{World, put, Stage}
 
 -- the edit is one that a request with this head asks for, with as many bytes as were handed on
 abbrev pub IsHandedBack : RequestHead → Edit → Type 0

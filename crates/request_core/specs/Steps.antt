@@ -2,15 +2,15 @@
 use Rattle.std.specs.Prelude.{ℕ, ◌≡◌, ◌⊎◌, true, Option, List, [], ◌∷◌, ◌++◌}
 use Rattle.device_image.specs.Keeper.{KeeperState}
 use Rattle.disk_model.specs.Disk.{State, LeavesOnly}
-use Rattle.group_list.specs.Group.{Numbered}
+use Rattle.journal_format.specs.Group.{Numbered}
 use Rattle.order_book.specs.Order.{OrderState}
 use Rattle.request_core.specs.Bench.{ConnectionsState}
 use Rattle.request_core.specs.Parts.{AreConnectionsOf, IsDiskOf, IsKeeperOf, IsOrderOf, Shows, StandsAfter}
 use Rattle.request_core.specs.Serving.{IsServed, IsTalked}
 use Rattle.request_core.specs.Storing.{IsKept}
-use Rattle.world.specs.declared.event.Event.{Event}
-use Rattle.world.specs.declared.connection.Connection.{Connection}
-use Rattle.world.specs.World.{World, put}
+use Rattle.export_model.specs.declared.event.Event.{Event}
+use Rattle.export_model.specs.declared.connection.Connection.{Connection}
+use Rattle.export_model.specs.World.{World, put}
 
 -- The device is of the next world, and a crash at any moment since before leaves what reaches all that was stored then.
 abbrev pub KeepsDisk : {D : Type 0} → World → World → KeeperState D → KeeperState D → State → State → Type 0

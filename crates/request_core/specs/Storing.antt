@@ -3,14 +3,14 @@ use Rattle.std.specs.Prelude.{ℕ, ◌≡◌, ◌⊎◌, ◌<◌, ◌≤◌, tru
 use Rattle.device_image.specs.Keeper.{KeeperState}
 use Rattle.checkpoint.specs.declared.fault.KeeperFault.{KeeperFault}
 use Rattle.checkpoint.specs.declared.fault.KeeperFault.TheVariants as fault
-use Rattle.group_list.specs.Group.{Numbered}
+use Rattle.journal_format.specs.Group.{Numbered}
 use Rattle.std.specs.FinMap.{len}
 use Rattle.order_book.specs.Order.{OrderState, Seals, with_clean, with_durable, with_group}
 use Rattle.request_core.specs.Parts.{IsKeeperOf, IsOrderOf}
-use Rattle.world.specs.declared.event.Event.{Event}
-use Rattle.world.specs.declared.event.Event.TheVariants.{Took, Held, Failed}
-use Rattle.world.specs.declared.event.StepFault.TheVariants.{NoMemory, DeviceFault, NumbersFull, FailedBefore}
-use Rattle.world.specs.World.{World}
+use Rattle.export_model.specs.declared.event.Event.{Event}
+use Rattle.export_model.specs.declared.event.Event.TheVariants.{Took, Held, Failed}
+use Rattle.export_model.specs.declared.event.StepFault.TheVariants.{NoMemory, DeviceFault, NumbersFull, FailedBefore}
+use Rattle.export_model.specs.World.{World}
 
 -- the event of a group that the keeper refuses
 abbrev pub event_of : KeeperFault → Event

@@ -1,15 +1,15 @@
 ghost use Rattle.std.specs.Prelude.{◌≡◌, IfOk, IfSome, MatchOption, replicate, vec_len};
 ghost use Rattle.order_book.specs.Order.{IsInHand, with_group};
 ghost use Rattle.request_core.specs.Bench.{new_bench, new_connections};
-ghost use Rattle.world.specs.declared.connection.Connection.TheVariants as Connection;
+ghost use Rattle.export_model.specs.declared.connection.Connection.TheVariants as Connection;
 
+use export_model::{Connection, Event, Mode};
 use journal::Group;
 use marks::{BoardName, Pass};
 use nbd_wire::SessionFlags;
 use order_book::Order;
 use std::alloc::{AllocError, Global};
 use std::marker::Model;
-use world::{Connection, Event, Mode};
 
 /// The connections of an export, each with a pass of its board, what they agreed on, and the group in hand.
 ///

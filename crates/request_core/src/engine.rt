@@ -6,27 +6,27 @@ ghost use Rattle.request_core.specs.Life.{IsStepped, Leads, Trusts};
 ghost use Rattle.request_core.specs.Parts.{AreConnectionsOf, IsExportOf, IsKeeperOf, IsOrderOf};
 ghost use Rattle.request_core.specs.Serving.{is_idle, sent_state};
 ghost use Rattle.request_core.specs.Steps.{IsPerformed, IsSure};
-ghost use Rattle.world.specs.Serve.{Failure};
-ghost use Rattle.world.specs.Step.{after_step};
-ghost use Rattle.world.specs.World.{World};
-ghost use Rattle.world.specs.declared.connection.Connection.TheVariants as Connection;
-ghost use Rattle.world.specs.declared.event.Event.TheVariants as Event;
-ghost use Rattle.world.specs.declared.step.Step.TheVariants as Step;
-ghost use Rattle.world_law.specs.Law.{IsWithin};
+ghost use Rattle.export_model.specs.Serve.{Failure};
+ghost use Rattle.export_model.specs.Step.{after_step};
+ghost use Rattle.export_model.specs.World.{World};
+ghost use Rattle.export_model.specs.declared.connection.Connection.TheVariants as Connection;
+ghost use Rattle.export_model.specs.declared.event.Event.TheVariants as Event;
+ghost use Rattle.export_model.specs.declared.step.Step.TheVariants as Step;
+ghost use Rattle.export_model_laws.specs.Law.{IsWithin};
 
 use crate::bench::Connections;
+use crate::checkpointing::{clean, copy, finish, refused, rotate, write_map};
 use crate::serving::{Terms, answer, send, send_owned, serve};
 use crate::storing::{append, publish, seal};
-use crate::turning::{clean, copy, finish, refused, rotate, write_map};
 use checkpoint::Keeper;
 use device_image::keeper_laws;
 use disk_model::Disk;
+use export_model::{Event, Step};
+use export_model_laws::schedule_law;
 use marks::{Board, BoardName, KeeperSeat};
 use nbd_wire::Request;
 use order_book::Order;
 use std::alloc::Global;
-use world::{Event, Step};
-use world_law::schedule_law;
 
 impl<B: BoardName> Connections<B> {
     /// A connection sends a request without a copy, where it has none open; else the request is let go.

@@ -1,13 +1,13 @@
 ghost use Rattle.std.specs.Prelude.{◌≡◌, ◌≢◌, ◌==◌, ◌||◌, ◌&&◌, not, nat_lt, ◌+◌, ◌*◌};
-ghost use Rattle.world.specs.Verdict.{verdict, is_known, allowed_flags, range_verdict, IsServedRange};
+ghost use Rattle.export_model.specs.Verdict.{verdict, is_known, allowed_flags, range_verdict, IsServedRange};
 
 use bitflags::Flags;
+use export_model::Action;
 use image_model::{BLOCK_BYTES, Geometry};
 use nbd_wire::{
     BLOCK_STATUS, CommandFlags, DISCONNECT, Errno, FLUSH, MAX_PAYLOAD, READ, RequestHead,
     SessionFlags, TRIM, WRITE, WRITE_ZEROES,
 };
-use world::Action;
 
 /// Judges a request by the rules of `docs/FORMATS.md`, "Judgement": the first that applies decides.
 pub fn judge(head: &RequestHead, geometry: &Geometry, flags: &SessionFlags) -> Result<Action, Errno>

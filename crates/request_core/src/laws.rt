@@ -12,12 +12,12 @@ ghost use Rattle.order_book.specs.Order.{OrderState, new_order};
 ghost use Rattle.request_core.specs.Bench.{ConnectionsState, new_connections};
 ghost use Rattle.request_core.specs.Life.{IsNextLife, LeadsLaw, Trusts, first_world};
 ghost use Rattle.request_core.specs.Parts.{IsExportOf};
-ghost use Rattle.world.specs.World.{World};
-ghost use Rattle.world.specs.declared.step.Mode.{Mode};
+ghost use Rattle.export_model.specs.World.{World};
+ghost use Rattle.export_model.specs.declared.step.Mode.{Mode};
 
 use device_image::{keeper_laws, stands_laws};
 use disk_model::Disk;
-use world_law::schedule_law;
+use export_model_laws::schedule_law;
 
 /// A life begins with a world: the parts that are fresh from `Keeper::open`, `Order::new` over its map and
 /// `Connections::new` are of one, whose opening image is the one that the keeper keeps.

@@ -2,6 +2,7 @@
 #![tactic(auto)]
 
 mod bench;
+mod checkpointing;
 mod edits;
 mod engine;
 mod judgement;
@@ -11,14 +12,13 @@ mod reading;
 mod rehearsal;
 mod serving;
 mod storing;
-mod turning;
 
 pub use bench::{Bench, Connections};
 pub use engine::{copy_some, take_step};
+pub use export_model::{Action, Connection, Event, Mode, Step, StepFault};
 pub use judgement::judge;
 pub use laws::{fresh_parts_law, leads_law, next_life_law};
 pub use opening::fresh_order;
 pub use reading::{Blocks, plan_read, serve_read_over};
 pub use rehearsal::rehearse;
 pub use serving::{NeedsKeeper, Served, Terms, serve_held, serve_with_keeper};
-pub use world::{Action, Connection, Event, Mode, Step, StepFault};

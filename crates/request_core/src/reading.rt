@@ -10,13 +10,13 @@ use crate::judgement::judge;
 use crate::serving::{Served, Terms, refused};
 use checkpoint::Keeper;
 use disk_model::Disk;
+use export_model::Action;
 use image_answers::{bytes_answer, read_runs, status_answer};
 use image_model::BLOCK_BYTES;
 use marks::BoardName;
 use nbd_wire::{Errno, READ, Reply, RequestHead};
 use order_book::{Order, Span};
 use std::alloc::Global;
-use world::Action;
 
 /// The blocks that a request's bytes touch.
 #[derive(Clone, Copy, Debug, PartialEq, Eq)]

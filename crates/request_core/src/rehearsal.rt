@@ -2,20 +2,20 @@ ghost use Rattle.std.specs.Prelude.{◌≡◌, ◌≤◌, ◌↔◌, ℕ, Bool, 
 ghost use Rattle.order_book.specs.Order.{IsInHand};
 ghost use Rattle.request_core.specs.Life.{IsRehearsed, IsStepped, Trusts};
 ghost use Rattle.request_core.specs.Parts.{IsWorldOf};
-ghost use Rattle.world.specs.Serve.{Failure};
-ghost use Rattle.world.specs.Step.{after_step};
-ghost use Rattle.world.specs.World.{World};
-ghost use Rattle.world.specs.declared.event.Event.{Event};
+ghost use Rattle.export_model.specs.Serve.{Failure};
+ghost use Rattle.export_model.specs.Step.{after_step};
+ghost use Rattle.export_model.specs.World.{World};
+ghost use Rattle.export_model.specs.declared.event.Event.{Event};
 
 use crate::bench::Bench;
 use crate::engine::take_step;
 use checkpoint::Keeper;
 use disk_model::Disk;
+use export_model::{Event, Step};
+use export_model_laws::schedule_law;
 use marks::{Board, BoardName, KeeperSeat};
 use order_book::Order;
 use std::alloc::AllocError;
-use world::{Event, Step};
-use world_law::schedule_law;
 
 /// Carries out the steps, and adds what each did to the bench's log.
 ///

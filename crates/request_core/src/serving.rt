@@ -1,5 +1,5 @@
 ghost use Rattle.std.specs.Prelude.{◌≡◌, ◌≢◌, ◌/◌, ◌<◌, ◌↔◌, ℕ, true, false, [], Some, IfSome, IfOk, IfErr, IsErr, IsTrue, OnErr, MatchOption, IfNone, Option, Result, length, slice_index_or, slice_set, vec_len};
-ghost use Rattle.group_list.specs.Group.{Numbered};
+ghost use Rattle.journal_format.specs.Group.{Numbered};
 ghost use Rattle.nbd_wire.specs.Request.{Message};
 ghost use Rattle.nbd_wire.specs.declared.error.Errno.{Errno};
 ghost use Rattle.order_book.specs.Order.{IsInHand};
@@ -11,22 +11,23 @@ ghost use Rattle.request_core.specs.Parts.{AreConnectionsOf, IsKeeperOf, IsOrder
 ghost use Rattle.request_core.specs.Steps.{IsAnyServed, IsAnyTalked, IsSure};
 ghost use Rattle.shared_cache.specs.Cache.{LacksBytes};
 ghost use Rattle.request_core.specs.Serving.{AreTermsOf, IsAnsweredBy, IsPassServed, IsSentBy, IsWriteServed, answer_due, event_for, is_idle, ready_for, request_in, sent_state, served_after, state_of};
-ghost use Rattle.world.specs.Log.{edit_asked, is_write, waits_for_store};
-ghost use Rattle.world.specs.Serve.{Failure, answer as answer_of, serve as serve_of};
-ghost use Rattle.world.specs.Step.{send as send_of};
-ghost use Rattle.world.specs.Verdict.{IsServedRange, verdict};
-ghost use Rattle.world.specs.declared.action.Action.{Action};
-ghost use Rattle.world.specs.World.{World};
-ghost use Rattle.world.specs.declared.connection.Connection.TheVariants as Connection;
-ghost use Rattle.world_law.specs.Law.{IsWithin};
+ghost use Rattle.export_model.specs.Log.{edit_asked, is_write, waits_for_store};
+ghost use Rattle.export_model.specs.Serve.{Failure, answer as answer_of, serve as serve_of};
+ghost use Rattle.export_model.specs.Step.{send as send_of};
+ghost use Rattle.export_model.specs.Verdict.{IsServedRange, verdict};
+ghost use Rattle.export_model.specs.declared.action.Action.{Action};
+ghost use Rattle.export_model.specs.World.{World};
+ghost use Rattle.export_model.specs.declared.connection.Connection.TheVariants as Connection;
+ghost use Rattle.export_model_laws.specs.Law.{IsWithin};
 
+use crate::checkpointing::stop;
 use crate::edits::{joined, split};
 use crate::judgement::judge;
 use crate::reading::{Blocks, serve_held_read, serve_read, serve_status};
-use crate::turning::stop;
 use bitflags::Flags;
 use checkpoint::Keeper;
 use disk_model::Disk;
+use export_model::{Action, Connection, Event, Mode, StepFault};
 use image_model::Geometry;
 use journal::Group;
 use marks::{Board, BoardName, Pass};
@@ -37,7 +38,6 @@ use nbd_wire::{
 use order_book::{Order, OrderFault};
 use std::alloc::Global;
 use std::mem;
-use world::{Action, Connection, Event, Mode, StepFault};
 
 /// What every request is judged by, and how long a write waits.
 #[derive(Clone, Copy, Debug, PartialEq, Eq)]

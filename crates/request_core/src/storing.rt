@@ -2,21 +2,21 @@ ghost use Rattle.std.specs.Prelude.{◌≡◌, ◌≤◌, ◌↔◌, None, Some,
 ghost use Rattle.request_core.specs.Steps.{IsAppended};
 ghost use Rattle.request_core.specs.Parts.{IsKeeperOf, IsOrderOf};
 ghost use Rattle.request_core.specs.Storing.{PublishesBy, SealsBy, event_of, hand_after, order_after};
-ghost use Rattle.world.specs.Serve.{Failure};
-ghost use Rattle.world.specs.Step.{append as append_of};
-ghost use Rattle.world.specs.World.{World};
-ghost use Rattle.world_law.specs.Law.{IsWithin};
+ghost use Rattle.export_model.specs.Serve.{Failure};
+ghost use Rattle.export_model.specs.Step.{append as append_of};
+ghost use Rattle.export_model.specs.World.{World};
+ghost use Rattle.export_model_laws.specs.Law.{IsWithin};
 ghost use Rattle.order_book.specs.Order.{IsInHand};
 ghost use Rattle.request_core.specs.Serving.{IsSameHand};
 
 use checkpoint::{Keeper, KeeperFault};
 use device_image::keeper_laws;
 use disk_model::Disk;
+use export_model::{Event, StepFault};
 use journal::Group;
 use marks::{Board, BoardName, KeeperSeat};
 use order_book::Order;
 use std::mem;
-use world::{Event, StepFault};
 
 // Puts a group into an empty hand.
 fn hold(hand: &mut Option<Group>, group: Group)

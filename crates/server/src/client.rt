@@ -1,5 +1,5 @@
-use crate::house::House;
-use export::{Gate, Point};
+use crate::client_registry::ClientRegistry;
+use export::{Point, SyncPoints};
 use std::cell::Cell;
 use std::fmt::{self, Display, Formatter};
 use std::io::{self, Read, Write};
@@ -64,12 +64,12 @@ impl Client {
 #[derive(Drop)]
 pub(crate) struct Input<'a> {
     pub client: &'a Client,
-    pub house: &'a House,
+    pub registry: &'a ClientRegistry,
 }
 
 impl<'a> Read for Input<'a> {
     fn read(&mut self, buf: &mut [u8]) -> io::Result<usize> {
-        if self.house.is_closed() {
+        if self.registry.is_closed() {
             return Ok(0);
         }
         match self.client {
@@ -108,21 +108,21 @@ impl<'a> Write for Output<'a> {
     }
 }
 
-/// What is written to `inner`. The gate is reached after each write of replies.
+/// What is written to `inner`. Its sync point is reached after each write of replies.
 #[derive(Drop)]
-pub(crate) struct Gated<'a, W: Write + Drop, G: Gate> {
+pub(crate) struct WatchedOutput<'a, W: Write + Drop, G: SyncPoints> {
     pub inner: W,
     pub is_replying: &'a Cell<bool>,
-    pub gate: &'a mut G,
+    pub points: &'a mut G,
 }
 
-impl<'a, W: Write + Drop, G: Gate> Write for Gated<'a, W, G> {
-    ghost contents = { λ gated. W.contents gated.inner };
+impl<'a, W: Write + Drop, G: SyncPoints> Write for WatchedOutput<'a, W, G> {
+    ghost contents = { λ output. W.contents output.inner };
 
     fn write(&mut self, buf: &[u8]) -> io::Result<usize> {
         let count = self.inner.write(buf)?;
         if self.is_replying.get() {
-            self.gate.reach(Point::Answered);
+            self.points.reach(Point::Answered);
         }
         Ok(count)
     }

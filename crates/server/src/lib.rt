@@ -2,17 +2,17 @@
 #![tactic(auto)]
 
 mod client;
-mod desk;
-mod house;
+mod client_registry;
 mod listener;
 mod log;
 mod options;
+mod request_handler;
 mod serving;
 mod worker;
 
 pub use client::Client;
-pub use desk::Desk;
 pub use listener::Listener;
 pub use log::{Event, Log, Traffic};
 pub use options::{Limits, MOST_WORKERS, OnFault, ServeOptions};
+pub use request_handler::RequestHandler;
 pub use serving::serve;

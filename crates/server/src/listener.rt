@@ -29,7 +29,7 @@ impl Listener {
     }
 
     /// The same socket, as one that can be shut.
-    pub(crate) fn door(&self) -> io::Result<Client> {
+    pub(crate) fn shutdown_handle(&self) -> io::Result<Client> {
         match self {
             Listener::Tcp(listener) => {
                 let socket = OwnedFd::from(listener.try_clone()?);

@@ -1,8 +1,8 @@
 ghost use Rattle.std.specs.Prelude.{◌≡◌, ◌<◌, ◌≤◌, MatchOption};
 
+use export_model::Mode;
 use nbdj_pipe::{LEAST_FRAMES, MOST_FRAMES};
 use std::time::Duration;
-use world::Mode;
 
 /// The most clients that are served at a time.
 pub const MOST_WORKERS: u64 = 16;

@@ -1,12 +1,12 @@
 ghost use Rattle.std.specs.Prelude.{◌≡◌, IfOk, vec_len};
 
-use crate::house::House;
+use crate::client_registry::ClientRegistry;
 use crate::listener::Listener;
 use crate::log::Log;
 use crate::options::{OnFault, ServeOptions};
-use crate::worker::{Reception, worker};
+use crate::worker::{WorkerPool, worker};
 use disk_model::Disk;
-use export::{Export, ExportName, Gate, OpenDevice, ReadBeside};
+use export::{Export, ExportName, OpenDevice, ReadBeside, SyncPoints};
 use marks::Pass;
 use nbdj_pipe::Refusal;
 use std::alloc::Global;
@@ -33,45 +33,45 @@ where
     H: ReadBeside + Send + Sync,
     R: Threads + Wait + Clock + Copy + Send + Sync + Drop + 'static,
     I: Read + Send + Drop + 'static,
-    G: Gate + Log + Copy + Send + Sync,
+    G: SyncPoints + Log + Copy + Send + Sync,
 {
-    let house = match open_house(alloc, listener, options.workers) {
-        Ok(house) => house,
+    let registry = match open_registry(alloc, listener, options.workers) {
+        Ok(registry) => registry,
         Err(refusal) => return (Err(refusal), device.keeper.into_disk()),
     };
-    if options.until_eof && !close_at_end(rt, &house, input) {
+    if options.until_eof && !close_at_end(rt, &registry, input) {
         return (Err(Refusal::NoMemory), device.keeper.into_disk());
     }
-    serve_over::<Brand, D, H, R, G>(rt, alloc, device, &house, options, watch)
+    serve_over::<Brand, D, H, R, G>(rt, alloc, device, &registry, options, watch)
 }
 
-fn open_house(
+fn open_registry(
     alloc: Global,
     listener: Listener,
-    rooms: u32,
-) -> Result<Arc<House, Global>, Refusal> {
-    match House::new(alloc, listener, rooms) {
-        Ok(house) => Arc::new(alloc, house).map_err(|_| Refusal::NoMemory),
+    slots: u32,
+) -> Result<Arc<ClientRegistry, Global>, Refusal> {
+    match ClientRegistry::new(alloc, listener, slots) {
+        Ok(registry) => Arc::new(alloc, registry).map_err(|_| Refusal::NoMemory),
         Err(error) if error.kind() == ErrorKind::OutOfMemory => Err(Refusal::NoMemory),
         Err(_) => Err(Refusal::StreamFault),
     }
 }
 
-// Starts a thread that closes the house once the input has ended; whether there is one. Nobody waits for it, since it may wait
+// Starts a thread that closes the registry once the input has ended; whether there is one. Nobody waits for it, since it may wait
 // for an input that never ends.
-fn close_at_end<R, I>(rt: &R, house: &Arc<House, Global>, input: I) -> bool
+fn close_at_end<R, I>(rt: &R, registry: &Arc<ClientRegistry, Global>, input: I) -> bool
 where
     R: Threads + Wait + Clock + Copy + Send + Drop + 'static,
     I: Read + Send + Drop + 'static,
 {
     let own = *rt;
-    let Ok(house) = Arc::try_clone(house) else {
+    let Ok(registry) = Arc::try_clone(registry) else {
         return false;
     };
-    thread::spawn(rt, move || close_behind(&own, &house, input)).is_ok()
+    thread::spawn(rt, move || close_behind(&own, &registry, input)).is_ok()
 }
 
-fn close_behind<R: Wait + Clock, I: Read + Drop>(rt: &R, house: &House, input: I) {
+fn close_behind<R: Wait + Clock, I: Read + Drop>(rt: &R, registry: &ClientRegistry, input: I) {
     let mut input = input;
     let mut passed = [0; 512];
     for _ in rt.forever() {
@@ -82,14 +82,14 @@ fn close_behind<R: Wait + Clock, I: Read + Drop>(rt: &R, house: &House, input: I
             Err(_) => break,
         }
     }
-    house.close(rt);
+    registry.close(rt);
 }
 
 fn serve_over<B, D, H, R, G>(
     rt: &R,
     alloc: Global,
     device: OpenDevice<D, H>,
-    house: &House,
+    registry: &ClientRegistry,
     options: ServeOptions,
     watch: G,
 ) -> (Result<(), Refusal>, D)
@@ -98,7 +98,7 @@ where
     D: Disk + Send + Drop,
     H: ReadBeside + Send + Sync,
     R: Threads + Wait + Clock + Sync,
-    G: Gate + Log + Copy + Send + Sync,
+    G: SyncPoints + Log + Copy + Send + Sync,
     requires board { device.blank.board ≡ B.board }
     requires geometry { device.keeper.geometry ≡ B.geometry }
 {
@@ -107,15 +107,15 @@ where
             if let Some(limit) = options.limits.pending() {
                 export.store_within(rt, limit);
             }
-            let reception = Reception::new(alloc, house, passes, &options);
-            let outcome = if !run_threads(rt, &reception, &export, options, watch) {
+            let pool = WorkerPool::new(alloc, registry, passes, &options);
+            let outcome = if !run_threads(rt, &pool, &export, options, watch) {
                 Err(Refusal::NoMemory)
             } else if export.stopped(rt) {
                 Err(Refusal::DeviceFault)
             } else {
                 Ok(())
             };
-            drop(reception);
+            drop(pool);
             (outcome, export.into_disk())
         }
         Err(disk) => (Err(Refusal::NoMemory), disk),
@@ -150,7 +150,7 @@ where
 // served at a time; whether there was a worker at all.
 fn run_threads<B, D, H, R, G>(
     rt: &R,
-    reception: &Reception<'_, B>,
+    pool: &WorkerPool<'_, B>,
     export: &Export<B, D, H>,
     options: ServeOptions,
     watch: G,
@@ -160,15 +160,15 @@ where
     D: Disk + Send,
     H: ReadBeside + Send + Sync,
     R: Threads + Wait + Clock + Sync,
-    G: Gate + Log + Copy + Send + Sync,
+    G: SyncPoints + Log + Copy + Send + Sync,
 {
     thread::scope(thread::scope_env(), rt, move |scope| {
-        let Some(started) = start_threads(scope, rt, reception, export, options, watch) else {
+        let Some(started) = start_threads(scope, rt, pool, export, options, watch) else {
             return false;
         };
         // The flusher ends once all passes have left.
         for _ in started..options.workers {
-            if let Some((_room, pass)) = reception.take_pass(rt) {
+            if let Some((_slot, pass)) = pool.take_pass(rt) {
                 export.leave(rt, pass);
             }
         }
@@ -181,7 +181,7 @@ where
 fn start_threads<'s, E, B, D, H, R, G>(
     scope: &Scope<'s, E>,
     rt: &'s R,
-    reception: &'s Reception<'s, B>,
+    pool: &'s WorkerPool<'s, B>,
     export: &'s Export<B, D, H>,
     options: ServeOptions,
     watch: G,
@@ -191,11 +191,11 @@ where
     D: Disk + Send + 's,
     H: ReadBeside + Send + Sync + 's,
     R: Wait + Clock + Sync + 's,
-    G: Gate + Log + Copy + Send + 's,
+    G: SyncPoints + Log + Copy + Send + 's,
 {
     let on_fault = options.on_fault;
     if scope
-        .spawn(move || flush(rt, reception, export, on_fault, watch))
+        .spawn(move || flush(rt, pool, export, on_fault, watch))
         .is_err()
     {
         return None;
@@ -204,7 +204,7 @@ where
         return Some(0);
     }
     for at in 0..options.workers {
-        if !start_worker(scope, rt, reception, export, watch) {
+        if !start_worker(scope, rt, pool, export, watch) {
             return Some(at);
         }
     }
@@ -223,7 +223,7 @@ where
     D: Disk + Send + 's,
     H: ReadBeside + Send + Sync + 's,
     R: Wait + Clock + Sync + 's,
-    G: Gate + Copy + Send + 's,
+    G: SyncPoints + Copy + Send + 's,
 {
     scope.spawn(move || checkpoint(rt, export, watch)).is_ok()
 }
@@ -232,7 +232,7 @@ where
 fn start_worker<'s, E, B, D, H, R, G>(
     scope: &Scope<'s, E>,
     rt: &'s R,
-    reception: &'s Reception<'s, B>,
+    pool: &'s WorkerPool<'s, B>,
     export: &'s Export<B, D, H>,
     watch: G,
 ) -> bool
@@ -241,28 +241,26 @@ where
     D: Disk + Send + 's,
     H: ReadBeside + Send + Sync + 's,
     R: Wait + Clock + Sync + 's,
-    G: Gate + Log + Copy + Send + 's,
+    G: SyncPoints + Log + Copy + Send + 's,
 {
-    scope
-        .spawn(move || worker(rt, reception, export, watch))
-        .is_ok()
+    scope.spawn(move || worker(rt, pool, export, watch)).is_ok()
 }
 
 // Once a call of the device has failed, the sessions are ended where the server isn't to stay.
-fn flush<B: ExportName, D: Disk, H: ReadBeside, R: Wait + Clock, G: Gate + Copy>(
+fn flush<B: ExportName, D: Disk, H: ReadBeside, R: Wait + Clock, G: SyncPoints + Copy>(
     rt: &R,
-    reception: &Reception<'_, B>,
+    pool: &WorkerPool<'_, B>,
     export: &Export<B, D, H>,
     on_fault: OnFault,
     mut watch: G,
 ) {
     export.flusher(rt, &mut watch);
     if on_fault == OnFault::Exit && export.stopped(rt) {
-        reception.house().close(rt);
+        pool.registry().close(rt);
     }
 }
 
-fn checkpoint<B: ExportName, D: Disk, H: ReadBeside, R: Wait + Clock, G: Gate + Copy>(
+fn checkpoint<B: ExportName, D: Disk, H: ReadBeside, R: Wait + Clock, G: SyncPoints + Copy>(
     rt: &R,
     export: &Export<B, D, H>,
     mut watch: G,

@@ -1,13 +1,13 @@
 ghost use Rattle.std.specs.Prelude.{◌≡◌, ℕ, ◌-◌, true, nat_lt};
 ghost use Rattle.server.specs.declared.worker.Sessions.TheVariants as Sessions;
 
-use crate::client::{Client, Gated, Input, Output};
-use crate::desk::Desk;
-use crate::house::House;
+use crate::client::{Client, Input, Output, WatchedOutput};
+use crate::client_registry::ClientRegistry;
 use crate::log::{Event, Log, Traffic};
 use crate::options::{Limits, ServeOptions};
+use crate::request_handler::RequestHandler;
 use disk_model::Disk;
-use export::{Export, ExportName, Gate, ReadBeside};
+use export::{Export, ExportName, ReadBeside, SyncPoints};
 use marks::Pass;
 use negotiation::End;
 use session::serve_session;
@@ -49,31 +49,31 @@ impl Sessions {
 
 /// Where the workers of a server get their passes and their clients.
 #[derive(Drop)]
-pub(crate) struct Reception<'a, B: ExportName> {
+pub(crate) struct WorkerPool<'a, B: ExportName> {
     alloc: Global,
-    house: &'a House,
+    registry: &'a ClientRegistry,
     passes: Mutex<Vec<Pass<B>>>,
     sessions: Mutex<Sessions>,
     limits: Limits,
     workers: u32,
 }
 
-impl<'a, B: ExportName> Reception<'a, B> {
+impl<'a, B: ExportName> WorkerPool<'a, B> {
     pub(crate) fn new(
         alloc: Global,
-        house: &'a House,
+        registry: &'a ClientRegistry,
         passes: Vec<Pass<B>>,
         options: &ServeOptions,
-    ) -> Reception<'a, B> {
+    ) -> WorkerPool<'a, B> {
         let limits = options.limits;
         let sessions = if limits.sessions == 0 {
             Sessions::Endless
         } else {
             Sessions::Left(limits.sessions)
         };
-        Reception {
+        WorkerPool {
             alloc,
-            house,
+            registry,
             passes: Mutex::new(passes),
             sessions: Mutex::new(sessions),
             limits,
@@ -82,11 +82,11 @@ impl<'a, B: ExportName> Reception<'a, B> {
     }
 
     /// Where the clients are.
-    pub(crate) fn house(&self) -> &House {
-        self.house
+    pub(crate) fn registry(&self) -> &ClientRegistry {
+        self.registry
     }
 
-    /// A pass that no worker has yet, and the room for its clients.
+    /// A pass that no worker has yet, and the slot for its clients.
     pub(crate) fn take_pass<R: Wait>(&self, rt: &R) -> Option<(usize, Pass<B>)> {
         let mut passes = self.passes.lock(rt);
         let pass = passes.pop()?;
@@ -99,78 +99,77 @@ impl<'a, B: ExportName> Reception<'a, B> {
     }
 }
 
-/// Serves one client after another in a room of the house, until that is closed or no session may begin any more. A session that
+/// Serves one client after another in a slot of the registry, until that is closed or no session may begin any more. A session that
 /// ends by a refusal, and a client that couldn't be accepted, count, and are no end.
-pub(crate) fn worker<B: ExportName, D: Disk, H: ReadBeside, R: Wait + Clock, G: Gate + Log + Copy>(
-    rt: &R,
-    reception: &Reception<'_, B>,
-    export: &Export<B, D, H>,
-    watch: G,
-) {
-    let Some((room, mut pass)) = reception.take_pass(rt) else {
+pub(crate) fn worker<
+    B: ExportName,
+    D: Disk,
+    H: ReadBeside,
+    R: Wait + Clock,
+    G: SyncPoints + Log + Copy,
+>(rt: &R, pool: &WorkerPool<'_, B>, export: &Export<B, D, H>, watch: G) {
+    let Some((slot, mut pass)) = pool.take_pass(rt) else {
         return;
     };
-    let house = reception.house;
+    let registry = pool.registry;
     for _ in rt.forever() {
-        if house.is_closed() || !reception.begin(rt) {
+        if registry.is_closed() || !pool.begin(rt) {
             break;
         }
-        match house.accept() {
-            Ok(client) => receive(rt, reception, export, room, &mut pass, client, watch),
-            // The client has gone, too many files are open, or the house is closed.
-            Err(_) if !house.is_closed() => thread::sleep(rt, Duration::from_millis(PAUSE)),
+        match registry.accept() {
+            Ok(client) => receive(rt, pool, export, slot, &mut pass, client, watch),
+            // The client has gone, too many files are open, or the registry is closed.
+            Err(_) if !registry.is_closed() => thread::sleep(rt, Duration::from_millis(PAUSE)),
             Err(_) => break,
         }
     }
     export.leave(rt, pass);
 }
 
-// Serves a client in a room, and stores what is pending before the client is let go.
-fn receive<B: ExportName, D: Disk, H: ReadBeside, R: Wait, G: Gate + Log + Copy>(
+// Serves a client in a slot, and stores what is pending before the client is let go.
+fn receive<B: ExportName, D: Disk, H: ReadBeside, R: Wait, G: SyncPoints + Log + Copy>(
     rt: &R,
-    reception: &Reception<'_, B>,
+    pool: &WorkerPool<'_, B>,
     export: &Export<B, D, H>,
-    room: usize,
+    slot: usize,
     pass: &mut Pass<B>,
     client: Client,
     watch: G,
 ) {
-    let house = reception.house;
-    let Ok(client) = Arc::new(reception.alloc, client) else {
+    let registry = pool.registry;
+    let Ok(client) = Arc::new(pool.alloc, client) else {
         return;
     };
-    let Ok(guest) = Arc::try_clone(&client) else {
+    let Ok(served) = Arc::try_clone(&client) else {
         return;
     };
-    let Some(number) = house.enter(rt, room, guest) else {
+    let Some(number) = registry.enter(rt, slot, served) else {
         return;
     };
     watch.note(Event::Came {
         client: number,
         from: &client,
     });
-    if house.is_full(rt) {
+    if registry.is_full(rt) {
         watch.note(Event::Full {
-            workers: reception.workers,
+            workers: pool.workers,
         });
     }
     let traffic = Cell::new(Traffic::none());
-    let end = serve_client(
-        rt, reception, export, pass, &client, number, &traffic, watch,
-    );
+    let end = serve_client(rt, pool, export, pass, &client, number, &traffic, watch);
     let _settled = export.settle(rt, pass);
     watch.note(Event::Left {
         client: number,
         end,
         traffic: traffic.get(),
     });
-    house.leave(rt, room);
+    registry.leave(rt, slot);
 }
 
 // Serves a client from the first byte to the last.
-fn serve_client<B: ExportName, D: Disk, H: ReadBeside, R: Wait, G: Gate + Log + Copy>(
+fn serve_client<B: ExportName, D: Disk, H: ReadBeside, R: Wait, G: SyncPoints + Log + Copy>(
     rt: &R,
-    reception: &Reception<'_, B>,
+    pool: &WorkerPool<'_, B>,
     export: &Export<B, D, H>,
     pass: &mut Pass<B>,
     client: &Client,
@@ -178,29 +177,29 @@ fn serve_client<B: ExportName, D: Disk, H: ReadBeside, R: Wait, G: Gate + Log + 
     traffic: &Cell<Traffic>,
     watch: G,
 ) -> Result<(), End> {
-    let Ok(()) = client.limit_wait(reception.limits.handshake()) else {
+    let Ok(()) = client.limit_wait(pool.limits.handshake()) else {
         return Err(End::IoFault);
     };
     let is_replying = Cell::new(false);
-    let desk = Desk {
+    let handler = RequestHandler {
         rt,
         export,
         client,
         number,
         traffic,
         log: watch,
-        idle_limit: reception.limits.idle(),
+        idle_limit: pool.limits.idle(),
         is_replying: &is_replying,
     };
-    let mut gate = watch;
-    let mut output = Gated {
+    let mut points = watch;
+    let mut output = WatchedOutput {
         inner: Output(client),
         is_replying: &is_replying,
-        gate: &mut gate,
+        points: &mut points,
     };
     let mut input = Input {
         client,
-        house: reception.house,
+        registry: pool.registry,
     };
-    serve_session(reception.alloc, &mut input, &mut output, &desk, pass)
+    serve_session(pool.alloc, &mut input, &mut output, &handler, pass)
 }

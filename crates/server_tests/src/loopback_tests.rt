@@ -4,7 +4,8 @@ use crate::client::{Client, PATIENCE};
 use bitflags::Flags;
 use checkpoint::Keeper;
 use disk_model::{CallKind, SimDisk};
-use export::{Gate, OpenDevice, Point};
+use export::{OpenDevice, Point, SyncPoints};
+use export_model::Mode;
 use image_model::Geometry;
 use nbd_wire::CommandFlags;
 use nbdj_pipe::Refusal;
@@ -18,7 +19,6 @@ use std::sync::Wait;
 use std::sync::atomic::{AtomicBool, AtomicU64, Ordering};
 use std::thread::{self, Threads};
 use std::time::{Duration, Instant};
-use world::Mode;
 
 // The number of the error EIO on the wire.
 const EIO: u32 = 5;
@@ -64,7 +64,7 @@ impl<'a, R: Clock> Clone for Holding<'a, R> {
 
 impl<'a, R: Clock> Copy for Holding<'a, R> {}
 
-impl<'a, R: Clock> Gate for Holding<'a, R> {
+impl<'a, R: Clock> SyncPoints for Holding<'a, R> {
     fn reach(&mut self, at: Point) {
         match at {
             Point::Append => self.hold(),
@@ -296,12 +296,12 @@ fn beside_a_server<R: Threads + Wait + Clock + Copy + Send + Sync + Drop + 'stat
     clients: Clients,
     seen: &Seen,
 ) -> Option<Ran> {
-    let gate = Holding { rt: threads, seen };
+    let points = Holding { rt: threads, seen };
     let (ending, input) = UnixStream::pair(rt).ok()?;
     let mut ending = Some(ending);
     thread::scope(thread::scope_env(), threads, move |scope| {
         let Ok(server) = scope.spawn(move || serve(
-            threads, alloc, device, listener, input, options, gate,
+            threads, alloc, device, listener, input, options, points,
         )) else {
             return None;
         };

@@ -1,6 +1,6 @@
 //! What the list of an area says of a block.
-use group_list::Touch;
 use journal::Area;
+use journal_format::Touch;
 
 // What the last range that covers the block says of its first one.
 pub fn last_touch(area: &Area, block: u64) -> Option<Touch> {

@@ -4,9 +4,9 @@ ghost use Rattle.image_model.specs.Command.{bodies_of};
 
 use crate::areas::last_touch;
 use disk_model::{CallKind, CrashChoice, Disk, SimDisk};
-use group_list::{JournalFault, Touch};
 use image_model::{Command, Kind};
 use journal::{Area, Group};
+use journal_format::{JournalFault, Touch};
 use std::alloc::{AllocError, Global};
 use std::process::Abort;
 use std::test::Fail;

@@ -3,9 +3,9 @@ ghost use Rattle.image_model.specs.Command.{bodies_of};
 
 use anyhow::Result;
 use disk_model::{Disk, FileDisk};
-use group_list::JournalFault;
 use image_model::{BLOCK_BYTES, Command};
 use journal::{Area, Group};
+use journal_format::JournalFault;
 use std::alloc::{AllocError, Global};
 use std::fs::OpenOptions;
 use std::time::Instant;

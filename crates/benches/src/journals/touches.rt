@@ -1,10 +1,10 @@
 ghost use Rattle.std.specs.Prelude.{◌≡◌, ◌+◌, ◌*◌, ◌≤◌, ◌<◌, ◌^◌, IfOk};
-ghost use Rattle.group_list.specs.Touches.{AreWithin, IsWithin};
+ghost use Rattle.journal_format.specs.Touches.{AreWithin, IsWithin};
 
 use anyhow::Result;
-use group_list::{Touch, TouchedRange};
 use image_model::Kind;
-use last_touches::LastTouches;
+use journal_format::{Touch, TouchedRange};
+use latest_writes::LastTouches;
 use std::alloc::{AllocError, Global};
 
 /// The bytes of a put of 4 KiB in a group, with its head.

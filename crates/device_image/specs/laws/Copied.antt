@@ -7,10 +7,10 @@ use Rattle.header_slots.specs.declared.header.Header.{Header}
 use Rattle.image_model.specs.Image.{Image}
 use Rattle.image_model.specs.Side.{other_of}
 use Rattle.image_model.specs.declared.command.Kind.{Kind}
-use Rattle.group_list.specs.Spelling.{StoredGroup}
-use Rattle.group_list.specs.Touches.{last_touch}
-use Rattle.group_list.specs.declared.touch.Touch.{Touch}
-use Rattle.group_list.specs.declared.touch.Touch.TheVariants.{Put}
+use Rattle.journal_format.specs.Spelling.{StoredGroup}
+use Rattle.journal_format.specs.Touches.{last_touch}
+use Rattle.journal_format.specs.declared.touch.Touch.{Touch}
+use Rattle.journal_format.specs.declared.touch.Touch.TheVariants.{Put}
 use Rattle.regions.specs.Layout.{area_at, block_at, ring}
 use Rattle.device_image.specs.Copied.{IsCopiedOver}
 use Rattle.device_image.specs.Free.{to_be_copied}
@@ -18,12 +18,12 @@ use Rattle.device_image.specs.Keeper.{KeeperState, PlanState, count_puts, earlie
 use Rattle.device_image.specs.Keeps.{AreCopied, IsCopyPlace, IsCopying, IsInPhase, IsMapWritten, Keeps, touched_first}
 use Rattle.device_image.specs.Stands.{HoldLists, next_number}
 use Rattle.device_image.specs.laws.Frame.{area_high, map_low}
-use Rattle.device_image.specs.laws.Holds.{first_list}
+use Rattle.device_image.specs.laws.AfterWrite.{first_list}
 use Rattle.device_image.specs.laws.Kept.{held}
 use Rattle.device_image.specs.laws.Lists.{KeepsLists}
 use Rattle.device_image.specs.laws.Steps.{keeps_after}
 use Rattle.device_image.specs.laws.Touched.{IsSoundTouch, groups_sound}
-use Rattle.device_image.specs.laws.Turned.{slot_kept}
+use Rattle.device_image.specs.laws.HeaderReplaced.{slot_kept}
 
 none_is_some : {touch : Touch} → None ≡ Some touch → ⊥
 none_is_some is = cc

@@ -8,8 +8,8 @@ use Rattle.image_model.specs.Dirty.{dirty_blocks}
 use Rattle.image_model.specs.declared.geometry.Geometry.{Geometry}
 use Rattle.image_model.specs.laws.DirtyCounts.{dirty_len_counted}
 use Rattle.image_model.specs.laws.DirtyMaps.{get-dirty_blocks}
-use Rattle.group_list.specs.Touches.{last_touch, touched_by_changes}
-use Rattle.group_list.specs.declared.touch.TouchedRange.{TouchedRange}
+use Rattle.journal_format.specs.Touches.{last_touch, touched_by_changes}
+use Rattle.journal_format.specs.declared.touch.TouchedRange.{TouchedRange}
 use Rattle.device_image.specs.Keeper.{KeeperState, count_puts, is_put}
 use Rattle.device_image.specs.Remembers.{Remembers, TellOf}
 use Rattle.device_image.specs.laws.Puts.{count_suc, count_zero}

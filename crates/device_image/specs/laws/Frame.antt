@@ -16,14 +16,14 @@ use Rattle.image_model.specs.Change.{Change}
 use Rattle.image_model.specs.Image.{Image, apply, apply_all}
 use Rattle.image_model.specs.declared.command.Kind.{Kind}
 use Rattle.image_model.specs.declared.geometry.Geometry.{Geometry}
-use Rattle.group_list.specs.Area.{AreaState}
-use Rattle.group_list.specs.GroupList.{IsHeld, IsList, sizes_of, Stand, next_behind, changes_of}
-use Rattle.group_list.specs.Spelling.{StoredGroup}
-use Rattle.group_list.specs.Touches.{byte_after_touch, kind_after, last_touch, touched_by_groups}
-use Rattle.group_list.specs.declared.touch.Touch.{Touch}
-use Rattle.group_list.specs.declared.touch.Touch.TheVariants.{Put, Clear}
-use Rattle.group_list.specs.laws.Contents.{list_ends, list_stays}
-use Rattle.group_list.specs.laws.LastTouches.{groups_kind, groups_byte}
+use Rattle.journal_format.specs.Area.{AreaState}
+use Rattle.journal_format.specs.GroupList.{IsHeld, IsList, sizes_of, Stand, next_behind, changes_of}
+use Rattle.journal_format.specs.Spelling.{StoredGroup}
+use Rattle.journal_format.specs.Touches.{byte_after_touch, kind_after, last_touch, touched_by_groups}
+use Rattle.journal_format.specs.declared.touch.Touch.{Touch}
+use Rattle.journal_format.specs.declared.touch.Touch.TheVariants.{Put, Clear}
+use Rattle.journal_format.specs.laws.Contents.{list_ends, list_stays}
+use Rattle.journal_format.specs.laws.LastTouches.{groups_kind, groups_byte}
 use Rattle.regions.specs.Layout.{area_at, behind, block_at, map_at, ring}
 use Rattle.regions.specs.Map.{HoldsMap}
 use Rattle.device_image.specs.Keeper.{is_put}

@@ -11,8 +11,8 @@ use Rattle.image_model.specs.Side.{other_of}
 use Rattle.image_model.specs.declared.geometry.Geometry.{Geometry}
 use Rattle.image_model.specs.declared.side.Side.{Side}
 use Rattle.image_model.specs.declared.side.Side.TheVariants.{Zero, One}
-use Rattle.group_list.specs.GroupList.{next_behind}
-use Rattle.group_list.specs.Spelling.{StoredGroup}
+use Rattle.journal_format.specs.GroupList.{next_behind}
+use Rattle.journal_format.specs.Spelling.{StoredGroup}
 use Rattle.regions.specs.Layout.{area_at, block_at, map_at, ring}
 use Rattle.device_image.specs.Free.{IsFree, in_spare_area, in_spare_map, to_be_copied}
 use Rattle.device_image.specs.Keeper.{KeeperState}

@@ -5,8 +5,8 @@ use Rattle.disk_model.specs.Disk.{State, InRange, MayLeave}
 use Rattle.image_model.specs.Change.{Change}
 use Rattle.image_model.specs.Image.{Image, apply_all}
 use Rattle.image_model.specs.declared.geometry.Geometry.{Geometry}
-use Rattle.group_list.specs.GroupList.{IsList, changes_of}
-use Rattle.group_list.specs.Spelling.{StoredGroup}
+use Rattle.journal_format.specs.GroupList.{IsList, changes_of}
+use Rattle.journal_format.specs.Spelling.{StoredGroup}
 use Rattle.device_image.specs.Keeper.{KeeperState, earlier_of}
 use Rattle.device_image.specs.Keeps.{IsCopyPlace, Keeps, behind_lists}
 use Rattle.device_image.specs.Stands.{StandsFor, HoldLists, all_changes, next_number, stored_image}

@@ -1,7 +1,7 @@
 -- How many of the first blocks have a put as their last touch.
 use Rattle.std.proofs.Common.{◌≡◌, ℕ, zero, suc, ◌+◌, ◌≤◌, ◌<◌, Bool, true, false, if◌then◌else◌, List, ap, refl, arith}
-use Rattle.group_list.specs.Touches.{last_touch}
-use Rattle.group_list.specs.declared.touch.TouchedRange.{TouchedRange}
+use Rattle.journal_format.specs.Touches.{last_touch}
+use Rattle.journal_format.specs.declared.touch.TouchedRange.{TouchedRange}
 use Rattle.device_image.specs.Keeper.{count_puts, is_put}
 
 abbrev pub one_if : Bool → ℕ

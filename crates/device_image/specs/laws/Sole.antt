@@ -12,9 +12,9 @@ use Rattle.image_model.specs.Geometry.{map_bytes_of}
 use Rattle.image_model.specs.Image.{Image, apply_all}
 use Rattle.image_model.specs.declared.command.Kind.{Kind}
 use Rattle.image_model.specs.declared.geometry.Geometry.{Geometry}
-use Rattle.group_list.specs.GroupList.{next_behind}
-use Rattle.group_list.specs.Spelling.{StoredGroup}
-use Rattle.group_list.specs.laws.OneList.{one_list, damaged_none}
+use Rattle.journal_format.specs.GroupList.{next_behind}
+use Rattle.journal_format.specs.Spelling.{StoredGroup}
+use Rattle.journal_format.specs.laws.OneList.{one_list, damaged_none}
 use Rattle.regions.specs.Layout.{area_at, map_at}
 use Rattle.regions.specs.Map.{AreSlot, HoldsMap, HoldsBadMap}
 use Rattle.device_image.specs.Damage.{HasBadMap, HasDamagedGroup, IsAreaDamaged, IsOneDamaged}

@@ -8,13 +8,13 @@ use Rattle.std.proofs.lemmas.List.Sums.{sum_by-cons}
 use Rattle.image_model.specs.declared.command.Kind.{Kind}
 use Rattle.image_model.specs.Change.{Change, Written, Cleared, Edged, IsChange, IsCleared, AreChanges}
 use Rattle.image_model.specs.Image.{data_of, kind_given, slot, touches, writes}
-use Rattle.group_list.specs.declared.touch.Touch.{Touch}
-use Rattle.group_list.specs.declared.touch.Touch.TheVariants.{Put, Clear}
-use Rattle.group_list.specs.GroupList.{Stand, number_behind, size_of, sizes_of}
-use Rattle.group_list.specs.Spelling.{StoredGroup, change_bytes, change_head, clear_byte, edged_byte, edges_byte}
-use Rattle.group_list.specs.Touches.{data_place, last_touch, later, touched_by, touched_by_changes, touched_by_groups}
-use Rattle.group_list.specs.laws.LastTouches.{last_touch-append, slot_inside, touch_of, touches_told}
-use Rattle.group_list.specs.laws.Spelled.{length-change_head}
+use Rattle.journal_format.specs.declared.touch.Touch.{Touch}
+use Rattle.journal_format.specs.declared.touch.Touch.TheVariants.{Put, Clear}
+use Rattle.journal_format.specs.GroupList.{Stand, number_behind, size_of, sizes_of}
+use Rattle.journal_format.specs.Spelling.{StoredGroup, change_bytes, change_head, clear_byte, edged_byte, edges_byte}
+use Rattle.journal_format.specs.Touches.{data_place, last_touch, later, touched_by, touched_by_changes, touched_by_groups}
+use Rattle.journal_format.specs.laws.LastTouches.{last_touch-append, slot_inside, touch_of, touches_told}
+use Rattle.journal_format.specs.laws.Spelled.{length-change_head}
 
 abbrev pub IsSoundTouch : ℕ → ℕ → ℕ → ℕ → Option Touch → Type 0
 IsSoundTouch limit from end block None = Unit {0}

@@ -6,15 +6,15 @@ use Rattle.disk_model.specs.Disk.{State, IsSyncedIn, MayLeave, MayLeaveTorn}
 use Rattle.image_model.specs.Change.{AreChanges, change_of}
 use Rattle.image_model.specs.Command.{bodies_of}
 use Rattle.journal.specs.Append.{IsNext}
-use Rattle.group_list.specs.Area.{AreaState}
-use Rattle.group_list.specs.Group.{Numbered, IsGroup}
-use Rattle.group_list.specs.declared.touch.TouchedRange.{TouchedRange}
-use Rattle.group_list.specs.Spelling.{StoredGroup, stored_of, group_bytes}
-use Rattle.group_list.specs.Touches.{touched_by_changes, touched_by_groups}
-use Rattle.group_list.specs.GroupList.{StandsAt, IsOpen, size_of, sizes_of, number_behind, IsNextGroup, IsList, IsHeld, IsListStored, LeavesEither, LeavesGateOrBytes, IsOpenBefore}
-use Rattle.group_list.specs.laws.Groups.{touched_groups-push}
-use Rattle.group_list.specs.laws.Spelled.{length-body, length-group, sizes-push, next-push}
-use Rattle.group_list.specs.laws.Contents.{IsSameFrom, list_ends, list_stays, list_grows}
+use Rattle.journal_format.specs.Area.{AreaState}
+use Rattle.journal_format.specs.Group.{Numbered, IsGroup}
+use Rattle.journal_format.specs.declared.touch.TouchedRange.{TouchedRange}
+use Rattle.journal_format.specs.Spelling.{StoredGroup, stored_of, group_bytes}
+use Rattle.journal_format.specs.Touches.{touched_by_changes, touched_by_groups}
+use Rattle.journal_format.specs.GroupList.{StandsAt, IsOpen, size_of, sizes_of, number_behind, IsNextGroup, IsList, IsHeld, IsListStored, LeavesEither, LeavesGateOrBytes, IsOpenBefore}
+use Rattle.journal_format.specs.laws.Groups.{touched_groups-push}
+use Rattle.journal_format.specs.laws.Spelled.{length-body, length-group, sizes-push, next-push}
+use Rattle.journal_format.specs.laws.Contents.{IsSameFrom, list_ends, list_stays, list_grows}
 
 -- what is written behind the gate
 abbrev pub written : StoredGroup → List ℕ

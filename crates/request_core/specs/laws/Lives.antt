@@ -9,17 +9,17 @@ use Rattle.disk_model.specs.Disk.{State}
 use Rattle.image_model.specs.Change.{Change, AreChanges, change_of}
 use Rattle.image_model.specs.Image.{Image, apply, apply_all}
 use Rattle.image_model.specs.declared.geometry.Geometry.{Geometry}
-use Rattle.group_list.specs.Group.{Numbered}
+use Rattle.journal_format.specs.Group.{Numbered}
 use Rattle.order_book.specs.Order.{OrderState}
 use Rattle.request_core.specs.Parts.{IsDiskOf, IsKeeperOf, IsOrderOf, StandsAfter, first_commands, last_commands, part, turned_at}
-use Rattle.world.specs.World.{Stage, World, image_after}
+use Rattle.export_model.specs.World.{Stage, World, image_after}
 use Rattle.request_core.specs.laws.Orders.{commands_length, hand_is}
 use Rattle.device_image.specs.Holds.{Holds}
 use Rattle.std.proofs.Math.Seq.{take-add}
-use Rattle.world.specs.Checkpoint.{last_turned}
-use Rattle.world_law.specs.Law.{IsRising, IsWithin}
-use Rattle.world_law.specs.laws.Within.{turned_through}
-use Rattle.world_law.specs.laws.Parts.{part_more, part_same}
+use Rattle.export_model.specs.Checkpoint.{last_turned}
+use Rattle.export_model_laws.specs.Law.{IsRising, IsWithin}
+use Rattle.export_model_laws.specs.laws.Within.{turned_through}
+use Rattle.export_model_laws.specs.laws.Parts.{part_more, part_same}
 
 -- commands one after another
 pub apply_append : (xs ys : List Change) (image : Image) → apply_all (xs ++ ys) image ≡ apply_all ys (apply_all xs image)

@@ -8,12 +8,12 @@ use Rattle.std.specs.List.{sum, sum_by}
 use Rattle.image_model.specs.declared.command.Command.{Command}
 use Rattle.image_model.specs.Change.{Change, change_of}
 use Rattle.image_model.specs.Command.{body_of, bodies_of}
-use Rattle.group_list.specs.Group.{Numbered}
+use Rattle.journal_format.specs.Group.{Numbered}
 use Rattle.image_model.specs.laws.CleanedMaps.{cleaned-blocks}
 use Rattle.image_model.specs.laws.DirtyTails.{dirty_behind_push}
 use Rattle.order_book.specs.Order.{OrderState, Seals, has_room_for, with_clean, with_command, with_durable, with_group}
-use Rattle.world.specs.Checkpoint.{can_clean}
-use Rattle.world.specs.World.{Stage, dirty_behind}
+use Rattle.export_model.specs.Checkpoint.{can_clean}
+use Rattle.export_model.specs.World.{Stage, dirty_behind}
 use Rattle.request_core.specs.Parts.{IsOrderOf, commands_in}
 use Rattle.image_model.specs.Bodies.{body_bytes, bodies_bytes, body_limit, longest}
 use Rattle.image_model.specs.Dirty.{Dirty, clean_through, dirty_after, dirty_blocks, frames_suffice}

@@ -1,7 +1,7 @@
 use Rattle.std.proofs.Common.{◌≡◌, ℕ, Err, List, ◌∙◌, ap, subst}
 use Rattle.image_model.specs.declared.geometry.Geometry.{Geometry}
-use Rattle.group_list.specs.Area.{AreaState}
-use Rattle.group_list.specs.GroupList.{IsDamaged}
+use Rattle.journal_format.specs.Area.{AreaState}
+use Rattle.journal_format.specs.GroupList.{IsDamaged}
 use Rattle.regions.specs.Layout.{area_at}
 use Rattle.device_image.specs.Stands.{area_of}
 use Rattle.checkpoint.proofs.Areas.{moved_damage, scan_refused}

@@ -1,8 +1,8 @@
 use Rattle.std.proofs.Common.{List, [], ◌∷◌, sym, subst}
-use Rattle.group_list.specs.Spelling.{StoredGroup}
+use Rattle.journal_format.specs.Spelling.{StoredGroup}
 use Rattle.device_image.specs.Keeper.{PlanState}
 use Rattle.device_image.specs.Keeps.{HoldsAreas}
-use Rattle.group_list.specs.laws.Chained.{reads_on}
+use Rattle.journal_format.specs.laws.Chained.{reads_on}
 use Rattle.checkpoint.proofs.Areas.{last_damaged, one_held, two_held}
 use Rattle.checkpoint.proofs.Readings.{at_refusal, damage_weaker, seen_same, still_synced}
 use Rattle.checkpoint.proofs.opening.read_areas.Goals as goal

@@ -2,7 +2,7 @@ use Rattle.std.proofs.Common.{◌≡◌, ℕ, List, length, Err, rules, sym, ◌
 use Rattle.disk_model.specs.Disk.{IsSound}
 use Rattle.header_slots.specs.Slots.{HoldsHeader}
 use Rattle.image_model.specs.declared.command.Kind.{Kind}
-use Rattle.group_list.specs.laws.Chained.{one_read, reads_on}
+use Rattle.journal_format.specs.laws.Chained.{one_read, reads_on}
 use Rattle.regions.specs.Layout.{map_at}
 use Rattle.regions.specs.Map.{HoldsMap, IsMapReading}
 use Rattle.regions.specs.declared.fault.RegionFault.{RegionFault}

@@ -1,8 +1,8 @@
 use Rattle.std.proofs.Common.{◌+◌, ◌≤◌, List, length, get_or, refl, ◌∙◌, sym, subst, arith}
 use Rattle.std.proofs.lemmas.List.{get_or_default, take_all}
-use Rattle.last_touches.specs.declared.range.LastRange.{LastRange}
-use Rattle.last_touches.specs.declared.touch.LastTouch.TheVariants.{Put}
-use Rattle.last_touches.specs.Ranges.{AreRanges}
+use Rattle.latest_writes.specs.declared.range.LastRange.{LastRange}
+use Rattle.latest_writes.specs.declared.touch.LastTouch.TheVariants.{Put}
+use Rattle.latest_writes.specs.Ranges.{AreRanges}
 use Rattle.copy_plan.proofs.After.{IsLaid, laid_more, laid_none, laid_states, range_ends}
 use Rattle.copy_plan.proofs.plan.laid_over.Goals as goal
 

@@ -1,5 +1,5 @@
 use Rattle.std.proofs.Common.{ℕ, sym, subst}
-use Rattle.last_touches.specs.Ranges.{AreLastTouches}
+use Rattle.latest_writes.specs.Ranges.{AreLastTouches}
 use Rattle.copy_plan.proofs.After.{laid_of}
 use Rattle.copy_plan.proofs.plan.map_behind.Goals as goal
 

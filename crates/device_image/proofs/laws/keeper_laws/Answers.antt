@@ -1,4 +1,4 @@
-use Rattle.device_image.specs.laws.Holding.{held_as, held_empty}
+use Rattle.device_image.specs.laws.AfterCall.{held_as, held_empty}
 use Rattle.device_image.specs.laws.Kept.{kept_content, kept_size}
 use Rattle.device_image.proofs.laws.keeper_laws.Goals as goal
 

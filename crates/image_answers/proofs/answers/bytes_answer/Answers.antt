@@ -6,7 +6,7 @@ use Rattle.image_model.specs.Edit.{blocks_met}
 use Rattle.nbd_wire.specs.Answer.{IsJoined, PartsBytes}
 use Rattle.nbd_wire.specs.declared.message.Answer.TheVariants.{Bytes, States}
 use Rattle.nbd_wire.specs.declared.message.Run.{Run}
-use Rattle.world.specs.Shown.{bytes_from, cut_behind, cut_front, cut_to, most_runs, read_status_of, runs_from, runs_met, status_of}
+use Rattle.export_model.specs.Shown.{bytes_from, cut_behind, cut_front, cut_to, most_runs, read_status_of, runs_from, runs_met, status_of}
 use Rattle.image_answers.proofs.Bytes.{all_in_states, bytes_are, zero_around}
 use Rattle.image_answers.proofs.Cuts.{joined_behind, joined_front, long_first, parts_cut, sizes_cut}
 use Rattle.image_answers.proofs.Parts.{count_all, joined_all, parts_all, runs_same, some_runs}

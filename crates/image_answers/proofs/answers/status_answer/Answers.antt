@@ -6,7 +6,7 @@ use Rattle.image_model.specs.Edit.{blocks_met}
 use Rattle.nbd_wire.specs.declared.message.Answer.TheVariants.{Bytes, States}
 use Rattle.nbd_wire.specs.declared.message.Run.{Run}
 use Rattle.nbd_wire.specs.declared.head.RequestHead.{RequestHead}
-use Rattle.world.specs.Shown.{bytes_from, cut_front, cut_to, most_runs, read_status_of, runs_from, runs_met, status_of}
+use Rattle.export_model.specs.Shown.{bytes_from, cut_front, cut_to, most_runs, read_status_of, runs_from, runs_met, status_of}
 use Rattle.image_answers.proofs.Cuts.{front_long, long_first, long_taken, sizes_cut, some_behind}
 use Rattle.image_answers.proofs.Parts.{none_empty, runs_same, some_empty, some_runs, taken}
 use Rattle.image_answers.proofs.answers.status_answer.Goals as goal

@@ -1,7 +1,7 @@
 use Rattle.std.proofs.Common.{◌≡◌, ◌+◌, ◌-◌, ◌∙◌, ap, arith, sym, subst, ℕ, drop, get_or, set, take, length, ◌++◌, ◌≤◌, ◌<◌}
 use Rattle.std.proofs.lemmas.List.{get_or_default}
 use Rattle.nbd_wire.specs.declared.message.Run.{Run}
-use Rattle.world.specs.Shown.{cut_behind}
+use Rattle.export_model.specs.Shown.{cut_behind}
 use Rattle.image_answers.proofs.Cuts.{cut_ends, cut_goes, cut_stops}
 use Rattle.image_answers.proofs.runs.cut.Goals as goal
 

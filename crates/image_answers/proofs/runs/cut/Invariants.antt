@@ -1,5 +1,5 @@
 use Rattle.std.proofs.Common.{◌≡◌, ◌≤◌, ◌++◌, drop, length, take}
-use Rattle.world.specs.Shown.{cut_behind, cut_front}
+use Rattle.export_model.specs.Shown.{cut_behind, cut_front}
 use Rattle.image_answers.proofs.runs.cut.Given as goal
 
 -- the runs before this one stay, and those from it on are cut to what is left

@@ -1,7 +1,7 @@
 use Rattle.std.proofs.Common.{◌/◌, ◌%◌, ◌≤◌, ◌<◌, List, get_or, length, sym, subst, arith}
 use Rattle.alloc_map.specs.Codes.{state_at}
 use Rattle.nbd_wire.specs.declared.message.Run.{Run}
-use Rattle.world.specs.Shown.{read_status_of, runs_from}
+use Rattle.export_model.specs.Shown.{read_status_of, runs_from}
 use Rattle.image_answers.proofs.Cuts.{long_enough, long_first}
 use Rattle.image_answers.proofs.Parts.{some_runs}
 use Rattle.image_answers.proofs.runs.read_runs.Goals as goal

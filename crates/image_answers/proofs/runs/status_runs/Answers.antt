@@ -6,7 +6,7 @@ use Rattle.image_model.specs.Edit.{blocks_met}
 use Rattle.image_model.specs.declared.command.Kind.{Kind}
 use Rattle.image_model.specs.declared.command.Kind.TheVariants.{Data}
 use Rattle.nbd_wire.specs.declared.message.Run.{Run}
-use Rattle.world.specs.Shown.{cut_behind, cut_front, cut_to, runs_from, runs_met, status_of}
+use Rattle.export_model.specs.Shown.{cut_behind, cut_front, cut_to, runs_from, runs_met, status_of}
 use Rattle.image_answers.proofs.Cuts.{turn_ends, turn_goes, turn_stops}
 use Rattle.image_answers.proofs.Joined.{run_of}
 use Rattle.image_answers.proofs.Stretches.{as_run, first_runs, one_some, one_within, runs_some, runs_within}

@@ -1,5 +1,5 @@
 use Rattle.std.proofs.Common.{◌≡◌, ◌<◌, ◌≤◌, ◌%◌, ◌++◌, drop, map}
-use Rattle.world.specs.Shown.{cut_behind, cut_front}
+use Rattle.export_model.specs.Shown.{cut_behind, cut_front}
 use Rattle.image_answers.proofs.Stretches.{as_run}
 use Rattle.image_answers.proofs.runs.status_runs.Given as goal
 

@@ -3,7 +3,7 @@ use Rattle.std.specs.Bool.{IsTrue}
 use Rattle.std.proofs.lemmas.Bool.{true≢false}
 use Rattle.device_image.specs.Keeper.{KeeperState}
 use Rattle.image_model.specs.Edit.{edit_of}
-use Rattle.group_list.specs.laws.Chained.{reads_on}
+use Rattle.journal_format.specs.laws.Chained.{reads_on}
 use Rattle.order_book.proofs.Taking.{map_ok, read_ends, refused_on}
 use Rattle.order_book.proofs.edits.read_old.Goals as goal
 

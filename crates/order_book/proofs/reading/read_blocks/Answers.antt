@@ -4,7 +4,7 @@ use Rattle.std.specs.Result.{IsErrAnd, OnErr}
 use Rattle.checkpoint.specs.declared.fault.KeeperFault.{KeeperFault}
 use Rattle.device_image.specs.Keeper.{KeeperState}
 use Rattle.std.proofs.lemmas.Bool.{cases_lt, true≢false}
-use Rattle.group_list.specs.laws.Chained.{reads_on}
+use Rattle.journal_format.specs.laws.Chained.{reads_on}
 use Rattle.shared_cache.specs.laws.Views.{seen_missing}
 use Rattle.order_book.proofs.Missing.{lacks_at}
 use Rattle.order_book.proofs.reading.read_blocks.Goals as goal

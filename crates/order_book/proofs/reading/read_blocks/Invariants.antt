@@ -3,7 +3,7 @@ use Rattle.device_image.specs.Holds.{Holds, is_written}
 use Rattle.image_model.specs.Change.{Change}
 use Rattle.image_model.specs.Image.{Image}
 use Rattle.image_model.specs.declared.command.Kind.TheVariants.{Data}
-use Rattle.group_list.specs.Reading.{IsOnlyRead}
+use Rattle.journal_format.specs.Reading.{IsOnlyRead}
 use Rattle.shared_cache.specs.Cache.{bytes_seen}
 use Rattle.order_book.proofs.reading.read_blocks.Given as goal
 

@@ -1,5 +1,5 @@
 use Rattle.std.proofs.Common.{◌≡◌, replicate}
-use Rattle.world.specs.declared.connection.Connection.TheVariants.{Idle}
+use Rattle.export_model.specs.declared.connection.Connection.TheVariants.{Idle}
 use Rattle.request_core.proofs.bench.idle.Given as goal
 
 abbrev pub invariant-loop-place : goal.invariant-loop-place

@@ -2,7 +2,7 @@ use Rattle.std.proofs.Common.{◌≤◌, [], ◌∷◌, Option, refl, sym, ◌�
 use Rattle.checkpoint.specs.Steps.{IsCopyTime, left_in}
 use Rattle.checkpoint.specs.declared.fault.KeeperFault.TheVariants as fault
 use Rattle.device_image.specs.Keeper.{Phase}
-use Rattle.group_list.specs.Group.{Numbered}
+use Rattle.journal_format.specs.Group.{Numbered}
 use Rattle.request_core.specs.Bench.{ConnectionsState}
 use Rattle.request_core.specs.Life.{Trusts}
 use Rattle.request_core.specs.Parts.{AreConnectionsOf}
@@ -13,9 +13,9 @@ use Rattle.request_core.proofs.Runs.{stepped, trusted_honest, trusts_as}
 use Rattle.request_core.proofs.Steady.{shows_still, steady_copy}
 use Rattle.request_core.proofs.Stored.{not_true_is}
 use Rattle.request_core.proofs.Times.{copying_is}
-use Rattle.request_core.proofs.Turns.{as_told, copied_leaves, copy_refused, count_unlike}
-use Rattle.world.specs.Step.{after_step, copy_block}
-use Rattle.world.specs.declared.step.Step.TheVariants.{Copy}
+use Rattle.request_core.proofs.CheckpointSteps.{as_told, copied_leaves, copy_refused, count_unlike}
+use Rattle.export_model.specs.Step.{after_step, copy_block}
+use Rattle.export_model.specs.declared.step.Step.TheVariants.{Copy}
 use Rattle.request_core.proofs.engine.copy_some.Goals as goal
 
 pub returns-in-Ok-clause-world : goal.returns-in-Ok-clause-world

@@ -1,5 +1,5 @@
 use Rattle.std.proofs.Common.{Option, refl, sym, ◌∙◌, ap, subst}
-use Rattle.group_list.specs.Group.{Numbered}
+use Rattle.journal_format.specs.Group.{Numbered}
 use Rattle.request_core.specs.Bench.{ConnectionsState}
 use Rattle.request_core.specs.Parts.{AreConnectionsOf, IsOrderOf}
 use Rattle.request_core.specs.Serving.{AreTermsOf}
@@ -8,9 +8,9 @@ use Rattle.request_core.proofs.Performed.{disk_cleans, disk_publishes, disk_seal
 use Rattle.request_core.proofs.Steady.{shows_after, shows_still, steady_answer, steady_append, steady_clean, steady_copy, steady_finish, steady_map, steady_publish, steady_rotate, steady_seal, steady_send}
 use Rattle.device_image.specs.Keeper.{KeeperState}
 use Rattle.request_core.proofs.Stored.{kept_clean_by, kept_publish_by, kept_seal_by}
-use Rattle.world.specs.Serve.{Nothing, answer, serve}
-use Rattle.world.specs.Step.{append, clean, copy_block, finish, publish, rotate, seal, send, write_map}
-use Rattle.world.specs.declared.step.Step.TheVariants as steps
+use Rattle.export_model.specs.Serve.{Nothing, answer, serve}
+use Rattle.export_model.specs.Step.{append, clean, copy_block, finish, publish, rotate, seal, send, write_map}
+use Rattle.export_model.specs.declared.step.Step.TheVariants as steps
 use Rattle.request_core.proofs.engine.perform.Goals as goal
 
 pub returns-in-Send-clause-world : goal.returns-in-Send-clause-world

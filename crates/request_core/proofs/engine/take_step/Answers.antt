@@ -1,7 +1,7 @@
 use Rattle.std.proofs.Common.{[], ◌∷◌, refl}
 use Rattle.request_core.specs.Life.{Trusts}
 use Rattle.request_core.proofs.Runs.{stepped, trusted_honest, trusts_as}
-use Rattle.world.specs.Step.{after_step}
+use Rattle.export_model.specs.Step.{after_step}
 use Rattle.request_core.proofs.engine.take_step.Goals as goal
 
 pub returns-clause-world : goal.returns-clause-world

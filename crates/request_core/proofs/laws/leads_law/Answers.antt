@@ -1,7 +1,7 @@
 use Rattle.std.proofs.Common.{[], ◌∷◌, refl}
 use Rattle.request_core.specs.Life.{Trusts}
 use Rattle.request_core.proofs.Runs.{durable_at_end, leads_none, leads_on, leads_sent, leads_step, trusted_honest, trusts_as}
-use Rattle.world.specs.Step.{after_step}
+use Rattle.export_model.specs.Step.{after_step}
 use Rattle.request_core.proofs.laws.leads_law.Goals as goal
 
 pub returns : goal.returns

@@ -1,6 +1,6 @@
 use Rattle.std.proofs.Common.{◌+◌, true, []}
 use Rattle.request_core.specs.Life.{KeepsCovered}
-use Rattle.world.specs.World.{image_after}
+use Rattle.export_model.specs.World.{image_after}
 use Rattle.request_core.proofs.laws.next_life_law.Goals as goal
 
 pub returns : goal.returns

@@ -5,8 +5,8 @@ use Rattle.order_book.specs.Order.{OrderState}
 use Rattle.request_core.specs.Bench.{BenchState}
 use Rattle.request_core.specs.Life.{Leads, Trusts}
 use Rattle.request_core.proofs.Runs.{leads_none, leads_on, leads_step, rehearsed, trusted_honest, trusts_as}
-use Rattle.world.specs.declared.step.Step.{Step}
-use Rattle.world.specs.Step.{after_step}
+use Rattle.export_model.specs.declared.step.Step.{Step}
+use Rattle.export_model.specs.Step.{after_step}
 use Rattle.request_core.proofs.rehearsal.rehearse.Goals as goal
 use Rattle.image_model.specs.declared.geometry.Geometry.{Geometry}
 

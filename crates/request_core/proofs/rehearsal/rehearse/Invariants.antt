@@ -2,7 +2,7 @@ use Rattle.std.proofs.Common.{◌≡◌, ◌≤◌, Bool, IfSome, ◌↔◌, len
 use Rattle.order_book.specs.Order.{IsInHand}
 use Rattle.request_core.specs.Life.{Leads, Trusts}
 use Rattle.request_core.specs.Parts.{IsWorldOf}
-use Rattle.world.specs.World.{World}
+use Rattle.export_model.specs.World.{World}
 use Rattle.request_core.proofs.rehearsal.rehearse.Given as goal
 
 -- the steps so far lead from each world that the parts were of to one that they are of

@@ -1,7 +1,7 @@
 use Rattle.std.proofs.Common.{◌≡◌, ◌<◌, get_or, length, sym, ◌∙◌, arith}
 use Rattle.std.proofs.lemmas.List.{get_or_default}
 use Rattle.request_core.proofs.Talks.{answered_none}
-use Rattle.world.specs.declared.connection.Connection.TheVariants.{Closed}
+use Rattle.export_model.specs.declared.connection.Connection.TheVariants.{Closed}
 use Rattle.request_core.proofs.serving.answer.Goals as goal
 
 pub returns-in-Err-clause-answered : goal.returns-in-Err-clause-answered

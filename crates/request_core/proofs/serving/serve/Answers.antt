@@ -4,11 +4,11 @@ use Rattle.request_core.specs.Serving.{request_in}
 use Rattle.request_core.specs.Steps.{IsAnyTalked}
 use Rattle.request_core.proofs.Asked.{any_talked, serve_none}
 use Rattle.request_core.proofs.Talks.{open_unlike, request_found, talked_held, within_list}
-use Rattle.world.specs.Serve.{Nothing, serve}
-use Rattle.world.specs.World.{World}
-use Rattle.world.specs.declared.connection.Connection.{Connection}
-use Rattle.world.specs.declared.connection.Connection.TheVariants.{Closed, Idle, Requested}
-use Rattle.world.specs.declared.event.Event.TheVariants.{Held}
+use Rattle.export_model.specs.Serve.{Nothing, serve}
+use Rattle.export_model.specs.World.{World}
+use Rattle.export_model.specs.declared.connection.Connection.{Connection}
+use Rattle.export_model.specs.declared.connection.Connection.TheVariants.{Closed, Idle, Requested}
+use Rattle.export_model.specs.declared.event.Event.TheVariants.{Held}
 use Rattle.request_core.proofs.serving.serve.Goals as goal
 
 pub returns-in_default-clause-world : goal.returns-in_default-clause-world

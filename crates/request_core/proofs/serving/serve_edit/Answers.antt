@@ -14,7 +14,7 @@ use Rattle.request_core.specs.Serving.{ready_for, served_after}
 use Rattle.request_core.proofs.Owned.{edit_refused, faults_apart, not_refused, room_over, taken_over, taken_passes}
 use Rattle.request_core.proofs.Serves.{edit_takes, waits_same, write_others}
 use Rattle.request_core.proofs.serving.serve_edit.Goals as goal
-use Rattle.world.specs.Log.{edit_asked, waits_for_store}
+use Rattle.export_model.specs.Log.{edit_asked, waits_for_store}
 
 pub returns-in-Ok-clause-asked : goal.returns-in-Ok-clause-asked
 returns-in-Ok-clause-asked g c =

@@ -14,7 +14,7 @@ use Rattle.request_core.specs.declared.serving.Served.TheVariants.{NoRoom}
 use Rattle.request_core.proofs.Owned.{faults_apart, room_over, taken_over, taken_passes}
 use Rattle.request_core.proofs.Serves.{edit_takes, some_left, waits_same, write_others}
 use Rattle.request_core.proofs.serving.serve_held_edit.Goals as goal
-use Rattle.world.specs.Log.{edit_asked, waits_for_store}
+use Rattle.export_model.specs.Log.{edit_asked, waits_for_store}
 
 pub returns-in-Ok-clause-served : goal.returns-in-Ok-clause-served
 returns-in-Ok-clause-served g c =

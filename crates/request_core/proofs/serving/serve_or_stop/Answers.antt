@@ -2,7 +2,7 @@ use Rattle.std.proofs.Common.{◌≡◌, ℕ, false, inl, inr, Option, Some, Non
 use Rattle.device_image.specs.Keeper.{KeeperState}
 use Rattle.disk_model.specs.Disk.{State}
 use Rattle.image_model.specs.declared.geometry.Geometry.{Geometry}
-use Rattle.group_list.specs.Group.{Numbered}
+use Rattle.journal_format.specs.Group.{Numbered}
 use Rattle.nbd_wire.specs.Request.{Message}
 use Rattle.nbd_wire.specs.declared.error.Errno.{Errno}
 use Rattle.order_book.specs.Order.{IsInHand, OrderState}
@@ -14,9 +14,9 @@ use Rattle.request_core.specs.Outcomes.{IsPassed, IsServedBy}
 use Rattle.request_core.specs.Reading.{IsKnownBy, IsUnread}
 use Rattle.request_core.specs.Serving.{IsWriteServed}
 use Rattle.request_core.specs.declared.serving.Served.{Served}
-use Rattle.world.specs.declared.action.Action.{Action}
-use Rattle.world.specs.declared.action.Action.TheVariants.{End, Serve}
-use Rattle.world.specs.declared.step.Mode.{Mode}
+use Rattle.export_model.specs.declared.action.Action.{Action}
+use Rattle.export_model.specs.declared.action.Action.TheVariants.{End, Serve}
+use Rattle.export_model.specs.declared.step.Mode.{Mode}
 
 -- a group in hand stays the last that was sealed where neither the last sealed number nor how many it has changes
 still_in_hand : (old new : OrderState) (hand : Option Numbered) → new.sealed ≡ old.sealed → new.in_hand ≡ old.in_hand

@@ -8,15 +8,15 @@ use Rattle.request_core.specs.Steps.{IsAnyServed}
 use Rattle.request_core.proofs.Asked.{any_served, verdict_ends}
 use Rattle.request_core.proofs.Serves.{served_moved}
 use Rattle.request_core.proofs.serving.serve_request.Goals as goal
-use Rattle.world.specs.Serve.{Failure, Nothing, judged}
-use Rattle.world.specs.Verdict.{verdict}
-use Rattle.world.specs.declared.action.Action.{Action}
+use Rattle.export_model.specs.Serve.{Failure, Nothing, judged}
+use Rattle.export_model.specs.Verdict.{verdict}
+use Rattle.export_model.specs.declared.action.Action.{Action}
 use Rattle.nbd_wire.specs.declared.head.RequestHead.{RequestHead}
-use Rattle.world.specs.declared.connection.Connection.{Connection}
-use Rattle.world.specs.declared.connection.Connection.TheVariants.{Closed}
-use Rattle.world.specs.declared.event.Event.{Event}
-use Rattle.world.specs.declared.event.Event.TheVariants.{Took}
-use Rattle.world.specs.declared.step.Mode.{Mode}
+use Rattle.export_model.specs.declared.connection.Connection.{Connection}
+use Rattle.export_model.specs.declared.connection.Connection.TheVariants.{Closed}
+use Rattle.export_model.specs.declared.event.Event.{Event}
+use Rattle.export_model.specs.declared.event.Event.TheVariants.{Took}
+use Rattle.export_model.specs.declared.step.Mode.{Mode}
 
 pub returns-clause-world : goal.returns-clause-world
 returns-clause-world g c = λ world within of kept terms here sure.

@@ -1,5 +1,5 @@
 use Rattle.std.proofs.Common.{◌≡◌, ◌⊎◌, ◌∙◌, inl, inr, ap, refl, sym, subst}
-use Rattle.group_list.specs.laws.Chained.{none_read}
+use Rattle.journal_format.specs.laws.Chained.{none_read}
 use Rattle.marks.specs.Known.{PassState}
 use Rattle.nbd_wire.specs.Request.{Message}
 use Rattle.nbd_wire.specs.declared.head.RequestHead.{RequestHead}
@@ -8,8 +8,8 @@ use Rattle.order_book.specs.Order.{OrderState}
 use Rattle.request_core.specs.Serving.{IsPassServed}
 use Rattle.request_core.proofs.Here.{read_leaves, read_passes, served_here}
 use Rattle.request_core.proofs.serving.serve_with_keeper.Goals as goal
-use Rattle.world.specs.Log.{edit_asked}
-use Rattle.world.specs.Verdict.{verdict}
+use Rattle.export_model.specs.Log.{edit_asked}
+use Rattle.export_model.specs.Verdict.{verdict}
 
 pub returns-in-Ok-clause-serves : goal.returns-in-Ok-clause-serves
 returns-in-Ok-clause-serves g c = (

@@ -1,7 +1,7 @@
 use Rattle.std.proofs.Common.{◌≡◌, get_or, sym, ◌∙◌, ap, arith, ◌<◌, length, rules}
 use Rattle.std.proofs.lemmas.List.{get_or_default, set-set, set-get_or}
 use Rattle.std.proofs.Math.ListN.{set}
-use Rattle.world.specs.declared.connection.Connection.TheVariants.{Closed}
+use Rattle.export_model.specs.declared.connection.Connection.TheVariants.{Closed}
 use Rattle.request_core.proofs.Serves.{request_none}
 use Rattle.request_core.proofs.serving.take_request.Goals as goal
 

@@ -1,17 +1,17 @@
 use Rattle.std.proofs.Common.{◌≡◌, ◌≤◌, ◌<◌, ◌⊎◌, inl, inr, ℕ, Option, Some, None, sym, ◌∙◌, ap, subst, refl}
 use Rattle.std.proofs.lemmas.Bool.{cases_lt}
 use Rattle.checkpoint.specs.Keeper.{end_after}
-use Rattle.group_list.specs.Group.{Numbered}
+use Rattle.journal_format.specs.Group.{Numbered}
 use Rattle.order_book.specs.Order.{OrderState}
 use Rattle.request_core.specs.Steps.{IsAppended}
 use Rattle.request_core.specs.Parts.{IsOrderOf}
 use Rattle.request_core.specs.Storing.{event_of, hand_after, order_after}
 use Rattle.request_core.proofs.Appended.{appended, appended_none, appended_refused}
 use Rattle.request_core.proofs.Stored.{not_true_is}
-use Rattle.world.specs.Serve.{Nothing}
-use Rattle.world.specs.Step.{append}
-use Rattle.world.specs.declared.event.Event.{Event}
-use Rattle.world.specs.declared.event.Event.TheVariants.{Took, Held}
+use Rattle.export_model.specs.Serve.{Nothing}
+use Rattle.export_model.specs.Step.{append}
+use Rattle.export_model.specs.declared.event.Event.{Event}
+use Rattle.export_model.specs.declared.event.Event.TheVariants.{Took, Held}
 use Rattle.request_core.proofs.storing.append.Goals as goal
 
 none_is : {X : Type 0} (o : Option X) → ((x : X) → o ≡ Some x → ⊥) → o ≡ None

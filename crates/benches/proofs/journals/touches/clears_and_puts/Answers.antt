@@ -1,5 +1,5 @@
 use Rattle.std.proofs.Common.{[], ◌∷◌}
-use Rattle.group_list.specs.laws.Found.{within_append}
+use Rattle.journal_format.specs.laws.Found.{within_append}
 use Rattle.benches.proofs.journals.touches.clears_and_puts.Goals as goal
 
 pub loop-index-preserved : goal.loop-index-preserved

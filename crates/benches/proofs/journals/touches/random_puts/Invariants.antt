@@ -1,4 +1,4 @@
-use Rattle.group_list.specs.Touches.{AreWithin}
+use Rattle.journal_format.specs.Touches.{AreWithin}
 use Rattle.benches.proofs.journals.touches.random_puts.Given as goal
 
 abbrev pub invariant-loop-index : goal.invariant-loop-index

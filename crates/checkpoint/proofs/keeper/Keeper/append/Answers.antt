@@ -5,10 +5,10 @@ use Rattle.disk_model.specs.laws.Moments.{weakens}
 use Rattle.image_model.specs.Change.{AreChanges, change_of}
 use Rattle.image_model.specs.Image.{Image, apply_all}
 use Rattle.image_model.specs.declared.geometry.Geometry.{Geometry}
-use Rattle.group_list.specs.Area.{AreaState}
-use Rattle.group_list.specs.Group.{IsGroup, Numbered}
-use Rattle.group_list.specs.GroupList.{IsHeld, LeavesEither}
-use Rattle.group_list.specs.Spelling.{StoredGroup, stored_of}
+use Rattle.journal_format.specs.Area.{AreaState}
+use Rattle.journal_format.specs.Group.{IsGroup, Numbered}
+use Rattle.journal_format.specs.GroupList.{IsHeld, LeavesEither}
+use Rattle.journal_format.specs.Spelling.{StoredGroup, stored_of}
 use Rattle.journal.specs.laws.Added.{size-stored}
 use Rattle.checkpoint.specs.Faults.{of_journal}
 use Rattle.device_image.specs.Keeper.{KeeperState}

@@ -5,7 +5,7 @@ use Rattle.device_image.specs.Keeper.{KeeperState}
 use Rattle.device_image.specs.Keeps.{Keeps}
 use Rattle.device_image.specs.Stands.{StandsFor}
 use Rattle.device_image.specs.laws.Kept.{kept_content}
-use Rattle.device_image.specs.Turn.{ended, with_second}
+use Rattle.device_image.specs.CheckpointHeader.{ended, with_second}
 use Rattle.header_slots.specs.Change.{renewed}
 use Rattle.checkpoint.specs.Steps.{IsFinishTime}
 use Rattle.checkpoint.proofs.Rotating.{finish_held, current_held, ending, in_map, finish_left, finish_next, slots_synced}

@@ -4,7 +4,7 @@ use Rattle.checkpoint.proofs.Readings.{seen_steady}
 use Rattle.device_image.specs.Holds.{Holds}
 use Rattle.device_image.specs.Keeper.{KeeperState}
 use Rattle.image_model.specs.declared.geometry.Geometry.{Geometry}
-use Rattle.group_list.specs.Reading.{IsOnlyRead}
+use Rattle.journal_format.specs.Reading.{IsOnlyRead}
 use Rattle.regions.specs.Layout.{block_at}
 use Rattle.checkpoint.proofs.keeper.Keeper.read_base.Goals as goal
 

@@ -7,8 +7,8 @@ use Rattle.device_image.specs.Keeps.{Keeps}
 use Rattle.device_image.specs.Stands.{StandsFor}
 use Rattle.device_image.specs.laws.Kept.{kept_content}
 use Rattle.regions.specs.Layout.{area_at}
-use Rattle.group_list.specs.Area.{AreaState}
-use Rattle.device_image.specs.Turn.{begun, with_both}
+use Rattle.journal_format.specs.Area.{AreaState}
+use Rattle.device_image.specs.CheckpointHeader.{begun, with_both}
 use Rattle.header_slots.specs.Change.{renewed}
 use Rattle.checkpoint.proofs.Rotating.{rotate_held, comes_next, current_held, from_above, none_of, rotate_left, synced_before, rotated_left}
 use Rattle.checkpoint.proofs.keeper.Keeper.rotate.Goals as goal

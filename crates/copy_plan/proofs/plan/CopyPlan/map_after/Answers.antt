@@ -1,6 +1,6 @@
 use Rattle.std.proofs.Common.{ℕ, ◌≡◌, length, IfOk, sym, ◌∙◌, ap, subst}
 use Rattle.device_image.specs.Keeper.{AreStatesAfter, PlanState}
-use Rattle.last_touches.specs.Ranges.{AreLastTouches}
+use Rattle.latest_writes.specs.Ranges.{AreLastTouches}
 use Rattle.copy_plan.proofs.After.{laid_of}
 use Rattle.copy_plan.proofs.plan.CopyPlan.map_after.Goals as goal
 

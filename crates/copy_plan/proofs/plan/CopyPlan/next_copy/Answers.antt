@@ -1,6 +1,6 @@
 use Rattle.std.proofs.Common.{◌≡◌, Option, None, sym, subst, arith}
 use Rattle.std.specs.Prelude.{IfNone}
-use Rattle.last_touches.specs.declared.range.PutRange.{PutRange}
+use Rattle.latest_writes.specs.declared.range.PutRange.{PutRange}
 use Rattle.device_image.specs.Keeper.{PlanState}
 use Rattle.copy_plan.specs.Plan.{IsNextCopy}
 use Rattle.copy_plan.proofs.Next.{next_copy, none_left, unmapped}

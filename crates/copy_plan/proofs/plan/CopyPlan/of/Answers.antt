@@ -1,7 +1,7 @@
 use Rattle.std.proofs.Common.{ℕ, None, ap, count_by, ◌∙◌, arith}
 use Rattle.std.specs.List.{range_with_len}
-use Rattle.last_touches.specs.Puts.{is_put}
-use Rattle.last_touches.specs.Ranges.{touch_at}
+use Rattle.latest_writes.specs.Puts.{is_put}
+use Rattle.latest_writes.specs.Ranges.{touch_at}
 use Rattle.device_image.specs.Keeper.{PlanState}
 use Rattle.copy_plan.proofs.Counts.{counted_puts}
 use Rattle.device_image.specs.laws.Puts.{count_zero}

@@ -1,5 +1,5 @@
 use Rattle.std.proofs.Common.{ℕ, ap, subst, sym, arith}
-use Rattle.group_list.specs.Area.{AreaState}
+use Rattle.journal_format.specs.Area.{AreaState}
 use Rattle.journal.proofs.Torn.{first_written}
 use Rattle.journal.proofs.area.Area.close_first.Goals as goal
 

@@ -1,11 +1,11 @@
 use Rattle.std.proofs.Common.{◌+◌, ◌≤◌, subst, arith}
 use Rattle.disk_model.specs.Disk.{IsSyncedIn}
-use Rattle.group_list.specs.Area.{AreaState}
-use Rattle.group_list.specs.GroupList.{HoldsList, IsDamaged}
-use Rattle.group_list.specs.laws.Groups.{damage_of, holds_list, list_of}
-use Rattle.group_list.specs.laws.Noted.{passed_on}
-use Rattle.group_list.specs.laws.OneList.{damaged_none}
-use Rattle.group_list.specs.laws.Windows.{scanned_before, scanned_after, scanned_on}
+use Rattle.journal_format.specs.Area.{AreaState}
+use Rattle.journal_format.specs.GroupList.{HoldsList, IsDamaged}
+use Rattle.journal_format.specs.laws.Groups.{damage_of, holds_list, list_of}
+use Rattle.journal_format.specs.laws.Noted.{passed_on}
+use Rattle.journal_format.specs.laws.OneList.{damaged_none}
+use Rattle.journal_format.specs.laws.Windows.{scanned_before, scanned_after, scanned_on}
 use Rattle.journal.proofs.area.Area.scan.Goals as goal
 
 pub returns-in_err-end-clause-damaged : goal.returns-in_err-end-clause-damaged

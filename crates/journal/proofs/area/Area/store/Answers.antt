@@ -2,10 +2,10 @@ use Rattle.std.proofs.Common.{◌≡◌, ◌+◌, ◌≤◌, length, ap, ◌∙�
 use Rattle.std.proofs.lemmas.List.{length-map}
 use Rattle.disk_model.specs.laws.Moments.{begins, weakens}
 use Rattle.image_model.specs.Change.{change_of}
-use Rattle.group_list.specs.Area.{AreaState}
-use Rattle.group_list.specs.Group.{number_after}
-use Rattle.group_list.specs.GroupList.{size_of, number_behind}
-use Rattle.group_list.specs.Spelling.{stored_of}
+use Rattle.journal_format.specs.Area.{AreaState}
+use Rattle.journal_format.specs.Group.{number_after}
+use Rattle.journal_format.specs.GroupList.{size_of, number_behind}
+use Rattle.journal_format.specs.Spelling.{stored_of}
 use Rattle.journal.specs.laws.Added.{length-written, size-stored, follows, stays_either, range_synced, either_at, held_after_at}
 use Rattle.journal.proofs.area.Area.store.Goals as goal
 

@@ -1,7 +1,7 @@
 use Rattle.std.proofs.Common.{ℕ, ◌+◌, ◌≤◌, subst}
-use Rattle.group_list.specs.Area.{AreaState}
-use Rattle.group_list.specs.Touches.{AreWithin}
-use Rattle.group_list.specs.laws.Found.{within_more}
+use Rattle.journal_format.specs.Area.{AreaState}
+use Rattle.journal_format.specs.Touches.{AreWithin}
+use Rattle.journal_format.specs.laws.Found.{within_more}
 use Rattle.journal.proofs.area.Area.touched.Goals as goal
 
 pub returns-clause-within : goal.returns-clause-within

@@ -3,10 +3,10 @@ use Rattle.std.proofs.lemmas.List.Sums.{sum_by_more}
 use Rattle.image_model.specs.declared.command.Command.{Command}
 use Rattle.image_model.specs.Change.{change_of}
 use Rattle.image_model.specs.Command.{body_of}
-use Rattle.group_list.specs.Group.{Numbered}
-use Rattle.group_list.specs.declared.touch.TouchedRange.{TouchedRange}
-use Rattle.group_list.specs.Touches.{touched_by, touched_by_changes}
-use Rattle.group_list.specs.laws.Noted.{noted_more, noted_within}
+use Rattle.journal_format.specs.Group.{Numbered}
+use Rattle.journal_format.specs.declared.touch.TouchedRange.{TouchedRange}
+use Rattle.journal_format.specs.Touches.{touched_by, touched_by_changes}
+use Rattle.journal_format.specs.laws.Noted.{noted_more, noted_within}
 use Rattle.journal.proofs.group.Group.note.Goals as goal
 
 pub returns-in_err-note-clause-within : goal.returns-in_err-note-clause-within

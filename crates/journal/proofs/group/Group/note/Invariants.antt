@@ -2,7 +2,7 @@ use Rattle.std.proofs.Common.{◌≡◌, ◌++◌, ◌+◌, map, take}
 use Rattle.std.specs.Prelude.{sum_by}
 use Rattle.image_model.specs.Change.{change_of}
 use Rattle.image_model.specs.Command.{body_of}
-use Rattle.group_list.specs.Touches.{touched_by_changes}
+use Rattle.journal_format.specs.Touches.{touched_by_changes}
 use Rattle.journal.proofs.group.Group.note.Given as goal
 
 abbrev pub invariant-loop-command : goal.invariant-loop-command

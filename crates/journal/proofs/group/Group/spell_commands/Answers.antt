@@ -4,9 +4,9 @@ use Rattle.std.proofs.lemmas.List.{take_all}
 use Rattle.image_model.specs.declared.command.Command.{Command}
 use Rattle.image_model.specs.Change.{change_of}
 use Rattle.image_model.specs.Command.{bodies_of}
-use Rattle.group_list.specs.Group.{Numbered}
-use Rattle.group_list.specs.Spelling.{change_bytes, group_head}
-use Rattle.group_list.specs.laws.Spelled.{group_spelled}
+use Rattle.journal_format.specs.Group.{Numbered}
+use Rattle.journal_format.specs.Spelling.{change_bytes, group_head}
+use Rattle.journal_format.specs.laws.Spelled.{group_spelled}
 use Rattle.journal.proofs.group.Group.spell_commands.Goals as goal
 
 pub returns : goal.returns

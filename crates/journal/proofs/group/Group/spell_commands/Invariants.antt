@@ -2,7 +2,7 @@ use Rattle.std.proofs.Common.{◌≡◌, ◌++◌, take, length}
 use Rattle.std.specs.List.{flat_map}
 use Rattle.image_model.specs.Command.{bodies_of}
 use Rattle.image_model.specs.Change.{change_of}
-use Rattle.group_list.specs.Spelling.{change_bytes, group_head}
+use Rattle.journal_format.specs.Spelling.{change_bytes, group_head}
 use Rattle.journal.proofs.group.Group.spell_commands.Given as goal
 
 abbrev pub invariant-loop-command : goal.invariant-loop-command

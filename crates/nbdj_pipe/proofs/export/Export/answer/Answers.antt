@@ -1,9 +1,9 @@
 use Rattle.std.proofs.Common.{◌≡◌, ℕ, List, [], Option, Some, MatchOption, ap, sym, subst, ◌∙◌}
 use Rattle.nbd_wire.specs.declared.message.Answer.{Answer}
 use Rattle.request_core.specs.Life.{Trusts}
-use Rattle.world.specs.declared.connection.Connection.{Connection}
-use Rattle.world.specs.declared.connection.Connection.TheVariants.{Idle}
-use Rattle.world.specs.declared.event.Event.{Event}
+use Rattle.export_model.specs.declared.connection.Connection.{Connection}
+use Rattle.export_model.specs.declared.connection.Connection.TheVariants.{Idle}
+use Rattle.export_model.specs.declared.event.Event.{Event}
 use Rattle.nbdj_pipe.specs.Causes.{HasCause}
 use Rattle.nbdj_pipe.specs.Export.{AwaitsAnswer, Follows, IsGiven, IsWaiting, told}
 use Rattle.nbdj_pipe.proofs.Causes.{cause_behind, if_error, none_waiting}

@@ -1,6 +1,6 @@
 use Rattle.std.proofs.Common.{[], ◌∷◌, refl, ◌∙◌}
-use Rattle.world.specs.declared.step.Step.TheVariants.{Rotate, Clean}
-use Rattle.world.specs.Step.{clean, rotate}
+use Rattle.export_model.specs.declared.step.Step.TheVariants.{Rotate, Clean}
+use Rattle.export_model.specs.Step.{clean, rotate}
 use Rattle.nbdj_pipe.specs.Causes.{HasCause}
 use Rattle.nbdj_pipe.proofs.Causes.{cause_behind, if_matched}
 use Rattle.nbdj_pipe.proofs.Checkpoints.{emptied_as}

@@ -1,5 +1,5 @@
 use Rattle.std.proofs.Common.{refl, sym, subst, ◌∙◌}
-use Rattle.world.specs.World.{World}
+use Rattle.export_model.specs.World.{World}
 use Rattle.nbdj_pipe.specs.Checkpoint.{HasCopied}
 use Rattle.nbdj_pipe.proofs.Checkpoints.{all_copied, copied_on, copies_keep, none_copied}
 use Rattle.nbdj_pipe.proofs.Steps.{settles_none, settles_on}

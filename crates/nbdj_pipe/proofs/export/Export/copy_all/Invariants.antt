@@ -4,7 +4,7 @@ use Rattle.checkpoint.specs.Steps.{left_in}
 use Rattle.order_book.specs.Order.{IsInHand}
 use Rattle.request_core.specs.Life.{Trusts}
 use Rattle.request_core.specs.Parts.{IsExportOf}
-use Rattle.world.specs.World.{World}
+use Rattle.export_model.specs.World.{World}
 use Rattle.nbdj_pipe.specs.Checkpoint.{HasCopied}
 use Rattle.nbdj_pipe.specs.Export.{Settles}
 use Rattle.nbdj_pipe.proofs.export.Export.copy_all.Given as goal

@@ -1,6 +1,6 @@
 use Rattle.std.proofs.Common.{[], ◌∷◌, refl, ◌∙◌}
-use Rattle.world.specs.declared.step.Step.TheVariants.{Map, Finish}
-use Rattle.world.specs.Step.{finish, write_map}
+use Rattle.export_model.specs.declared.step.Step.TheVariants.{Map, Finish}
+use Rattle.export_model.specs.Step.{finish, write_map}
 use Rattle.nbdj_pipe.specs.Causes.{HasCause}
 use Rattle.nbdj_pipe.proofs.Causes.{cause_behind, if_matched}
 use Rattle.nbdj_pipe.proofs.Checkpoints.{finish_shown}

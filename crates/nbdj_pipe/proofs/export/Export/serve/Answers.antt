@@ -2,11 +2,11 @@ use Rattle.std.proofs.Common.{◌≡◌, List, [], ◌∷◌, ap, sym, subst, re
 use Rattle.nbd_wire.specs.declared.head.RequestHead.{RequestHead}
 use Rattle.request_core.specs.Bench.{ConnectionsState}
 use Rattle.request_core.specs.Life.{Leads, Trusts}
-use Rattle.world.specs.declared.event.Event.{Event}
-use Rattle.world.specs.declared.event.Event.TheVariants.{Sent, Answered}
-use Rattle.world.specs.declared.step.Step.TheVariants.{Send}
-use Rattle.world.specs.Serve.{Nothing}
-use Rattle.world.specs.Step.{sent}
+use Rattle.export_model.specs.declared.event.Event.{Event}
+use Rattle.export_model.specs.declared.event.Event.TheVariants.{Sent, Answered}
+use Rattle.export_model.specs.declared.step.Step.TheVariants.{Send}
+use Rattle.export_model.specs.Serve.{Nothing}
+use Rattle.export_model.specs.Step.{sent}
 use Rattle.nbdj_pipe.specs.Causes.{HasCause}
 use Rattle.nbdj_pipe.specs.Export.{Follows, HasAnswer}
 use Rattle.nbdj_pipe.specs.Talk.{verdict_on}

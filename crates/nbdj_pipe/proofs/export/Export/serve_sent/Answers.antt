@@ -1,6 +1,6 @@
 use Rattle.std.proofs.Common.{◌≡◌, Bool, [], MatchBool, ap, sym, subst, ◌∙◌}
 use Rattle.std.specs.Prelude.{◌≤◌}
-use Rattle.world.specs.World.{Setting}
+use Rattle.export_model.specs.World.{Setting}
 use Rattle.nbdj_pipe.specs.Causes.{HasCause, LacksRoom}
 use Rattle.nbdj_pipe.specs.Export.{IsJudged}
 use Rattle.nbdj_pipe.specs.Talk.{verdict_on}

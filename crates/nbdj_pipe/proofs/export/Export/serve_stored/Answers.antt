@@ -2,8 +2,8 @@ use Rattle.std.proofs.Common.{◌≡◌, inl, inr, Bool, [], length, MatchBool, 
 use Rattle.std.specs.Prelude.{◌≤◌}
 use Rattle.std.proofs.lemmas.Bool.{both_ways}
 use Rattle.nbd_wire.specs.Request.{Message}
-use Rattle.world.specs.World.{Setting, Stage, World}
-use Rattle.world_law.specs.Law.{IsWithin}
+use Rattle.export_model.specs.World.{Setting, Stage, World}
+use Rattle.export_model_laws.specs.Law.{IsWithin}
 use Rattle.nbdj_pipe.specs.Causes.{HasCause, LacksRoom}
 use Rattle.nbdj_pipe.specs.Checkpoint.{IsEmptied, OrStopped}
 use Rattle.nbdj_pipe.specs.Export.{IsJudged}

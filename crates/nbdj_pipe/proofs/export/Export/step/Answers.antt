@@ -1,5 +1,5 @@
 use Rattle.std.proofs.Common.{[], ◌∷◌, ap, refl, ◌∙◌}
-use Rattle.world.specs.Step.{after_step}
+use Rattle.export_model.specs.Step.{after_step}
 use Rattle.nbdj_pipe.specs.Talk.{spoken}
 use Rattle.nbdj_pipe.proofs.Steps.{spoken_on}
 use Rattle.nbdj_pipe.proofs.export.Export.step.Goals as goal

@@ -2,7 +2,7 @@ use Rattle.std.proofs.Common.{◌≡◌, Bool, IfSome, ◌↔◌}
 use Rattle.order_book.specs.Order.{IsInHand}
 use Rattle.request_core.specs.Life.{Trusts}
 use Rattle.request_core.specs.Parts.{IsExportOf}
-use Rattle.world.specs.World.{World}
+use Rattle.export_model.specs.World.{World}
 use Rattle.nbdj_pipe.specs.Export.{Settles}
 use Rattle.nbdj_pipe.proofs.Causes.{HasStored}
 use Rattle.nbdj_pipe.proofs.export.Export.store_all.Given as goal

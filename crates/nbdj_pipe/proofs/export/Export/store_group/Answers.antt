@@ -1,5 +1,5 @@
 use Rattle.std.proofs.Common.{◌∙◌}
-use Rattle.world.specs.Step.{append, publish, seal}
+use Rattle.export_model.specs.Step.{append, publish, seal}
 use Rattle.nbdj_pipe.proofs.Causes.{shown, unsettled}
 use Rattle.nbdj_pipe.proofs.Steps.{settles_on}
 use Rattle.nbdj_pipe.proofs.export.Export.store_group.Goals as goal

@@ -1,6 +1,6 @@
 use Rattle.std.proofs.Common.{◌≡◌, inl, inr, Bool, true, Ok, sym, subst, ◌∙◌}
 use Rattle.std.proofs.lemmas.Bool.{both_ways}
-use Rattle.world.specs.World.{World}
+use Rattle.export_model.specs.World.{World}
 use Rattle.nbdj_pipe.specs.Causes.{HasCause}
 use Rattle.nbdj_pipe.specs.Checkpoint.{IsEmptied, IsUnfit, OrStopped}
 use Rattle.nbdj_pipe.specs.Export.{CameTo}

@@ -3,8 +3,8 @@ use Rattle.request_core.specs.Life.{Trusts}
 use Rattle.nbdj_pipe.specs.Export.{Follows}
 use Rattle.nbdj_pipe.specs.Talk.{spoken}
 use Rattle.nbdj_pipe.proofs.Steps.{last_same, still_step}
-use Rattle.world.specs.declared.event.Event.{Event}
-use Rattle.world.specs.Step.{after_step}
+use Rattle.export_model.specs.declared.event.Event.{Event}
+use Rattle.export_model.specs.Step.{after_step}
 use Rattle.nbdj_pipe.proofs.export.Export.store_step.Goals as goal
 
 pub returns-clause-world : goal.returns-clause-world

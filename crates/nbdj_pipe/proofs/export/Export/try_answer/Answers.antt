@@ -1,12 +1,12 @@
 use Rattle.std.proofs.Common.{◌≡◌, inl, inr, ℕ, ◌++◌, List, [], ◌∷◌, ap, sym, subst, ◌∙◌}
 use Rattle.nbd_wire.specs.declared.message.Answer.{Answer}
 use Rattle.request_core.specs.Life.{Trusts}
-use Rattle.world.specs.declared.connection.Connection.TheVariants.{Idle}
-use Rattle.world.specs.declared.event.Event.{Event}
-use Rattle.world.specs.declared.event.Event.TheVariants.{Answered, Held}
-use Rattle.world.specs.declared.step.Step.TheVariants as steps
-use Rattle.world.specs.Step.{after_step}
-use Rattle.world.specs.World.{World}
+use Rattle.export_model.specs.declared.connection.Connection.TheVariants.{Idle}
+use Rattle.export_model.specs.declared.event.Event.{Event}
+use Rattle.export_model.specs.declared.event.Event.TheVariants.{Answered, Held}
+use Rattle.export_model.specs.declared.step.Step.TheVariants as steps
+use Rattle.export_model.specs.Step.{after_step}
+use Rattle.export_model.specs.World.{World}
 use Rattle.nbdj_pipe.specs.Export.{Follows, IsGiven, IsWaiting}
 use Rattle.nbdj_pipe.specs.Talk.{spoken}
 use Rattle.nbdj_pipe.proofs.Steps.{IsAnsweredAs, answered_as, last_same}

@@ -2,16 +2,16 @@ use Rattle.std.proofs.Common.{◌≡◌, inl, inr, List, [], ◌∷◌, ◌++◌
 use Rattle.nbd_wire.specs.Request.{Message}
 use Rattle.nbd_wire.specs.declared.error.Errno.{Errno}
 use Rattle.request_core.specs.Life.{Trusts}
-use Rattle.world.specs.declared.action.Action.{Action}
-use Rattle.world.specs.declared.connection.Connection.{Connection}
-use Rattle.world.specs.declared.connection.Connection.TheVariants.{Requested}
-use Rattle.world.specs.declared.event.Event.{Event}
-use Rattle.world.specs.declared.event.Event.TheVariants.{Held}
-use Rattle.world.specs.declared.step.Step.TheVariants as steps
-use Rattle.world.specs.Serve.{Failure, serve}
-use Rattle.world.specs.Step.{after_step}
-use Rattle.world.specs.World.{World}
-use Rattle.world_law.specs.laws.Steps.{passes_write}
+use Rattle.export_model.specs.declared.action.Action.{Action}
+use Rattle.export_model.specs.declared.connection.Connection.{Connection}
+use Rattle.export_model.specs.declared.connection.Connection.TheVariants.{Requested}
+use Rattle.export_model.specs.declared.event.Event.{Event}
+use Rattle.export_model.specs.declared.event.Event.TheVariants.{Held}
+use Rattle.export_model.specs.declared.step.Step.TheVariants as steps
+use Rattle.export_model.specs.Serve.{Failure, serve}
+use Rattle.export_model.specs.Step.{after_step}
+use Rattle.export_model.specs.World.{World}
+use Rattle.export_model_laws.specs.laws.Steps.{passes_write}
 use Rattle.nbdj_pipe.specs.Causes.{LacksRoom}
 use Rattle.nbdj_pipe.specs.Export.{Follows, IsJudged}
 use Rattle.nbdj_pipe.specs.Talk.{spoken, verdict_on}

@@ -1,5 +1,5 @@
 use Rattle.std.proofs.Common.{refl}
-use Rattle.world.specs.Step.{after_step}
+use Rattle.export_model.specs.Step.{after_step}
 use Rattle.nbdj_pipe.proofs.Checkpoints.{turn_shown}
 use Rattle.nbdj_pipe.proofs.export.Export.turn.Goals as goal
 

@@ -1,0 +1,101 @@
+-- Which plan a command line asks for. The values that a subcommand was given are clap's: the words', and for an option
+-- that is left out its default.
+use Rattle.std.specs.Prelude.{ℕ, Bool, true, false, ◌≡◌, ◌≢◌, ◌⊎◌, ◌*◌, Option, Some, None, List, [], codes}
+use Rattle.std.specs.Str.Parse.{IsNumeral, digits_value, without_leading_plus}
+use Rattle.clap.specs.Words.{Row, Text, first_of, one_of}
+use Rattle.command_line.specs.Size.{IsSize}
+use Rattle.export_model.specs.declared.step.Mode.{Mode}
+use Rattle.export_model.specs.declared.step.Mode.TheVariants.{Writeback, Writethrough}
+use Rattle.subcommands.specs.declared.plan.Invocation.{Invocation}
+use Rattle.subcommands.specs.declared.plan.Plan.{Plan}
+use Rattle.subcommands.specs.declared.plan.Address.{Address}
+use Rattle.subcommands.specs.declared.plan.Address.TheVariants.{Tcp, Unix}
+use Rattle.subcommands.specs.declared.plan.Course.{Course}
+use Rattle.subcommands.specs.declared.plan.Course.TheVariants.{Once, Sweep, Faults}
+use Rattle.subcommands.specs.declared.plan.Plan.TheVariants.{Format, Pipe, Serve, Recover, Check, Rehearse}
+use Rattle.server.specs.declared.options.Limits.{Limits}
+use Rattle.server.specs.declared.options.OnFault.{OnFault}
+use Rattle.server.specs.declared.options.OnFault.TheVariants.{Exit, Stay}
+
+-- the option was given this number, in decimal digits
+pub record IsGiven (rows : List Row) (name : Text) (number : ℕ) : Type 0 where
+  pub text : Text
+  pub value : one_of name rows ≡ Some text
+  pub numeral : IsNumeral 10 (without_leading_plus text)
+  pub is : number ≡ digits_value 10 (without_leading_plus text)
+
+-- the option was given so many bytes
+pub record IsGivenSize (rows : List Row) (name : Text) (bytes : ℕ) : Type 0 where
+  pub text : Text
+  pub value : first_of name rows ≡ Some text
+  pub size : IsSize text bytes
+
+-- the option without a value was given, or not: clap reads `true` of it, or `false`
+pub record SaysFlag (rows : List Row) (name : Text) (flag : Bool) : Type 0 where
+  pub absent : one_of name rows ≡ None → flag ≡ false
+  pub given : one_of name rows ≡ Some (codes "true") → flag ≡ true
+  pub left_out : one_of name rows ≡ Some (codes "false") → flag ≡ false
+
+-- the option was left out
+abbrev pub IsLeftOut : List Row → Text → Type 0
+IsLeftOut rows name = first_of name rows ≡ None
+
+-- the image has so many blocks: what --size says in bytes, or what --blocks says, where the other is left out
+abbrev pub SaysBlocks : List Row → ℕ → Type 0
+SaysBlocks rows blocks =
+    (IsLeftOut rows (codes "blocks") × IsGivenSize rows (codes "size") (blocks * 4096)) ⊎ (IsLeftOut rows (codes "size") × IsGiven rows (codes "blocks") blocks)
+
+-- an area has so many bytes: what --area says, or 64 MiB where it is left out and --blocks is too
+abbrev pub SaysArea : List Row → ℕ → Type 0
+SaysArea rows area = IsGivenSize rows (codes "area") area ⊎ (IsLeftOut rows (codes "area") × IsLeftOut rows (codes "blocks") × (area ≡ 67108864))
+
+abbrev pub HasPath : List Row → Text → Type 0
+HasPath rows path = first_of (codes "path") rows ≡ Some path
+
+abbrev pub mode_name : Mode → Text
+mode_name Writeback = codes "writeback"
+mode_name Writethrough = codes "writethrough"
+
+abbrev pub fault_name : OnFault → Text
+fault_name Exit = codes "exit"
+fault_name Stay = codes "stay"
+
+-- how many sessions there are, and how long each waits
+abbrev pub SaysLimits : List Row → Limits → Type 0
+SaysLimits rows limits =
+    IsGiven rows (codes "sessions") limits.sessions × IsGiven rows (codes "handshake-timeout") limits.handshake_seconds
+    × IsGiven rows (codes "idle-timeout") limits.idle_seconds × IsGiven rows (codes "flush-interval") limits.flush_seconds
+
+-- clients arrive where --listen says, or else --unix, which isn't empty, and the other is left out
+abbrev pub SaysAddress : List Row → Address → Type 0
+SaysAddress rows (Tcp text) = (first_of (codes "listen") rows ≡ Some text.now) × IsLeftOut rows (codes "unix")
+SaysAddress rows (Unix path) = (first_of (codes "unix") rows ≡ Some path.now) × (path.now ≢ []) × IsLeftOut rows (codes "listen")
+
+-- which of --sweep and --faults was given, if any
+abbrev pub SaysScriptRuns : List Row → Course → Type 0
+SaysScriptRuns rows Once = SaysFlag rows (codes "sweep") false × SaysFlag rows (codes "faults") false
+SaysScriptRuns rows Sweep = SaysFlag rows (codes "sweep") true × SaysFlag rows (codes "faults") false
+SaysScriptRuns rows Faults = SaysFlag rows (codes "sweep") false × SaysFlag rows (codes "faults") true
+
+-- the subcommand with its values, as clap reads them from the words, asks for this plan
+abbrev pub IsAsked : Option (Text × List Row) → Plan → Type 0
+IsAsked None plan = ⊥
+IsAsked (Some (name, rows)) (Format path geometry preallocates) =
+    (name ≡ codes "format") × HasPath rows path.now × SaysBlocks rows geometry.blocks × SaysArea rows geometry.area
+    × SaysFlag rows (codes "preallocate") preallocates
+IsAsked (Some (name, rows)) (Pipe path options) =
+    (name ≡ codes "pipe") × HasPath rows path.now × IsGiven rows (codes "frames") options.frames
+    × (first_of (codes "cache") rows ≡ Some (mode_name options.mode))
+IsAsked (Some (name, rows)) (Serve path address options) =
+    (name ≡ codes "serve") × HasPath rows path.now × SaysAddress rows address × IsGiven rows (codes "workers") options.workers
+    × IsGiven rows (codes "frames") options.frames × (first_of (codes "cache") rows ≡ Some (mode_name options.mode))
+    × SaysLimits rows options.limits × (first_of (codes "on-fault") rows ≡ Some (fault_name options.on_fault))
+    × SaysFlag rows (codes "until-eof") options.until_eof
+IsAsked (Some (name, rows)) (Recover path) = (name ≡ codes "recover") × HasPath rows path.now
+IsAsked (Some (name, rows)) (Check path) = (name ≡ codes "check") × HasPath rows path.now
+IsAsked (Some (name, rows)) (Rehearse course) = (name ≡ codes "rehearse") × SaysScriptRuns rows course
+
+-- the subcommand asks for this plan, and to tell of it or not
+abbrev pub IsInvocation : Option (Text × List Row) → Invocation → Type 0
+IsInvocation None invocation = ⊥
+IsInvocation (Some (name, rows)) invocation = IsAsked (Some (name, rows)) invocation.plan × SaysFlag rows (codes "verbose") invocation.is_verbose

@@ -1,0 +1,340 @@
+ghost use Rattle.std.specs.Prelude.{◌≡◌, ◌≤◌, ◌*◌, Some, IfOk, codes, map, option_map};
+ghost use Rattle.clap.specs.Words.{first_of, found_of, rows_of, subcommand_of};
+ghost use Rattle.clap.specs.declared.builder.value_parser.ValueParser.{ValueParser};
+ghost use Rattle.command_line.specs.Commands.{nbdj_app};
+ghost use Rattle.command_line.specs.Line.{fault_name, mode_name, HasPath, IsAsked, IsInvocation, IsGiven, SaysAddress, SaysArea, SaysBlocks, SaysScriptRuns, SaysFlag, SaysLimits};
+ghost use Rattle.command_line.specs.Size.{IsSize};
+
+use crate::commands::{self, modes, program};
+use crate::size::bytes_of;
+use clap::error::ErrorKind;
+use clap::{ArgMatches, Command, Error};
+use export_model::Mode;
+use image_model::{BLOCK_BYTES, Geometry, LEAST_AREA_BYTES, MOST_AREA_BYTES, MOST_BLOCKS};
+use nbdj_pipe::PipeOptions;
+use server::{Limits, OnFault, ServeOptions};
+use std::alloc::{AllocError, Global};
+use subcommands::{Address, Course, Invocation, Plan};
+
+/// Reads a command line, the program's name first. Texts of help and version come as errors too.
+///
+/// An error's text says which word is at fault and why.
+pub fn line<'a>(alloc: Global, words: &'a [&'a str]) -> Result<Invocation<'a>, Error>
+    ensures { IfOk result (λ invocation. (modes : ValueParser) × (others : ValueParser) × IsInvocation (subcommand_of (nbdj_app modes others) (map (λ word. word.now) words.now)) invocation) }
+{
+    let matches = program(alloc, modes(), modes())?.try_get_matches_from(words)?;
+    match matches.subcommand() {
+        Some((name, matches)) => invocation(alloc, name, matches),
+        None => Err(fault(alloc, "no command")),
+    }
+}
+
+fn invocation<'a>(
+    alloc: Global,
+    name: &str,
+    matches: &ArgMatches<'a>,
+) -> Result<Invocation<'a>, Error>
+    ensures { IfOk result (IsInvocation (Some (name.now, rows_of (found_of matches.now)))) }
+{
+    let plan = asked(alloc, name, matches)?;
+    let is_verbose = flag(matches, "verbose");
+    Ok(Invocation { plan, is_verbose })
+}
+
+// The plan that a subcommand with these values asks for.
+fn asked<'a>(alloc: Global, name: &str, matches: &ArgMatches<'a>) -> Result<Plan<'a>, Error>
+    ensures { IfOk result (IsAsked (Some (name.now, rows_of (found_of matches.now)))) }
+{
+    match name {
+        "format" => format(alloc, matches),
+        "serve" => serve(alloc, matches),
+        "pipe" => pipe(alloc, matches),
+        "recover" => Ok(Plan::Recover {
+            path: path(alloc, matches)?,
+        }),
+        "check" => Ok(Plan::Check {
+            path: path(alloc, matches)?,
+        }),
+        "rehearse" => Ok(Plan::Rehearse {
+            course: course(alloc, matches)?,
+        }),
+        _ => Err(fault(alloc, "no such command")),
+    }
+}
+
+fn format<'a>(alloc: Global, matches: &ArgMatches<'a>) -> Result<Plan<'a>, Error>
+    ensures { IfOk result (IsAsked (Some (codes "format", rows_of (found_of matches.now)))) }
+{
+    let path = path(alloc, matches)?;
+    let blocks = blocks(alloc, matches)?;
+    let area = area(alloc, matches)?;
+    let preallocates = flag(matches, "preallocate");
+    match Geometry::new(blocks, area) {
+        Some(geometry) => Ok(Plan::Format {
+            path,
+            geometry,
+            preallocates,
+        }),
+        None => Err(format_fault(alloc, "--area: the bytes of an area are a multiple of 8192")),
+    }
+}
+
+// The blocks of the image, as one of two options says.
+fn blocks(alloc: Global, matches: &ArgMatches<'_>) -> Result<u64, Error>
+    ensures { IfOk result (SaysBlocks (rows_of (found_of matches.now))) }
+{
+    match (text(matches, "size"), text(matches, "blocks")) {
+        (Some(size), None) => whole_blocks(alloc, size),
+        (None, Some(_)) => number(alloc, matches, "blocks"),
+        _ => Err(format_fault(alloc, "one of --size and --blocks is wanted")),
+    }
+}
+
+// The blocks that a size has.
+fn whole_blocks(alloc: Global, size: &str) -> Result<u64, Error>
+    ensures { IfOk result (λ blocks. IsSize size.now (blocks * 4096)) }
+{
+    let bytes = bytes_within(
+        alloc,
+        "--size <SIZE>",
+        size,
+        BLOCK_BYTES,
+        MOST_BLOCKS * BLOCK_BYTES,
+    )?;
+    if bytes % BLOCK_BYTES != 0 {
+        return Err(format_fault(
+            alloc,
+            "--size: the bytes of an image are a multiple of 4096",
+        ));
+    }
+    Ok(bytes / BLOCK_BYTES)
+}
+
+// The bytes of each area where none are given.
+const USUAL_AREA_BYTES: u32 = 67_108_864;
+
+// The bytes of an area.
+fn area(alloc: Global, matches: &ArgMatches<'_>) -> Result<u32, Error>
+    ensures { IfOk result (SaysArea (rows_of (found_of matches.now))) }
+{
+    match (text(matches, "area"), text(matches, "blocks")) {
+        (Some(area), _) => area_bytes(alloc, area),
+        (None, None) => Ok(USUAL_AREA_BYTES),
+        (None, Some(_)) => Err(format_fault(alloc, "--area: it is wanted beside --blocks")),
+    }
+}
+
+// The bytes of an area, as a size says.
+fn area_bytes(alloc: Global, size: &str) -> Result<u32, Error>
+    ensures { IfOk result (IsSize size.now) }
+{
+    let least = u64::from(LEAST_AREA_BYTES);
+    let most = u64::from(MOST_AREA_BYTES);
+    let bytes = bytes_within(alloc, "--area <BYTES>", size, least, most)?;
+    Ok(bytes as u32)
+}
+
+// The bytes that the size of an option says, within bounds.
+fn bytes_within(
+    alloc: Global,
+    option: &str,
+    size: &str,
+    least: u64,
+    most: u64,
+) -> Result<u64, Error>
+    ensures said { IfOk result (IsSize size.now) }
+    ensures within { IfOk result (λ bytes. bytes ≤ most) }
+{
+    let Some(bytes) = bytes_of(size) else {
+        return Err(no_size(alloc, option, size));
+    };
+    if bytes < least || bytes > most {
+        return Err(beyond(alloc, option, size, least, most));
+    }
+    Ok(bytes)
+}
+
+// The fault of a value that is no size.
+fn no_size(alloc: Global, option: &str, size: &str) -> Error {
+    let message = format!(in alloc;
+        "invalid value '{size}' for '{option}': a size is a number of bytes that fits 64 bits, or one with K, M, G or T behind it"
+    );
+    match message {
+        Ok(message) => format_fault(alloc, message.as_str()),
+        Err(error) => Error::from(error),
+    }
+}
+
+// The fault of a size that isn't within its bounds.
+fn beyond(alloc: Global, option: &str, size: &str, least: u64, most: u64) -> Error {
+    let message = format!(in alloc;
+        "invalid value '{size}' for '{option}': {size} is not in {least}..={most}"
+    );
+    match message {
+        Ok(message) => format_fault(alloc, message.as_str()),
+        Err(error) => Error::from(error),
+    }
+}
+
+fn pipe<'a>(alloc: Global, matches: &ArgMatches<'a>) -> Result<Plan<'a>, Error>
+    ensures { IfOk result (IsAsked (Some (codes "pipe", rows_of (found_of matches.now)))) }
+{
+    let path = path(alloc, matches)?;
+    let frames = number(alloc, matches, "frames")?;
+    let mode = mode(alloc, matches)?;
+    match PipeOptions::new(frames, mode) {
+        Some(options) => Ok(Plan::Pipe { path, options }),
+        None => Err(fault(alloc, "--frames: the frames are 512 to 65536")),
+    }
+}
+
+fn serve<'a>(alloc: Global, matches: &ArgMatches<'a>) -> Result<Plan<'a>, Error>
+    ensures { IfOk result (IsAsked (Some (codes "serve", rows_of (found_of matches.now)))) }
+{
+    let path = path(alloc, matches)?;
+    let address = address(alloc, matches)?;
+    let workers = number(alloc, matches, "workers")?;
+    let frames = number(alloc, matches, "frames")?;
+    let mode = mode(alloc, matches)?;
+    let limits = limits(alloc, matches)?;
+    let on_fault = on_fault(alloc, matches)?;
+    let until_eof = flag(matches, "until-eof");
+    match ServeOptions::new(frames, mode, workers, limits, on_fault, until_eof) {
+        Some(options) => Ok(Plan::Serve {
+            path,
+            address,
+            options,
+        }),
+        None => Err(serve_fault(
+            alloc,
+            "--frames: the frames are 512 to 65536, the workers 1 to 16, and the handshake takes 1 second or more",
+        )),
+    }
+}
+
+// How many sessions there are, and how long each waits.
+fn limits(alloc: Global, matches: &ArgMatches<'_>) -> Result<Limits, Error>
+    ensures { IfOk result (SaysLimits (rows_of (found_of matches.now))) }
+{
+    let sessions = number(alloc, matches, "sessions")?;
+    let handshake_seconds = number(alloc, matches, "handshake-timeout")?;
+    let idle_seconds = number(alloc, matches, "idle-timeout")?;
+    let flush_seconds = number(alloc, matches, "flush-interval")?;
+    Ok(Limits {
+        sessions,
+        handshake_seconds,
+        idle_seconds,
+        flush_seconds,
+    })
+}
+
+// Where clients arrive, as one of two options says.
+fn address<'a>(alloc: Global, matches: &ArgMatches<'a>) -> Result<Address<'a>, Error>
+    ensures { IfOk result (SaysAddress (rows_of (found_of matches.now))) }
+{
+    match (text(matches, "listen"), text(matches, "unix")) {
+        (Some(address), None) => Ok(Address::Tcp(address)),
+        (None, Some("")) => Err(serve_fault(
+            alloc,
+            "invalid value '' for '--unix <SOCKET>': the path of a socket isn't empty",
+        )),
+        (None, Some(path)) => Ok(Address::Unix(path)),
+        _ => Err(serve_fault(
+            alloc,
+            "one of --listen <ADDR> and --unix <SOCKET> is wanted",
+        )),
+    }
+}
+
+fn on_fault(alloc: Global, matches: &ArgMatches<'_>) -> Result<OnFault, Error>
+    ensures { IfOk result (λ way. first_of (codes "on-fault") (rows_of (found_of matches.now)) ≡ Some (fault_name way)) }
+{
+    match text(matches, "on-fault") {
+        Some("exit") => Ok(OnFault::Exit),
+        Some("stay") => Ok(OnFault::Stay),
+        _ => Err(serve_fault(
+            alloc,
+            "invalid value for '--on-fault <WAY>': it is exit or stay",
+        )),
+    }
+}
+
+fn mode(alloc: Global, matches: &ArgMatches<'_>) -> Result<Mode, Error>
+    ensures { IfOk result (λ mode. first_of (codes "cache") (rows_of (found_of matches.now)) ≡ Some (mode_name mode)) }
+{
+    match text(matches, "cache") {
+        Some("writeback") => Ok(Mode::Writeback),
+        Some("writethrough") => Ok(Mode::Writethrough),
+        _ => Err(fault(alloc, "--cache: the mode is writeback or writethrough")),
+    }
+}
+
+// How a script is run, as at most one of two options says.
+fn course(alloc: Global, matches: &ArgMatches<'_>) -> Result<Course, Error>
+    ensures { IfOk result (SaysScriptRuns (rows_of (found_of matches.now))) }
+{
+    match (flag(matches, "sweep"), flag(matches, "faults")) {
+        (false, false) => Ok(Course::Once),
+        (true, false) => Ok(Course::Sweep),
+        (false, true) => Ok(Course::Faults),
+        (true, true) => Err(fault(alloc, "one of --sweep and --faults at a time")),
+    }
+}
+
+fn path<'a>(alloc: Global, matches: &ArgMatches<'a>) -> Result<&'a str, Error>
+    ensures { IfOk result (λ path. HasPath (rows_of (found_of matches.now)) path.now) }
+{
+    match text(matches, "path") {
+        Some(path) => Ok(path),
+        None => Err(fault(alloc, "no PATH")),
+    }
+}
+
+// The text that an argument was given.
+fn text<'a>(matches: &ArgMatches<'a>, name: &str) -> Option<&'a str>
+    ensures { first_of name.now (rows_of (found_of matches.now)) ≡ option_map (λ text. text.now) result }
+{
+    matches.get_str(name)
+}
+
+// The number that an option was given.
+fn number(alloc: Global, matches: &ArgMatches<'_>, name: &str) -> Result<u64, Error>
+    ensures { IfOk result (IsGiven (rows_of (found_of matches.now)) name.now) }
+{
+    match matches.get_one::<u64>(name) {
+        Some(number) => Ok(number),
+        None => Err(fault(alloc, "no number")),
+    }
+}
+
+// Whether an option without a value was given.
+fn flag(matches: &ArgMatches<'_>, name: &str) -> bool
+    ensures { SaysFlag (rows_of (found_of matches.now)) name.now result }
+{
+    matches.get_flag(name)
+}
+
+// A fault of what the words of `format` mean, told as one of the words themselves.
+fn format_fault(alloc: Global, message: &str) -> Error {
+    fault_of(commands::format(alloc), message)
+}
+
+// The like of `serve`.
+fn serve_fault(alloc: Global, message: &str) -> Error {
+    fault_of(commands::serve(alloc, modes()), message)
+}
+
+// The like of another subcommand's words.
+fn fault(alloc: Global, message: &str) -> Error {
+    fault_of(program(alloc, modes(), modes()), message)
+}
+
+fn fault_of(command: Result<Command<'_>, AllocError>, message: &str) -> Error {
+    let Ok(mut command) = command else {
+        return Error::from(AllocError);
+    };
+    match command.error(ErrorKind::ValueValidation, message) {
+        Ok(error) => error,
+        Err(error) => Error::from(error),
+    }
+}

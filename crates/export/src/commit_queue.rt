@@ -1,0 +1,423 @@
+//! What lies under the order's lock.
+ghost use Rattle.std.specs.Prelude.{◌≡◌, ◌≢◌, ◌*◌, IfErr, IfOk, IfSome, IsErr, OnErr, length, vec_len};
+ghost use Rattle.export.specs.Submits.{FitsServed, IsServedFor};
+ghost use Rattle.image_model.specs.Edit.{blocks_met};
+ghost use Rattle.marks.specs.Known.{PassState};
+ghost use Rattle.order_book.specs.Order.{with_clean};
+ghost use Rattle.request_core.specs.Reading.{IsPlanned, IsReadOverServed};
+
+use crate::gathering::Waiters;
+use crate::name::ExportName;
+use crate::settling::FlushInterval;
+use crate::storage_engine::StorageEngine;
+use checkpoint::{Keeper, KeeperFault};
+use disk_model::Disk;
+use journal::Group;
+use marks::{Board, Pass};
+use nbd_wire::Request;
+use order_book::{Order, OrderFault, Span};
+use request_core::{
+    NeedsKeeper, Served, Terms, plan_read, serve_held, serve_read_over, serve_with_keeper,
+};
+use std::alloc::Global;
+
+/// Pending commands of more than so many bytes are stored though nobody waits for them.
+const MOST_PENDING_BYTES: u64 = 4_194_304;
+
+/// What of the device is read with no lock held.
+#[derive(Clone, Copy, Debug, PartialEq, Eq)]
+pub(crate) struct Planned {
+    /// The blocks.
+    pub span: Span,
+    /// The base of the last clean, as it was when they were found missing.
+    pub settled: u64,
+}
+
+/// The order of an export, and what its threads ask of one another.
+pub(crate) struct CommitQueue<B: ExportName> {
+    order: Order<B>,
+    // The base of the last clean: the number up to which the frames of written blocks were let go.
+    pub(crate) settled: u64,
+    // The frames for blocks.
+    frames: u32,
+    // The passes that haven't left.
+    passes: usize,
+    // The greatest number that somebody waits for, and how many wait.
+    wanted: u64,
+    waiters: Waiters,
+    // Whether a group didn't fit the area, and no other area has been taken into use since.
+    is_full: bool,
+    // Whether a command had no room, and no frame has been let go since.
+    lacks_room: bool,
+    // Whether a checkpoint is wanted, once all up to this number is stored.
+    wish: Option<u64>,
+    // Whether no group will be stored any more.
+    is_flushed: bool,
+    // How long what is pending may wait.
+    interval: FlushInterval,
+    ghost blocks: { length order.cache.states ≡ B.geometry.blocks },
+}
+
+impl<B: ExportName> Drop for CommitQueue<B> {
+    fn drop(self) {
+        let CommitQueue {
+            order: _,
+            settled: _,
+            frames: _,
+            passes: _,
+            wanted: _,
+            waiters: _,
+            is_full: _,
+            lacks_room: _,
+            wish: _,
+            is_flushed: _,
+            interval: _,
+        } = self;
+    }
+}
+
+impl<B: ExportName> CommitQueue<B> {
+    pub(crate) fn new(order: Order<B>, frames: u32, passes: usize, settled: u64) -> CommitQueue<B>
+        requires { length order.cache.states ≡ B.geometry.blocks }
+        ensures order { result.order ≡ order }
+        ensures settled { result.settled ≡ settled }
+    {
+        CommitQueue {
+            order,
+            settled,
+            frames,
+            passes,
+            wanted: 0,
+            waiters: Waiters::new(),
+            is_full: false,
+            lacks_room: false,
+            wish: None,
+            is_flushed: false,
+            interval: FlushInterval::endless(),
+        }
+    }
+
+    /// Serves a request that isn't a DISC, as far as no keeper is needed.
+    pub(crate) fn serve(
+        &mut self,
+        alloc: Global,
+        request: Request,
+        board: &Board<B>,
+        pass: &mut Pass<B>,
+        terms: Terms,
+    ) -> Result<Served, NeedsKeeper>
+        requires kind { request.head.kind ≢ 2 }
+        requires geometry { terms.geometry ≡ B.geometry }
+        ensures served { IfOk result (λ served. IsServedFor request terms.mode pass.old pass.new served) }
+        ensures fits { IfOk result (λ served. FitsServed terms.geometry terms.flags request served) }
+        ensures handed_back { IfErr result (λ back. back.0 ≡ request) }
+        ensures unchanged { OnErr result (pass.new ≡ pass.old) }
+        ensures settled { self.new.settled ≡ self.old.settled }
+    {
+        serve_held(alloc, request, &mut self.order, board, pass, terms)
+    }
+
+    /// What of the device is to be read for a READ before it is served; None for another request.
+    pub(crate) fn plan(&self, request: &Request, terms: &Terms) -> Option<Planned>
+        requires { terms.now.geometry ≡ B.geometry }
+        ensures planned { IfSome result (λ planned. IsPlanned request.now.head terms.now.geometry terms.now.flags planned.span) }
+        ensures settled { IfSome result (λ planned. planned.settled ≡ self.now.settled) }
+    {
+        let span = plan_read(&request.head(), &self.order, terms)?;
+        Some(Planned {
+            span,
+            settled: self.settled,
+        })
+    }
+
+    /// Serves a READ with bytes that were read of the device with no lock held. They come back where they may be others than
+    /// those that the blocks have now, or where another block is needed.
+    ///
+    /// They may be others only where frames were let go meanwhile. For while the base of the last clean is the same, no command
+    /// above it has touched a block that isn't in memory now: had the last one cleared it, it would be no data, and had the last
+    /// one written it, its frame would be dirty until a clean. So the block is as at that base; and a checkpoint writes the
+    /// places of such blocks alone as a command above it touches.
+    pub(crate) fn serve_over(
+        &mut self,
+        alloc: Global,
+        request: &Request,
+        planned: Planned,
+        bytes: Vec<u8>,
+        terms: &Terms,
+    ) -> Result<Served, Vec<u8>>
+        requires planned { IsPlanned request.now.head terms.now.geometry terms.now.flags planned.span }
+        requires geometry { terms.now.geometry ≡ B.geometry }
+        requires size { vec_len bytes ≡ 4096 * blocks_met request.now.head.offset request.now.head.length }
+        ensures served { (pass : PassState) → IfOk result (λ served. IsServedFor request.now terms.now.mode pass pass served) }
+        ensures fits { IfOk result (λ served. FitsServed terms.now.geometry terms.now.flags request.now served) }
+        ensures size { IfErr result (λ back. vec_len back ≡ 4096 * blocks_met request.now.head.offset request.now.head.length) }
+        ensures settled { self.new.settled ≡ self.old.settled }
+        ensures over { IfOk result (λ served. IsReadOverServed request.now.head planned.span bytes.items self.old.order self.new.order served) }
+
+        // Nothing is served of bytes that were read before frames were let go.
+        ensures let_go { planned.settled ≢ self.old.settled → IsErr result }
+
+        // Where the bytes come back the order is as it was, and the rest of the queue is always.
+        ensures unchanged { OnErr result (self.new.order ≡ self.old.order) }
+        ensures rest { (self.new.frames ≡ self.old.frames) × (self.new.passes ≡ self.old.passes) × (self.new.wanted ≡ self.old.wanted)
+            × (self.new.waiters ≡ self.old.waiters) × (self.new.is_full ≡ self.old.is_full) × (self.new.lacks_room ≡ self.old.lacks_room)
+            × (self.new.wish ≡ self.old.wish) × (self.new.is_flushed ≡ self.old.is_flushed) × (self.new.interval ≡ self.old.interval) }
+    {
+        if planned.settled != self.settled {
+            return Err(bytes);
+        }
+        serve_read_over(
+            alloc,
+            &request.head(),
+            &mut self.order,
+            planned.span,
+            bytes,
+            terms,
+        )
+    }
+
+    /// Serves a request that isn't a DISC, with the keeper.
+    pub(crate) fn serve_with<D: Disk>(
+        &mut self,
+        alloc: Global,
+        request: Request,
+        keeper: &mut Keeper<D>,
+        board: &Board<B>,
+        pass: &mut Pass<B>,
+        terms: Terms,
+    ) -> Served
+        requires kind { request.head.kind ≢ 2 }
+        requires geometry { terms.geometry ≡ B.geometry }
+        requires device { keeper.old.geometry ≡ B.geometry }
+        ensures served { IsServedFor request terms.mode pass.old pass.new result }
+        ensures fits { FitsServed terms.geometry terms.flags request result }
+        ensures geometry { keeper.new.geometry ≡ keeper.old.geometry }
+        ensures count { keeper.new.count ≡ keeper.old.count }
+        ensures settled { self.new.settled ≡ self.old.settled }
+    {
+        serve_with_keeper(alloc, request, &mut self.order, keeper, board, pass, terms)
+    }
+
+    /// Whether a call of the device has failed.
+    pub(crate) fn stopped(&self) -> bool {
+        self.order.stopped()
+    }
+
+    /// Refuses commands from now on.
+    pub(crate) fn stop(&mut self)
+        ensures { self.new.settled ≡ self.old.settled }
+    {
+        self.order.stop();
+    }
+
+    /// A pass has left.
+    pub(crate) fn leave(&mut self)
+        ensures { self.new.settled ≡ self.old.settled }
+    {
+        self.passes = self.passes.saturating_sub(1);
+    }
+
+    /// No group will be stored any more.
+    pub(crate) fn end(&mut self)
+        ensures { self.new.settled ≡ self.old.settled }
+    {
+        self.is_flushed = true;
+    }
+
+    /// Somebody waits for a number.
+    pub(crate) fn want(&mut self, number: u64)
+        ensures settled { self.new.settled ≡ self.old.settled }
+        ensures order { self.new.order ≡ self.old.order }
+    {
+        self.wanted = self.wanted.max(number);
+    }
+
+    /// Somebody begins to wait until a number is durable, which it isn't.
+    pub(crate) fn begin_wait(&mut self, number: u64)
+        ensures { self.new.settled ≡ self.old.settled }
+    {
+        let is_sealed = number <= self.order.sealed();
+        self.waiters.join(is_sealed);
+        self.want(number);
+    }
+
+    /// Whether more are expected to wait for the next group, and nothing asks for it at once. Where there is one pass, nobody
+    /// else comes.
+    pub(crate) fn is_worth_gathering(&self) -> bool {
+        self.passes > 1
+            && !self.lacks_room
+            && !self.has_much_pending()
+            && self.waiters.expects_more()
+    }
+
+    /// A command has no room.
+    pub(crate) fn miss_room(&mut self)
+        ensures { self.new.settled ≡ self.old.settled }
+    {
+        self.lacks_room = true;
+        self.wish_checkpoint();
+    }
+
+    /// Wants a checkpoint, which frees what is accepted by now.
+    pub(crate) fn wish_checkpoint(&mut self)
+        ensures settled { self.new.settled ≡ self.old.settled }
+        ensures order { self.new.order ≡ self.old.order }
+    {
+        if self.wish.is_none() {
+            let through = self.order.mark();
+            self.wish = Some(through);
+            self.want(through);
+        }
+    }
+
+    /// Wants a checkpoint where half of the frames are dirty; whether it is wanted since now.
+    pub(crate) fn look_at_frames(&mut self) -> bool
+        ensures { self.new.settled ≡ self.old.settled }
+    {
+        if self.wish.is_some() || !self.has_few_frames() {
+            return false;
+        }
+        self.wish_checkpoint();
+        true
+    }
+
+    // Whether half of the frames are dirty.
+    fn has_few_frames(&self) -> bool {
+        self.order.dirty_blocks() as u64 * 2 >= self.frames as u64
+    }
+
+    /// Whether so many bytes are pending that they are stored though nobody waits for them.
+    pub(crate) fn has_much_pending(&self) -> bool {
+        self.order.backlog_bytes() > MOST_PENDING_BYTES
+    }
+
+    /// What there is to do once a request was served: for the flusher, where much is pending or it counts the time
+    /// from now on, and for the checkpointer, where a checkpoint is wanted since now.
+    pub(crate) fn next_work(&mut self) -> (bool, bool)
+        ensures { self.new.settled ≡ self.old.settled }
+    {
+        let is_due = self.look_at_frames();
+        let first = self.is_pending() && self.interval.tell_first();
+        (is_due || first || self.has_much_pending(), is_due)
+    }
+
+    /// Whether a command is pending.
+    pub(crate) fn is_pending(&self) -> bool {
+        self.order.durable() != self.order.mark()
+    }
+
+    /// Has what is pending by now stored.
+    pub(crate) fn want_pending(&mut self)
+        ensures { self.new.settled ≡ self.old.settled }
+    {
+        let mark = self.order.mark();
+        self.want(mark);
+    }
+
+    /// How long what is pending may wait.
+    pub(crate) fn interval(&mut self) -> &mut FlushInterval {
+        &mut self.interval
+    }
+
+    /// Whether the next group is to be stored. There is none in hand.
+    pub(crate) fn is_group_due(&self) -> bool {
+        let durable = self.order.durable();
+        if self.is_full || durable == self.order.mark() {
+            return false;
+        }
+        durable < self.wanted || self.lacks_room || self.passes == 0 || self.has_much_pending()
+    }
+
+    /// Whether nothing is left to store, and nothing will come.
+    pub(crate) fn is_done(&self) -> bool {
+        self.passes == 0 && self.order.durable() == self.order.mark()
+    }
+
+    /// Whether a checkpoint is to be begun: what it is to free is stored, or as much of it as the area takes.
+    pub(crate) fn is_checkpoint_due(&self) -> bool {
+        match self.wish {
+            Some(through) => self.is_full || through <= self.order.durable(),
+            None => false,
+        }
+    }
+
+    /// Whether a checkpoint is wanted.
+    pub(crate) fn wants_checkpoint(&self) -> bool {
+        self.wish.is_some()
+    }
+
+    /// Whether no group will be stored any more.
+    pub(crate) fn is_flushed(&self) -> bool {
+        self.is_flushed
+    }
+
+    /// Takes the longest beginning of what is pending as a group.
+    pub(crate) fn seal(&mut self) -> Result<Option<Group>, OrderFault>
+        ensures { self.new.settled ≡ self.old.settled }
+    {
+        let sealed = self.order.seal()?;
+        if self.order.sealed() == self.order.mark() {
+            self.waiters.seal();
+        }
+        Ok(sealed)
+    }
+
+    /// Makes a group pending again, which the area had no room for or the device didn't take.
+    pub(crate) fn take_back(&mut self, group: Group)
+        ensures { self.new.settled ≡ self.old.settled }
+    {
+        self.waiters.put_back();
+        if self.order.is_in_hand(&group) {
+            self.order.put_back(group);
+        } else {
+            // There is one thread that seals, so it is the one in hand.
+            let _parts = group.into_parts();
+        }
+    }
+
+    /// A group doesn't fit the area.
+    pub(crate) fn find_full(&mut self)
+        ensures { self.new.settled ≡ self.old.settled }
+    {
+        self.is_full = true;
+        self.wish_checkpoint();
+    }
+
+    /// Another area has been taken into use.
+    pub(crate) fn find_empty(&mut self)
+        ensures { self.new.settled ≡ self.old.settled }
+    {
+        self.is_full = false;
+    }
+
+    /// Makes durable what is stored.
+    pub(crate) fn publish<D: Disk>(&mut self, board: &Board<B>, store: &mut StorageEngine<B, D>)
+        ensures { self.new.settled ≡ self.old.settled }
+    {
+        store.publish(board, &mut self.order);
+        self.waiters.publish();
+    }
+
+    /// Lets the frames go whose blocks the image holds. A checkpoint that was wanted is done, and is wanted again where the area
+    /// is full.
+    pub(crate) fn clean<D: Disk>(&mut self, keeper: &Keeper<D>)
+        ensures settled { self.new.settled ≡ keeper.now.base }
+        ensures order { self.new.order ≡ with_clean self.old.order keeper.now.base }
+    {
+        self.order.clean(keeper);
+        self.settled = keeper.base();
+        self.forget_wish();
+    }
+
+    /// The checkpoint that was wanted is done.
+    pub(crate) fn forget_wish(&mut self)
+        ensures settled { self.new.settled ≡ self.old.settled }
+        ensures order { self.new.order ≡ self.old.order }
+    {
+        self.lacks_room = false;
+        self.wish = None;
+        if self.is_full {
+            self.wish_checkpoint();
+        }
+    }
+}

@@ -1,0 +1,25 @@
+use std::time::Duration;
+
+/// Where a thread of an export can be held.
+#[derive(Clone, Copy, Debug, PartialEq, Eq)]
+pub enum Point {
+    /// Before a group is appended, with the keeper's lock taken.
+    Append,
+    /// Before a step of a checkpoint, with no lock held.
+    Step,
+    /// After a checkpoint, with no lock held; not where its time can't be told.
+    Copied { blocks: u64, took: Duration },
+    /// After a reply was written.
+    Answered,
+}
+
+/// Who is told where the threads of an export are, and may hold them: a test holds one until another got on.
+pub trait SyncPoints {
+    /// The thread has come to this point, and goes on once this returns.
+    fn reach(&mut self, at: Point);
+}
+
+/// Holds nothing.
+impl SyncPoints for () {
+    fn reach(&mut self, _at: Point) {}
+}

@@ -1,5 +1,0 @@
-use Rattle.group_list.specs.laws.OneList.{damaged_none}
-use Rattle.group_list.proofs.laws.damaged_holds_none.Goals as goal
-
-pub returns : goal.returns
-returns c area first content groups fits damaged list = damaged_none area first content groups fits damaged list

@@ -1,0 +1,82 @@
+use Rattle.std.proofs.Common.{◌+◌, ◌∙◌, List, sym, subst, refl, arith}
+use Rattle.journal_format.specs.declared.touch.TouchedRange.{TouchedRange}
+use Rattle.journal_format.specs.Touches.{AreWithin, ranges_of}
+use Rattle.journal_format.specs.laws.Chained.{none_read, reads_on}
+use Rattle.journal_format.specs.laws.Found.{found_none, left_none, found_more, left_more, none_next, within_append, within_more}
+use Rattle.journal_format.specs.laws.Noted.{passed_on}
+use Rattle.journal_format.proofs.scan.Place.commands.Goals as goal
+
+pub loop-init : goal.loop-init
+loop-init g c =
+    let area = c.args.self.now in
+    record {
+      extent = refl;
+      faults = refl;
+      honest = (λ honest. honest, λ honest. honest);
+      only_read = λ honest. none_read (g.met.D.Disk.sound c.args.disk.now honest);
+      order = c.requires.order;
+      within = λ within. within;
+      read_as = λ honest content known. known;
+      found = λ honest content known. found_none area.blocks content (area.from + c.args.from) c.args.touched.now.items;
+      left = λ honest content known. left_none area.blocks content (area.from + c.args.from) (area.from + c.args.end) c.args.count;
+    }
+
+pub loop-preserved : goal.loop-preserved
+loop-preserved g c =
+    let area = c.args.self.now in
+    let loop = c.loop.invariant in
+    let read = c.in_ok-found.ensures in
+    record {
+      extent = read.extent ∙ loop.extent;
+      faults = read.faults_ok ∙ loop.faults;
+      honest = (λ honest. loop.honest.0 (read.honest.0 honest), λ honest. read.honest.1 (loop.honest.1 honest));
+      only_read = λ honest. reads_on (g.met.D.Disk.sound c.args.disk.now honest) (loop.only_read honest) (read.only_read (loop.honest.1 honest));
+      order = read.inside.1;
+      within = λ within.
+          subst (AreWithin area.from (area.from + area.bytes)) (sym {A = List TouchedRange} c.in_ok-note.ensures.ok)
+          (within_append area.from (area.from + area.bytes) c.loop.touched.items (ranges_of c.in_ok-found.found.touch) (loop.within within)
+          (within_more area.from (area.from + c.in_ok-found.found.end) (area.from + area.bytes) (omega (arith, read.inside.1, c.requires.inside)) (ranges_of c.in_ok-found.found.touch) read.within));
+      read_as = λ honest content known. read.read_as (loop.honest.1 honest) content (loop.read_as honest content known);
+      found = λ honest content known. found_more area.blocks content (area.from + c.args.from) _ _ _ _ _ _ _ (loop.found honest content known) (read.found (loop.honest.1 honest) content (loop.read_as honest content known)) c.in_ok-note.ensures.ok;
+      left = λ honest content known. left_more area.blocks area.blocks_fit content (area.from + c.args.from) _ _ _ _ (loop.left honest content known) _ _ (read.found (loop.honest.1 honest) content (loop.read_as honest content known)) c.loop-test.true;
+    }
+
+pub returns-in_err-found-clause-damaged : goal.returns-in_err-found-clause-damaged
+returns-in_err-found-clause-damaged g c honest content known damaged =
+    let area = c.args.self.now in
+    let loop = c.loop.invariant in
+    none_next area.blocks area.blocks_fit content (area.from + c.args.from) _ _ _ _ (loop.left honest content known)
+    (c.in_err-found.ensures.damaged (loop.honest.1 honest) content (loop.read_as honest content known) (passed_on c.from_residual.result c.in_err-found.field-0.0 _ c.from_residual.ensures.1 damaged))
+    c.loop-test.true
+
+pub returns-in_err-found-clause-honest : goal.returns-in_err-found-clause-honest
+returns-in_err-found-clause-honest g c =
+    let loop = c.loop.invariant in
+    let read = c.in_err-found.ensures in
+    (λ honest. loop.honest.0 (read.honest.0 honest), λ honest. read.honest.1 (loop.honest.1 honest))
+
+pub returns-in_err-found-clause-only_read : goal.returns-in_err-found-clause-only_read
+returns-in_err-found-clause-only_read g c honest =
+    let loop = c.loop.invariant in
+    reads_on (g.met.D.Disk.sound c.args.disk.now honest) (loop.only_read honest) (c.in_err-found.ensures.only_read (loop.honest.1 honest))
+
+pub returns-in_err-found-clause-read_as : goal.returns-in_err-found-clause-read_as
+returns-in_err-found-clause-read_as g c honest content known =
+    let loop = c.loop.invariant in
+    c.in_err-found.ensures.read_as (loop.honest.1 honest) content (loop.read_as honest content known)
+
+pub returns-in_err-note-clause-honest : goal.returns-in_err-note-clause-honest
+returns-in_err-note-clause-honest g c =
+    let loop = c.loop.invariant in
+    let read = c.in_ok-found.ensures in
+    (λ honest. loop.honest.0 (read.honest.0 honest), λ honest. read.honest.1 (loop.honest.1 honest))
+
+pub returns-in_err-note-clause-only_read : goal.returns-in_err-note-clause-only_read
+returns-in_err-note-clause-only_read g c honest =
+    let loop = c.loop.invariant in
+    reads_on (g.met.D.Disk.sound c.args.disk.now honest) (loop.only_read honest) (c.in_ok-found.ensures.only_read (loop.honest.1 honest))
+
+pub returns-in_err-note-clause-read_as : goal.returns-in_err-note-clause-read_as
+returns-in_err-note-clause-read_as g c honest content known =
+    let loop = c.loop.invariant in
+    c.in_ok-found.ensures.read_as (loop.honest.1 honest) content (loop.read_as honest content known)

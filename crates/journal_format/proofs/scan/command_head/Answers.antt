@@ -1,0 +1,11 @@
+use Rattle.std.proofs.Common.{ℕ, ◌<◌, slice_index, refl, arith}
+use Rattle.journal_format.specs.laws.Heads.{number_stands, command_head_stands}
+use Rattle.journal_format.proofs.scan.command_head.Goals as goal
+
+pub returns : goal.returns
+returns c =
+    let bytes = c.args.bytes.now in
+    let fits : (k : ℕ) → slice_index bytes k < 256 = λ k. omega (arith, c.type_inv.bytes k) in
+    command_head_stands bytes _ _ _ refl
+    (number_stands 8 1 bytes c.read_u64.result fits c.read_u64.ensures)
+    (number_stands 4 9 bytes c.read_u32.result fits c.read_u32.ensures)

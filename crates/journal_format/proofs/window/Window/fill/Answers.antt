@@ -1,0 +1,18 @@
+use Rattle.std.proofs.Common.{◌∙◌, ◌<◌, length, arith}
+use Rattle.std.proofs.lemmas.List.{get_or-take, get_or_append_left}
+use Rattle.journal_format.specs.laws.Windows.{scanned_on}
+use Rattle.journal_format.proofs.window.Window.fill.Goals as goal
+
+pub returns-clause-read_as : goal.returns-clause-read_as
+returns-clause-read_as g c honest content known =
+    let read = c.in_ok-read_front.ensures in
+    let scanned = scanned_on content c.args.area c.args.area_bytes (g.met.D.Disk.sound c.args.disk.now honest) (read.only_read honest) known.scanned in
+    record {
+      scanned = scanned;
+      held = λ k below.
+          let room : k < length c.self.inside.buffer.items = omega (arith, below, c.min-held.ensures, c.next_bytes-most.ensures, c.self.invariant.0) in
+          get_or-take c.self.inside.buffer.len _ k 0 (omega arith)
+          ∙ get_or_append_left c.read_front.new.buffer _ 0 k (omega (arith, room, c.read_front.auto.buffer))
+          ∙ read.bytes honest k below
+          ∙ scanned.same _ (omega arith, omega (arith, below, c.min-held.ensures, c.requires.inside));
+    }

@@ -1,5 +1,0 @@
-use Rattle.std.proofs.Common.{◌≡◌, sum_by, take}
-use Rattle.last_touches.proofs.last_touches.sum_of_blocks.Given as goal
-
-abbrev pub invariant-loop-put : goal.invariant-loop-put
-invariant-loop-put l = l.sum ≡ sum_by (λ put. put.blocks) (take l.put-index l.puts)

@@ -1,0 +1,75 @@
+-- The last touches of an area as ranges, each of blocks that follow one another in the image, and where they were put
+-- also in the area.
+use Rattle.std.specs.Prelude.{ℕ, ◌≡◌, ◌+◌, ◌<◌, ◌≤◌, nat_lt, if◌then◌else◌, List, [], ◌∷◌, Option, None}
+use Rattle.latest_writes.specs.declared.touch.LastTouch.{LastTouch}
+use Rattle.journal_format.specs.Touches.{last_touch}
+use Rattle.journal_format.specs.declared.touch.TouchedRange.{TouchedRange}
+use Rattle.latest_writes.specs.declared.range.LastRange.{LastRange}
+use Rattle.latest_writes.specs.Touches.{HasBytesWithin, later, said_by, touch_on_device, touch_within}
+
+-- what the ranges say of the block
+abbrev pub touch_at : ℕ → List LastRange → Option LastTouch
+touch_at block [] = None
+touch_at block (range ∷ ranges) = later (said_by range.first range.blocks range.touch block) (touch_at block ranges)
+
+-- at least one block; block numbers, and the places of a put's bytes, have 32 bits
+pub record IsRange (range : LastRange) : Type 0 where
+  pub some : 1 ≤ range.blocks
+  pub blocks_fit : range.first + range.blocks ≤ 4294967295
+  pub bytes_fit : HasBytesWithin 4294967295 range.blocks range.touch
+
+-- ranges from one block on up to another, each behind the one before it
+abbrev pub AreRanges : ℕ → ℕ → List LastRange → Type 0
+AreRanges from to [] = from ≤ to
+AreRanges from to (range ∷ ranges) = (from ≤ range.first) × IsRange range × AreRanges (range.first + range.blocks) to ranges
+
+-- the next range begins where the range ends, in the image and in the area, or is of the same kind
+abbrev pub GoesOn : LastRange → LastRange → Type 0
+GoesOn range next = (range.first + range.blocks ≡ next.first) × (touch_within range.blocks range.touch ≡ next.touch)
+
+-- no range goes on where the one before it ends
+abbrev pub EndsBefore : LastRange → List LastRange → Type 0
+EndsBefore range [] = Unit {0}
+EndsBefore range (next ∷ ranges) = GoesOn range next → ⊥
+
+abbrev pub AreLongest : List LastRange → Type 0
+AreLongest [] = Unit {0}
+AreLongest (range ∷ ranges) = EndsBefore range ranges × AreLongest ranges
+
+-- the ranges say of each block before `blocks` its last touch by an area that begins at this place, and nothing of others
+pub record AreLastTouches (from blocks : ℕ) (touched : List TouchedRange) (ranges : List LastRange) : Type 0 where
+  pub apart : AreRanges 0 4294967295 ranges
+  pub longest : AreLongest ranges
+  pub exact : (block : ℕ) → block < blocks → touch_on_device from (touch_at block ranges) ≡ last_touch block touched
+  pub none : (block : ℕ) → blocks ≤ block → touch_at block ranges ≡ None
+
+-- the newer ranges laid over the older ones
+pub record AreLaidOver (older newer ranges : List LastRange) : Type 0 where
+  pub apart : AreRanges 0 4294967295 ranges
+  pub longest : AreLongest ranges
+  pub exact : (block : ℕ) → touch_at block ranges ≡ later (touch_at block older) (touch_at block newer)
+
+-- what newer ranges laid over older ones say of the block, from `done` on
+abbrev pub left_at : List LastRange → List LastRange → ℕ → ℕ → Option LastTouch
+left_at older newer done block = if nat_lt block done then None else later (touch_at block older) (touch_at block newer)
+
+-- older ranges, and newer ones from `done` on, that are still to be laid
+pub record AreLeft (older newer : List LastRange) (done : ℕ) : Type 0 where
+  pub older_apart : AreRanges 0 4294967295 older
+  pub newer_apart : AreRanges done 4294967295 newer
+
+-- the next range of what newer ranges laid over older ones say from `done` on
+pub record IsNextLaid (older newer : List LastRange) (done : ℕ) (range : LastRange) (older_left newer_left : List LastRange) (done_after : ℕ) : Type 0 where
+  pub is_range : IsRange range
+  pub behind : done ≤ range.first
+  pub end_is : done_after ≡ range.first + range.blocks
+  pub exact : (block : ℕ) → left_at older newer done block
+      ≡ later (said_by range.first range.blocks range.touch block) (left_at older_left newer_left done_after block)
+
+-- blocks of a range that are from one block on and before another one, of which the ranges say the same
+pub record IsPartOf (ranges : List LastRange) (from to : ℕ) (part : LastRange) : Type 0 where
+  pub is_range : IsRange part
+  pub behind : from ≤ part.first
+  pub before : part.first + part.blocks ≤ to
+  pub same : (block : ℕ) → from ≤ block → block < part.first + part.blocks
+      → touch_at block ranges ≡ said_by part.first part.blocks part.touch block

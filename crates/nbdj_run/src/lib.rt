@@ -1,8 +1,0 @@
-//! The plans of the program `nbdj`, carried out over any device, reader and writers.
-#![tactic(auto)]
-
-mod plan;
-mod run;
-
-pub use plan::{Address, Course, Errand, Plan};
-pub use run::{exit_status, perform};

@@ -1,5 +1,0 @@
-use Rattle.nbdj_script.proofs.lines.Schedule.play.Given as goal
-
--- the board that was just made
-abbrev pub ghosts-play_on : goal.ghosts-play_on
-ghosts-play_on a = record { board = a.blank.board }

@@ -1,0 +1,545 @@
+-- what the steps of a checkpoint make of the world and of its device
+use Rattle.std.proofs.Common.{◌≡◌, ℕ, ◌+◌, ◌-◌, ◌↔◌, Bool, true, false, if◌then◌else◌, IsTrue, Option, Some, None, Result, Ok, Err, List, [], ◌∷◌, ◌++◌, take, drop, sym, ◌∙◌, ap, subst, refl, arith}
+use Rattle.std.proofs.lemmas.Bool.{eq-eqb, eqb-true}
+use Rattle.std.specs.FinMap.{len}
+use Rattle.checkpoint.specs.Keeper.{refused_by, faults_by}
+use Rattle.checkpoint.specs.Steps.{IsCopyTime, IsFinishTime, IsMapTime, IsRotateTime, IsStepFault, copied_by, finished_by, left_in, mapped_by, rotated_by}
+use Rattle.checkpoint.specs.declared.fault.KeeperFault.{KeeperFault}
+use Rattle.checkpoint.specs.declared.fault.KeeperFault.TheVariants as fault
+use Rattle.device_image.specs.Holds.{Holds}
+use Rattle.device_image.specs.Keeper.{KeeperState, Phase, Copying}
+use Rattle.device_image.specs.Keeps.{Keeps}
+use Rattle.device_image.specs.Remembers.{Remembers}
+use Rattle.device_image.specs.Stands.{StandsFor}
+use Rattle.device_image.specs.laws.Counted.{remembers_still}
+use Rattle.disk_model.specs.Disk.{State, LeavesOnly, IsSound, MayLeave}
+use Rattle.disk_model.specs.Faults.{counted}
+use Rattle.disk_model.specs.laws.Moments.{begins, ends, weakens}
+use Rattle.image_model.specs.Change.{Change}
+use Rattle.image_model.specs.Dirty.{dirty_blocks}
+use Rattle.image_model.specs.Image.{Image, apply_all}
+use Rattle.image_model.specs.laws.DirtyCounts.{dirty_count}
+use Rattle.journal_format.specs.Group.{Numbered}
+use Rattle.order_book.specs.Order.{OrderState, with_group}
+use Rattle.request_core.specs.Steps.{IsAppended}
+use Rattle.request_core.specs.Parts.{IsDiskOf, IsKeeperOf, IsOrderOf, StandsAfter, first_commands, last_commands, part, phase_at, turned_at}
+use Rattle.request_core.specs.Storing.{hand_refused, order_refused, step_event, stopped_with}
+use Rattle.request_core.specs.laws.Lives.{IsOrdered, apply_append, keeps_of, ordered, take_part}
+use Rattle.request_core.specs.laws.Orders.{order_puts_back, order_stops}
+use Rattle.request_core.proofs.Stored.{not_true_is}
+use Rattle.request_core.proofs.Times.{copy_phase, copy_sound, copy_whole, finish_one, finish_sound, finish_whole, map_phase, map_sound, map_whole, rotate_empty, rotate_phase, rotate_sound, rotate_whole}
+use Rattle.export_model.specs.Checkpoint.{can_copy, can_finish, can_map, can_rotate, finished, is_full, is_turned, last_turned, rotated, to_copy}
+use Rattle.export_model.specs.declared.event.Event.{Event}
+use Rattle.export_model.specs.declared.event.Event.TheVariants.{Took, Held, Failed}
+use Rattle.export_model.specs.declared.event.StepFault.TheVariants.{NoMemory, DeviceFault, NumbersFull, FailedBefore}
+use Rattle.export_model.specs.Serve.{Failure, Nothing, OutOfMemory, DeviceFailure, held, logged, faulted, staged}
+use Rattle.export_model.specs.Step.{copy_block, finish, in_time, out_of_memory, rotate, without_memory, write_map, written}
+use Rattle.export_model.specs.World.{World, Stage, image_after}
+use Rattle.export_model_laws.specs.Law.{IsWithin}
+use Rattle.export_model_laws.specs.laws.Within.{last_of_more}
+
+pub not_true : (b : Bool) → (b ≡ true → ⊥) → b ≡ false
+not_true true none = absurd (none refl)
+not_true false none = refl
+
+pub not_false : (b : Bool) → (b ≡ false → ⊥) → b ≡ true
+not_false true none = refl
+not_false false none = absurd (none refl)
+
+-- no commands stand between a number and itself
+part_none : (order : List Change) (from until : ℕ) → from ≡ until → part order from until ≡ []
+part_none order from until same = ap (λ (n : ℕ). take n (drop from order)) (let none : until - from ≡ 0 = omega (arith, same) in none)
+
+-- the order where the device has failed
+pub order_stopped : (stage : Stage) (order : OrderState) (hand : Option Numbered) (failures : ℕ) → IsOrderOf stage order hand
+    → IsOrderOf (record stage { sealed = stage.stored; stopped = true; faults = failures }) (stopped_with hand order) None
+order_stopped stage order (Some group) failures of =
+    order_stops (record stage { sealed = stage.stored }) (with_group order group) None failures (order_puts_back stage order group of)
+order_stopped stage order None failures of =
+    order_stops (record stage { sealed = stage.stored }) order None failures
+    (subst (λ (n : ℕ). IsOrderOf (record stage { sealed = n }) order None) (let hand = of.hand in let same : stage.sealed ≡ stage.stored = omega (arith, hand) in same) of)
+
+module _ {D : Type 0} (state : D → State) (faults extent : D → ℕ) (honest : D → Type 0) (sound : (disk : D) → honest disk → IsSound (extent disk) (state disk))
+    (world : World) (order : OrderState) (hand : Option Numbered) (old : KeeperState D) (within : IsWithin world) (of : IsOrderOf world.stage order hand) (kept : IsKeeperOf world.stage old (faults old.disk)) where
+  abbrev pub Leaves : World → Event → OrderState → Option Numbered → KeeperState D → Type 0
+  Leaves next event o h new = IsAppended world next event o h old new (faults new.disk) (honest old.disk) (state old.disk) (state new.disk)
+
+  -- whatever a crash may leave meanwhile stands for what the keeper kept
+  abbrev pub Stays : KeeperState D → Type 0
+  Stays new = honest old.disk → (image : Image) (number : ℕ) → Keeps old (state old.disk) image number → LeavesOnly (state old.disk) (state new.disk) (λ content. StandsFor content image number)
+
+  -- nothing was asked of the device, and the step only leaves its event
+  nothing_done : (event : Event) (new : KeeperState D) → new ≡ old → Leaves (logged world event) event order hand new
+  nothing_done event new same =
+      subst (Leaves (logged world event) event order hand) (sym same)
+      (record {
+        kept = record { connections = refl; log = refl; of_order = of; of_keeper = kept };
+        disk = λ is_honest disk. (disk, begins (sound old.disk is_honest) disk.leaves);
+      })
+
+  crash_stays : (new : KeeperState D) → Stays new → honest old.disk → old.failed ≡ false → IsDiskOf world.stage old (state old.disk)
+      → LeavesOnly (state old.disk) (state new.disk) (StandsAfter world.stage.order world.stage.setting.image world.stage.setting.opening world.stage.stored)
+  crash_stays new stays is_honest works disk =
+      weakens (stays is_honest (image_after world.stage.order world.stage.stored world.stage.setting.image) (world.stage.setting.opening + world.stage.stored)
+      (keeps_of world.stage (ordered world within) old (faults old.disk) (state old.disk) kept (disk.holds (sym kept.failed ∙ works))))
+      (λ content stands. record { count = world.stage.stored; reaches = omega arith; within = (ordered world within).stored; stands = stands })
+
+  faulted_step : (new : KeeperState D) → old.failed ≡ false → new ≡ record old { disk = new.disk; failed = true } → faults new.disk ≡ counted (faults old.disk) → (honest old.disk → honest new.disk) → Stays new
+      → Leaves (logged (faulted world) (Failed DeviceFault)) (Failed DeviceFault) (stopped_with hand order) None new
+  faulted_step new works same level stays_honest stays = record {
+    kept = record {
+      connections = refl;
+      log = refl;
+      of_order = order_stopped world.stage order hand (counted world.stage.faults) of;
+      of_keeper = subst (λ (k : KeeperState D). IsKeeperOf (faulted world).stage k (faults new.disk)) (sym same) (record {
+        geometry = kept.geometry;
+        count = kept.count;
+        base = kept.base;
+        turned = kept.turned;
+        generation = kept.generation;
+        phase = kept.phase;
+        used = kept.used;
+        failed = refl;
+        faults = level ∙ ap counted kept.faults;
+        takes = kept.takes;
+        remembers = remembers_still old (record old { disk = new.disk; failed = true }) _ refl refl kept.remembers;
+      });
+    };
+    disk = λ is_honest disk.
+        let leaves = crash_stays new stays is_honest works disk in
+        (record { holds = λ going. absurd (never going); leaves = λ content left. ends leaves (sound new.disk (stays_honest is_honest)) content left }, leaves);
+  }
+    where
+      never : true ≡ false → ⊥
+      never is = cc
+
+  -- the checkpoint comes to this
+  module _ (base : ℕ) (turned : List ℕ) (left : ℕ) (mapped : Bool) (at generation : ℕ) where
+    abbrev pub next_stage : Stage
+    next_stage = record world.stage { base = base; turned = turned; left = left; mapped = mapped; at = at; generation = generation }
+
+    order_turned : IsOrderOf next_stage order hand
+    order_turned = record {
+      opening = of.opening;
+      durable = of.durable;
+      sealed = of.sealed;
+      mark = of.mark;
+      behind = of.behind;
+      hand = of.hand;
+      first = of.first;
+      some = of.some;
+      bodies = of.bodies;
+      dirty = of.dirty;
+      frames = of.frames;
+      blocks = of.blocks;
+      area = of.area;
+      stopped = of.stopped;
+      fits = of.fits;
+    }
+
+    pub moved_on : (new : KeeperState D) → ((keeper : KeeperState D) (image : Image) (number : ℕ) (content : List ℕ) → Keeps keeper (state keeper.disk) image number → MayLeave (state keeper.disk) content → StandsFor content image number)
+        → old.failed ≡ false → IsOrdered next_stage → IsKeeperOf next_stage new (faults new.disk) → Stays new
+        → (honest old.disk → Holds old (state old.disk) (image_after world.stage.order world.stage.base world.stage.setting.image) (first_commands world.stage) (last_commands world.stage)
+        → Holds new (state new.disk) (image_after world.stage.order base world.stage.setting.image) (first_commands next_stage) (last_commands next_stage))
+        → Leaves (logged (staged world next_stage) Took) Took order hand new
+    moved_on new crash works next_ordered next_kept stays holding = record {
+      kept = record { connections = refl; log = refl; of_order = order_turned; of_keeper = next_kept };
+      disk = λ is_honest disk.
+          let holds = holding is_honest (disk.holds (sym kept.failed ∙ works)) in
+          let keeps = keeps_of next_stage next_ordered new (faults new.disk) (state new.disk) next_kept holds in (
+            record {
+              holds = λ going. holds;
+              leaves = λ content given. record {
+                count = world.stage.stored;
+                reaches = omega arith;
+                within = (ordered world within).stored;
+                stands = crash new (image_after world.stage.order world.stage.stored world.stage.setting.image) (world.stage.setting.opening + world.stage.stored) content keeps given;
+              };
+            },
+            crash_stays new stays is_honest works disk,
+          );
+    }
+
+  -- a step in its time, where it writes a header only where a generation is left
+  abbrev pub told : KeeperFault → Result (Unit {0}) KeeperFault
+  told refusal = Err refusal
+
+  module _ (time brim : Bool) (inner : Failure → World) (Time : Type 0) (sound_time : time ≡ true → Time) (whole_time : Time → time ≡ true) where
+    abbrev pub goes : Failure → World
+    goes failure = in_time time world (if brim then logged world (Failed NumbersFull) else inner failure)
+
+    stopped_is : (b : Bool) → old.failed ≡ b → world.stage.stopped ≡ b
+    stopped_is b is = sym kept.failed ∙ is
+
+    goes_working : (failure : Failure) → old.failed ≡ false → goes failure ≡ (if time then (if brim then logged world (Failed NumbersFull) else inner failure) else held world)
+    goes_working failure works = ap (λ b. if b then logged world (Failed FailedBefore) else (if time then (if brim then logged world (Failed NumbersFull) else inner failure) else held world)) (stopped_is false works)
+
+    goes_in_time : (failure : Failure) → old.failed ≡ false → time ≡ true → goes failure ≡ (if brim then logged world (Failed NumbersFull) else inner failure)
+    goes_in_time failure works now = goes_working failure works ∙ ap (λ b. if b then (if brim then logged world (Failed NumbersFull) else inner failure) else held world) now
+
+    goes_on : (failure : Failure) → old.failed ≡ false → time ≡ true → brim ≡ false → goes failure ≡ inner failure
+    goes_on failure works now room = goes_in_time failure works now ∙ ap (λ b. if b then logged world (Failed NumbersFull) else inner failure) room
+
+    pub step_done : (new : KeeperState D) → ((Time → ⊥) → ⊥) → (Time → brim ≡ true → ⊥) → old.failed ≡ false → (Time → Leaves (inner Nothing) Took order hand new)
+        → (failure : Failure) × Leaves (goes failure) Took order hand new
+    step_done new now room works done =
+        let is_now = not_false time (λ late. now (λ here. absurd (both (sym late ∙ whole_time here)))) in
+        let here = sound_time is_now in (
+          Nothing,
+          subst (λ (w : World). Leaves w Took order hand new) (sym (goes_on Nothing works is_now (not_true brim (room here)))) (done here),
+        )
+      where
+        both : false ≡ true → ⊥
+        both is = cc
+
+    pub step_refused : (refusal : KeeperFault) (new : KeeperState D) → IsStepFault refusal → ((told refusal ≡ told fault.Failed) ↔ IsTrue old.failed)
+        → ((told refusal ≡ told fault.NotNow) ↔ ((old.failed ≡ false) × (Time → ⊥)))
+        → (told refusal ≡ told fault.NumbersFull → (old.failed ≡ false) × Time × (brim ≡ true)) → (old.failed ≡ false → Time → brim ≡ true → told refusal ≡ told fault.NumbersFull)
+        → (refusal ≡ fault.NoMemory → inner OutOfMemory ≡ out_of_memory world) → inner DeviceFailure ≡ logged (faulted world) (Failed DeviceFault)
+        → new ≡ refused_by refusal old new.disk → faults new.disk ≡ faults_by refusal (faults old.disk) → (honest old.disk → honest new.disk) → Stays new
+        → (failure : Failure) × Leaves (goes failure) (step_event refusal) (order_refused refusal hand order) (hand_refused refusal hand) new
+    step_refused fault.NoMemory new only failed not_now full fills memory device same level stays_honest stays =
+        let works = not_true_is old.failed (λ is. unlike_failed (failed.1 is)) in
+        let now = not_false time (λ late. unlike_late (not_now.1 (works, λ here. both (sym late ∙ whole_time here)))) in
+        let room = not_true brim (λ is. unlike_full (fills works (sound_time now) is)) in (
+          OutOfMemory,
+          subst (λ (w : World). Leaves w (Failed NoMemory) order hand new) (sym (goes_on OutOfMemory works now room ∙ memory refl)) (nothing_done (Failed NoMemory) new same),
+        )
+      where
+        both : false ≡ true → ⊥
+        both is = cc
+
+        unlike_failed : told fault.NoMemory ≡ told fault.Failed → ⊥
+        unlike_failed is = cc
+
+        unlike_late : told fault.NoMemory ≡ told fault.NotNow → ⊥
+        unlike_late is = cc
+
+        unlike_full : told fault.NoMemory ≡ told fault.NumbersFull → ⊥
+        unlike_full is = cc
+    step_refused fault.DeviceFault new only failed not_now full fills memory device same level stays_honest stays =
+        let works = not_true_is old.failed (λ is. unlike_failed (failed.1 is)) in
+        let now = not_false time (λ late. unlike_late (not_now.1 (works, λ here. both (sym late ∙ whole_time here)))) in
+        let room = not_true brim (λ is. unlike_full (fills works (sound_time now) is)) in (
+          DeviceFailure,
+          subst (λ (w : World). Leaves w (Failed DeviceFault) (stopped_with hand order) None new) (sym (goes_on DeviceFailure works now room ∙ device)) (faulted_step new works same level stays_honest stays),
+        )
+      where
+        both : false ≡ true → ⊥
+        both is = cc
+
+        unlike_failed : told fault.DeviceFault ≡ told fault.Failed → ⊥
+        unlike_failed is = cc
+
+        unlike_late : told fault.DeviceFault ≡ told fault.NotNow → ⊥
+        unlike_late is = cc
+
+        unlike_full : told fault.DeviceFault ≡ told fault.NumbersFull → ⊥
+        unlike_full is = cc
+    step_refused fault.BadMap new only failed not_now full fills memory device same level stays_honest stays = absurd only
+    step_refused fault.NoHeader new only failed not_now full fills memory device same level stays_honest stays = absurd only
+    step_refused fault.BadHeader new only failed not_now full fills memory device same level stays_honest stays = absurd only
+    step_refused fault.NumbersFull new only failed not_now full fills memory device same level stays_honest stays =
+        let is = full refl in (
+          Nothing,
+          subst (λ (w : World). Leaves w (Failed NumbersFull) order hand new)
+              (sym (goes_in_time Nothing is.0 (whole_time is.1) ∙ ap (λ b. if b then logged world (Failed NumbersFull) else inner Nothing) is.2)) (nothing_done (Failed NumbersFull) new same),
+        )
+    step_refused fault.AreaFull new only failed not_now full fills memory device same level stays_honest stays = absurd only
+    step_refused fault.OutOfOrder new only failed not_now full fills memory device same level stays_honest stays = absurd only
+    step_refused fault.DamagedGroup new only failed not_now full fills memory device same level stays_honest stays = absurd only
+    step_refused fault.NotNow new only failed not_now full fills memory device same level stays_honest stays =
+        let is = not_now.0 refl in
+        let late = not_true time (λ now. is.1 (sound_time now)) in (
+          Nothing,
+          subst (λ (w : World). Leaves w Held order hand new)
+              (sym (goes_working Nothing is.0 ∙ ap (λ b. if b then (if brim then logged world (Failed NumbersFull) else inner Nothing) else held world) late)) (nothing_done Held new same),
+        )
+    step_refused fault.Failed new only failed not_now full fills memory device same level stays_honest stays = (
+      Nothing,
+      subst (λ (w : World). Leaves w (Failed FailedBefore) order hand new)
+          (sym (ap (λ b. if b then logged world (Failed FailedBefore) else (if time then (if brim then logged world (Failed NumbersFull) else inner Nothing) else held world)) (stopped_is true (failed.0 refl))))
+          (nothing_done (Failed FailedBefore) new same),
+    )
+
+  -- what holds of the phase and the place that the world shows holds of the keeper's, and the other way round
+  of_keeper_phase : (P : Phase → ℕ → Type 0) → P old.phase old.used → P (phase_at world.stage) world.stage.at
+  of_keeper_phase P is = subst (λ (n : ℕ). P (phase_at world.stage) n) kept.used (subst (λ (p : Phase). P p old.used) kept.phase is)
+
+  to_keeper_phase : (P : Phase → ℕ → Type 0) → P (phase_at world.stage) world.stage.at → P old.phase old.used
+  to_keeper_phase P is = subst (λ (p : Phase). P p old.used) (sym kept.phase) (subst (λ (n : ℕ). P (phase_at world.stage) n) (sym kept.used) is)
+
+  full_generation : is_full world.stage ≡ true → old.generation ≡ 18446744073709551615
+  full_generation full = kept.generation ∙ eqb-true world.stage.generation 18446744073709551615 full
+
+  generation_full : old.generation ≡ 18446744073709551615 → is_full world.stage ≡ true
+  generation_full is = eq-eqb world.stage.generation 18446744073709551615 (sym kept.generation ∙ is)
+
+  never_full : false ≡ true → ⊥
+  never_full is = cc
+
+  -- the times of the steps, by the keeper and by the world
+  rotate_here : can_rotate world.stage ≡ true → IsRotateTime old.phase old.used
+  rotate_here now = to_keeper_phase IsRotateTime (rotate_sound world.stage.turned world.stage.mapped world.stage.left world.stage.at world.stage.base world.stage.stored within.taken now)
+
+  rotate_there : IsRotateTime old.phase old.used → can_rotate world.stage ≡ true
+  rotate_there now = rotate_whole world.stage.turned world.stage.mapped world.stage.left world.stage.at world.stage.base world.stage.stored (ordered world within).turned within.taken (of_keeper_phase IsRotateTime now)
+
+  abbrev CopyTime : Phase → ℕ → Type 0
+  CopyTime phase used = IsCopyTime phase
+
+  copy_here : can_copy world.stage ≡ true → IsCopyTime old.phase
+  copy_here now = to_keeper_phase CopyTime (copy_sound world.stage.turned world.stage.mapped world.stage.left now)
+
+  copy_there : IsCopyTime old.phase → can_copy world.stage ≡ true
+  copy_there now = copy_whole world.stage.turned world.stage.mapped world.stage.left (of_keeper_phase CopyTime now)
+
+  abbrev MapTime : Phase → ℕ → Type 0
+  MapTime phase used = IsMapTime phase
+
+  map_here : can_map world.stage ≡ true → IsMapTime old.phase
+  map_here now = to_keeper_phase MapTime (map_sound world.stage.turned world.stage.mapped world.stage.left now)
+
+  map_there : IsMapTime old.phase → can_map world.stage ≡ true
+  map_there now = map_whole world.stage.turned world.stage.mapped world.stage.left (of_keeper_phase MapTime now)
+
+  abbrev FinishTime : Phase → ℕ → Type 0
+  FinishTime phase used = IsFinishTime phase
+
+  finish_here : can_finish world.stage ≡ true → IsFinishTime old.phase
+  finish_here now = to_keeper_phase FinishTime (finish_sound world.stage.turned world.stage.mapped world.stage.left now)
+
+  finish_there : IsFinishTime old.phase → can_finish world.stage ≡ true
+  finish_there now = finish_whole world.stage.turned world.stage.mapped world.stage.left (of_keeper_phase FinishTime now)
+
+  abbrev pub CrashLaw : Type 0
+  CrashLaw = (keeper : KeeperState D) (image : Image) (number : ℕ) (content : List ℕ) → Keeps keeper (state keeper.disk) image number → MayLeave (state keeper.disk) content → StandsFor content image number
+
+  module _ (new : KeeperState D) (crash : CrashLaw) (works : old.failed ≡ false) (level : faults new.disk ≡ faults old.disk) (stays : Stays new) where
+    -- another area comes into use
+    module _ (same : new ≡ rotated_by old new.disk new.memory) (fresh : Remembers new []) (left : (commands : List Change) → Remembers old commands → new.phase ≡ Copying (len (dirty_blocks 0 commands)))
+        (holding : honest old.disk → (base : Image) (last : List Change) → Holds old (state old.disk) base [] last → Holds new (state new.disk) base last []) where
+      module _ (now : IsRotateTime old.phase old.used) where
+        none : world.stage.turned ≡ []
+        none = rotate_empty world.stage.turned world.stage.mapped world.stage.left world.stage.at (of_keeper_phase IsRotateTime now)
+
+        at_base : turned_at world.stage ≡ world.stage.base
+        at_base = ap (last_turned world.stage.base) none
+
+        unmapped : world.stage.mapped ≡ false
+        unmapped = not_true world.stage.mapped (λ is. never_full (sym (ap is_turned none) ∙ (within.mapped is).0))
+
+        at_stored : last_turned world.stage.base (world.stage.turned ++ world.stage.stored ∷ []) ≡ world.stage.stored
+        at_stored = last_of_more world.stage.base world.stage.turned world.stage.stored
+
+        last_none : last_commands (rotated world.stage) ≡ []
+        last_none = part_none world.stage.order (turned_at (rotated world.stage)) world.stage.stored at_stored
+
+        first_is : first_commands (rotated world.stage) ≡ last_commands world.stage
+        first_is = ap (part world.stage.order world.stage.base) at_stored ∙ ap (λ (n : ℕ). part world.stage.order n world.stage.stored) (sym at_base)
+
+        first_none : first_commands world.stage ≡ []
+        first_none = part_none world.stage.order world.stage.base (turned_at world.stage) (sym at_base)
+
+        copies_are : len (dirty_blocks 0 (last_commands world.stage)) ≡ to_copy world.stage.base world.stage.stored world.stage.order
+        copies_are = dirty_count 0 world.stage.base (last_commands world.stage)
+            ∙ ap (λ (n : ℕ). len (dirty_blocks world.stage.base (part world.stage.order n world.stage.stored))) at_base
+
+        phase_is : new.phase ≡ phase_at (rotated world.stage)
+        phase_is = left (last_commands world.stage) kept.remembers ∙ ap (λ (n : ℕ). Copying n) copies_are
+            ∙ rotate_phase world.stage.turned world.stage.mapped world.stage.stored world.stage.left (to_copy world.stage.base world.stage.stored world.stage.order) none unmapped
+
+        kept_rotated : IsKeeperOf (rotated world.stage) new (faults new.disk)
+        kept_rotated = record {
+          geometry = ap (λ (k : KeeperState D). k.geometry) same ∙ kept.geometry;
+          count = ap (λ (k : KeeperState D). k.count) same ∙ kept.count;
+          base = ap (λ (k : KeeperState D). k.base) same ∙ kept.base;
+          turned = ap (λ (k : KeeperState D). k.turned) same ∙ kept.count ∙ ap (λ (n : ℕ). world.stage.setting.opening + n) (sym at_stored);
+          generation = ap (λ (k : KeeperState D). k.generation) same ∙ ap (λ (n : ℕ). n + 1) kept.generation;
+          phase = phase_is;
+          used = ap (λ (k : KeeperState D). k.used) same;
+          failed = ap (λ (k : KeeperState D). k.failed) same ∙ kept.failed;
+          faults = level ∙ kept.faults;
+          takes = kept.takes;
+          remembers = subst (Remembers new) (sym last_none) fresh;
+        }
+
+        ordered_rotated : IsOrdered (rotated world.stage)
+        ordered_rotated =
+            let base = (ordered world within).base in let turned = (ordered world within).turned in
+            record { base = omega (arith, base, turned, at_stored); turned = omega (arith, at_stored); stored = (ordered world within).stored }
+
+        rotated_leaves : Leaves (logged (staged world (rotated world.stage)) Took) Took order hand new
+        rotated_leaves =
+            let image = image_after world.stage.order world.stage.base world.stage.setting.image in
+            moved_on world.stage.base (world.stage.turned ++ world.stage.stored ∷ []) (if is_turned world.stage.turned then world.stage.left else to_copy world.stage.base world.stage.stored world.stage.order)
+            world.stage.mapped 0 (world.stage.generation + 1) new crash works ordered_rotated kept_rotated stays
+            (λ is_honest holds.
+            subst (λ (l : List Change). Holds new (state new.disk) image (first_commands (rotated world.stage)) l) (sym last_none)
+            (subst (λ (f : List Change). Holds new (state new.disk) image f []) (sym first_is)
+            (holding is_honest image (last_commands world.stage) (subst (λ (f : List Change). Holds old (state old.disk) image f (last_commands world.stage)) first_none holds))))
+
+      pub rotate_done : ((IsRotateTime old.phase old.used → ⊥) → ⊥) → (IsRotateTime old.phase old.used → old.generation ≡ 18446744073709551615 → ⊥) → (failure : Failure) × Leaves (rotate failure world) Took order hand new
+      rotate_done now room =
+          step_done (can_rotate world.stage) (is_full world.stage) (λ failure. written failure world (rotated world.stage)) (IsRotateTime old.phase old.used) rotate_here rotate_there
+          new now (λ here full. room here (full_generation full)) works rotated_leaves
+
+    -- blocks more are copied
+    module _ (blocks : ℕ) (same : new ≡ copied_by old blocks new.disk new.memory) (remembered : (commands : List Change) → Remembers old commands → Remembers new commands)
+        (holding : honest old.disk → (base : Image) (first last : List Change) → Holds old (state old.disk) base first last → Holds new (state new.disk) base first last) where
+      pub copied_leaves : IsCopyTime old.phase → Leaves (logged (staged world (record world.stage { left = world.stage.left - blocks })) Took) Took order hand new
+      copied_leaves now =
+          let here = of_keeper_phase CopyTime now in
+          moved_on world.stage.base world.stage.turned (world.stage.left - blocks) world.stage.mapped world.stage.at world.stage.generation new crash works (let is = ordered world within in record { base = is.base; turned = is.turned; stored = is.stored })
+          (record {
+            geometry = ap (λ (k : KeeperState D). k.geometry) same ∙ kept.geometry;
+            count = ap (λ (k : KeeperState D). k.count) same ∙ kept.count;
+            base = ap (λ (k : KeeperState D). k.base) same ∙ kept.base;
+            turned = ap (λ (k : KeeperState D). k.turned) same ∙ kept.turned;
+            generation = ap (λ (k : KeeperState D). k.generation) same ∙ kept.generation;
+            phase = ap (λ (k : KeeperState D). k.phase) same ∙ ap (λ (p : Phase). Copying (left_in p - blocks)) kept.phase ∙ copy_phase world.stage.turned world.stage.mapped world.stage.left blocks here;
+            used = ap (λ (k : KeeperState D). k.used) same ∙ kept.used;
+            failed = ap (λ (k : KeeperState D). k.failed) same ∙ kept.failed;
+            faults = level ∙ kept.faults;
+            takes = kept.takes;
+            remembers = remembered (last_commands world.stage) kept.remembers;
+          })
+          stays (λ is_honest. holding is_honest (image_after world.stage.order world.stage.base world.stage.setting.image) (first_commands world.stage) (last_commands world.stage))
+
+    -- one block more is copied
+    module _ (same : new ≡ copied_by old 1 new.disk new.memory) (remembered : (commands : List Change) → Remembers old commands → Remembers new commands)
+        (holding : honest old.disk → (base : Image) (first last : List Change) → Holds old (state old.disk) base first last → Holds new (state new.disk) base first last) where
+      pub copy_done : ((IsCopyTime old.phase → ⊥) → ⊥) → (failure : Failure) × Leaves (copy_block failure world) Took order hand new
+      copy_done now =
+          step_done (can_copy world.stage) false (λ failure. written failure world (record world.stage { left = world.stage.left - 1 })) (IsCopyTime old.phase) copy_here copy_there
+          new now (λ here. never_full) works (copied_leaves 1 same remembered holding)
+
+    -- the map is written
+    module _ (same : new ≡ mapped_by old new.disk new.memory) (remembered : (commands : List Change) → Remembers old commands → Remembers new commands)
+        (holding : honest old.disk → (base : Image) (first last : List Change) → Holds old (state old.disk) base first last → Holds new (state new.disk) base first last) where
+      mapped_leaves : IsMapTime old.phase → Leaves (logged (staged world (record world.stage { mapped = true })) Took) Took order hand new
+      mapped_leaves now =
+          let here = of_keeper_phase MapTime now in
+          moved_on world.stage.base world.stage.turned world.stage.left true world.stage.at world.stage.generation new crash works (let is = ordered world within in record { base = is.base; turned = is.turned; stored = is.stored })
+          (record {
+            geometry = ap (λ (k : KeeperState D). k.geometry) same ∙ kept.geometry;
+            count = ap (λ (k : KeeperState D). k.count) same ∙ kept.count;
+            base = ap (λ (k : KeeperState D). k.base) same ∙ kept.base;
+            turned = ap (λ (k : KeeperState D). k.turned) same ∙ kept.turned;
+            generation = ap (λ (k : KeeperState D). k.generation) same ∙ kept.generation;
+            phase = ap (λ (k : KeeperState D). k.phase) same ∙ map_phase world.stage.turned world.stage.mapped world.stage.left here;
+            used = ap (λ (k : KeeperState D). k.used) same ∙ kept.used;
+            failed = ap (λ (k : KeeperState D). k.failed) same ∙ kept.failed;
+            faults = level ∙ kept.faults;
+            takes = kept.takes;
+            remembers = remembered (last_commands world.stage) kept.remembers;
+          })
+          stays (λ is_honest. holding is_honest (image_after world.stage.order world.stage.base world.stage.setting.image) (first_commands world.stage) (last_commands world.stage))
+
+      pub map_done : ((IsMapTime old.phase → ⊥) → ⊥) → (failure : Failure) × Leaves (write_map failure world) Took order hand new
+      map_done now =
+          step_done (can_map world.stage) false (λ failure. written failure world (record world.stage { mapped = true })) (IsMapTime old.phase) map_here map_there
+          new now (λ here. never_full) works mapped_leaves
+
+    -- the first area is no longer in use
+    module _ (same : new ≡ finished_by old new.disk new.memory) (remembered : (commands : List Change) → Remembers old commands → Remembers new commands)
+        (holding : honest old.disk → (base : Image) (first last : List Change) → Holds old (state old.disk) base first last → Holds new (state new.disk) (apply_all first base) [] last) where
+      module _ (first : ℕ) (one : world.stage.turned ≡ first ∷ []) where
+        at_first : turned_at world.stage ≡ first
+        at_first = ap (last_turned world.stage.base) one
+
+        image_is : image_after world.stage.order first world.stage.setting.image ≡ apply_all (first_commands world.stage) (image_after world.stage.order world.stage.base world.stage.setting.image)
+        image_is =
+            ap (λ (n : ℕ). image_after world.stage.order n world.stage.setting.image) (sym at_first)
+            ∙ ap (λ (l : List Change). apply_all l world.stage.setting.image) (take_part world.stage.order world.stage.base (turned_at world.stage) (ordered world within).base)
+            ∙ apply_append (take world.stage.base world.stage.order) (first_commands world.stage) world.stage.setting.image
+
+        last_is : part world.stage.order first world.stage.stored ≡ last_commands world.stage
+        last_is = ap (λ (n : ℕ). part world.stage.order n world.stage.stored) (sym at_first)
+
+        finished_one : Leaves (logged (staged world (finished world.stage (first ∷ []))) Took) Took order hand new
+        finished_one =
+            let is = ordered world within in let turned = is.turned in
+            moved_on first [] 0 false world.stage.at (world.stage.generation + 1) new crash works
+            (record { base = omega arith; turned = omega (arith, turned, at_first); stored = is.stored })
+            (record {
+              geometry = ap (λ (k : KeeperState D). k.geometry) same ∙ kept.geometry;
+              count = ap (λ (k : KeeperState D). k.count) same ∙ kept.count;
+              base = ap (λ (k : KeeperState D). k.base) same ∙ kept.turned ∙ ap (λ (n : ℕ). world.stage.setting.opening + n) at_first;
+              turned = ap (λ (k : KeeperState D). k.turned) same ∙ kept.turned ∙ ap (λ (n : ℕ). world.stage.setting.opening + n) at_first;
+              generation = ap (λ (k : KeeperState D). k.generation) same ∙ ap (λ (n : ℕ). n + 1) kept.generation;
+              phase = ap (λ (k : KeeperState D). k.phase) same;
+              used = ap (λ (k : KeeperState D). k.used) same ∙ kept.used;
+              failed = ap (λ (k : KeeperState D). k.failed) same ∙ kept.failed;
+              faults = level ∙ kept.faults;
+              takes = kept.takes;
+              remembers = subst (Remembers new) (sym last_is) (remembered (last_commands world.stage) kept.remembers);
+            })
+            stays
+            (λ is_honest holds.
+            subst (λ (l : List Change). Holds new (state new.disk) (image_after world.stage.order first world.stage.setting.image) (part world.stage.order first first) l) (sym last_is)
+            (subst (λ (f : List Change). Holds new (state new.disk) (image_after world.stage.order first world.stage.setting.image) f (last_commands world.stage)) (sym (part_none world.stage.order first first refl))
+            (subst (λ (i : Image). Holds new (state new.disk) i [] (last_commands world.stage)) (sym image_is)
+            (holding is_honest (image_after world.stage.order world.stage.base world.stage.setting.image) (first_commands world.stage) (last_commands world.stage) holds))))
+
+      finished_leaves : IsFinishTime old.phase → Leaves (logged (staged world (finished world.stage world.stage.turned)) Took) Took order hand new
+      finished_leaves now =
+          let is = finish_one world.stage.turned world.stage.mapped world.stage.left within.areas (of_keeper_phase FinishTime now) in
+          subst (λ (t : List ℕ). Leaves (logged (staged world (finished world.stage t)) Took) Took order hand new) (sym is.1) (finished_one is.0 is.1)
+
+      pub finish_done : ((IsFinishTime old.phase → ⊥) → ⊥) → (IsFinishTime old.phase → old.generation ≡ 18446744073709551615 → ⊥) → (failure : Failure) × Leaves (finish failure world) Took order hand new
+      finish_done now room =
+          step_done (can_finish world.stage) (is_full world.stage) (λ failure. written (without_memory failure) world (finished world.stage world.stage.turned)) (IsFinishTime old.phase) finish_here finish_there
+          new now (λ here full. room here (full_generation full)) works finished_leaves
+
+  -- refusals
+  module _ (refusal : KeeperFault) (new : KeeperState D) (only : IsStepFault refusal) (failed : (told refusal ≡ told fault.Failed) ↔ IsTrue old.failed)
+      (same : new ≡ refused_by refusal old new.disk) (level : faults new.disk ≡ faults_by refusal (faults old.disk)) (stays_honest : honest old.disk → honest new.disk) (stays : Stays new) where
+    abbrev Refused : (Failure → World) → Type 0
+    Refused step = (failure : Failure) × Leaves (step failure) (step_event refusal) (order_refused refusal hand order) (hand_refused refusal hand) new
+
+    abbrev OnlyIn : Type 0 → Type 0
+    OnlyIn Time = (told refusal ≡ told fault.NotNow) ↔ ((old.failed ≡ false) × (Time → ⊥))
+
+    abbrev OnlyFull : Type 0 → Type 0
+    OnlyFull Time = (told refusal ≡ told fault.NumbersFull) ↔ ((old.failed ≡ false) × Time × (old.generation ≡ 18446744073709551615))
+
+    pub rotate_refused : OnlyIn (IsRotateTime old.phase old.used) → OnlyFull (IsRotateTime old.phase old.used) → Refused (λ failure. rotate failure world)
+    rotate_refused not_now full =
+        step_refused (can_rotate world.stage) (is_full world.stage) (λ failure. written failure world (rotated world.stage)) (IsRotateTime old.phase old.used) rotate_here rotate_there
+        refusal new only failed not_now
+        (λ is. let due = full.0 is in (due.0, due.1, generation_full due.2)) (λ works now is. full.1 (works, now, full_generation is))
+        (λ memory. refl) refl same level stays_honest stays
+
+    pub copy_refused : OnlyIn (IsCopyTime old.phase) → (told refusal ≡ told fault.NumbersFull → ⊥) → Refused (λ failure. copy_block failure world)
+    copy_refused not_now not_full =
+        step_refused (can_copy world.stage) false (λ failure. written failure world (record world.stage { left = world.stage.left - 1 })) (IsCopyTime old.phase) copy_here copy_there
+        refusal new only failed not_now (λ is. absurd (not_full is)) (λ works now is. absurd (never_full is))
+        (λ memory. refl) refl same level stays_honest stays
+
+    pub map_refused : OnlyIn (IsMapTime old.phase) → (told refusal ≡ told fault.NumbersFull → ⊥) → Refused (λ failure. write_map failure world)
+    map_refused not_now not_full =
+        step_refused (can_map world.stage) false (λ failure. written failure world (record world.stage { mapped = true })) (IsMapTime old.phase) map_here map_there
+        refusal new only failed not_now (λ is. absurd (not_full is)) (λ works now is. absurd (never_full is))
+        (λ memory. refl) refl same level stays_honest stays
+
+    pub finish_refused : OnlyIn (IsFinishTime old.phase) → OnlyFull (IsFinishTime old.phase) → (told refusal ≡ told fault.NoMemory → ⊥) → Refused (λ failure. finish failure world)
+    finish_refused not_now full no_memory =
+        step_refused (can_finish world.stage) (is_full world.stage) (λ failure. written (without_memory failure) world (finished world.stage world.stage.turned)) (IsFinishTime old.phase) finish_here finish_there
+        refusal new only failed not_now
+        (λ is. let due = full.0 is in (due.0, due.1, generation_full due.2)) (λ works now is. full.1 (works, now, full_generation is))
+        (λ memory. absurd (no_memory (ap told memory))) refl same level stays_honest stays
+
+  -- the same of an event, an order and a hand that are those
+  pub as_told : (refusal : KeeperFault) (new : KeeperState D) (next : World) (event : Event) (o : OrderState) (h : Option Numbered) → event ≡ step_event refusal → o ≡ order_refused refusal hand order → h ≡ hand_refused refusal hand
+      → Leaves next (step_event refusal) (order_refused refusal hand order) (hand_refused refusal hand) new → Leaves next event o h new
+  as_told refusal new next event o h event_is order_is hand_is leaves =
+      subst (λ (e : Event). Leaves next e o h new) (sym event_is)
+      (subst (λ (b : OrderState). Leaves next (step_event refusal) b h new) (sym order_is)
+      (subst (λ (g : Option Numbered). Leaves next (step_event refusal) (order_refused refusal hand order) g new) (sym hand_is) leaves))
+
+pub ok_unlike : (done : Unit {0}) (refusal : KeeperFault) → let said : Result (Unit {0}) KeeperFault = Ok done in said ≡ Err refusal → ⊥
+ok_unlike done refusal is = cc
+
+pub count_unlike : (count : ℕ) (refusal : KeeperFault) → let said : Result ℕ KeeperFault = Ok count in said ≡ Err refusal → ⊥
+count_unlike count refusal is = cc

@@ -1,0 +1,36 @@
+-- A script's device from one opening to the next crash.
+use Rattle.std.specs.Prelude.{ℕ, List}
+use Rattle.device_image.specs.Keeper.{KeeperState}
+use Rattle.device_image.specs.Keeps.{Keeps}
+use Rattle.device_image.specs.Stands.{StandsFor}
+use Rattle.disk_model.specs.Disk.{State, MayLeave}
+use Rattle.image_model.specs.Image.{Image}
+use Rattle.order_book.specs.Order.{OrderState}
+use Rattle.request_core.specs.Bench.{BenchState}
+use Rattle.request_core.specs.Parts.{IsWorldOf}
+use Rattle.export_model.specs.World.{World}
+
+-- A life with these parts is one of this world, where the device keeps to the model.
+abbrev pub IsLifeOf : {D : Type 0} → (D → State) → (D → ℕ) → (D → Type 0) → World → OrderState → KeeperState D → BenchState → Type 0
+IsLifeOf state faults honest world order keeper bench =
+    IsWorldOf world order keeper (faults keeper.disk) bench (honest keeper.disk) (state keeper.disk)
+
+-- An opened keeper works and keeps an image. A content stands for that image which a crash at the start might have left.
+pub record IsOpened {D : Type 0} (start : State) (keeper : KeeperState D) (state : State) : Type 0 where
+  pub image : Image
+  pub content : List ℕ
+  pub fixed : MayLeave start content
+  pub stands : StandsFor content image keeper.count
+  pub keeps : Keeps keeper state image keeper.count
+
+-- every content that a crash may leave of the later device it might have left of the earlier one
+abbrev pub LeavesNoMore : State → State → Type 0
+LeavesNoMore before after = (content : List ℕ) → MayLeave after content → MayLeave before content
+
+-- a content that a crash might have left of the device stands for this image and this number
+abbrev pub IsFoundFrom : State → Image → ℕ → Type 0
+IsFoundFrom start image number = (content : List ℕ) × MayLeave start content × StandsFor content image number
+
+-- whatever a crash may leave of the later device stands for nothing but what a crash might have left of the earlier one
+abbrev pub FindsNoMore : State → State → Type 0
+FindsNoMore before after = (content : List ℕ) (image : Image) (number : ℕ) → MayLeave after content → StandsFor content image number → IsFoundFrom before image number

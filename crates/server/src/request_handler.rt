@@ -1,0 +1,98 @@
+ghost use Rattle.export.specs.Submits.{IsJudged, IsSubmitted};
+ghost use Rattle.export_model.specs.Verdict.{verdict};
+
+use crate::client::Client;
+use crate::log::{Event, Log, Traffic};
+use bitflags::Flags;
+use disk_model::Disk;
+use export::{Export, ExportName, ReadBeside};
+use export_model::Mode;
+use image_model::Geometry;
+use marks::Pass;
+use nbd_wire::{
+    BLOCK_STATUS, CommandFlags, FLUSH, READ, Reply, Request, RequestHead, SessionFlags, WRITE,
+};
+use session::Serve;
+use std::cell::Cell;
+use std::sync::Wait;
+use std::time::Duration;
+
+/// Where a client's requests are submitted to an export.
+#[derive(Drop)]
+pub struct RequestHandler<'a, B: ExportName, D: Disk, H: ReadBeside, R: Wait, L: Log> {
+    pub rt: &'a R,
+    pub export: &'a Export<B, D, H>,
+    pub client: &'a Client,
+    // The client's number.
+    pub number: u64,
+    // What the client has asked for.
+    pub traffic: &'a Cell<Traffic>,
+    pub log: L,
+    // How long the client may say nothing once its handshake is over; None for no end.
+    pub idle_limit: Option<Duration>,
+    // Whether what is written to the client is replies.
+    pub is_replying: &'a Cell<bool>,
+}
+
+impl<'a, B: ExportName, D: Disk, H: ReadBeside, R: Wait, L: Log> Serve<Pass<B>>
+    for RequestHandler<'a, B, D, H, R, L> {
+    ghost allows = { λ handler pass request flags next reply. IsSubmitted request handler.export.now.mode pass next reply.answer
+        × IsJudged (verdict request.head handler.export.now.geometry flags) request reply.answer };
+
+    ghost extent = { λ handler. handler.export.now.geometry };
+
+    fn geometry(&self) -> Geometry {
+        self.export.geometry
+    }
+
+    fn may_wait(&self, head: &RequestHead) -> bool {
+        let fua = CommandFlags::FUA.bits();
+        match head.kind {
+            FLUSH => true,
+            READ | BLOCK_STATUS => false,
+            _ => self.export.mode == Mode::Writethrough || head.flags & fua == fua,
+        }
+    }
+
+    fn handshake_is_over(&self) {
+        self.is_replying.set(true);
+        // Where the limit can't be changed, that of the handshake stays.
+        let _ = self.client.limit_wait(self.idle_limit);
+    }
+
+    fn serve(&self, pass: &mut Pass<B>, request: Request, flags: &SessionFlags) -> Reply {
+        self.count(&request, flags);
+        self.export.submit(self.rt, pass, request, flags)
+    }
+
+    fn reuse(&self, reply: Reply) {
+        self.export.reuse(self.rt, reply);
+    }
+}
+
+impl<'a, B: ExportName, D: Disk, H: ReadBeside, R: Wait, L: Log> RequestHandler<'a, B, D, H, R, L> {
+    // Counts a request, and tells of the first one.
+    fn count(&self, request: &Request, flags: &SessionFlags) {
+        let mut traffic = self.traffic.get();
+        if traffic.requests == 0 {
+            self.log.note(Event::Agreed {
+                client: self.number,
+                flags: *flags,
+            });
+        }
+        let head = request.head();
+        traffic.requests = traffic.requests.saturating_add(1);
+        match head.kind {
+            READ => {
+                traffic.bytes_read = traffic.bytes_read.saturating_add(u64::from(head.length));
+            }
+            WRITE => {
+                traffic.bytes_written = traffic
+                    .bytes_written
+                    .saturating_add(u64::from(head.length));
+            }
+            _ => {}
+        }
+        self.traffic.set(traffic);
+    }
+}

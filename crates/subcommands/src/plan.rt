@@ -1,0 +1,64 @@
+use image_model::Geometry;
+use nbdj_pipe::PipeOptions;
+use server::ServeOptions;
+
+/// Where clients arrive.
+#[derive(Clone, Copy, Debug)]
+pub enum Address<'a> {
+    /// An IP address or a host's name, and a port; with port 0 the system picks one.
+    Tcp(&'a str),
+    /// The path of a Unix socket, which is made.
+    Unix(&'a str),
+}
+
+/// How a script is run.
+#[derive(Clone, Copy, Debug, PartialEq, Eq)]
+pub enum Course {
+    /// Once, as it stands.
+    Once,
+    /// Anew for each crash at a call of the device.
+    Sweep,
+    /// Anew for each fault of a call of the device.
+    Faults,
+}
+
+/// What a command line asks for, and whether what happens is told on standard error.
+#[derive(Clone, Copy, Debug)]
+pub struct Invocation<'a> {
+    pub plan: Plan<'a>,
+    pub is_verbose: bool,
+}
+
+/// What is to be done. A path names a device's file, which the caller opens or makes.
+#[derive(Clone, Copy, Debug)]
+pub enum Plan<'a> {
+    /// Makes the device an image of holes; where it preallocates, all of its file was written before.
+    Format {
+        path: &'a str,
+        geometry: Geometry,
+        preallocates: bool,
+    },
+    /// Serves one connection over standard input and output.
+    Pipe {
+        path: &'a str,
+        options: PipeOptions,
+    },
+    /// Serves clients over sockets.
+    Serve {
+        path: &'a str,
+        address: Address<'a>,
+        options: ServeOptions,
+    },
+    /// Opens the device, which recovers it, and says the number of its last command.
+    Recover {
+        path: &'a str,
+    },
+    /// Says what the device holds, which is read alone.
+    Check {
+        path: &'a str,
+    },
+    /// Runs a script from standard input on a simulated device.
+    Rehearse {
+        course: Course,
+    },
+}

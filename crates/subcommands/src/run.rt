@@ -1,0 +1,147 @@
+ghost use Rattle.std.specs.Prelude.{◌≡◌, ◌⊎◌, Result, IsErrOf};
+ghost use Rattle.disk_model.specs.Faults.{HasRisen};
+ghost use Rattle.image_model.specs.Geometry.{device_bytes_of};
+ghost use Rattle.nbdj_pipe.specs.Life.{IsLived};
+ghost use Rattle.nbdj_pipe.specs.Pipe.{IsPiped, IsUnopened, status_of};
+ghost use Rattle.nbdj_pipe.specs.declared.refusal.Refusal.{Refusal};
+ghost use Rattle.nbdj_pipe.specs.declared.refusal.Refusal.TheVariants.{DeviceFault};
+ghost use Rattle.journal_format.specs.Reading.{IsOnlyRead};
+ghost use Rattle.subcommands.specs.Plan.{IfCheck, IfPipe, Suits};
+
+use crate::plan::Plan;
+use checkpoint::{Keeper, Report};
+use disk_model::Disk;
+use header_slots::Areas;
+use image_model::Geometry;
+use nbdj_pipe::{Refusal, pipe};
+use std::alloc::Global;
+use std::fmt::Display;
+use std::io::{Read, Write};
+
+/// Carries out the plan on a device, and answers the exit status and the device: 0 where it is done, else 1, or 3 where a
+/// check found the device bad (6, 7, 8 or 12), and a line `nbdj: TEXT (NUMBER)` on `errors`.
+///
+/// The device of a `Format` has the full size of its geometry; a `Rehearse` has none, and is what `script_runner` and
+/// `nbdj_sweep` do, and a `Serve` is what `server::serve` does.
+pub fn perform<D: Disk + Drop, R: Read, W: Write, E: Write>(
+    alloc: Global,
+    plan: &Plan<'_>,
+    disk: D,
+    input: &mut R,
+    output: &mut W,
+    errors: &mut E,
+) -> (u8, D)
+    requires { Suits plan.now (D.extent disk) }
+    // A pipe wrote what it owes for what it read, by a run of the world, and answers 0 where it ended with a DISC.
+    ensures piped { IfPipe plan.now (λ options. (outcome : Result (Unit {0}) Refusal) × (result.0 ≡ status_of outcome)
+        × (IsUnopened D.state D.faults D.honest disk result.1 (R.remaining input.old) (R.remaining input.new) (W.contents output.old) (W.contents output.new) outcome
+        ⊎ IsPiped (R.remaining input.old) (R.remaining input.new) (W.contents output.old) (W.contents output.new) outcome
+        (IsLived D.state D.faults D.honest options.frames options.mode disk result.1))
+        × (IsErrOf outcome DeviceFault → HasRisen (D.faults disk) (D.faults result.1))) }
+    // A check only reads.
+    ensures checked { IfCheck plan.now (D.honest disk → IsOnlyRead (D.state disk) (D.state result.1)) }
+{
+    if let Plan::Check { path: _ } = *plan {
+        return check(alloc, disk, output, errors);
+    }
+    let (outcome, disk) = match *plan {
+        Plan::Format { geometry, .. } => format(alloc, disk, geometry, output),
+        Plan::Pipe { path: _, options } => pipe(alloc, disk, options, input, output),
+        Plan::Recover { path: _ } => recover(alloc, disk, output),
+        Plan::Serve { .. } | Plan::Check { path: _ } | Plan::Rehearse { .. } => unreachable!(),
+    };
+    (exit_status(outcome, errors), disk)
+}
+
+// Prints one line.
+fn print<W: Write, T: Display + Drop>(output: &mut W, line: T) -> Result<(), Refusal> {
+    writeln!(output, "{line}").map_err(|_| Refusal::StreamFault)
+}
+
+/// The exit status of what ended so, 0 or 1; a refusal is told by a line `nbdj: TEXT (NUMBER)`.
+pub fn exit_status<E: Write>(outcome: Result<(), Refusal>, errors: &mut E) -> u8
+    ensures { result ≡ status_of outcome }
+{
+    match outcome {
+        Ok(()) => 0,
+        Err(refusal) => {
+            // Where not even that can be written, the status alone tells.
+            let _ = writeln!(errors, "nbdj: {refusal} ({})", refusal.number());
+            1
+        }
+    }
+}
+
+fn format<D: Disk, W: Write>(
+    alloc: Global,
+    mut disk: D,
+    geometry: Geometry,
+    output: &mut W,
+) -> (Result<(), Refusal>, D)
+    requires { D.extent disk ≡ device_bytes_of geometry.blocks geometry.area }
+{
+    let result = match Keeper::format(alloc, &mut disk, geometry) {
+        Ok(()) => print(
+            output,
+            format_args!("formatted {}", geometry.device_bytes()),
+        ),
+        Err(fault) => Err(Refusal::from(fault)),
+    };
+    (result, disk)
+}
+
+fn recover<D: Disk, W: Write>(alloc: Global, disk: D, output: &mut W) -> (Result<(), Refusal>, D) {
+    match Keeper::open(alloc, disk) {
+        Ok(keeper) => {
+            let result = print(output, format_args!("commands {}", keeper.count()));
+            (result, keeper.into_disk())
+        }
+        Err((fault, disk)) => (Err(Refusal::from(fault)), disk),
+    }
+}
+
+// Prints what the device holds, and gives the exit status.
+fn check<D: Disk, W: Write, E: Write>(
+    alloc: Global,
+    mut disk: D,
+    output: &mut W,
+    errors: &mut E,
+) -> (u8, D)
+    ensures { D.honest disk → IsOnlyRead (D.state disk) (D.state result.1) }
+{
+    let outcome = match Keeper::inspect(alloc, &mut disk) {
+        Ok(report) => print_report(&report, output),
+        Err(fault) => Err(Refusal::from(fault)),
+    };
+    let is_bad = match &outcome {
+        Err(refusal) => is_of_content(*refusal),
+        Ok(()) => false,
+    };
+    let status = exit_status(outcome, errors);
+    (if is_bad { BAD_CONTENT } else { status }, disk)
+}
+
+// The exit status of a check that found the device bad.
+const BAD_CONTENT: u8 = 3;
+
+// Whether the refusal says that what the device holds is bad.
+fn is_of_content(refusal: Refusal) -> bool {
+    matches!(
+        refusal,
+        Refusal::BadMap | Refusal::NoHeader | Refusal::BadHeader | Refusal::DamagedGroup
+    )
+}
+
+fn print_report<W: Write>(report: &Report, output: &mut W) -> Result<(), Refusal> {
+    let mode = match report.areas {
+        Areas::One => 0,
+        Areas::Two => 1,
+    };
+    print(output, format_args!("blocks {}", report.blocks))?;
+    print(output, format_args!("mode {mode}"))?;
+    print(output, format_args!("base {}", report.base))?;
+    print(output, format_args!("commands {}", report.commands))?;
+    print(output, format_args!("data {}", report.data_blocks))?;
+    print(output, format_args!("zero {}", report.zero_blocks))?;
+    print(output, format_args!("hole {}", report.hole_blocks))
+}
