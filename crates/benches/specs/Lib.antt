@@ -1,1 +1,1 @@
-pub mod States
+pub mod inner

@@ -81,6 +81,7 @@ fn race<B: BoardName + Send + Sync, R: Threads + Wait + Sync>(
     command: &Command,
 ) -> Result<(Board<B>, Vec<Ran<B>>), AllocError>
     requires board { blank.board ≡ B.board }
+    requires named { blank.opening ≡ B.opening }
     requires opening { blank.opening ≡ 0 }
 {
     let Opened {
@@ -111,7 +112,8 @@ fn gaze<B: BoardName + Send + Sync, R: Threads + Sync>(
     blank: BlankBoard,
     threads: usize,
 ) -> Result<u64, AllocError>
-    requires { blank.board ≡ B.board }
+    requires board { blank.board ≡ B.board }
+    requires named { blank.opening ≡ B.opening }
 {
     let Opened {
         board,
@@ -153,7 +155,8 @@ fn timed_looks<B: BoardName + Send + Sync, R: Threads + Sync + Clock + AllocGlob
     blank: BlankBoard,
     threads: usize,
 ) -> Result<Duration>
-    requires { blank.board ≡ B.board }
+    requires board { blank.board ≡ B.board }
+    requires named { blank.opening ≡ B.opening }
 {
     let start = Instant::now(rt)?;
     black_box(gaze::<B, R>(rt, rt.alloc(), blank, threads)?);
@@ -168,6 +171,7 @@ fn timed_accepts<B: BoardName + Send + Sync, R: Threads + Wait + Sync + Clock + 
     command: &Command,
 ) -> Result<Duration>
     requires board { blank.board ≡ B.board }
+    requires named { blank.opening ≡ B.opening }
     requires opening { blank.opening ≡ 0 }
 {
     let start = Instant::now(rt)?;
@@ -219,6 +223,7 @@ fn show<B: BoardName + Send + Sync, R: Threads + Wait + Sync + Print + AllocGlob
     command: &Command,
 ) -> Result<()>
     requires board { blank.board ≡ B.board }
+    requires named { blank.opening ≡ B.opening }
     requires opening { blank.opening ≡ 0 }
 {
     let (board, mut ran) = race::<B, R>(rt, rt.alloc(), blank, 2, 100, command)?;

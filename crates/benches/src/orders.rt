@@ -45,6 +45,7 @@ fn desk_with<B: BoardName>(
     keeper: &mut Keeper<SimDisk>,
 ) -> Result<Desk<B>>
     requires board { blank.board ≡ B.board }
+    requires named { blank.opening ≡ B.opening }
     requires opening { blank.opening ≡ keeper.old.count }
     requires some { 0 < dirty }
     requires few { dirty < 2 ^ 32 }
@@ -105,6 +106,7 @@ fn accepts<B: BoardName>(
     keeper: &mut Keeper<SimDisk>,
 ) -> Result<Duration>
     requires board { blank.board ≡ B.board }
+    requires named { blank.opening ≡ B.opening }
     requires opening { blank.opening ≡ keeper.old.count }
     requires some { 0 < dirty }
     requires few { dirty < 2 ^ 32 }
@@ -224,6 +226,7 @@ fn measure_reads<B: BoardName>(
     keeper: &mut Keeper<SimDisk>,
 ) -> Result<()>
     requires board { blank.board ≡ B.board }
+    requires named { blank.opening ≡ B.opening }
     requires opening { blank.opening ≡ keeper.old.count }
 {
     let mut desk = desk_with::<B>(alloc, blank, DIRTY, keeper)?;
@@ -259,6 +262,7 @@ fn stored<B: BoardName>(
     keeper: &mut Keeper<SimDisk>,
 ) -> Result<(u64, u64)>
     requires board { blank.board ≡ B.board }
+    requires named { blank.opening ≡ B.opening }
     requires opening { blank.opening ≡ keeper.old.count }
 {
     let mut desk = desk_with::<B>(alloc, blank, 1_000, keeper)?;

@@ -15,7 +15,7 @@ use Rattle.journal_format.specs.declared.fault.JournalFault.TheVariants as journ
 use Rattle.checkpoint.specs.Faults.{of_journal}
 use Rattle.device_image.specs.Keeps.{AreHeld, HoldsAreas, IsPlaced}
 use Rattle.device_image.specs.Damage.{IsAreaDamaged, IsOneDamaged}
-use Rattle.checkpoint.specs.Opening.{IsGroupsRefused}
+use Rattle.checkpoint.specs.inner.Opening.{IsGroupsRefused}
 use Rattle.device_image.specs.Stands.{area_of, next_number}
 use Rattle.device_image.specs.laws.Frame.{moved_list, one_kept}
 use Rattle.regions.specs.Layout.{behind, ring}

@@ -14,7 +14,8 @@ use Rattle.image_model.specs.Geometry.{device_bytes_of, map_bytes_of}
 use Rattle.image_model.specs.declared.command.Kind.TheVariants.{Hole}
 use Rattle.image_model.specs.declared.geometry.Geometry.{Geometry}
 use Rattle.regions.specs.Layout.{area_at, map_at, block_at}
-use Rattle.checkpoint.specs.Format.{AreClosed, IsFormatted, IsFresh, LeavesButGates, first_header}
+use Rattle.checkpoint.specs.Format.{IsFormatted, LeavesButGates, first_header}
+use Rattle.checkpoint.specs.inner.Format.{AreClosed, IsFresh}
 use Rattle.device_image.specs.Stands.{StandsFor, holes, is_data, stored_image}
 
 -- a block of an image of holes is a hole

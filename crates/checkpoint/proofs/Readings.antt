@@ -16,7 +16,8 @@ use Rattle.regions.specs.declared.fault.RegionFault.{RegionFault}
 use Rattle.regions.specs.declared.fault.RegionFault.TheVariants as regions
 use Rattle.checkpoint.specs.Faults.{of_header, of_region}
 use Rattle.device_image.specs.Damage.{IsAreaDamaged}
-use Rattle.checkpoint.specs.Opening.{IsGroupsRefused, IsRefused}
+use Rattle.checkpoint.specs.Opening.{IsRefused}
+use Rattle.checkpoint.specs.inner.Opening.{IsGroupsRefused}
 use Rattle.checkpoint.specs.declared.fault.KeeperFault.{KeeperFault}
 use Rattle.checkpoint.specs.declared.fault.KeeperFault.TheVariants.{NoMemory, DeviceFault, BadMap, NoHeader, BadHeader, NumbersFull, AreaFull, OutOfOrder, DamagedGroup, NotNow, Failed}
 

@@ -21,7 +21,7 @@ use Rattle.device_image.specs.Keeps.{AreHeld, IsInPhase, Keeps, behind_lists}
 use Rattle.device_image.specs.Stands.{StandsFor, all_changes, next_number}
 use Rattle.device_image.specs.laws.Sole.{same_header}
 use Rattle.checkpoint.specs.Opening.{HasLastGeneration, IsAtRest, IsOpeningRefused, IsRefused, StandsAs}
-use Rattle.checkpoint.specs.Recovery.{IsRecoveryFault}
+use Rattle.checkpoint.specs.inner.Recovery.{IsRecoveryFault}
 use Rattle.checkpoint.specs.declared.fault.KeeperFault.{KeeperFault}
 use Rattle.checkpoint.specs.declared.fault.KeeperFault.TheVariants.{NoMemory, DeviceFault, BadMap, NoHeader, BadHeader, NumbersFull, AreaFull, OutOfOrder, DamagedGroup, NotNow, Failed}
 

@@ -24,7 +24,8 @@ use Rattle.device_image.specs.Keeps.{AreHeld}
 use Rattle.device_image.specs.Stands.{all_changes, next_number, stored_image}
 use Rattle.device_image.specs.laws.Frame.{all_changes-append, apply_all-append, blocks-apply_all}
 use Rattle.checkpoint.specs.Opening.{IsOpened}
-use Rattle.checkpoint.specs.Report.{AreStatesBehind, IsReport, blocks_of}
+use Rattle.checkpoint.specs.Report.{IsReport, blocks_of}
+use Rattle.checkpoint.specs.inner.Report.{AreStatesBehind}
 use Rattle.checkpoint.proofs.Opened.{last_number, opened_image, opened_stands}
 use Rattle.journal_format.specs.declared.touch.Touch.{Touch}
 use Rattle.journal_format.specs.declared.touch.Touch.TheVariants.{Put, Clear}

@@ -5,3 +5,4 @@ pub mod Opening
 pub mod Recovery
 pub mod Report
 pub mod Steps
+pub mod inner

@@ -34,20 +34,6 @@ IsRefused DamagedGroup content = HasDamagedGroup content
 IsRefused NotNow content = ⊥
 IsRefused Failed content = ⊥
 
--- what a refusal says that comes of reading groups
-abbrev pub IsGroupsRefused : KeeperFault → Type 0 → Type 0
-IsGroupsRefused NoMemory damaged = Unit {0}
-IsGroupsRefused DeviceFault damaged = Unit {0}
-IsGroupsRefused BadMap damaged = ⊥
-IsGroupsRefused NoHeader damaged = ⊥
-IsGroupsRefused BadHeader damaged = ⊥
-IsGroupsRefused NumbersFull damaged = ⊥
-IsGroupsRefused AreaFull damaged = ⊥
-IsGroupsRefused OutOfOrder damaged = ⊥
-IsGroupsRefused DamagedGroup damaged = damaged
-IsGroupsRefused NotNow damaged = ⊥
-IsGroupsRefused Failed damaged = ⊥
-
 -- what is to be copied where so many areas are in use and nothing was copied yet
 abbrev pub IsUncopied : Areas → Option PlanState → Type 0
 IsUncopied areas None = areas ≡ Areas.One

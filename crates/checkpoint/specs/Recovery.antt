@@ -2,8 +2,6 @@
 use Rattle.std.specs.Prelude.{◌≡◌, [], false}
 use Rattle.device_image.specs.Keeper.{KeeperState, Phase, One, Copying, Mapped}
 use Rattle.device_image.specs.Remembers.{Remembers}
-use Rattle.checkpoint.specs.declared.fault.KeeperFault.{KeeperFault}
-use Rattle.checkpoint.specs.declared.fault.KeeperFault.TheVariants.{NoMemory, DeviceFault, BadMap, NoHeader, BadHeader, NumbersFull, AreaFull, OutOfOrder, DamagedGroup, NotNow, Failed}
 
 -- no checkpoint is under way, or one whose map isn't written
 abbrev pub IsBegun : Phase → Type 0
@@ -19,17 +17,3 @@ pub record IsRecovered {D : Type 0} (keeper : KeeperState D) : Type 0 where
   pub turned : keeper.turned ≡ keeper.base
   pub base : keeper.base ≡ keeper.count
   pub remembers : Remembers keeper []
-
--- the refusals that the steps of a checkpoint give in their times
-abbrev pub IsRecoveryFault : KeeperFault → Type 0
-IsRecoveryFault NoMemory = Unit {0}
-IsRecoveryFault DeviceFault = Unit {0}
-IsRecoveryFault BadMap = ⊥
-IsRecoveryFault NoHeader = ⊥
-IsRecoveryFault BadHeader = ⊥
-IsRecoveryFault NumbersFull = Unit {0}
-IsRecoveryFault AreaFull = ⊥
-IsRecoveryFault OutOfOrder = ⊥
-IsRecoveryFault DamagedGroup = ⊥
-IsRecoveryFault NotNow = ⊥
-IsRecoveryFault Failed = ⊥

@@ -1,12 +1,10 @@
 -- the numbers of what a device holds
-use Rattle.std.specs.Prelude.{ℕ, ◌≡◌, count_by, List, Option, Some, None}
+use Rattle.std.specs.Prelude.{ℕ, ◌≡◌, count_by, List}
 use Rattle.std.specs.List.{range_with_len}
 use Rattle.alloc_map.specs.Codes.{is_state}
 use Rattle.image_model.specs.Image.{Image}
 use Rattle.image_model.specs.declared.command.Kind.{Kind}
 use Rattle.image_model.specs.declared.command.Kind.TheVariants.{Data, Zero, Hole}
-use Rattle.journal_format.specs.Area.{AreaState}
-use Rattle.device_image.specs.Keeper.{AreStatesAfter, PlanState}
 use Rattle.device_image.specs.Stands.{StandsFor}
 use Rattle.checkpoint.specs.declared.report.Report.{Report}
 
@@ -24,8 +22,3 @@ pub record IsReport (report : Report) (content : List ℕ) : Type 0 where
   pub data_blocks : report.data_blocks ≡ blocks_of Data image
   pub zero_blocks : report.zero_blocks ≡ blocks_of Zero image
   pub hole_blocks : report.hole_blocks ≡ blocks_of Hole image
-
--- the states behind the areas in use, where these are the ones in front of them
-abbrev pub AreStatesBehind : Option PlanState → AreaState → List Kind → List Kind → Type 0
-AreStatesBehind None area before after = AreStatesAfter area.touched before after
-AreStatesBehind (Some plan) area before after = (turned : List Kind) × AreStatesAfter plan.first.touched before turned × AreStatesAfter area.touched turned after

@@ -1,5 +1,6 @@
 ghost use Rattle.std.specs.Prelude.{◌≡◌, ◌+◌, ◌≤◌, ◌⊎◌, ◌↔◌, length, replicate, IfErr, OnOk};
-ghost use Rattle.checkpoint.specs.Format.{AreClosed, IsFormatted, IsFresh, LeavesButGates, LeavesFormat, first_header};
+ghost use Rattle.checkpoint.specs.Format.{IsFormatted, LeavesButGates, LeavesFormat, first_header};
+ghost use Rattle.checkpoint.specs.inner.Format.{AreClosed, IsFresh};
 ghost use Rattle.checkpoint.specs.Keeper.{faults_by};
 ghost use Rattle.checkpoint.specs.declared.fault.KeeperFault.TheVariants as KeeperFault;
 ghost use Rattle.disk_model.specs.Disk.{IsAllSynced, IsSteady, LeavesOnly};

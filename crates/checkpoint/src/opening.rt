@@ -2,7 +2,8 @@ ghost use Rattle.std.specs.Prelude.{◌≡◌, ◌≢◌, ◌+◌, ◌≤◌, �
 ghost use Rattle.checkpoint.specs.Keeper.{IsSized, faults_by};
 ghost use Rattle.device_image.specs.Keeps.{HoldsAreas, IsPlaced, Keeps};
 ghost use Rattle.device_image.specs.Damage.{IsAreaDamaged};
-ghost use Rattle.checkpoint.specs.Opening.{IsGroupsRefused, IsOpened, IsRefused, IsUncopied, disk_after, faults_after_opening};
+ghost use Rattle.checkpoint.specs.Opening.{IsOpened, IsRefused, IsUncopied, disk_after, faults_after_opening};
+ghost use Rattle.checkpoint.specs.inner.Opening.{IsGroupsRefused};
 ghost use Rattle.checkpoint.specs.Recovery.{IsBegun};
 ghost use Rattle.checkpoint.specs.declared.fault.KeeperFault.TheVariants as KeeperFault;
 ghost use Rattle.device_image.specs.Keeper.{earlier_of, turned_of};

@@ -1,7 +1,8 @@
 ghost use Rattle.std.specs.Prelude.{◌≡◌, ◌↔◌, length, IfErr, IfOk, IfSome, MatchResult, OnOk};
 ghost use Rattle.checkpoint.specs.Keeper.{faults_by};
 ghost use Rattle.checkpoint.specs.Opening.{IsRefused};
-ghost use Rattle.checkpoint.specs.Report.{AreStatesBehind, IsReport};
+ghost use Rattle.checkpoint.specs.Report.{IsReport};
+ghost use Rattle.checkpoint.specs.inner.Report.{AreStatesBehind};
 ghost use Rattle.disk_model.specs.Disk.{IsAllSynced};
 ghost use Rattle.journal_format.specs.Reading.{IsOnlyRead};
 

@@ -4,7 +4,7 @@ ghost use Rattle.command_line.specs.Commands.{area_rule, bare_app, block_count_r
 
 use clap::builder::ValueParser;
 use clap::{Arg, ArgAction, Command, value_parser};
-use nbdj_pipe::{LEAST_FRAMES, MOST_FRAMES};
+use front_end::{LEAST_FRAMES, MOST_FRAMES};
 use server::MOST_WORKERS;
 use std::alloc::{AllocError, Global};
 

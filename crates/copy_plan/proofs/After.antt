@@ -16,7 +16,7 @@ use Rattle.latest_writes.specs.declared.touch.LastTouch.TheVariants.{Put, Clear}
 use Rattle.latest_writes.specs.declared.range.LastRange.{LastRange}
 use Rattle.latest_writes.specs.Touches.{later, said_by, touch_on_device, touch_within}
 use Rattle.latest_writes.specs.Ranges.{AreLastTouches, AreRanges, touch_at}
-use Rattle.copy_plan.specs.Plan.{kind_given}
+use Rattle.copy_plan.specs.inner.Plan.{kind_given}
 use Rattle.latest_writes.specs.laws.Said.{AreRanges-order, touch_at-append}
 
 -- ranges end in time

@@ -3,13 +3,10 @@ use Rattle.std.specs.Prelude.{ℕ, ◌≡◌, ◌+◌, ◌*◌, ◌<◌, ◌≤�
 use Rattle.journal_format.specs.Area.{AreaState}
 use Rattle.journal_format.specs.Touches.{AreWithin, last_touch}
 use Rattle.image_model.specs.declared.command.Kind.{Kind}
-use Rattle.image_model.specs.declared.command.Kind.TheVariants.{Data}
 use Rattle.journal_format.specs.declared.touch.Touch.TheVariants.{Put}
 use Rattle.latest_writes.specs.Ranges.{AreLastTouches}
 use Rattle.latest_writes.specs.Resolved.{ResolvedTouches}
 use Rattle.latest_writes.specs.declared.range.PutRange.{PutRange}
-use Rattle.latest_writes.specs.declared.touch.LastTouch.{LastTouch}
-use Rattle.latest_writes.specs.declared.touch.LastTouch.TheVariants as last
 use Rattle.device_image.specs.Keeper.{PlanState, count_puts, is_put}
 
 -- what is kept with the first area: the last touches of its blocks, and how many of them are left to copy
@@ -34,8 +31,3 @@ pub record IsNextCopy (plan : PlanState) (most : ℕ) (put : PutRange) : Type 0 
   pub puts : (k : ℕ) → k < put.blocks → last_touch (put.first + k) plan.first.touched ≡ Some (Put (plan.first.from + (put.place + 4096 * k)))
   pub left : put.blocks ≤ plan.left
   pub bytes : put.place + 4096 * put.blocks ≤ plan.first.bytes
-
--- the state that a touch gives to its blocks
-abbrev pub kind_given : LastTouch → Kind
-kind_given (last.Put place) = Data
-kind_given (last.Clear kind) = kind

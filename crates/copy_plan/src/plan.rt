@@ -1,5 +1,6 @@
 ghost use Rattle.std.specs.Prelude.{◌≡◌, ℕ, ◌+◌, ◌-◌, ◌*◌, ◌≤◌, List, length, is_some, IfNone, IfOk, IfSome, None, Some};
-ghost use Rattle.copy_plan.specs.Plan.{IsNextCopy, kind_given};
+ghost use Rattle.copy_plan.specs.Plan.{IsNextCopy};
+ghost use Rattle.copy_plan.specs.inner.Plan.{kind_given};
 ghost use Rattle.device_image.specs.Keeper.{AreStatesAfter, count_puts};
 ghost use Rattle.journal_format.specs.Touches.{AreWithin};
 ghost use Rattle.journal_format.specs.declared.touch.TouchedRange.{TouchedRange};

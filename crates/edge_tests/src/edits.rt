@@ -2,7 +2,8 @@
 ghost use Rattle.std.specs.Prelude.{◌≡◌, ◌+◌, ◌*◌, ◌≤◌, ◌<◌, IfOk};
 ghost use Rattle.image_model.specs.Command.{body_of};
 
-use image_model::{Command, Edges, Edit, Kind, PlainImage};
+use image_model::{Command, Edges, Edit, Kind};
+use plain_image::PlainImage;
 use std::alloc::{AllocError, Global};
 use std::process::Abort;
 use std::test::Fail;

@@ -2,7 +2,8 @@
 use crate::subject::{Subject, holds, opened};
 use checkpoint::KeeperFault;
 use disk_model::{CrashChoice, SimDisk};
-use image_model::{Edit, Kind, PlainImage};
+use image_model::{Edit, Kind};
+use plain_image::PlainImage;
 use std::alloc::{AllocError, Global};
 use std::process::Abort;
 use std::test::Fail;

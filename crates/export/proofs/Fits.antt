@@ -30,7 +30,8 @@ use Rattle.export_model.specs.Verdict.{allowed_flags, first_of_rules, is_known, 
 use Rattle.export_model.specs.declared.action.Action.{Action}
 use Rattle.export_model.specs.declared.action.Action.TheVariants.{End, Serve}
 use Rattle.export_model.specs.declared.step.Mode.{Mode}
-use Rattle.export.specs.Submits.{FitsServed, IsJudged}
+use Rattle.export.specs.Submits.{IsJudged}
+use Rattle.export.specs.inner.Submits.{FitsServed}
 
 -- the sixth rule didn't apply where none of them is the fourth
 sixth : (first second third fourth fifth last : Bool) (otherwise : Result Action Errno) → fourth ≡ false

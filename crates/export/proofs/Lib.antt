@@ -1,2 +1,4 @@
-mod Submits
 mod Fits
+mod Found
+mod Opened
+mod Submits

@@ -1,2 +1,4 @@
-pub mod Outcomes
+pub mod Opened
 pub mod Submits
+pub mod Trusted
+pub mod inner

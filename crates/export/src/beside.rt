@@ -1,24 +1,49 @@
 //! Reads of a device beside the locks.
-ghost use Rattle.std.specs.Prelude.{ℕ, List, OnOk};
+ghost use Rattle.std.specs.Prelude.{ℕ, List, IsTrue, OnOk};
+ghost use Rattle.order_book.specs.Order.{OrderState};
+ghost use Rattle.order_book.specs.declared.span.Span.{Span as Blocks};
 
 use disk_model::DeviceFault;
+use marks::BoardName;
+use order_book::{Order, Span};
 
 /// A second handle of a device: it is read by it while others may write it.
 pub trait ReadBeside: Drop {
     /// The bytes that it may give from a place of the device on.
     ghost gives: { Self → ℕ → List ℕ → Type 0 };
 
+    /// What it vouches for: bytes of blocks from the first one on, of which it gave those in a span, and an order over which they
+    /// are served.
+    ghost vouches: { Self → ℕ → Blocks → List ℕ → OrderState → Type 0 };
+
     /// Reads the bytes from `offset` on. Those that nobody writes meanwhile are what the device holds; others may be any.
     /// After a fault `into` holds any bytes.
     fn read_beside(&self, offset: u64, into: &mut [u8]) -> Result<(), DeviceFault>
         ensures { OnOk result (gives self.now offset into.new) };
+
+    /// Whether it vouches for bytes of blocks from the first one on, of which it gave those in a span, that are about to be served over
+    /// an order: since they were asked for no frame was let go. Without that they aren't served.
+    fn vouch<B: BoardName>(&self, first: u64, span: Span, bytes: &[u8], order: &Order<B>) -> bool
+        ensures { IsTrue result → vouches self.now first span bytes.now order.now };
 }
 
 /// Reads nothing: for a device that has no second handle.
 impl ReadBeside for () {
     ghost gives = { λ handle offset bytes. ⊥ };
 
+    ghost vouches = { λ handle first span bytes order. ⊥ };
+
     fn read_beside(&self, _offset: u64, _into: &mut [u8]) -> Result<(), DeviceFault> {
         Err(DeviceFault)
+    }
+
+    fn vouch<B: BoardName>(
+        &self,
+        _first: u64,
+        _span: Span,
+        _bytes: &[u8],
+        _order: &Order<B>,
+    ) -> bool {
+        false
     }
 }

@@ -85,9 +85,9 @@ impl<B: ExportName, D: Disk, H: ReadBeside> Export<B, D, H> {
     // locks rests on it.
     fn take_step<R: Wait>(&self, rt: &R, stage: Stage, copied: &mut u64) -> NextStep {
         let mut store = self.store.lock(rt);
-        match store.take(stage, copied) {
+        match store.take(&self.board, stage, copied) {
             Ok(next) => {
-                self.note(rt, stage, next, &*store);
+                self.note(rt, stage, next, &mut *store);
                 NextStep::Next(next)
             }
             Err(KeeperFault::NoMemory) => NextStep::Again,
@@ -99,21 +99,22 @@ impl<B: ExportName, D: Disk, H: ReadBeside> Export<B, D, H> {
             }
             Err(KeeperFault::NumbersFull) => NextStep::Ended,
             Err(_) => {
-                self.queue.lock(rt).stop();
-                self.tell_all();
+                self.fail(rt);
                 NextStep::Ended
             }
         }
     }
 
     // Notes in the order what a step has changed: the area is empty, or frames can be let go.
-    fn note<R: Wait>(&self, rt: &R, stage: Stage, next: Stage, store: &StorageEngine<B, D>) {
+    fn note<R: Wait>(&self, rt: &R, stage: Stage, next: Stage, store: &mut StorageEngine<B, D>) {
         if stage == Stage::Rotate {
             self.queue.lock(rt).find_empty();
             self.work.notify_one();
         }
         if next == Stage::Done {
-            self.queue.lock(rt).clean(store.keeper());
+            let mut queue = self.queue.lock(rt);
+            store.clean(&mut queue, &self.board);
+            drop(queue);
             self.settled.notify_all();
             self.signal(true, true);
         }

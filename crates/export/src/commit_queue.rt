@@ -1,24 +1,26 @@
 //! What lies under the order's lock.
-ghost use Rattle.std.specs.Prelude.{◌≡◌, ◌≢◌, ◌*◌, IfErr, IfOk, IfSome, IsErr, OnErr, length, vec_len};
-ghost use Rattle.export.specs.Submits.{FitsServed, IsServedFor};
+ghost use Rattle.std.specs.Prelude.{ℕ, List, ◌≡◌, ◌≢◌, ◌*◌, IfErr, IfOk, IfSome, IsErr, OnErr, length, max, vec_len};
+ghost use mathlib.Core.List.{IsPrefix};
+ghost use Rattle.disk_model.specs.Disk.{MayLeave};
+ghost use Rattle.export.specs.inner.Submits.{FitsServed, IsServedFor};
 ghost use Rattle.image_model.specs.Edit.{blocks_met};
 ghost use Rattle.marks.specs.Known.{PassState};
 ghost use Rattle.order_book.specs.Order.{with_clean};
 ghost use Rattle.request_core.specs.Reading.{IsPlanned, IsReadOverServed};
+ghost use Rattle.export.specs.Trusted.{VouchesTruly};
+ghost use Rattle.shared_store.specs.Parts.{StandsWithin};
 
+use crate::beside::ReadBeside;
 use crate::gathering::Waiters;
 use crate::name::ExportName;
 use crate::settling::FlushInterval;
 use crate::storage_engine::StorageEngine;
-use checkpoint::{Keeper, KeeperFault};
 use disk_model::Disk;
-use journal::Group;
 use marks::{Board, Pass};
 use nbd_wire::Request;
-use order_book::{Order, OrderFault, Span};
-use request_core::{
-    NeedsKeeper, Served, Terms, plan_read, serve_held, serve_read_over, serve_with_keeper,
-};
+use order_book::{OrderFault, Span};
+use request_core::{Blocks, NeedsKeeper, Served, Terms, plan_read};
+use shared_store::{SealedGroup, SharedKeeper, SharedOrder};
 use std::alloc::Global;
 
 /// Pending commands of more than so many bytes are stored though nobody waits for them.
@@ -35,7 +37,7 @@ pub(crate) struct Planned {
 
 /// The order of an export, and what its threads ask of one another.
 pub(crate) struct CommitQueue<B: ExportName> {
-    order: Order<B>,
+    order: SharedOrder<B>,
     // The base of the last clean: the number up to which the frames of written blocks were let go.
     pub(crate) settled: u64,
     // The frames for blocks.
@@ -77,7 +79,12 @@ impl<B: ExportName> Drop for CommitQueue<B> {
 }
 
 impl<B: ExportName> CommitQueue<B> {
-    pub(crate) fn new(order: Order<B>, frames: u32, passes: usize, settled: u64) -> CommitQueue<B>
+    pub(crate) fn new(
+        order: SharedOrder<B>,
+        frames: u32,
+        passes: usize,
+        settled: u64,
+    ) -> CommitQueue<B>
         requires { length order.cache.states ≡ B.geometry.blocks }
         ensures order { result.order ≡ order }
         ensures settled { result.settled ≡ settled }
@@ -108,13 +115,13 @@ impl<B: ExportName> CommitQueue<B> {
     ) -> Result<Served, NeedsKeeper>
         requires kind { request.head.kind ≢ 2 }
         requires geometry { terms.geometry ≡ B.geometry }
-        ensures served { IfOk result (λ served. IsServedFor request terms.mode pass.old pass.new served) }
+        ensures served { IfOk result (λ served. IsServedFor B.opening request terms.mode pass.old pass.new served) }
         ensures fits { IfOk result (λ served. FitsServed terms.geometry terms.flags request served) }
         ensures handed_back { IfErr result (λ back. back.0 ≡ request) }
         ensures unchanged { OnErr result (pass.new ≡ pass.old) }
         ensures settled { self.new.settled ≡ self.old.settled }
     {
-        serve_held(alloc, request, &mut self.order, board, pass, terms)
+        self.order.serve(alloc, request, board, pass, terms)
     }
 
     /// What of the device is to be read for a READ before it is served; None for another request.
@@ -123,7 +130,7 @@ impl<B: ExportName> CommitQueue<B> {
         ensures planned { IfSome result (λ planned. IsPlanned request.now.head terms.now.geometry terms.now.flags planned.span) }
         ensures settled { IfSome result (λ planned. planned.settled ≡ self.now.settled) }
     {
-        let span = plan_read(&request.head(), &self.order, terms)?;
+        let span = plan_read(&request.head(), self.order.order(), terms)?;
         Some(Planned {
             span,
             settled: self.settled,
@@ -137,9 +144,10 @@ impl<B: ExportName> CommitQueue<B> {
     /// above it has touched a block that isn't in memory now: had the last one cleared it, it would be no data, and had the last
     /// one written it, its frame would be dirty until a clean. So the block is as at that base; and a checkpoint writes the
     /// places of such blocks alone as a command above it touches.
-    pub(crate) fn serve_over(
+    pub(crate) fn serve_over<H: ReadBeside>(
         &mut self,
         alloc: Global,
+        handle: &H,
         request: &Request,
         planned: Planned,
         bytes: Vec<u8>,
@@ -147,8 +155,9 @@ impl<B: ExportName> CommitQueue<B> {
     ) -> Result<Served, Vec<u8>>
         requires planned { IsPlanned request.now.head terms.now.geometry terms.now.flags planned.span }
         requires geometry { terms.now.geometry ≡ B.geometry }
+        requires vouched { B.shown → VouchesTruly (H.vouches handle.now) B.image }
         requires size { vec_len bytes ≡ 4096 * blocks_met request.now.head.offset request.now.head.length }
-        ensures served { (pass : PassState) → IfOk result (λ served. IsServedFor request.now terms.now.mode pass pass served) }
+        ensures served { (pass : PassState) → IfOk result (λ served. IsServedFor B.opening request.now terms.now.mode pass pass served) }
         ensures fits { IfOk result (λ served. FitsServed terms.now.geometry terms.now.flags request.now served) }
         ensures size { IfErr result (λ back. vec_len back ≡ 4096 * blocks_met request.now.head.offset request.now.head.length) }
         ensures settled { self.new.settled ≡ self.old.settled }
@@ -166,14 +175,18 @@ impl<B: ExportName> CommitQueue<B> {
         if planned.settled != self.settled {
             return Err(bytes);
         }
-        serve_read_over(
-            alloc,
-            &request.head(),
-            &mut self.order,
+        let head = request.head();
+        let is_vouched = handle.vouch(
+            Blocks::of(&head).first,
             planned.span,
-            bytes,
-            terms,
-        )
+            &bytes,
+            self.order.order(),
+        );
+        if !is_vouched {
+            return Err(bytes);
+        }
+        self.order
+            .serve_over(alloc, &head, planned.span, bytes, terms)
     }
 
     /// Serves a request that isn't a DISC, with the keeper.
@@ -181,26 +194,27 @@ impl<B: ExportName> CommitQueue<B> {
         &mut self,
         alloc: Global,
         request: Request,
-        keeper: &mut Keeper<D>,
+        keeper: &mut SharedKeeper<B, D>,
         board: &Board<B>,
         pass: &mut Pass<B>,
         terms: Terms,
     ) -> Served
         requires kind { request.head.kind ≢ 2 }
         requires geometry { terms.geometry ≡ B.geometry }
-        requires device { keeper.old.geometry ≡ B.geometry }
-        ensures served { IsServedFor request terms.mode pass.old pass.new result }
+        requires device { keeper.old.keeper.geometry ≡ B.geometry }
+        ensures served { IsServedFor B.opening request terms.mode pass.old pass.new result }
         ensures fits { FitsServed terms.geometry terms.flags request result }
-        ensures geometry { keeper.new.geometry ≡ keeper.old.geometry }
-        ensures count { keeper.new.count ≡ keeper.old.count }
+        ensures geometry { keeper.new.keeper.geometry ≡ keeper.old.keeper.geometry }
+        ensures count { keeper.new.keeper.count ≡ keeper.old.keeper.count }
         ensures settled { self.new.settled ≡ self.old.settled }
     {
-        serve_with_keeper(alloc, request, &mut self.order, keeper, board, pass, terms)
+        self.order
+            .serve_with(alloc, request, keeper, board, pass, terms)
     }
 
     /// Whether a call of the device has failed.
     pub(crate) fn stopped(&self) -> bool {
-        self.order.stopped()
+        self.order.order().stopped()
     }
 
     /// Refuses commands from now on.
@@ -236,7 +250,7 @@ impl<B: ExportName> CommitQueue<B> {
     pub(crate) fn begin_wait(&mut self, number: u64)
         ensures { self.new.settled ≡ self.old.settled }
     {
-        let is_sealed = number <= self.order.sealed();
+        let is_sealed = number <= self.order.order().sealed();
         self.waiters.join(is_sealed);
         self.want(number);
     }
@@ -264,7 +278,7 @@ impl<B: ExportName> CommitQueue<B> {
         ensures order { self.new.order ≡ self.old.order }
     {
         if self.wish.is_none() {
-            let through = self.order.mark();
+            let through = self.order.order().mark();
             self.wish = Some(through);
             self.want(through);
         }
@@ -283,12 +297,12 @@ impl<B: ExportName> CommitQueue<B> {
 
     // Whether half of the frames are dirty.
     fn has_few_frames(&self) -> bool {
-        self.order.dirty_blocks() as u64 * 2 >= self.frames as u64
+        self.order.order().dirty_blocks() as u64 * 2 >= self.frames as u64
     }
 
     /// Whether so many bytes are pending that they are stored though nobody waits for them.
     pub(crate) fn has_much_pending(&self) -> bool {
-        self.order.backlog_bytes() > MOST_PENDING_BYTES
+        self.order.order().backlog_bytes() > MOST_PENDING_BYTES
     }
 
     /// What there is to do once a request was served: for the flusher, where much is pending or it counts the time
@@ -303,14 +317,14 @@ impl<B: ExportName> CommitQueue<B> {
 
     /// Whether a command is pending.
     pub(crate) fn is_pending(&self) -> bool {
-        self.order.durable() != self.order.mark()
+        self.order.order().durable() != self.order.order().mark()
     }
 
     /// Has what is pending by now stored.
     pub(crate) fn want_pending(&mut self)
         ensures { self.new.settled ≡ self.old.settled }
     {
-        let mark = self.order.mark();
+        let mark = self.order.order().mark();
         self.want(mark);
     }
 
@@ -321,8 +335,8 @@ impl<B: ExportName> CommitQueue<B> {
 
     /// Whether the next group is to be stored. There is none in hand.
     pub(crate) fn is_group_due(&self) -> bool {
-        let durable = self.order.durable();
-        if self.is_full || durable == self.order.mark() {
+        let durable = self.order.order().durable();
+        if self.is_full || durable == self.order.order().mark() {
             return false;
         }
         durable < self.wanted || self.lacks_room || self.passes == 0 || self.has_much_pending()
@@ -330,13 +344,13 @@ impl<B: ExportName> CommitQueue<B> {
 
     /// Whether nothing is left to store, and nothing will come.
     pub(crate) fn is_done(&self) -> bool {
-        self.passes == 0 && self.order.durable() == self.order.mark()
+        self.passes == 0 && self.order.order().durable() == self.order.order().mark()
     }
 
     /// Whether a checkpoint is to be begun: what it is to free is stored, or as much of it as the area takes.
     pub(crate) fn is_checkpoint_due(&self) -> bool {
         match self.wish {
-            Some(through) => self.is_full || through <= self.order.durable(),
+            Some(through) => self.is_full || through <= self.order.order().durable(),
             None => false,
         }
     }
@@ -352,26 +366,24 @@ impl<B: ExportName> CommitQueue<B> {
     }
 
     /// Takes the longest beginning of what is pending as a group.
-    pub(crate) fn seal(&mut self) -> Result<Option<Group>, OrderFault>
+    pub(crate) fn seal(&mut self, board: &Board<B>) -> Result<Option<SealedGroup<B>>, OrderFault>
         ensures { self.new.settled ≡ self.old.settled }
     {
-        let sealed = self.order.seal()?;
-        if self.order.sealed() == self.order.mark() {
+        let sealed = self.order.seal(board)?;
+        if self.order.order().sealed() == self.order.order().mark() {
             self.waiters.seal();
         }
         Ok(sealed)
     }
 
-    /// Makes a group pending again, which the area had no room for or the device didn't take.
-    pub(crate) fn take_back(&mut self, group: Group)
+    /// Makes a group pending again, which the area had no room for.
+    pub(crate) fn take_back(&mut self, board: &Board<B>, sealed: SealedGroup<B>)
         ensures { self.new.settled ≡ self.old.settled }
     {
         self.waiters.put_back();
-        if self.order.is_in_hand(&group) {
-            self.order.put_back(group);
-        } else {
+        if let Err(other) = self.order.put_back(board, sealed) {
             // There is one thread that seals, so it is the one in hand.
-            let _parts = group.into_parts();
+            other.let_go();
         }
     }
 
@@ -398,14 +410,30 @@ impl<B: ExportName> CommitQueue<B> {
         self.waiters.publish();
     }
 
+    /// Keeper and pass meet the order.
+    pub(crate) fn meet_all<D: Disk>(
+        &mut self,
+        board: &Board<B>,
+        keeper: &mut SharedKeeper<B, D>,
+        pass: &mut Pass<B>,
+    )
+        ensures keeper { keeper.new.keeper ≡ keeper.old.keeper }
+        ensures knew { IsPrefix pass.old.history pass.new.history }
+        ensures left { B.trusted → (content : List ℕ) → MayLeave (D.state keeper.old.keeper.disk) content
+            → StandsWithin B.opening B.image pass.new.history pass.old.durable content }
+    {
+        self.order.meet_all(board, keeper, pass);
+    }
+
     /// Lets the frames go whose blocks the image holds. A checkpoint that was wanted is done, and is wanted again where the area
     /// is full.
-    pub(crate) fn clean<D: Disk>(&mut self, keeper: &Keeper<D>)
-        ensures settled { self.new.settled ≡ keeper.now.base }
-        ensures order { self.new.order ≡ with_clean self.old.order keeper.now.base }
+    pub(crate) fn clean<D: Disk>(&mut self, board: &Board<B>, keeper: &mut SharedKeeper<B, D>)
+        ensures settled { self.new.settled ≡ keeper.old.keeper.base }
+        ensures order { self.new.order ≡ with_clean (record self.old.order { base = max self.old.order.base keeper.old.keeper.base }) keeper.old.keeper.base }
+        ensures keeper { keeper.new.keeper ≡ keeper.old.keeper }
     {
-        self.order.clean(keeper);
-        self.settled = keeper.base();
+        self.order.clean(board, keeper);
+        self.settled = keeper.keeper().base();
         self.forget_wish();
     }
 

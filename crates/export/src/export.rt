@@ -1,10 +1,16 @@
-ghost use Rattle.std.specs.Prelude.{◌≡◌, ◌≤◌, ◌⊎◌, ℕ, IfOk, List, MatchResult, Ok, Err, Result, length, replicate, vec_len};
-ghost use Rattle.checkpoint.specs.Opening.{IsOpening};
+ghost use Rattle.std.specs.Prelude.{◌≡◌, ◌≤◌, ◌↔◌, ℕ, [], IfErr, IfOk, List, Some, length, replicate, vec_len};
+ghost use mathlib.Core.List.{IsPrefix};
+ghost use Rattle.checkpoint.specs.Opening.{IsAtRest, IsOpening, IsPassing, disk_after, faults_after_opening};
 ghost use Rattle.checkpoint.specs.Recovery.{IsRecovered};
-ghost use Rattle.checkpoint.specs.declared.fault.KeeperFault.{KeeperFault as Fault};
-ghost use Rattle.checkpoint.specs.declared.fault.KeeperFault.TheVariants as fault;
-ghost use Rattle.device_image.specs.Keeper.{KeeperState};
+ghost use Rattle.device_image.specs.Holds.{Holds};
+ghost use Rattle.device_image.specs.Keeps.{Keeps};
+ghost use Rattle.device_image.specs.Stands.{StandsFor};
+ghost use Rattle.disk_model.specs.Disk.{IsAllSynced, LeavesOnly, MayLeave};
+ghost use Rattle.export.specs.Opened.{keeper_part};
+ghost use Rattle.export.specs.Trusted.{IsTrusted, VouchesTruly, image_found};
+ghost use Rattle.image_model.specs.Image.{Image};
 ghost use Rattle.marks.specs.Known.{new_pass};
+ghost use Rattle.shared_store.specs.Parts.{StandsWithin};
 
 use crate::beside::ReadBeside;
 use crate::buffer_pool::BufferPool;
@@ -12,11 +18,12 @@ use crate::commit_queue::CommitQueue;
 use crate::name::ExportName;
 use crate::storage_engine::StorageEngine;
 use checkpoint::{Keeper, KeeperFault};
+use device_image::keeper_laws;
 use disk_model::Disk;
 use image_model::Geometry;
 use marks::{BlankBoard, Board, KeeperSeat, Opened, Pass};
-use order_book::Order;
 use request_core::{Mode, fresh_order};
+use shared_store::{SharedKeeper, SharedOrder};
 use std::alloc::{AllocError, Global};
 use std::sync::{Condvar, Mutex, Wait};
 
@@ -28,23 +35,43 @@ pub struct OpenDevice<D: Disk, H: ReadBeside> {
     /// By which it is read with no lock held, where there is one.
     pub beside: Option<H>,
     pub ghost opening: { blank.opening ≡ keeper.count },
+    pub ghost recovered: { IsRecovered keeper },
 }
 
 impl<D: Disk, H: ReadBeside> OpenDevice<D, H> {
-    /// Opens a device, which recovers it. It refuses as `Keeper::open` does, and hands the device back. A second handle has to
-    /// be one of the same device.
+    /// Opens a device, which recovers it. It refuses as `Keeper::open` does, or for want of memory behind it, and hands the device
+    /// back. A second handle has to be one of the same device.
     pub fn open(
         alloc: Global,
         disk: D,
         beside: Option<H>,
     ) -> Result<OpenDevice<D, H>, (KeeperFault, D)>
+        ensures extent { D.extent (disk_after (keeper_part result (λ opened. opened.keeper))) ≡ D.extent disk }
+        ensures faults { let given = keeper_part result (λ opened. opened.keeper) in D.faults (disk_after given) ≡ faults_after_opening given (D.faults disk) }
+        ensures honest { D.honest (disk_after (keeper_part result (λ opened. opened.keeper))) ↔ D.honest disk }
         ensures recovered { IfOk result (λ opened. IsRecovered opened.keeper) }
+        ensures beside { IfOk result (λ opened. opened.beside ≡ beside) }
+        ensures held { IfOk result (λ opened. D.honest opened.keeper.disk → Holds opened.keeper (D.state opened.keeper.disk) (image_found D.state opened.keeper) [] []) }
 
-        // The keeper was opened, and this is what that came to, or memory was refused behind it.
-        ensures found { D.honest disk → (given : Result (KeeperState D) (Fault × D)) × (content : List ℕ) × IsOpening (D.state disk) D.state given content
-            × MatchResult result (λ opened. given ≡ Ok opened.keeper)
-            (λ refused. (given ≡ Err refused) ⊎ ((refused.0 ≡ fault.NoMemory) × (keeper : KeeperState D) × (given ≡ Ok keeper) × (refused.1 ≡ keeper.disk))) }
+        // On an honest device there is a content, one that a crash at the start may leave, that is found: at `Ok` it stands
+        // for an image, which the keeper keeps with an empty journal, and a refusal says what is bad of it. A crash at any
+        // moment leaves what it could leave at the start, or what stands for the same as the content found.
+        ensures found { D.honest disk → (content : List ℕ) × IsOpening (D.state disk) D.state (keeper_part result (λ opened. opened.keeper)) content }
+
+        // Where nothing is unsynced at the start and the content stands for an image, the keeper keeps that one, only want
+        // of memory, a device fault and the last generation refuse it, and a crash at any moment leaves what stands for it.
+        ensures same { D.honest disk → IsAllSynced (D.state disk) → (image : Image) (number : ℕ) → StandsFor (D.state disk).seen image number
+            → IfOk result (λ opened. Keeps opened.keeper (D.state opened.keeper.disk) image number × (opened.keeper.base ≡ number)) }
+        ensures passing { D.honest disk → IsAllSynced (D.state disk) → (image : Image) (number : ℕ) → StandsFor (D.state disk).seen image number
+            → IfErr result (λ refused. IsPassing refused.0) }
+        ensures any_moment { D.honest disk → IsAllSynced (D.state disk) → (image : Image) (number : ℕ) → StandsFor (D.state disk).seen image number
+            → LeavesOnly (D.state disk) (D.state (disk_after (keeper_part result (λ opened. opened.keeper)))) (λ content. StandsFor content image number) }
+
+        // Where one area is in use and its list is empty, nothing is written.
+        ensures at_rest { D.honest disk → IsAllSynced (D.state disk) → IsAtRest (D.state disk).seen
+            → LeavesOnly (D.state disk) (D.state (disk_after (keeper_part result (λ opened. opened.keeper)))) (λ content. content ≡ (D.state disk).seen) }
     {
+        keeper_laws::<D>();
         let keeper = match Keeper::open(alloc, disk) {
             Ok(keeper) => keeper,
             Err(refused) => return Err(refused),
@@ -81,6 +108,7 @@ pub struct Export<B: ExportName, D: Disk, H: ReadBeside> {
     pub(crate) work: Condvar,
     pub(crate) checkpoint_due: Condvar,
     ghost sized: { geometry ≡ B.geometry },
+    ghost vouched: { B.shown → (handle : H) → beside ≡ Some handle → VouchesTruly (H.vouches handle) B.image },
 }
 
 // Written out, it is proved once, and not again in each function that lets an export go.
@@ -113,11 +141,16 @@ impl<B: ExportName, D: Disk, H: ReadBeside> Export<B, D, H> {
         workers: usize,
     ) -> Result<(Export<B, D, H>, Vec<Pass<B>>), D>
         requires board { device.blank.board ≡ B.board }
+        requires named { device.blank.opening ≡ B.opening }
         requires geometry { device.keeper.geometry ≡ B.geometry }
+        requires image { device.keeper.geometry.blocks ≡ B.image.blocks }
+        requires trusted { B.trusted → IsTrusted D.state D.honest device.keeper B.image }
+        requires shown { B.shown → (handle : H) → device.beside ≡ Some handle → VouchesTruly (H.vouches handle) B.image }
         requires frames { frames ≤ 65536 }
         ensures mode { IfOk result (λ made. made.0.mode ≡ mode) }
         ensures passes { IfOk result (λ made. vec_len made.1 ≡ workers) }
         ensures known { IfOk result (λ made. made.1.items ≡ replicate workers (new_pass device.keeper.count)) }
+        ensures back { IfErr result (λ disk. disk ≡ device.keeper.disk) }
     {
         let OpenDevice {
             blank,
@@ -132,7 +165,7 @@ impl<B: ExportName, D: Disk, H: ReadBeside> Export<B, D, H> {
                     board,
                     geometry: keeper.geometry(),
                     mode,
-                    store: Mutex::new(StorageEngine::new(keeper, seat)),
+                    store: Mutex::new(StorageEngine::new(SharedKeeper::new(keeper, seat))),
                     queue: Mutex::new(CommitQueue::new(order, frames, workers, settled)),
                     beside,
                     buffers: Mutex::new(BufferPool::new(alloc)),
@@ -149,6 +182,34 @@ impl<B: ExportName, D: Disk, H: ReadBeside> Export<B, D, H> {
     /// Whether a call of the device has failed: commands are refused from then on.
     pub fn stopped<R: Wait>(&self, rt: &R) -> bool {
         self.queue.lock(rt).stopped()
+    }
+
+    /// The device, as it is. What is pending is lost.
+    ///
+    /// The pass then knows the one history of all that was accepted, which begins with what it knew. Whatever a crash may leave of the
+    /// device stands for the image as the opening found it after a beginning of that history, with all that the pass knows to be
+    /// durable.
+    pub fn close(self, pass: &mut Pass<B>) -> D
+        ensures knew { IsPrefix pass.old.history pass.new.history }
+        ensures left { B.trusted → (content : List ℕ) → MayLeave (D.state result) content → StandsWithin B.opening B.image pass.new.history pass.old.durable content }
+    {
+        let Export {
+            alloc: _,
+            board,
+            geometry: _,
+            mode: _,
+            store,
+            queue,
+            beside: _,
+            buffers: _,
+            settled: _,
+            work: _,
+            checkpoint_due: _,
+        } = self;
+        let mut engine = store.into_inner();
+        let mut queue = queue.into_inner();
+        engine.meet_all(&mut queue, &board, pass);
+        engine.into_keeper().into_disk()
     }
 
     /// The device, as it is. What is pending is lost.
@@ -177,11 +238,14 @@ fn open_parts<B: ExportName, D: Disk>(
     keeper: &Keeper<D>,
     frames: u32,
     workers: usize,
-) -> Result<(Board<B>, KeeperSeat<B>, Order<B>, Vec<Pass<B>>), AllocError>
+) -> Result<(Board<B>, KeeperSeat<B>, SharedOrder<B>, Vec<Pass<B>>), AllocError>
     requires board { blank.board ≡ B.board }
+    requires named { blank.opening ≡ B.opening }
     requires opening { blank.opening ≡ keeper.now.count }
+    requires image { keeper.now.geometry.blocks ≡ B.image.blocks }
+    requires held { B.trusted → Holds keeper.now (D.state keeper.now.disk) B.image [] [] }
     requires frames { frames ≤ 65536 }
-    ensures seat { IfOk result (λ parts. parts.1.durable ≤ keeper.now.count) }
+    ensures seat { IfOk result (λ parts. parts.1 ≡ record { history = []; accepted = keeper.now.count; durable = keeper.now.count; base = keeper.now.count }) }
     ensures blocks { IfOk result (λ parts. length parts.2.cache.states ≡ keeper.now.geometry.blocks) }
     ensures passes { IfOk result (λ parts. vec_len parts.3 ≡ workers) }
     ensures known { IfOk result (λ parts. parts.3.items ≡ replicate workers (new_pass keeper.now.count)) }
@@ -193,5 +257,5 @@ fn open_parts<B: ExportName, D: Disk>(
         passes,
     } = blank.open::<B>(alloc, workers)?;
     let order = fresh_order(alloc, keeper, frames, line)?;
-    Ok((board, seat, order, passes))
+    Ok((board, seat, SharedOrder::new(order), passes))
 }

@@ -5,9 +5,8 @@ use crate::gathering::Pace;
 use crate::name::ExportName;
 use crate::storage_engine::StorageEngine;
 use crate::sync_points::{Point, SyncPoints};
-use checkpoint::KeeperFault;
 use disk_model::Disk;
-use journal::Group;
+use shared_store::{SealedGroup, Unstored};
 use std::rt::Clock;
 use std::sync::Wait;
 use std::thread;
@@ -33,7 +32,7 @@ impl<B: ExportName, D: Disk, H: ReadBeside> Export<B, D, H> {
     }
 
     // The next group that is to be stored, once there is one.
-    fn next_group<R: Wait + Clock>(&self, rt: &R, pace: &mut Pace) -> Option<Group> {
+    fn next_group<R: Wait + Clock>(&self, rt: &R, pace: &mut Pace) -> Option<SealedGroup<B>> {
         for _ in rt.forever() {
             let mut queue = self.queue.lock(rt);
             if queue.stopped() || queue.is_done() {
@@ -43,7 +42,7 @@ impl<B: ExportName, D: Disk, H: ReadBeside> Export<B, D, H> {
                 self.wait_for_work(rt, queue);
             } else if let Some(left) = time_to_gather(rt, &*queue, pace) {
                 let _woken = self.work.wait_timeout(rt, queue, left);
-            } else if let Ok(Some(group)) = queue.seal() {
+            } else if let Ok(Some(group)) = queue.seal(&self.board) {
                 pace.seal();
                 return Some(group);
             } else {
@@ -61,7 +60,7 @@ impl<B: ExportName, D: Disk, H: ReadBeside> Export<B, D, H> {
         rt: &R,
         points: &mut G,
         pace: &mut Pace,
-        group: Group,
+        group: SealedGroup<B>,
     ) {
         let mut waiting = Some(group);
         for _ in rt.forever() {
@@ -72,7 +71,7 @@ impl<B: ExportName, D: Disk, H: ReadBeside> Export<B, D, H> {
         }
         // The loop has no end but that one; a group has to be spent on each way out.
         if let Some(group) = waiting {
-            let _parts = group.into_parts();
+            group.let_go();
         }
     }
 
@@ -82,24 +81,28 @@ impl<B: ExportName, D: Disk, H: ReadBeside> Export<B, D, H> {
         rt: &R,
         points: &mut G,
         pace: &mut Pace,
-        group: Group,
-    ) -> Option<Group> {
+        group: SealedGroup<B>,
+    ) -> Option<SealedGroup<B>> {
         let mut store = self.store.lock(rt);
         let begin = Instant::now(rt).ok();
         points.reach(Point::Append);
-        match store.append(group) {
+        match store.append(&self.board, group) {
             Ok(()) => {
                 pace.note(rt, begin);
                 self.publish(rt, &mut *store);
                 None
             }
-            Err((KeeperFault::NoMemory, group)) => {
+            Err(Unstored::NoMemory(group)) => {
                 drop(store);
                 thread::yield_now();
                 Some(group)
             }
-            Err((fault, group)) => {
-                self.take_back(rt, fault, group);
+            Err(Unstored::AreaFull(group)) => {
+                self.take_back(rt, group);
+                None
+            }
+            Err(Unstored::Failed) => {
+                self.fail(rt);
                 None
             }
         }
@@ -119,20 +122,19 @@ impl<B: ExportName, D: Disk, H: ReadBeside> Export<B, D, H> {
         self.signal(false, wanted);
     }
 
-    // Makes a group pending again that doesn't fit the area, or that the device didn't take.
-    fn take_back<R: Wait>(&self, rt: &R, fault: KeeperFault, group: Group) {
+    // Makes a group pending again that doesn't fit the area.
+    fn take_back<R: Wait>(&self, rt: &R, group: SealedGroup<B>) {
         let mut queue = self.queue.lock(rt);
-        queue.take_back(group);
-        if fault == KeeperFault::AreaFull {
-            queue.find_full();
-            drop(queue);
-            self.signal(false, true);
-        } else {
-            // Groups follow one another, so the device has failed.
-            queue.stop();
-            drop(queue);
-            self.tell_all();
-        }
+        queue.take_back(&self.board, group);
+        queue.find_full();
+        drop(queue);
+        self.signal(false, true);
+    }
+
+    // A call of the device has failed: commands are refused from now on.
+    pub(crate) fn fail<R: Wait>(&self, rt: &R) {
+        self.queue.lock(rt).stop();
+        self.tell_all();
     }
 }
 

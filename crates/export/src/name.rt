@@ -1,11 +1,11 @@
-use marks::BoardName;
+use shared_store::ImageName;
 use std::marker::Brand;
 
-/// Which export it is: its board, and the sizes of its image, so that what lies under its two locks is of one size.
+/// Which export it is: its board and image, and the sizes of that, so that what lies under its two locks is of one size.
 ///
 /// A program opens an export in a function that is generic over its name, with what it opens as a premise. Who calls that
 /// function passes `Brand`, and says in the file of its invariants that the name's board and sizes are these.
-pub trait ExportName: BoardName {
+pub trait ExportName: ImageName {
     ghost use Rattle.image_model.specs.declared.geometry.Geometry.{Geometry};
 
     ghost geometry: { Geometry };

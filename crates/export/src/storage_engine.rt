@@ -1,17 +1,20 @@
 //! What lies under the keeper's lock.
-ghost use Rattle.std.specs.Prelude.{◌≡◌, ◌≢◌, ◌≤◌, ◌<◌, ◌^◌};
-ghost use Rattle.export.specs.Submits.{FitsServed, IsServedFor};
+ghost use Rattle.std.specs.Prelude.{◌≡◌, ◌≢◌, ◌≤◌, ◌<◌, ◌^◌, ℕ, List};
+ghost use mathlib.Core.List.{IsPrefix};
+ghost use Rattle.disk_model.specs.Disk.{MayLeave};
+ghost use Rattle.export.specs.inner.Submits.{FitsServed, IsServedFor};
 ghost use Rattle.order_book.specs.Order.{with_durable};
+ghost use Rattle.shared_store.specs.Parts.{StandsWithin};
 
 use crate::commit_queue::CommitQueue;
 use crate::name::ExportName;
 use checkpoint::{Keeper, KeeperFault};
 use disk_model::Disk;
 use journal::Group;
-use marks::{Board, KeeperSeat, Pass};
+use marks::{Board, Pass};
 use nbd_wire::Request;
-use order_book::{Order, SeatedKeeper};
 use request_core::{Served, Terms};
+use shared_store::{SealedGroup, SharedKeeper, SharedOrder, Unstored};
 use std::alloc::Global;
 
 /// The most blocks that are copied in a hold of the keeper's lock: 1 MiB.
@@ -40,15 +43,15 @@ pub(crate) enum Stage {
 
 /// The keeper of an export with its seat, and how much of the area is used.
 pub(crate) struct StorageEngine<B: ExportName, D: Disk> {
-    seated: SeatedKeeper<B, D>,
+    shared: SharedKeeper<B, D>,
     // The bytes of the area that groups take.
     used: u64,
-    ghost geometry: { seated.keeper.geometry ≡ B.geometry },
+    ghost geometry: { shared.keeper.geometry ≡ B.geometry },
 }
 
 impl<B: ExportName, D: Disk + Drop> Drop for StorageEngine<B, D> {
     fn drop(self) {
-        let StorageEngine { seated: _, used: _ } = self;
+        let StorageEngine { shared: _, used: _ } = self;
     }
 }
 
@@ -62,56 +65,57 @@ fn bytes_of(group: &Group) -> u64 {
 }
 
 impl<B: ExportName, D: Disk> StorageEngine<B, D> {
-    pub(crate) fn new(keeper: Keeper<D>, seat: KeeperSeat<B>) -> StorageEngine<B, D>
-        requires geometry { keeper.geometry ≡ B.geometry }
-        requires stored { seat.durable ≤ keeper.count }
+    pub(crate) fn new(shared: SharedKeeper<B, D>) -> StorageEngine<B, D>
+        requires { shared.keeper.geometry ≡ B.geometry }
     {
-        StorageEngine {
-            seated: SeatedKeeper { seat, keeper },
-            used: 0,
-        }
-    }
-
-    /// The keeper.
-    pub(crate) fn keeper(&self) -> &Keeper<D> {
-        &self.seated.keeper
+        StorageEngine { shared, used: 0 }
     }
 
     /// The keeper, as it is.
-    pub(crate) fn into_keeper(self) -> Keeper<D> {
-        let StorageEngine { seated, used: _ } = self;
-        let SeatedKeeper { seat: _, keeper } = seated;
-        keeper
+    pub(crate) fn into_keeper(self) -> Keeper<D>
+        ensures { result ≡ self.shared.keeper }
+    {
+        let StorageEngine { shared, used: _ } = self;
+        shared.into_keeper()
     }
 
     /// Whether half of the area is used.
     pub(crate) fn is_filling(&self) -> bool {
-        self.used.saturating_mul(2) >= self.seated.keeper.geometry().area as u64
+        self.used.saturating_mul(2) >= self.shared.keeper().geometry().area as u64
     }
 
-    /// Stores a group; one that is refused comes back.
-    pub(crate) fn append(&mut self, group: Group) -> Result<(), (KeeperFault, Group)> {
-        let bytes = bytes_of(&group);
-        self.seated.keeper.append(group)?;
+    /// Stores a sealed group; one that may be stored later comes back.
+    pub(crate) fn append(
+        &mut self,
+        board: &Board<B>,
+        sealed: SealedGroup<B>,
+    ) -> Result<(), Unstored<B>> {
+        let bytes = bytes_of(sealed.group());
+        self.shared.append(board, sealed)?;
         self.used = self.used.saturating_add(bytes);
         Ok(())
     }
 
     /// Carries out a step of a checkpoint, and gives the next one. The blocks that it copies are added to `copied`.
-    pub(crate) fn take(&mut self, stage: Stage, copied: &mut u64) -> Result<Stage, KeeperFault> {
+    pub(crate) fn take(
+        &mut self,
+        board: &Board<B>,
+        stage: Stage,
+        copied: &mut u64,
+    ) -> Result<Stage, KeeperFault> {
         match stage {
             Stage::Rotate => {
-                self.seated.keeper.rotate()?;
+                self.shared.rotate()?;
                 self.used = 0;
                 Ok(Stage::Copy)
             }
             Stage::Copy => self.copy(copied),
             Stage::Map => {
-                self.seated.keeper.write_map()?;
+                self.shared.write_map()?;
                 Ok(Stage::Finish)
             }
             Stage::Finish => {
-                self.seated.keeper.finish()?;
+                self.shared.finish(board)?;
                 Ok(Stage::Done)
             }
             Stage::Done => Ok(Stage::Done),
@@ -125,7 +129,7 @@ impl<B: ExportName, D: Disk> StorageEngine<B, D> {
             if left == 0 {
                 break;
             }
-            match self.seated.keeper.copy_some(left) {
+            match self.shared.copy_some(left) {
                 Ok(blocks) => {
                     *copied = copied.saturating_add(blocks as u64);
                     left -= blocks;
@@ -149,16 +153,38 @@ impl<B: ExportName, D: Disk> StorageEngine<B, D> {
     ) -> Served
         requires kind { request.head.kind ≢ 2 }
         requires geometry { terms.geometry ≡ B.geometry }
-        ensures served { IsServedFor request terms.mode pass.old pass.new result }
+        ensures served { IsServedFor B.opening request terms.mode pass.old pass.new result }
         ensures fits { FitsServed terms.geometry terms.flags request result }
     {
-        queue.serve_with(alloc, request, &mut self.seated.keeper, board, pass, terms)
+        queue.serve_with(alloc, request, &mut self.shared, board, pass, terms)
+    }
+
+    /// Lets the frames of a queue go whose blocks map and data hold.
+    pub(crate) fn clean(&mut self, queue: &mut CommitQueue<B>, board: &Board<B>)
+        ensures { queue.new.settled ≡ self.old.shared.keeper.base }
+    {
+        queue.clean(board, &mut self.shared);
+    }
+
+    /// Keeper and pass meet the order: the pass knows all of the history then, and what it knows to be durable is stored.
+    pub(crate) fn meet_all(
+        &mut self,
+        queue: &mut CommitQueue<B>,
+        board: &Board<B>,
+        pass: &mut Pass<B>,
+    )
+        ensures same { self.new.shared.keeper ≡ self.old.shared.keeper }
+        ensures knew { IsPrefix pass.old.history pass.new.history }
+        ensures left { B.trusted → (content : List ℕ) → MayLeave (D.state self.old.shared.keeper.disk) content
+            → StandsWithin B.opening B.image pass.new.history pass.old.durable content }
+    {
+        queue.meet_all(board, &mut self.shared, pass);
     }
 
     /// Makes durable in the order what is stored.
-    pub(crate) fn publish(&mut self, board: &Board<B>, order: &mut Order<B>)
-        ensures { order.new ≡ with_durable order.old self.old.seated.keeper.count }
+    pub(crate) fn publish(&mut self, board: &Board<B>, order: &mut SharedOrder<B>)
+        ensures { order.new ≡ with_durable order.old self.old.shared.keeper.count }
     {
-        order.publish(board, &mut self.seated.seat, &self.seated.keeper);
+        order.publish(board, &mut self.shared);
     }
 }

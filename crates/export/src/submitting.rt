@@ -1,6 +1,8 @@
 ghost use Rattle.std.specs.Prelude.{◌≡◌, ◌≢◌, ◌≤◌, ◌<◌, ◌+◌, ◌-◌, ◌*◌, max, IfNone, IfSome, OnOk, length, slice_range, vec_len};
-ghost use Rattle.export.specs.Submits.{FitsServed, IsJudged, IsServedFor, IsSubmitted, IsWaitedFor};
-ghost use Rattle.export.specs.Outcomes.{FitsOutcome, IsOutcomeFor};
+ghost use mathlib.Core.List.{IsPrefix};
+ghost use Rattle.export.specs.Submits.{IsCovered, IsJudged, IsSubmitted};
+ghost use Rattle.export.specs.inner.Submits.{FitsServed, IsServedFor, IsWaitedFor};
+ghost use Rattle.export.specs.inner.Outcomes.{FitsOutcome, IsOutcomeFor};
 ghost use Rattle.marks.specs.Known.{PassState, known};
 ghost use Rattle.nbd_reply.specs.Reply.{IsAnswerTo};
 ghost use Rattle.nbd_wire.specs.declared.message.Answer.TheVariants as Answer;
@@ -31,6 +33,9 @@ impl<B: ExportName, D: Disk, H: ReadBeside> Export<B, D, H> {
     pub fn flush_now(&self, pass: &mut Pass<B>) -> Option<Answer>
         ensures done { IfSome result (λ answer. (answer ≡ Answer.Done) × (known pass.old ≤ pass.new.accepted) × (pass.new.accepted ≤ pass.new.durable)) }
         ensures none { IfNone result (pass.new.durable < pass.new.accepted) }
+        ensures knew { IsPrefix pass.old.history pass.new.history }
+        ensures covered { IfSome result (λ answer. IsCovered B.opening pass.old pass.new) }
+        ensures own { pass.new.own ≡ pass.old.own }
     {
         let accepted = self.board.look_accepted(pass);
         let durable = self.board.look_durable(pass);
@@ -42,16 +47,19 @@ impl<B: ExportName, D: Disk, H: ReadBeside> Export<B, D, H> {
 
     /// What a pass knows once it has looked at what was accepted, for another pass to learn.
     pub fn tell(&self, pass: &mut Pass<B>) -> Told<B>
-        ensures told { result ≡ record { accepted = pass.new.accepted; durable = pass.new.durable } }
+        ensures told { result ≡ record { history = pass.new.history; accepted = pass.new.accepted; durable = pass.new.durable } }
         ensures known { known pass.old ≤ pass.new.accepted }
-        ensures pass { pass.new ≡ record pass.old { accepted = pass.new.accepted } }
+        ensures knew { IsPrefix pass.old.history pass.new.history }
+        ensures pass { pass.new ≡ record pass.old { history = pass.new.history; accepted = pass.new.accepted } }
     {
         self.board.tell(pass)
     }
 
-    /// A pass learns what another one told: it then knows no less than both.
+    /// A pass learns what another one told: it then knows no less than both, and what both knew of the history begins what it knows.
     pub fn learn(&self, pass: &mut Pass<B>, told: Told<B>)
-        ensures { pass.new ≡ record pass.old { accepted = max pass.old.accepted told.accepted; durable = max pass.old.durable told.durable } }
+        ensures knew { IsPrefix pass.old.history pass.new.history }
+        ensures told { IsPrefix told.history pass.new.history }
+        ensures pass { pass.new ≡ record pass.old { history = pass.new.history; accepted = max pass.old.accepted told.accepted; durable = max pass.old.durable told.durable } }
     {
         self.board.learn(pass, told);
     }
@@ -71,7 +79,7 @@ impl<B: ExportName, D: Disk, H: ReadBeside> Export<B, D, H> {
     ) -> Reply
         requires { request.head.kind ≢ 2 }
         ensures cookie { result.cookie ≡ request.head.cookie }
-        ensures submitted { IsSubmitted request self.now.mode pass.old pass.new result.answer }
+        ensures submitted { IsSubmitted B.opening request self.now.mode pass.old pass.new result.answer }
         ensures kind { IsAnswerTo flags.now request.head.kind result.answer }
         ensures judged { IsJudged (verdict request.head self.now.geometry flags.now) request result.answer }
     {
@@ -109,7 +117,7 @@ impl<B: ExportName, D: Disk, H: ReadBeside> Export<B, D, H> {
     fn serve<R: Wait>(&self, rt: &R, pass: &mut Pass<B>, request: Request, terms: Terms) -> Outcome
         requires kind { request.head.kind ≢ 2 }
         requires geometry { terms.geometry ≡ B.geometry }
-        ensures outcome { IsOutcomeFor request terms.mode pass.old pass.new result }
+        ensures outcome { IsOutcomeFor B.opening request terms.mode pass.old pass.new result }
         ensures fits { FitsOutcome terms.geometry terms.flags request result }
     {
         let mut request = request;
@@ -174,7 +182,7 @@ impl<B: ExportName, D: Disk, H: ReadBeside> Export<B, D, H> {
         requires kind { request.head.kind ≢ 2 }
         requires geometry { terms.geometry ≡ B.geometry }
         requires planned { IfSome planned (λ planned. IsPlanned request.head terms.geometry terms.flags planned.span) }
-        ensures served { IsServedFor request terms.mode pass.old pass.new result }
+        ensures served { IsServedFor B.opening request terms.mode pass.old pass.new result }
         ensures fits { FitsServed terms.geometry terms.flags request result }
     {
         let Some(planned) = planned else {
@@ -197,7 +205,7 @@ impl<B: ExportName, D: Disk, H: ReadBeside> Export<B, D, H> {
     ) -> Option<Served>
         requires geometry { terms.now.geometry ≡ B.geometry }
         requires planned { IsPlanned request.now.head terms.now.geometry terms.now.flags planned.span }
-        ensures served { (pass : PassState) → IfSome result (λ served. IsServedFor request.now terms.now.mode pass pass served) }
+        ensures served { (pass : PassState) → IfSome result (λ served. IsServedFor B.opening request.now terms.now.mode pass pass served) }
         ensures fits { IfSome result (λ served. FitsServed terms.now.geometry terms.now.flags request.now served) }
     {
         let handle = self.beside.as_ref()?;
@@ -209,7 +217,7 @@ impl<B: ExportName, D: Disk, H: ReadBeside> Export<B, D, H> {
             self.read_span(handle, blocks.first, planned.span, &mut bytes)
                 .ok()?;
             let mut queue = self.queue.lock(rt);
-            match queue.serve_over(self.alloc, request, planned, bytes, terms) {
+            match queue.serve_over(self.alloc, handle, request, planned, bytes, terms) {
                 Ok(served) => return Some(served),
                 Err(back) => bytes = back,
             }
@@ -264,7 +272,7 @@ impl<B: ExportName, D: Disk, H: ReadBeside> Export<B, D, H> {
     ) -> Served
         requires kind { request.head.kind ≢ 2 }
         requires geometry { terms.geometry ≡ B.geometry }
-        ensures served { IsServedFor request terms.mode pass.old pass.new result }
+        ensures served { IsServedFor B.opening request terms.mode pass.old pass.new result }
         ensures fits { FitsServed terms.geometry terms.flags request result }
     {
         let mut store = self.store.lock(rt);

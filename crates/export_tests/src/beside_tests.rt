@@ -3,6 +3,7 @@ ghost use Rattle.std.specs.Prelude.{◌≡◌, ◌+◌, ◌*◌, ◌<◌, ◌≤
 
 use crate::memory_file::{HeldHandle, Latch, MemoryFile, wait_for_turn};
 use crate::requests::{flush, reads_back, trim_block, write_block};
+use crate::threads::start_storing;
 use checkpoint::Keeper;
 use disk_model::{Disk, FileDisk};
 use export::{Export, ExportName, OpenDevice, ReadBeside};
@@ -14,7 +15,7 @@ use std::marker::Brand;
 use std::rt::Clock;
 use std::sync::atomic::{AtomicU64, Ordering};
 use std::sync::{Mutex, Wait};
-use std::thread::{self, Threads};
+use std::thread::{self, Scope, Threads};
 
 // In so many turns a READ of the block with the turn's number is held.
 const TURNS: u64 = 8;
@@ -136,28 +137,41 @@ fn run_turns<
     let reads = passes.pop()?;
     let writes = passes.pop()?;
     thread::scope(thread::scope_env(), rt, move |scope| {
-        let flusher = scope.spawn(move || export.flusher(rt, &mut ()));
-        let mut have_started = flusher.is_ok()
-            && scope
-                .spawn(move || export.checkpointer(rt, &mut ()))
-                .is_ok();
-        if !have_started {
-            export.leave(rt, reads);
-        } else if let Err(refused) = scope.spawn(move || read_turns(
-            rt, alloc, export, reads, turns,
-        )) {
-            // Its pass leaves all the same, with no turn to wait for.
-            have_started = false;
-            turns.asked.store(TURNS, Ordering::SeqCst);
-            (refused.value)();
-        }
-        if have_started {
-            Some(write_turns(rt, alloc, export, writes, turns, latch))
-        } else {
-            export.leave(rt, writes);
-            None
-        }
+        start_turns(scope, rt, alloc, export, reads, writes, turns, latch)
     })
+}
+
+fn start_turns<'s, E, B, D, H, R>(
+    scope: &Scope<'s, E>,
+    rt: &'s R,
+    alloc: Global,
+    export: &'s Export<B, D, H>,
+    reads: Pass<B>,
+    writes: Pass<B>,
+    turns: &'s Turns,
+    latch: &Latch,
+) -> Option<bool>
+where
+    B: ExportName + Send + Sync + 's,
+    D: Disk + Send + 's,
+    H: ReadBeside + Send + Sync + 's,
+    R: Wait + Clock + Sync + 's,
+{
+    let mut have_started = start_storing(scope, rt, export);
+    if !have_started {
+        export.leave(rt, reads);
+    } else if let Err(refused) = scope.spawn(move || read_turns(rt, alloc, export, reads, turns)) {
+        // Its pass leaves all the same, with no turn to wait for.
+        have_started = false;
+        turns.asked.store(TURNS, Ordering::SeqCst);
+        (refused.value)();
+    }
+    if have_started {
+        Some(write_turns(rt, alloc, export, writes, turns, latch))
+    } else {
+        export.leave(rt, writes);
+        None
+    }
 }
 
 fn run_over<
@@ -167,6 +181,10 @@ fn run_over<
     R: Threads + Wait + Clock + Sync,
 >(rt: &R, alloc: Global, device: OpenDevice<D, H>, latch: &Latch) -> Option<bool>
     requires board { device.blank.board ≡ B.board }
+    requires named { device.blank.opening ≡ B.opening }
+    requires image { device.keeper.geometry.blocks ≡ B.image.blocks }
+    requires trusted { B.trusted → ⊥ }
+    requires shown { B.shown → ⊥ }
     requires geometry { device.keeper.geometry ≡ B.geometry }
 {
     let (export, passes) = Export::<B, D, H>::open(alloc, device, 512, Mode::Writeback, 2).ok()?;

@@ -2,9 +2,10 @@
 ghost use Rattle.std.specs.Prelude.{◌≡◌, ◌*◌, ◌+◌, ◌<◌, ◌≤◌, ◌^◌};
 
 use crate::requests::{flush, fresh_that_stops, has_block, write_block};
+use crate::threads::{Task, serve_all};
 use checkpoint::Keeper;
-use disk_model::{CrashChoice, SimDisk};
-use export::{Export, ExportName, OpenDevice};
+use disk_model::{CrashChoice, Disk, SimDisk};
+use export::{Export, ExportName, OpenDevice, ReadBeside};
 use marks::Pass;
 use request_core::Mode;
 use std::alloc::Global;
@@ -12,7 +13,7 @@ use std::marker::Brand;
 use std::rt::Clock;
 use std::sync::atomic::{AtomicU64, Ordering};
 use std::sync::{Mutex, Wait};
-use std::thread::{self, Threads};
+use std::thread::Threads;
 
 // The blocks of a thread, and how often it writes each.
 const BLOCKS: u64 = 16;
@@ -20,28 +21,36 @@ const BLOCKS: u64 = 16;
 const ROUNDS: u64 = 20;
 
 // Writes the blocks of the next place, round for round, each confirmed by a FLUSH, up to a round that isn't. Notes how many were.
-fn write_rounds<B: ExportName, R: Wait>(
-    rt: &R,
-    alloc: Global,
-    export: &Export<B, SimDisk, ()>,
-    mut pass: Pass<B>,
-    places: &AtomicU64,
-    confirmed: &Mutex<[u64; 8]>,
-) {
-    let place = places.fetch_add(1, Ordering::SeqCst) % 8;
-    for round in 1..ROUNDS + 1 {
-        if !write_round(rt, alloc, export, &mut pass, place * BLOCKS, round) {
-            break;
-        }
-        confirmed.lock(rt)[place as usize] = round;
-    }
-    export.leave(rt, pass);
+#[derive(Drop)]
+struct WriteRounds {
+    places: AtomicU64,
+    confirmed: Mutex<[u64; 8]>,
 }
 
-fn write_round<B: ExportName, R: Wait>(
+impl Task for WriteRounds {
+    fn run<B: ExportName, D: Disk, H: ReadBeside, R: Wait + Clock>(
+        &self,
+        rt: &R,
+        alloc: Global,
+        export: &Export<B, D, H>,
+        pass: Pass<B>,
+    ) {
+        let mut pass = pass;
+        let place = self.places.fetch_add(1, Ordering::SeqCst) % 8;
+        for round in 1..ROUNDS + 1 {
+            if !write_round(rt, alloc, export, &mut pass, place * BLOCKS, round) {
+                break;
+            }
+            self.confirmed.lock(rt)[place as usize] = round;
+        }
+        export.leave(rt, pass);
+    }
+}
+
+fn write_round<B: ExportName, D: Disk, H: ReadBeside, R: Wait>(
     rt: &R,
     alloc: Global,
-    export: &Export<B, SimDisk, ()>,
+    export: &Export<B, D, H>,
     pass: &mut Pass<B>,
     first: u64,
     round: u64,
@@ -64,33 +73,18 @@ fn serve_eight<B: ExportName + Send + Sync, R: Threads + Wait + Clock + Sync>(
     export: &Export<B, SimDisk, ()>,
     passes: Vec<Pass<B>>,
 ) -> Option<[u64; 8]> {
-    let next = AtomicU64::new(0);
-    let rounds = Mutex::new([0; 8]);
-    let places = &next;
-    let confirmed = &rounds;
-    let have_started = thread::scope(thread::scope_env(), rt, move |scope| {
-        let flusher = scope.spawn(move || export.flusher(rt, &mut ()));
-        let mut have_started = flusher.is_ok()
-            && scope
-                .spawn(move || export.checkpointer(rt, &mut ()))
-                .is_ok();
-        for pass in passes {
-            if !have_started {
-                export.leave(rt, pass);
-            } else if let Err(refused) = scope.spawn(move || write_rounds(
-                rt, alloc, export, pass, places, confirmed,
-            )) {
-                have_started = false;
-                (refused.value)();
-            }
-        }
-        have_started
-    });
-    if have_started {
-        Some(rounds.into_inner())
-    } else {
-        None
+    let task = WriteRounds {
+        places: AtomicU64::new(0),
+        confirmed: Mutex::new([0; 8]),
+    };
+    if !serve_all(rt, alloc, export, passes, &task) {
+        return None;
     }
+    let WriteRounds {
+        places: _,
+        confirmed,
+    } = task;
+    Some(confirmed.into_inner())
 }
 
 // What came of a run: whether the device stopped, how many rounds were confirmed, the number that it opens with again, and whether
@@ -110,6 +104,10 @@ fn run<B: ExportName + Send + Sync, R: Threads + Wait + Clock + Sync>(
     choice: CrashChoice,
 ) -> Option<Ran>
     requires board { device.blank.board ≡ B.board }
+    requires named { device.blank.opening ≡ B.opening }
+    requires image { device.keeper.geometry.blocks ≡ B.image.blocks }
+    requires trusted { B.trusted → ⊥ }
+    requires shown { B.shown → ⊥ }
     requires geometry { device.keeper.geometry ≡ B.geometry }
 {
     let (export, passes) = Export::<B, SimDisk, ()>::open(

@@ -2,12 +2,15 @@
 ghost use Rattle.std.specs.Prelude.{◌≡◌, ◌+◌, ◌<◌, ◌^◌};
 
 use crate::requests::{flush, fresh, has_block, reads_back, write_block};
+use crate::threads::start_storing;
 use checkpoint::Keeper;
-use disk_model::SimDisk;
+use disk_model::{Disk, FileDisk};
 use export::{Export, ExportName, OpenDevice};
+use image_model::Geometry;
 use marks::Pass;
 use request_core::Mode;
 use std::alloc::Global;
+use std::fs::{self, OpenOptions};
 use std::marker::Brand;
 use std::rt::Clock;
 use std::sync::Wait;
@@ -29,10 +32,10 @@ struct Done {
 }
 
 // Writes so many blocks from one on.
-fn write_all<B: ExportName, R: Wait>(
+fn write_all<B: ExportName, D: Disk, R: Wait>(
     rt: &R,
     alloc: Global,
-    export: &Export<B, SimDisk, ()>,
+    export: &Export<B, D, ()>,
     pass: &mut Pass<B>,
     first: u64,
     count: u64,
@@ -47,10 +50,10 @@ fn write_all<B: ExportName, R: Wait>(
 }
 
 // Whether so many blocks from the first one on read back.
-fn read_all<B: ExportName, R: Wait>(
+fn read_all<B: ExportName, D: Disk, R: Wait>(
     rt: &R,
     alloc: Global,
-    export: &Export<B, SimDisk, ()>,
+    export: &Export<B, D, ()>,
     pass: &mut Pass<B>,
     count: u64,
 ) -> bool
@@ -64,10 +67,10 @@ fn read_all<B: ExportName, R: Wait>(
 }
 
 // Two passes write 20 blocks each; one tells the other, which flushes and reads all.
-fn two_passes<B: ExportName, R: Wait>(
+fn two_passes<B: ExportName, D: Disk, R: Wait>(
     rt: &R,
     alloc: Global,
-    export: &Export<B, SimDisk, ()>,
+    export: &Export<B, D, ()>,
     mut one: Pass<B>,
     mut other: Pass<B>,
 ) -> Done {
@@ -92,10 +95,10 @@ fn two_passes<B: ExportName, R: Wait>(
 
 // One pass leaves, and the other goes on. It writes 20 blocks with a FLUSH behind each, so that a group has one command, and then
 // more than there are frames, so that some wait for room. It reads all of them twice, the first ones from the device.
-fn one_pass_alone<B: ExportName, R: Wait>(
+fn one_pass_alone<B: ExportName, D: Disk, R: Wait>(
     rt: &R,
     alloc: Global,
-    export: &Export<B, SimDisk, ()>,
+    export: &Export<B, D, ()>,
     mut one: Pass<B>,
     other: Pass<B>,
 ) -> Done {
@@ -122,35 +125,32 @@ fn one_pass_alone<B: ExportName, R: Wait>(
     }
 }
 
-// Whether the image of an opened device has the bytes of the first so many blocks.
-fn has_blocks(keeper: &mut Keeper<SimDisk>, count: u64) -> bool {
+// The number that a device opens with again, and whether its image has the bytes of the first so many blocks.
+fn reopened<D: Disk + Drop>(alloc: Global, disk: D, count: u64) -> Option<(u64, bool)> {
+    let mut keeper = Keeper::open(alloc, disk).ok()?;
     for block in 0..count {
-        if !has_block(keeper, block, 1, 1) {
-            return false;
+        if !has_block(&mut keeper, block, 1, 1) {
+            return Some((keeper.count(), false));
         }
     }
-    true
+    Some((keeper.count(), true))
 }
 
-// What came of a run: what the passes did, the number that the device opens with again, and whether it has all the bytes.
-#[derive(Drop)]
-struct Ran {
-    done: Done,
-    number: u64,
-    kept: bool,
-}
-
-// Has 40 blocks written by two passes, or more by one.
-fn run<B: ExportName + Send + Sync, R: Threads + Wait + Clock + Sync>(
+// Has 40 blocks written by two passes, or more by one; what they did, and the device that is left.
+fn run<B: ExportName + Send + Sync, D: Disk + Send + Drop, R: Threads + Wait + Clock + Sync>(
     rt: &R,
     alloc: Global,
-    device: OpenDevice<SimDisk, ()>,
+    device: OpenDevice<D, ()>,
     count: u64,
-) -> Option<Ran>
+) -> Option<(Done, D)>
     requires board { device.blank.board ≡ B.board }
+    requires named { device.blank.opening ≡ B.opening }
+    requires image { device.keeper.geometry.blocks ≡ B.image.blocks }
+    requires trusted { B.trusted → ⊥ }
+    requires shown { B.shown → ⊥ }
     requires geometry { device.keeper.geometry ≡ B.geometry }
 {
-    let (export, mut passes) = Export::<B, SimDisk, ()>::open(
+    let (export, mut passes) = Export::<B, D, ()>::open(
         alloc,
         device,
         FRAMES,
@@ -160,30 +160,20 @@ fn run<B: ExportName + Send + Sync, R: Threads + Wait + Clock + Sync>(
     let other = passes.pop()?;
     let one = passes.pop()?;
     let done = with_threads(rt, alloc, &export, one, other, count == ALONE)?;
-    let mut keeper = Keeper::open(alloc, export.into_disk()).ok()?;
-    Some(Ran {
-        done,
-        number: keeper.count(),
-        kept: has_blocks(&mut keeper, count),
-    })
+    Some((done, export.into_disk()))
 }
 
 // Has the passes served while a flusher and a checkpointer run; none where these can't be started.
-fn with_threads<B: ExportName + Send + Sync, R: Threads + Wait + Clock + Sync>(
+fn with_threads<B: ExportName + Send + Sync, D: Disk + Send, R: Threads + Wait + Clock + Sync>(
     rt: &R,
     alloc: Global,
-    export: &Export<B, SimDisk, ()>,
+    export: &Export<B, D, ()>,
     one: Pass<B>,
     other: Pass<B>,
     alone: bool,
 ) -> Option<Done> {
     thread::scope(thread::scope_env(), rt, move |scope| {
-        let flusher = scope.spawn(move || export.flusher(rt, &mut ()));
-        if flusher.is_err()
-            || scope
-                .spawn(move || export.checkpointer(rt, &mut ()))
-                .is_err()
-        {
+        if !start_storing(scope, rt, export) {
             export.leave(rt, one);
             export.leave(rt, other);
             return None;
@@ -196,27 +186,50 @@ fn with_threads<B: ExportName + Send + Sync, R: Threads + Wait + Clock + Sync>(
     })
 }
 
+// Over a file, which is closed and opened anew before it is looked at.
 #[test]
 fn flushed_bytes_are_there_after_reopen(rt: HostRuntime) {
-    let device = fresh(rt.alloc(), 64, 2_097_152).expect(&rt, "a device over holes");
-    let ran = run::<Brand, _>(&rt, rt.alloc(), device, 40).expect(&rt, "two passes");
-    assert!(rt; ran.done.written);
-    assert!(rt; !ran.done.early);
-    assert!(rt; ran.done.flushed);
-    assert!(rt; ran.done.late);
-    assert!(rt; ran.done.read);
-    assert_eq!(rt; ran.number, 40);
-    assert!(rt; ran.kept);
+    let path = "flushed.img";
+    let geometry = Geometry::new(64, 2_097_152).expect(&rt, "sizes of a device");
+    let size = geometry.device_bytes();
+    let file = OpenOptions::new()
+        .read(true)
+        .write(true)
+        .create(true)
+        .truncate(true)
+        .open(&rt, path)
+        .expect(&rt, "a new file");
+    file.set_len(size)
+        .expect(&rt, "a file as long as the device");
+    let mut disk = FileDisk::new(file, size);
+    Keeper::format(rt.alloc(), &mut disk, geometry).expect(&rt, "an image of holes");
+    let device = OpenDevice::open(rt.alloc(), disk, None)
+        .ok()
+        .expect(&rt, "a device over holes");
+    let (done, disk) = run::<Brand, _, _>(&rt, rt.alloc(), device, 40).expect(&rt, "two passes");
+    drop(disk);
+    let again = OpenOptions::new()
+        .read(true)
+        .write(true)
+        .open(&rt, path)
+        .expect(&rt, "the file again");
+    let found = reopened(rt.alloc(), FileDisk::new(again, size), 40);
+    fs::remove_file(&rt, path).expect(&rt, "an end of the file");
+    assert!(rt; done.written);
+    assert!(rt; !done.early);
+    assert!(rt; done.flushed);
+    assert!(rt; done.late);
+    assert!(rt; done.read);
+    assert!(rt; found == Some((40, true)));
 }
 
 #[test]
 fn one_pass_goes_on_alone(rt: HostRuntime) {
     let device = fresh(rt.alloc(), 1024, 2_097_152).expect(&rt, "a device over holes");
-    let ran = run::<Brand, _>(&rt, rt.alloc(), device, ALONE).expect(&rt, "two passes");
-    assert!(rt; ran.done.written);
-    assert!(rt; ran.done.flushed);
-    assert!(rt; ran.done.late);
-    assert!(rt; ran.done.read);
-    assert_eq!(rt; ran.number, ALONE);
-    assert!(rt; ran.kept);
+    let (done, disk) = run::<Brand, _, _>(&rt, rt.alloc(), device, ALONE).expect(&rt, "two passes");
+    assert!(rt; done.written);
+    assert!(rt; done.flushed);
+    assert!(rt; done.late);
+    assert!(rt; done.read);
+    assert!(rt; reopened(rt.alloc(), disk, ALONE) == Some((ALONE, true)));
 }

@@ -115,6 +115,10 @@ fn run<B: ExportName + Send + Sync, R: Threads + Wait + Clock + Sync>(
     device: OpenDevice<SimDisk, ()>,
 ) -> Option<u64>
     requires board { device.blank.board ≡ B.board }
+    requires named { device.blank.opening ≡ B.opening }
+    requires image { device.keeper.geometry.blocks ≡ B.image.blocks }
+    requires trusted { B.trusted → ⊥ }
+    requires shown { B.shown → ⊥ }
     requires geometry { device.keeper.geometry ≡ B.geometry }
 {
     let (export, passes) = Export::<B, SimDisk, ()>::open(

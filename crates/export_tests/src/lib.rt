@@ -21,3 +21,5 @@ mod pass_tests;
 mod plain_tests;
 #[cfg(test)]
 mod requests;
+#[cfg(test)]
+mod threads;

@@ -2,9 +2,10 @@
 ghost use Rattle.std.specs.Prelude.{◌≡◌, ◌*◌, ◌+◌, ◌<◌, ◌≤◌, ◌^◌};
 
 use crate::requests::{flush, fresh, reads_back, write_block};
+use crate::threads::{Task, serve_all};
 use checkpoint::Keeper;
-use disk_model::SimDisk;
-use export::{Export, ExportName, OpenDevice, Point, SyncPoints};
+use disk_model::{Disk, SimDisk};
+use export::{Export, ExportName, OpenDevice, Point, ReadBeside, SyncPoints};
 use marks::Pass;
 use request_core::Mode;
 use std::alloc::Global;
@@ -21,10 +22,10 @@ const BLOCKS: u64 = 40;
 const ROUNDS: u64 = 4;
 
 // Writes the blocks of a thread over and over, flushes after each round, and reads them back.
-fn write_and_read<B: ExportName, R: Wait>(
+fn write_and_read<B: ExportName, D: Disk, H: ReadBeside, R: Wait>(
     rt: &R,
     alloc: Global,
-    export: &Export<B, SimDisk, ()>,
+    export: &Export<B, D, H>,
     mut pass: Pass<B>,
     first: u64,
 ) -> bool
@@ -38,10 +39,10 @@ fn write_and_read<B: ExportName, R: Wait>(
     good
 }
 
-fn one_round<B: ExportName, R: Wait>(
+fn one_round<B: ExportName, D: Disk, H: ReadBeside, R: Wait>(
     rt: &R,
     alloc: Global,
-    export: &Export<B, SimDisk, ()>,
+    export: &Export<B, D, H>,
     pass: &mut Pass<B>,
     first: u64,
     round: u64,
@@ -67,48 +68,35 @@ fn serve_eight<B: ExportName + Send + Sync, R: Threads + Wait + Clock + Sync>(
     export: &Export<B, SimDisk, ()>,
     passes: Vec<Pass<B>>,
 ) -> Option<bool> {
-    let next = AtomicU64::new(0);
-    let bad = AtomicBool::new(false);
-    let places = &next;
-    let failed = &bad;
-    let have_started = thread::scope(thread::scope_env(), rt, move |scope| {
-        let flusher = scope.spawn(move || export.flusher(rt, &mut ()));
-        let mut have_started = flusher.is_ok()
-            && scope
-                .spawn(move || export.checkpointer(rt, &mut ()))
-                .is_ok();
-        for pass in passes {
-            if !have_started {
-                export.leave(rt, pass);
-            } else if let Err(refused) = scope.spawn(move || serve_one(
-                rt, alloc, export, pass, places, failed,
-            )) {
-                // Its pass leaves all the same.
-                have_started = false;
-                (refused.value)();
-            }
-        }
-        have_started
-    });
-    if have_started {
-        Some(!bad.load(Ordering::SeqCst))
-    } else {
-        None
+    let task = ServePlaces {
+        places: AtomicU64::new(0),
+        failed: AtomicBool::new(false),
+    };
+    if !serve_all(rt, alloc, export, passes, &task) {
+        return None;
     }
+    Some(!task.failed.load(Ordering::SeqCst))
 }
 
-// Serves the next place for a pass.
-fn serve_one<B: ExportName, R: Wait>(
-    rt: &R,
-    alloc: Global,
-    export: &Export<B, SimDisk, ()>,
-    pass: Pass<B>,
-    places: &AtomicU64,
-    failed: &AtomicBool,
-) {
-    let place = places.fetch_add(1, Ordering::SeqCst) % 8;
-    if !write_and_read(rt, alloc, export, pass, place * BLOCKS) {
-        failed.store(true, Ordering::SeqCst);
+// Serves the next place for each pass, and notes where one wasn't answered as it had to be.
+#[derive(Drop)]
+struct ServePlaces {
+    places: AtomicU64,
+    failed: AtomicBool,
+}
+
+impl Task for ServePlaces {
+    fn run<B: ExportName, D: Disk, H: ReadBeside, R: Wait + Clock>(
+        &self,
+        rt: &R,
+        alloc: Global,
+        export: &Export<B, D, H>,
+        pass: Pass<B>,
+    ) {
+        let place = self.places.fetch_add(1, Ordering::SeqCst) % 8;
+        if !write_and_read(rt, alloc, export, pass, place * BLOCKS) {
+            self.failed.store(true, Ordering::SeqCst);
+        }
     }
 }
 
@@ -125,6 +113,10 @@ fn run<B: ExportName + Send + Sync, R: Threads + Wait + Clock + Sync>(
     device: OpenDevice<SimDisk, ()>,
 ) -> Option<Ran>
     requires board { device.blank.board ≡ B.board }
+    requires named { device.blank.opening ≡ B.opening }
+    requires image { device.keeper.geometry.blocks ≡ B.image.blocks }
+    requires trusted { B.trusted → ⊥ }
+    requires shown { B.shown → ⊥ }
     requires geometry { device.keeper.geometry ≡ B.geometry }
 {
     let (export, passes) = Export::<B, SimDisk, ()>::open(
@@ -254,6 +246,10 @@ fn run_held<B: ExportName + Send + Sync, R: Threads + Wait + Clock + Sync>(
     device: OpenDevice<SimDisk, ()>,
 ) -> Option<Ran>
     requires board { device.blank.board ≡ B.board }
+    requires named { device.blank.opening ≡ B.opening }
+    requires image { device.keeper.geometry.blocks ≡ B.image.blocks }
+    requires trusted { B.trusted → ⊥ }
+    requires shown { B.shown → ⊥ }
     requires geometry { device.keeper.geometry ≡ B.geometry }
 {
     let (export, mut passes) = Export::<B, SimDisk, ()>::open(

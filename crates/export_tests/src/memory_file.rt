@@ -1,6 +1,8 @@
 //! A file in memory, which several handles share, and a handle whose reads are held.
 use disk_model::DeviceFault;
 use export::ReadBeside;
+use marks::BoardName;
+use order_book::{Order, Span};
 use std::fs::{Metadata, OpenFile};
 use std::io::{self, ErrorKind};
 use std::os::unix::fs::FileExt;
@@ -120,6 +122,8 @@ pub struct HeldHandle<'a, R: Wait + Clock> {
 impl<'a, R: Wait + Clock> ReadBeside for HeldHandle<'a, R> {
     ghost gives = { λ handle offset bytes. Unit {0} };
 
+    ghost vouches = { λ handle first span bytes order. Unit {0} };
+
     fn read_beside(&self, offset: u64, into: &mut [u8]) -> Result<(), DeviceFault> {
         let Ok(()) = self.file.read_exact_at(into, offset) else {
             return Err(DeviceFault);
@@ -130,5 +134,15 @@ impl<'a, R: Wait + Clock> ReadBeside for HeldHandle<'a, R> {
             let _goes_on = wait_for_turn(self.file.rt, &self.latch.released, turn);
         }
         Ok(())
+    }
+
+    fn vouch<B: BoardName>(
+        &self,
+        _first: u64,
+        _span: Span,
+        _bytes: &[u8],
+        _order: &Order<B>,
+    ) -> bool {
+        true
     }
 }

@@ -2,6 +2,7 @@
 ghost use Rattle.std.specs.Prelude.{◌≡◌, ◌<◌};
 
 use crate::requests::{flush, fresh, has_changed_block, reads_changed, write_block, write_byte};
+use crate::threads::start_storing;
 use checkpoint::Keeper;
 use disk_model::SimDisk;
 use export::{Export, ExportName, OpenDevice};
@@ -73,12 +74,7 @@ fn with_threads<B: ExportName + Send + Sync, R: Threads + Wait + Clock + Sync>(
 ) -> Option<bool> {
     export.store_within(rt, Duration::from_millis(5));
     thread::scope(thread::scope_env(), rt, move |scope| {
-        let flusher = scope.spawn(move || export.flusher(rt, &mut ()));
-        if flusher.is_err()
-            || scope
-                .spawn(move || export.checkpointer(rt, &mut ()))
-                .is_err()
-        {
+        if !start_storing(scope, rt, export) {
             export.leave(rt, pass);
             return None;
         }
@@ -98,6 +94,10 @@ fn run<B: ExportName + Send + Sync, R: Threads + Wait + Clock + Sync>(
     device: OpenDevice<SimDisk, ()>,
 ) -> Option<bool>
     requires board { device.blank.board ≡ B.board }
+    requires named { device.blank.opening ≡ B.opening }
+    requires image { device.keeper.geometry.blocks ≡ B.image.blocks }
+    requires trusted { B.trusted → ⊥ }
+    requires shown { B.shown → ⊥ }
     requires geometry { device.keeper.geometry ≡ B.geometry }
 {
     let (export, mut passes) = Export::<B, SimDisk, ()>::open(

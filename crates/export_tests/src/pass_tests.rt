@@ -21,6 +21,10 @@ fn tell_and_read<B: ExportName, R: Wait>(
     device: OpenDevice<SimDisk, ()>,
 ) -> Option<(bool, u64)>
     requires board { device.blank.board ≡ B.board }
+    requires named { device.blank.opening ≡ B.opening }
+    requires image { device.keeper.geometry.blocks ≡ B.image.blocks }
+    requires trusted { B.trusted → ⊥ }
+    requires shown { B.shown → ⊥ }
     requires geometry { device.keeper.geometry ≡ B.geometry }
 {
     let (export, mut passes) = Export::<B, SimDisk, ()>::open(
@@ -116,6 +120,10 @@ fn ask_beside_a_flusher<B: ExportName + Send + Sync, R: Threads + Wait + Clock +
     device: OpenDevice<SimDisk, ()>,
 ) -> Option<Said>
     requires board { device.blank.board ≡ B.board }
+    requires named { device.blank.opening ≡ B.opening }
+    requires image { device.keeper.geometry.blocks ≡ B.image.blocks }
+    requires trusted { B.trusted → ⊥ }
+    requires shown { B.shown → ⊥ }
     requires geometry { device.keeper.geometry ≡ B.geometry }
 {
     let (export, mut passes) = Export::<B, SimDisk, ()>::open(
@@ -188,6 +196,10 @@ fn share<B: ExportName + Send + Sync, R: Threads + Wait + Clock + Sync>(
     device: OpenDevice<SimDisk, ()>,
 ) -> Option<(u64, u64, bool)>
     requires board { device.blank.board ≡ B.board }
+    requires named { device.blank.opening ≡ B.opening }
+    requires image { device.keeper.geometry.blocks ≡ B.image.blocks }
+    requires trusted { B.trusted → ⊥ }
+    requires shown { B.shown → ⊥ }
     requires geometry { device.keeper.geometry ≡ B.geometry }
 {
     let (export, passes) = Export::<B, SimDisk, ()>::open(

@@ -3,8 +3,9 @@
 ghost use Rattle.std.specs.Prelude.{◌≡◌, ◌*◌, ◌+◌, ◌<◌, ◌≤◌, ◌^◌};
 
 use crate::requests::{flush, fresh, reads_back, trim_block, write_block};
-use disk_model::SimDisk;
-use export::{Export, ExportName, OpenDevice};
+use crate::threads::{Task, serve_all};
+use disk_model::{Disk, SimDisk};
+use export::{Export, ExportName, OpenDevice, ReadBeside};
 use marks::Pass;
 use request_core::Mode;
 use std::alloc::Global;
@@ -12,7 +13,7 @@ use std::marker::Brand;
 use std::rt::Clock;
 use std::sync::atomic::{AtomicU64, Ordering};
 use std::sync::{Mutex, Wait};
-use std::thread::{self, Threads};
+use std::thread::Threads;
 
 // The blocks of a thread, and how many requests it sends.
 const BLOCKS: u64 = 60;
@@ -44,10 +45,10 @@ fn next(seed: u64) -> u64 {
 }
 
 // Sends one request to a block of a thread, and notes what it leaves.
-fn take_turn<B: ExportName, R: Wait>(
+fn take_turn<B: ExportName, D: Disk, H: ReadBeside, R: Wait>(
     rt: &R,
     alloc: Global,
-    export: &Export<B, SimDisk, ()>,
+    export: &Export<B, D, H>,
     pass: &mut Pass<B>,
     plain: &mut Plain,
     first: u64,
@@ -77,33 +78,41 @@ fn take_turn<B: ExportName, R: Wait>(
     }
 }
 
-// Serves the next place.
-fn serve_one<B: ExportName, R: Wait>(
-    rt: &R,
-    alloc: Global,
-    export: &Export<B, SimDisk, ()>,
-    mut pass: Pass<B>,
-    places: &AtomicU64,
-    images: &Mutex<[Plain; 8]>,
-) {
-    let place = places.fetch_add(1, Ordering::SeqCst) % 8;
-    let mut plain = UNTOUCHED;
-    let mut drawn = 0x2545_f491_4f6c_dd1d ^ (place << 40);
-    for turn in 1..TURNS + 1 {
-        drawn = next(drawn);
-        take_turn(
-            rt,
-            alloc,
-            export,
-            &mut pass,
-            &mut plain,
-            place * BLOCKS,
-            drawn,
-            turn,
-        );
+// Serves the next place for each pass, and keeps what its blocks then hold.
+#[derive(Drop)]
+struct ServePlaces {
+    places: AtomicU64,
+    images: Mutex<[Plain; 8]>,
+}
+
+impl Task for ServePlaces {
+    fn run<B: ExportName, D: Disk, H: ReadBeside, R: Wait + Clock>(
+        &self,
+        rt: &R,
+        alloc: Global,
+        export: &Export<B, D, H>,
+        pass: Pass<B>,
+    ) {
+        let mut pass = pass;
+        let place = self.places.fetch_add(1, Ordering::SeqCst) % 8;
+        let mut plain = UNTOUCHED;
+        let mut drawn = 0x2545_f491_4f6c_dd1d ^ (place << 40);
+        for turn in 1..TURNS + 1 {
+            drawn = next(drawn);
+            take_turn(
+                rt,
+                alloc,
+                export,
+                &mut pass,
+                &mut plain,
+                place * BLOCKS,
+                drawn,
+                turn,
+            );
+        }
+        self.images.lock(rt)[place as usize] = plain;
+        export.leave(rt, pass);
     }
-    images.lock(rt)[place as usize] = plain;
-    export.leave(rt, pass);
 }
 
 fn serve_eight<B: ExportName + Send + Sync, R: Threads + Wait + Clock + Sync>(
@@ -112,33 +121,15 @@ fn serve_eight<B: ExportName + Send + Sync, R: Threads + Wait + Clock + Sync>(
     export: &Export<B, SimDisk, ()>,
     passes: Vec<Pass<B>>,
 ) -> Option<[Plain; 8]> {
-    let next_place = AtomicU64::new(0);
-    let all = Mutex::new([UNTOUCHED; 8]);
-    let places = &next_place;
-    let images = &all;
-    let have_started = thread::scope(thread::scope_env(), rt, move |scope| {
-        let flusher = scope.spawn(move || export.flusher(rt, &mut ()));
-        let mut have_started = flusher.is_ok()
-            && scope
-                .spawn(move || export.checkpointer(rt, &mut ()))
-                .is_ok();
-        for pass in passes {
-            if !have_started {
-                export.leave(rt, pass);
-            } else if let Err(refused) = scope.spawn(move || serve_one(
-                rt, alloc, export, pass, places, images,
-            )) {
-                have_started = false;
-                (refused.value)();
-            }
-        }
-        have_started
-    });
-    if have_started {
-        Some(all.into_inner())
-    } else {
-        None
+    let task = ServePlaces {
+        places: AtomicU64::new(0),
+        images: Mutex::new([UNTOUCHED; 8]),
+    };
+    if !serve_all(rt, alloc, export, passes, &task) {
+        return None;
     }
+    let ServePlaces { places: _, images } = task;
+    Some(images.into_inner())
 }
 
 // What the threads wrote, and the device that is left.
@@ -148,6 +139,10 @@ fn run<B: ExportName + Send + Sync, R: Threads + Wait + Clock + Sync>(
     device: OpenDevice<SimDisk, ()>,
 ) -> Option<([Plain; 8], SimDisk)>
     requires board { device.blank.board ≡ B.board }
+    requires named { device.blank.opening ≡ B.opening }
+    requires image { device.keeper.geometry.blocks ≡ B.image.blocks }
+    requires trusted { B.trusted → ⊥ }
+    requires shown { B.shown → ⊥ }
     requires geometry { device.keeper.geometry ≡ B.geometry }
 {
     let (export, passes) = Export::<B, SimDisk, ()>::open(
@@ -169,6 +164,10 @@ fn reads_as<B: ExportName, R: Wait>(
     images: &[Plain; 8],
 ) -> Option<bool>
     requires board { device.blank.board ≡ B.board }
+    requires named { device.blank.opening ≡ B.opening }
+    requires image { device.keeper.geometry.blocks ≡ B.image.blocks }
+    requires trusted { B.trusted → ⊥ }
+    requires shown { B.shown → ⊥ }
     requires geometry { device.keeper.geometry ≡ B.geometry }
 {
     let (export, mut passes) = Export::<B, SimDisk, ()>::open(

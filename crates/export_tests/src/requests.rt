@@ -255,7 +255,7 @@ pub fn reads_back<B: ExportName, D: Disk, H: ReadBeside, R: Wait>(
 }
 
 // Whether the image of an opened device has a block's bytes of a round from the first to the last.
-pub fn has_block(keeper: &mut Keeper<SimDisk>, block: u64, first: u64, last: u64) -> bool {
+pub fn has_block<D: Disk>(keeper: &mut Keeper<D>, block: u64, first: u64, last: u64) -> bool {
     if block >= keeper.geometry().blocks {
         return false;
     }

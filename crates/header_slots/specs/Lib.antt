@@ -1,4 +1,5 @@
 pub mod Change
 pub mod Header
 pub mod Slots
+pub mod inner
 pub mod laws

@@ -66,13 +66,6 @@ IsReading content size (Err NoHeader) = HoldsNone content size
 IsReading content size (Err BadHeader) = HoldsBad content size
 IsReading content size (Err DeviceFault) = Unit {0}
 
--- which slot a choice names
-abbrev pub IsChoice : List ℕ → Result Side HeaderFault → Type 0
-IsChoice content (Ok slot) = IsInForce content slot
-IsChoice content (Err NoHeader) = (slot : Side) → ¬ (IsOpen content slot)
-IsChoice content (Err BadHeader) = AreEqual content
-IsChoice content (Err DeviceFault) = ⊥
-
 -- the number of faults after a reading: one more for a device fault alone
 abbrev pub faults_after_reading : Result (Header × Side) HeaderFault → ℕ → ℕ
 faults_after_reading (Ok current) faults = faults

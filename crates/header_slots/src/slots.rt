@@ -2,7 +2,8 @@ ghost use Rattle.std.specs.Prelude.{◌≡◌, ◌+◌, ◌*◌, ◌≤◌, ◌<
 ghost use Rattle.disk_model.specs.Disk.{MayLeave, MayLeaveTorn, IsKept, IsWritten, IsWriteFailed, LeavesOnly};
 ghost use Rattle.disk_model.specs.Faults.{faults_after};
 ghost use Rattle.header_slots.specs.Header.{IsBodyOf};
-ghost use Rattle.header_slots.specs.Slots.{slot_at, IsBodyWritten, IsReading, IsChoice, faults_after_reading};
+ghost use Rattle.header_slots.specs.Slots.{slot_at, IsBodyWritten, IsReading, faults_after_reading};
+ghost use Rattle.header_slots.specs.inner.Slots.{IsChoice};
 ghost use Rattle.header_slots.specs.declared.fault.HeaderFault.TheVariants as HeaderFault;
 ghost use Rattle.image_model.specs.Geometry.{device_bytes_of};
 

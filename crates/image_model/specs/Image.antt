@@ -1,5 +1,5 @@
 -- What an image holds, place by place, and what commands make of it. A block has 4,096 bytes.
-use Rattle.std.specs.Prelude.{ℕ, ◌+◌, ◌-◌, ◌*◌, ◌/◌, ◌%◌, Bool, true, false, ◌&&◌, ◌==◌, nat_le, nat_lt, if◌then◌else◌, Option, Some, None, List, [], ◌∷◌, length, slice_index, slice_index_or}
+use Rattle.std.specs.Prelude.{ℕ, ◌+◌, ◌-◌, ◌*◌, ◌/◌, ◌%◌, Bool, true, false, ◌&&◌, ◌==◌, nat_le, nat_lt, if◌then◌else◌, Option, Some, None, List, [], ◌∷◌, length, slice_index}
 use Rattle.std.specs.Option.{is_some}
 use Rattle.image_model.specs.declared.command.Edges.{Edges}
 use Rattle.image_model.specs.declared.command.Edges.TheVariants.{Head, Tail, Both}
@@ -12,19 +12,6 @@ pub record Image : Type 0 where
   pub blocks : ℕ
   pub byte : ℕ → ℕ
   pub kind : ℕ → Kind
-
--- the bytes of an image, and the states of its blocks, as lists
-pub record PlainState : Type 0 where
-  pub bytes : List ℕ
-  pub kinds : List Kind
-
--- the image that they are
-abbrev pub image_of : PlainState → Image
-image_of state = record {
-  blocks = length state.kinds;
-  byte = λ place. slice_index state.bytes place;
-  kind = λ block. slice_index_or state.kinds block Hole;
-}
 
 -- whether `count` places from `first` on cover this one
 abbrev pub covers : ℕ → ℕ → ℕ → Bool

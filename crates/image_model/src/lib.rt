@@ -6,7 +6,6 @@ mod edit;
 mod gate;
 mod geometry;
 mod laws;
-mod plain_image;
 mod side;
 
 pub use command::{Command, Edges, Kind};
@@ -14,5 +13,4 @@ pub use edit::Edit;
 pub use gate::{CLOSED, OPEN};
 pub use geometry::{AREAS, BLOCK_BYTES, Geometry, LEAST_AREA_BYTES, MOST_AREA_BYTES, MOST_BLOCKS};
 pub use laws::{edits_become_commands, puts_become_commands, whole_edits_become_commands};
-pub use plain_image::{OutOfRange, PlainImage};
 pub use side::Side;

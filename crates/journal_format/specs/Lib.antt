@@ -6,4 +6,5 @@ pub mod Reading
 pub mod Scanning
 pub mod Spelling
 pub mod Touches
+pub mod inner
 pub mod laws

@@ -6,7 +6,8 @@ use Rattle.std.proofs.lemmas.Bool.Decides.{nat_tests}
 use Rattle.latest_writes.specs.declared.touch.LastTouch.{LastTouch}
 use Rattle.latest_writes.specs.declared.range.LastRange.{LastRange}
 use Rattle.latest_writes.specs.Touches.{later, said_by, touch_within}
-use Rattle.latest_writes.specs.Ranges.{AreRanges, IsNextLaid, IsPartOf, left_at, touch_at}
+use Rattle.latest_writes.specs.Ranges.{AreRanges, touch_at}
+use Rattle.latest_writes.specs.inner.Ranges.{IsNextLaid, IsPartOf, left_at}
 use Rattle.latest_writes.specs.laws.Said.{later_none, said_before, said_behind, said_inside, said_by_none_before, said_by_none_behind, touch_at_first, touch_at_rest, touch_within-touch_within, AreRanges-earlier, HasBytesWithin-behind, HasBytesWithin-fewer}
 
 -- before `done` nothing is left, and behind it all

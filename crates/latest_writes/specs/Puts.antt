@@ -42,10 +42,3 @@ put_of first blocks (Clear kind) = []
 -- the puts among ranges
 abbrev pub puts_of : List LastRange → List PutRange
 puts_of ranges = flat_map (λ range. put_of range.first range.blocks range.touch) ranges
-
--- a put ends before or at the block, or behind it
-abbrev pub EndsBy : ℕ → PutRange → Type 0
-EndsBy block put = put.first + put.blocks ≤ block
-
-abbrev pub EndsBehind : ℕ → PutRange → Type 0
-EndsBehind block put = block < put.first + put.blocks

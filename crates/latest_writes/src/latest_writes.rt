@@ -2,7 +2,8 @@ ghost use Rattle.std.specs.Prelude.{◌≡◌, ◌+◌, ◌<◌, ◌≤◌, ℕ,
 ghost use Rattle.std.specs.List.{AllWithin, range_with_len};
 ghost use Rattle.std.specs.List.Sorted.{IsNonDecreasingBy};
 ghost use Rattle.journal_format.specs.Touches.{AreWithin};
-ghost use Rattle.latest_writes.specs.Puts.{EndsBehind, EndsBy, HasNoPut, IsNextPut, is_put, puts_of};
+ghost use Rattle.latest_writes.specs.Puts.{HasNoPut, IsNextPut, is_put, puts_of};
+ghost use Rattle.latest_writes.specs.inner.Puts.{EndsBehind, EndsBy};
 ghost use Rattle.latest_writes.specs.Ranges.{AreLastTouches, AreRanges, touch_at};
 
 use crate::overlay::overlay;

@@ -1,20 +1,37 @@
--- what is known of a board's two numbers, as callers see it
-use Rattle.std.specs.Prelude.{ℕ, max, Option, Some, None}
+-- what is known of a board, as callers see it
+use Rattle.std.specs.Prelude.{ℕ, max, List, [], Option, Some, None}
 use Rattle.atomic_table.specs.Seated.{TableId}
 use Rattle.image_model.specs.Change.{Change}
 
--- the greatest accepted and the greatest durable number that are known
+-- what is told: a beginning of the history, the number of its last change, and a number that is durable
 pub record Marks : Type 0 where
+  pub history : List Change
   pub accepted : ℕ
   pub durable : ℕ
+
+-- the order knows all of the history, the number of its last change, and a number up to which the image has what was stored
+pub record OrderKnows : Type 0 where
+  pub history : List Change
+  pub accepted : ℕ
+  pub base : ℕ
+
+-- the keeper's seat knows a beginning of the history, the number of its last change, and as they are the durable number and the
+-- number up to which the image has what was stored
+pub record KeeperKnows : Type 0 where
+  pub history : List Change
+  pub accepted : ℕ
+  pub durable : ℕ
+  pub base : ℕ
 
 -- a number, and the change that the command makes that was accepted under it
 pub record Numbered : Type 0 where
   pub number : ℕ
   pub change : Change
 
--- a pass: the greatest accepted and the greatest durable number that it has seen or was told, and its own last number
+-- a pass: the beginning of the history that it has seen or was told, the number of its last change, the greatest durable number that
+-- it has seen or was told, and its own last number
 pub record PassState : Type 0 where
+  pub history : List Change
   pub accepted : ℕ
   pub durable : ℕ
   pub own : Option Numbered
@@ -34,4 +51,4 @@ known pass = max (max pass.accepted pass.durable) (own_number pass.own)
 
 -- a pass that knows the number with which the board opened, and has none of its own
 abbrev pub new_pass : ℕ → PassState
-new_pass number = record { accepted = number; durable = number; own = None }
+new_pass number = record { history = []; accepted = number; durable = number; own = None }

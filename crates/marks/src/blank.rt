@@ -1,4 +1,4 @@
-ghost use Rattle.std.specs.Prelude.{◌≡◌, replicate, IfOk};
+ghost use Rattle.std.specs.Prelude.{◌≡◌, [], replicate, IfOk};
 ghost use Rattle.marks.specs.Known.{new_pass};
 
 use crate::board::Board;
@@ -25,11 +25,11 @@ impl Model for BlankBoard {
 
     ghost Value = { BlankState };
 
-    ghost view = { λ blank. record { board = blank.table.shared.table_id; opening = blank.seat.me.0.accepted } };
+    ghost view = { λ blank. record { board = blank.table.shared.table_id; opening = blank.seat.me.0.opening } };
 
     ghost invariant = { λ blank. (blank.table.shared.table_id.words ≡ 2)
         × (blank.seat.table_id ≡ blank.table.shared.table_id)
-        × (blank.seat.me ≡ (first_view blank.seat.me.0.accepted, [])) };
+        × (blank.seat.me ≡ (first_view blank.seat.me.0.opening, [])) };
 }
 
 /// A board with its seats, and passes that know the number with which it opened and have none of their own.
@@ -42,7 +42,7 @@ pub struct Opened<B: BoardName> {
 }
 
 impl BlankBoard {
-    /// A board with both numbers at `opening`.
+    /// A board with an empty history and both numbers at `opening`.
     pub fn new(alloc: Global, opening: u64) -> Result<BlankBoard, AllocError>
         ensures { IfOk result (λ blank. blank.opening ≡ opening) }
     {
@@ -52,9 +52,11 @@ impl BlankBoard {
 
     /// The board under its name, which is picked where this is called, with so many passes.
     pub fn open<B: BoardName>(self, alloc: Global, passes: usize) -> Result<Opened<B>, AllocError>
-        requires { self.board ≡ B.board }
-        ensures order { IfOk result (λ opened. opened.order ≡ self.opening) }
-        ensures keeper { IfOk result (λ opened. opened.keeper ≡ record { accepted = self.opening; durable = self.opening }) }
+        requires board { self.board ≡ B.board }
+        requires opening { self.opening ≡ B.opening }
+        ensures order { IfOk result (λ opened. opened.order ≡ record { history = []; accepted = self.opening; base = self.opening }) }
+        ensures keeper { IfOk result (λ opened. opened.keeper
+            ≡ record { history = []; accepted = self.opening; durable = self.opening; base = self.opening }) }
         ensures passes { IfOk result (λ opened. opened.passes.items ≡ replicate passes (new_pass self.opening)) }
     {
         let (board, order, mut keeper) = self.named::<B>();
@@ -69,9 +71,10 @@ impl BlankBoard {
 
     // The board under its name with the two seats that raise its numbers.
     fn named<B: BoardName>(self) -> (Board<B>, OrderSeat<B>, KeeperSeat<B>)
-        requires { self.board ≡ B.board }
-        ensures order { result.1 ≡ self.opening }
-        ensures keeper { result.2 ≡ record { accepted = self.opening; durable = self.opening } }
+        requires board { self.board ≡ B.board }
+        requires opening { self.opening ≡ B.opening }
+        ensures order { result.1 ≡ record { history = []; accepted = self.opening; base = self.opening } }
+        ensures keeper { result.2 ≡ record { history = []; accepted = self.opening; durable = self.opening; base = self.opening } }
     {
         let BlankBoard { table, mut seat } = self;
         let keeper = table.shared.split_seat::<GiveKeeper>(&mut seat);

@@ -31,16 +31,16 @@ impl Play<Command, View> for LookDurable {
     ghost then = { LooksDurable };
 }
 
-/// The seat that raises the accepted number reads it.
-pub(crate) struct ReadAccepted;
+/// A seat takes in what it was told.
+pub(crate) struct TakeIn;
 
-impl Play<Command, View> for ReadAccepted {
-    ghost use Rattle.marks.specs.Steps.{ReadsAccepted};
+impl Play<Command, View> for TakeIn {
+    ghost use Rattle.marks.specs.Steps.{TakesIn};
 
-    ghost then = { ReadsAccepted };
+    ghost then = { TakesIn };
 }
 
-/// The accepted number is raised for a command.
+/// A command is added to the history, and the accepted number raised.
 pub(crate) struct RaiseAccepted;
 
 impl Play<Command, View> for RaiseAccepted {
@@ -58,7 +58,16 @@ impl Play<Command, View> for RaiseDurable {
     ghost then = { RaisesDurable };
 }
 
-/// The first seat gives the right to raise the durable number to a new one, and forgets that number.
+/// The base is raised, which stands in proofs alone.
+pub(crate) struct RaiseBase;
+
+impl Play<Command, View> for RaiseBase {
+    ghost use Rattle.marks.specs.Steps.{RaisesBase};
+
+    ghost then = { RaisesBase };
+}
+
+/// The first seat gives the right to raise the durable number and the base to a new one, and forgets the durable number.
 pub(crate) struct GiveKeeper;
 
 impl Split<View> for GiveKeeper {
@@ -69,7 +78,7 @@ impl Split<View> for GiveKeeper {
     ghost right = { keeper_only };
 }
 
-/// A new seat knows the same two numbers.
+/// A new seat knows the same, without a right.
 pub(crate) struct Tell;
 
 impl Split<View> for Tell {
@@ -80,18 +89,7 @@ impl Split<View> for Tell {
     ghost right = { telling };
 }
 
-/// A new seat knows the same two numbers, and its own number is the same.
-pub(crate) struct Show;
-
-impl Split<View> for Show {
-    ghost use Rattle.marks.specs.Steps.{showing};
-
-    ghost left = { λ view. view };
-
-    ghost right = { showing };
-}
-
-/// A seat is told of an accepted number.
+/// A seat is told of what another one knows.
 pub(crate) struct Hear;
 
 impl Join<View> for Hear {
@@ -102,24 +100,35 @@ impl Join<View> for Hear {
     ghost spent = { nothing };
 }
 
-/// A seat learns both numbers of another.
-pub(crate) struct Learn;
+/// A seat without the right to raise the accepted number takes over the history that another one knows.
+pub(crate) struct TakeHistory;
 
-impl Join<View> for Learn {
-    ghost use Rattle.marks.specs.Steps.{learning, nothing};
+impl Join<View> for TakeHistory {
+    ghost use Rattle.marks.specs.Steps.{nothing, taking_history};
 
-    ghost both = { learning };
+    ghost both = { taking_history };
 
     ghost spent = { nothing };
 }
 
-/// A seat learns both numbers of another, and takes over its own number.
+/// A seat without that right takes over the history that another one knows, and its own number.
 pub(crate) struct TakeOver;
 
 impl Join<View> for TakeOver {
-    ghost use Rattle.marks.specs.Steps.{taking_over, nothing};
+    ghost use Rattle.marks.specs.Steps.{nothing, taking_over};
 
     ghost both = { taking_over };
+
+    ghost spent = { nothing };
+}
+
+/// A seat that doesn't raise the base learns the one that another seat knows.
+pub(crate) struct LearnBase;
+
+impl Join<View> for LearnBase {
+    ghost use Rattle.marks.specs.Steps.{learning_base, nothing};
+
+    ghost both = { learning_base };
 
     ghost spent = { nothing };
 }

@@ -4,7 +4,7 @@ use atomic_table::Seat;
 use image_model::Command;
 use std::marker::{Model, PhantomData};
 
-/// The seat that raises the accepted number: there is one. Contracts see it as that number.
+/// The seat that raises the accepted number: there is one. It knows all of the history, and a base.
 #[derive(Drop)]
 pub struct OrderSeat<B: BoardName> {
     pub(crate) seat: Seat<Command, View>,
@@ -12,17 +12,17 @@ pub struct OrderSeat<B: BoardName> {
 }
 
 impl<B: BoardName> Model for OrderSeat<B> {
-    ghost use Rattle.std.specs.Prelude.{ℕ};
-    ghost use Rattle.marks.specs.Seats.{IsOrderSeat};
+    ghost use Rattle.marks.specs.Known.{OrderKnows};
+    ghost use Rattle.marks.specs.Seats.{IsOrderSeat, order_of};
 
-    ghost Value = { ℕ };
+    ghost Value = { OrderKnows };
 
-    ghost view = { λ order. order.seat.me.0.accepted };
+    ghost view = { λ order. order_of order.seat.me.0 };
 
-    ghost invariant = { λ order. IsOrderSeat B.board order.seat };
+    ghost invariant = { λ order. IsOrderSeat B.board B.opening order.seat };
 }
 
-/// The seat that raises the durable number, which it knows: there is one. It knows of an accepted number too.
+/// The seat that raises the durable number and the base, which it knows: there is one. It knows a beginning of the history too.
 #[derive(Drop)]
 pub struct KeeperSeat<B: BoardName> {
     pub(crate) seat: Seat<Command, View>,
@@ -30,14 +30,14 @@ pub struct KeeperSeat<B: BoardName> {
 }
 
 impl<B: BoardName> Model for KeeperSeat<B> {
-    ghost use Rattle.marks.specs.Known.{Marks};
-    ghost use Rattle.marks.specs.Seats.{IsKeeperSeat, marks_of};
+    ghost use Rattle.marks.specs.Known.{KeeperKnows};
+    ghost use Rattle.marks.specs.Seats.{IsKeeperSeat, keeper_of};
 
-    ghost Value = { Marks };
+    ghost Value = { KeeperKnows };
 
-    ghost view = { λ keeper. marks_of keeper.seat.me.0 };
+    ghost view = { λ keeper. keeper_of keeper.seat.me.0 };
 
-    ghost invariant = { λ keeper. IsKeeperSeat B.board keeper.seat };
+    ghost invariant = { λ keeper. IsKeeperSeat B.board B.opening keeper.seat };
 }
 
 /// What one who passes by the board knows of it, and the last number accepted for it with that command. It has no bytes.
@@ -55,10 +55,10 @@ impl<B: BoardName> Model for Pass<B> {
 
     ghost view = { λ pass. pass_of pass.seat.me.0 };
 
-    ghost invariant = { λ pass. IsPass B.board pass.seat };
+    ghost invariant = { λ pass. IsPass B.board B.opening pass.seat };
 }
 
-/// What a pass knew of both numbers as it told of them. It has no bytes.
+/// What a seat knew of the history and of the durable number as it told of them. It has no bytes.
 #[derive(Drop)]
 pub struct Told<B: BoardName> {
     pub(crate) seat: Seat<Command, View>,
@@ -73,5 +73,5 @@ impl<B: BoardName> Model for Told<B> {
 
     ghost view = { λ told. marks_of told.seat.me.0 };
 
-    ghost invariant = { λ told. IsTold B.board told.seat };
+    ghost invariant = { λ told. IsTold B.board B.opening told.seat };
 }

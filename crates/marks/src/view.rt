@@ -1,4 +1,5 @@
 use image_model::Command;
+use std::collections::LinkedList;
 
 /// A number, and the command that was accepted under it.
 pub struct Own {
@@ -8,14 +9,22 @@ pub struct Own {
 
 /// What a seat knows. It stands in proofs alone: no value of it is made.
 pub struct View {
-    /// Whether the seat raises the accepted number, and whether it raises the durable one.
+    /// Whether the seat raises the accepted number, and whether it raises the durable one and the base.
     pub raises_accepted: bool,
     pub raises_durable: bool,
-    /// The greatest accepted and the greatest durable number that it knows.
-    pub accepted: u64,
+    /// Whether the seat was spent.
+    pub spent: bool,
+    /// The number with which the board opened: the first command has the next one.
+    pub opening: u64,
+    /// The beginning of the history that it knows.
+    pub seen: LinkedList<Command>,
+    /// The greatest durable number and the greatest base that it knows.
     pub durable: u64,
-    /// What it was last told to be accepted, apart from what it knows itself.
-    pub told: u64,
+    pub base: u64,
+    /// What it was last told of all three, apart from what it knows itself.
+    pub told: LinkedList<Command>,
+    pub told_durable: u64,
+    pub told_base: u64,
     /// Its own last number with that command.
     pub own: Option<Own>,
 }

@@ -9,7 +9,8 @@ use Rattle.std.proofs.lemmas.List.Sums.{sum_by-cons}
 use Rattle.nbd_wire.specs.declared.message.Run.{Run}
 use Rattle.nbd_wire.specs.Answer.{PartsBytes, data_status}
 use Rattle.nbd_reply.specs.Chunk.{offset_data, offset_hole, chunk_bytes, chunks_bytes, is_last}
-use Rattle.nbd_reply.specs.Reply.{part_chunk, part_chunks, part_len}
+use Rattle.nbd_reply.specs.Reply.{part_chunk, part_chunks}
+use Rattle.nbd_reply.specs.inner.Reply.{part_len}
 use Rattle.nbd_reply.proofs.Appends.{length-chunk}
 
 -- no chunk follows where no run does

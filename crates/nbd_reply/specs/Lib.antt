@@ -1,3 +1,4 @@
 pub mod Chunk
 pub mod Reply
 pub mod Decoded
+pub mod inner

@@ -5,10 +5,10 @@ use Rattle.nbd_wire.specs.declared.message.Answer.TheVariants.{Done, Refused, By
 use Rattle.nbd_wire.specs.declared.message.Reply.{Reply}
 use Rattle.nbd_wire.specs.declared.message.Run.{Run}
 use Rattle.nbd_wire.specs.declared.message.SessionFlags.{SessionFlags}
-use Rattle.nbd_wire.specs.Answer.{BytesRead, data_status}
+use Rattle.nbd_wire.specs.Answer.{data_status}
 use Rattle.nbd_wire.specs.Errno.{errno_number}
 use Rattle.nbd_wire.specs.Head.{simple_reply}
-use Rattle.nbd_reply.specs.Chunk.{Chunk, offset_data, offset_hole, block_status, error, chunk_bytes, chunks_bytes}
+use Rattle.nbd_reply.specs.Chunk.{Chunk, offset_data, offset_hole, block_status, error, chunks_bytes}
 
 -- the types of a READ and of a BLOCK_STATUS
 abbrev pub read_type : ℕ
@@ -28,10 +28,6 @@ part_chunks offset [] bytes = []
 part_chunks offset (run ∷ runs) bytes =
     part_chunk offset run bytes ∷ part_chunks (offset + run.length) runs (drop run.length bytes)
 
--- how many bytes the chunk on a run takes
-abbrev pub part_len : Run → ℕ
-part_len run = if run.status == data_status then 28 + run.length else 32
-
 -- An answer in chunks; DF asks for bytes in one chunk. The answer to a request that is only done has none.
 abbrev pub chunks_of : Bool → Answer → List Chunk
 chunks_of df Done = []
@@ -46,11 +42,6 @@ simple_text cookie Done = simple_reply 0 cookie []
 simple_text cookie (Refused errno) = simple_reply (errno_number errno) cookie []
 simple_text cookie (Bytes read) = simple_reply 0 cookie read.bytes
 simple_text cookie (States runs) = []
-
--- the bytes of a READ in one piece: in one chunk, or in a simple reply
-abbrev pub whole_text : ℕ → Bool → BytesRead → List ℕ
-whole_text cookie chunked read =
-    if chunked then chunk_bytes true cookie (offset_data read.offset read.bytes) else simple_reply 0 cookie read.bytes
 
 -- whether a request of this type is answered in chunks, an error included
 abbrev pub is_chunked : SessionFlags → ℕ → Bool

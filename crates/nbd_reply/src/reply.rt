@@ -4,7 +4,8 @@ ghost use Rattle.nbd_wire.specs.declared.message.Run.{Run};
 ghost use Rattle.nbd_wire.specs.Answer.{data_status};
 ghost use Rattle.nbd_wire.specs.Head.{simple_reply};
 ghost use Rattle.nbd_reply.specs.Chunk.{block_status, chunk_bytes, chunks_bytes, offset_data, offset_hole};
-ghost use Rattle.nbd_reply.specs.Reply.{IsAnswerTo, chunks_of, part_chunks, part_len, reply_text, simple_text, whole_text};
+ghost use Rattle.nbd_reply.specs.Reply.{IsAnswerTo, chunks_of, part_chunks, reply_text, simple_text};
+ghost use Rattle.nbd_reply.specs.inner.Reply.{part_len, whole_text};
 
 use crate::chunk::{
     DATA_HEAD_LEN, ERROR_LEN, HOLE_LEN, RUN_LEN, STATUS_HEAD_LEN, put, put_data, put_data_head,

@@ -6,7 +6,7 @@ use Rattle.std.proofs.lemmas.List.{take-append-le, take-take, take_all}
 use Rattle.nbd_wire.specs.declared.head.RequestHead.{RequestHead}
 use Rattle.nbd_wire.specs.Head.{head_bytes}
 use Rattle.nbd_wire.specs.Stream.{Feeds, Fills, in_data, reading}
-use Rattle.nbd_wire.specs.State.{Advances, IsReadBehind}
+use Rattle.nbd_wire.specs.inner.State.{Advances, IsReadBehind}
 use Rattle.nbd_wire.specs.laws.Streams.{Feeds-advances}
 
 -- what was there stays in front of its room

@@ -6,7 +6,8 @@ use Rattle.nbd_wire.specs.declared.stream.State.{State}
 use Rattle.nbd_wire.specs.declared.stream.State.TheVariants.{Head, Data, Discard, Failed}
 use Rattle.nbd_wire.specs.Request.{Message}
 use Rattle.nbd_wire.specs.Stream.{reading, missing_len}
-use Rattle.nbd_wire.specs.State.{kept, IsState, wanted_of, IsGoing}
+use Rattle.nbd_wire.specs.State.{kept, IsState}
+use Rattle.nbd_wire.specs.inner.State.{wanted_of, IsGoing}
 
 -- the whole piece is still to be read, or none of it
 pub record Quiet (piece behind : List ℕ) (old new : State) (requests : List Message) : Type 0 where

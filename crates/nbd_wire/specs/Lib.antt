@@ -4,4 +4,5 @@ pub mod Stream
 pub mod State
 pub mod Errno
 pub mod Answer
+pub mod inner
 pub mod laws

@@ -3,7 +3,8 @@ ghost use Rattle.std.specs.Io.KnownBytes.{Keeps};
 ghost use Rattle.nbd_wire.specs.Head.{head_bytes};
 ghost use Rattle.nbd_wire.specs.Request.{handed_len};
 ghost use Rattle.nbd_wire.specs.Stream.{in_head, failed, reading, fresh, IsKeptWrite, IsDiscardedWrite, Reads, Feeds, Fills, answered, end_of, held, missing_len, room_of};
-ghost use Rattle.nbd_wire.specs.State.{kept, reader_of, IsState, IsReader, wanted_of, found, Advances, AdvancesTo, IsGoing, IsQuiet, IsReadBehind};
+ghost use Rattle.nbd_wire.specs.State.{kept, reader_of, IsState, IsReader};
+ghost use Rattle.nbd_wire.specs.inner.State.{wanted_of, found, Advances, AdvancesTo, IsGoing, IsQuiet, IsReadBehind};
 
 use crate::command::WRITE;
 use crate::error::{RequestFault, WireFault};

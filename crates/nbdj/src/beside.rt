@@ -1,5 +1,7 @@
 use disk_model::DeviceFault;
 use export::ReadBeside;
+use marks::BoardName;
+use order_book::{Order, Span};
 use std::fs::File;
 use std::os::unix::fs::FileExt;
 
@@ -21,7 +23,19 @@ impl ReadBeside for SecondHandle {
     // Nothing is claimed of what a file holds.
     ghost gives = { λ handle offset bytes. Unit {0} };
 
+    ghost vouches = { λ handle first span bytes order. Unit {0} };
+
     fn read_beside(&self, offset: u64, into: &mut [u8]) -> Result<(), DeviceFault> {
         self.0.read_exact_at(into, offset).map_err(|_| DeviceFault)
+    }
+
+    fn vouch<B: BoardName>(
+        &self,
+        _first: u64,
+        _span: Span,
+        _bytes: &[u8],
+        _order: &Order<B>,
+    ) -> bool {
+        true
     }
 }

@@ -22,7 +22,7 @@ use crate::told::ToldFile;
 use clap::error::ErrorKind;
 use command_line::line;
 use disk_model::{Disk, FileDisk};
-use nbdj_pipe::Refusal;
+use front_end::Refusal;
 use nbdj_sweep::{faults, sweep};
 use script_runner::script;
 use std::fs::File;

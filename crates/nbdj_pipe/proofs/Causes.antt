@@ -22,12 +22,12 @@ use Rattle.export_model.specs.Step.{after_step, append, publish, seal, sealed_mo
 use Rattle.export_model.specs.World.{World, fits, last_number}
 use Rattle.export_model_laws.specs.Law.{Grows, IsWithin}
 use Rattle.nbdj_pipe.specs.Causes.{HasCause, HasNoGeneration, Passes}
-use Rattle.nbdj_pipe.specs.Checkpoint.{HasFullArea, IsUnfit}
-use Rattle.nbdj_pipe.specs.Export.{CameTo, GetsOn, IsSettled, IsWaiting, StoredBy}
-use Rattle.nbdj_pipe.specs.Refusals.{IsEarly, IsOfExport}
-use Rattle.nbdj_pipe.specs.Session.{IsEndShown}
-use Rattle.nbdj_pipe.specs.declared.refusal.Refusal.{Refusal}
-use Rattle.nbdj_pipe.specs.declared.refusal.Refusal.TheVariants.{NoMemory, DeviceFault, BadMap, NoHeader, BadHeader, NumbersFull, AreaFull, OutOfOrder, DamagedGroup, NotNow, Failed as NeverEnds, NoRoom, PeerClosed, ProtocolEnd, StreamFault}
+use Rattle.nbdj_pipe.specs.inner.Checkpoint.{HasFullArea, IsUnfit}
+use Rattle.nbdj_pipe.specs.inner.Export.{CameTo, GetsOn, IsSettled, IsWaiting, StoredBy}
+use Rattle.nbdj_pipe.specs.inner.Refusals.{IsEarly, IsOfExport}
+use Rattle.nbdj_pipe.specs.inner.Session.{IsEndShown}
+use Rattle.front_end.specs.declared.refusal.Refusal.{Refusal}
+use Rattle.front_end.specs.declared.refusal.Refusal.TheVariants.{NoMemory, DeviceFault, BadMap, NoHeader, BadHeader, NumbersFull, AreaFull, OutOfOrder, DamagedGroup, NotNow, Failed as NeverEnds, NoRoom, PeerClosed, ProtocolEnd, StreamFault}
 use Rattle.nbdj_pipe.proofs.Steps.{last_same, of_test}
 
 -- what an export refuses ends its session early

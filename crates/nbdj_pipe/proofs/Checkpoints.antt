@@ -36,11 +36,12 @@ use Rattle.export_model.specs.Serve.{Failure, Nothing, OutOfMemory, DeviceFailur
 use Rattle.export_model.specs.Step.{after_step, clean, copy_block, finish, in_time, rotate, seal, sealed_more, with_generation, without_memory, write_map, written}
 use Rattle.export_model.specs.World.{Setting, Stage, World, dirty_behind, has_room, last_number}
 use Rattle.export_model_laws.specs.Law.{Grows, IsRising, IsWithin}
-use Rattle.nbdj_pipe.specs.Causes.{HasCause, LacksRoom}
-use Rattle.nbdj_pipe.specs.Checkpoint.{EndsBy, HasCopied, HasCopiedAll, HasFullArea, IsCopied, IsDone, IsEmptied, IsFine, IsFinished, KeepsOrder, OrStopped}
-use Rattle.nbdj_pipe.specs.Export.{IsJudged, IsStoring, Settles}
+use Rattle.nbdj_pipe.specs.Causes.{HasCause}
+use Rattle.nbdj_pipe.specs.inner.Causes.{LacksRoom}
+use Rattle.nbdj_pipe.specs.inner.Checkpoint.{EndsBy, HasCopied, HasCopiedAll, HasFullArea, IsCopied, IsDone, IsEmptied, IsFine, IsFinished, KeepsOrder, OrStopped}
+use Rattle.nbdj_pipe.specs.inner.Export.{IsJudged, IsStoring, Settles}
 use Rattle.nbdj_pipe.specs.Talk.{spoken, verdict_on}
-use Rattle.nbdj_pipe.specs.declared.refusal.Refusal.{Refusal}
+use Rattle.front_end.specs.declared.refusal.Refusal.{Refusal}
 use Rattle.nbdj_pipe.proofs.Causes.{cause_behind}
 use Rattle.nbdj_pipe.proofs.Steps.{last_same, of_test, spoken_on, still_step}
 use Rattle.nbdj_pipe.proofs.Wanted.{header_wanted}

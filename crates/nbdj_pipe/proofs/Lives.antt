@@ -29,13 +29,13 @@ use Rattle.export_model.specs.declared.event.Event.TheVariants.{Sent, Answered, 
 use Rattle.export_model.specs.declared.step.Mode.{Mode}
 use Rattle.export_model_laws.specs.Law.{HasFailed, IsWithin, TellsFault, TellsTruth}
 use Rattle.nbdj_pipe.specs.Causes.{HasCause}
-use Rattle.nbdj_pipe.specs.Export.{Follows, IsSettled, Settles}
+use Rattle.nbdj_pipe.specs.inner.Export.{Follows, IsSettled, Settles}
 use Rattle.nbdj_pipe.specs.Life.{IsFound, IsLife, IsLived}
 use Rattle.nbdj_pipe.specs.Pipe.{IsOrderly}
-use Rattle.nbdj_pipe.specs.Session.{HasTalked, IsEndOr, IsEndShown, Runs}
+use Rattle.nbdj_pipe.specs.inner.Session.{HasTalked, IsEndOr, IsEndShown, Runs}
 use Rattle.nbdj_pipe.specs.Talk.{Exchange, plain, spoken, talk, talk_to}
-use Rattle.nbdj_pipe.specs.declared.refusal.Refusal.{Refusal}
-use Rattle.nbdj_pipe.specs.declared.refusal.Refusal.TheVariants.{DeviceFault, StreamFault}
+use Rattle.front_end.specs.declared.refusal.Refusal.{Refusal}
+use Rattle.front_end.specs.declared.refusal.Refusal.TheVariants.{DeviceFault, StreamFault}
 use Rattle.nbdj_pipe.proofs.Causes.{caused_before, caused_behind}
 use Rattle.nbdj_pipe.proofs.Sessions.{not_device}
 use Rattle.nbdj_pipe.proofs.Steps.{follows_on}

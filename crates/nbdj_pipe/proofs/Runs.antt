@@ -16,11 +16,11 @@ use Rattle.export_model.specs.declared.connection.Connection.TheVariants.{Idle}
 use Rattle.export_model.specs.declared.event.Event.{Event}
 use Rattle.export_model.specs.declared.event.Event.TheVariants.{Sent}
 use Rattle.nbdj_pipe.specs.Causes.{HasCause}
-use Rattle.nbdj_pipe.specs.Export.{Follows, HasAnswer, said_of}
-use Rattle.nbdj_pipe.specs.Refusals.{of_wire}
-use Rattle.nbdj_pipe.specs.Session.{Runs}
+use Rattle.nbdj_pipe.specs.inner.Export.{Follows, HasAnswer, said_of}
+use Rattle.front_end.specs.Refusals.{of_wire}
+use Rattle.nbdj_pipe.specs.inner.Session.{Runs}
 use Rattle.nbdj_pipe.specs.Talk.{AreAnswered, Exchange, IsAnswered, plain, talk, talk_to}
-use Rattle.nbdj_pipe.specs.declared.refusal.Refusal.{Refusal}
+use Rattle.front_end.specs.declared.refusal.Refusal.{Refusal}
 use Rattle.nbdj_pipe.proofs.Causes.{IsBare, caused_behind}
 use Rattle.nbdj_pipe.proofs.Dialogs.{each_append, talk_on}
 use Rattle.nbdj_pipe.proofs.Steps.{follows_on, settles_none}

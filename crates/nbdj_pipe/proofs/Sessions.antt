@@ -9,15 +9,17 @@ use Rattle.nbd_wire.specs.Stream.{Begins, Feeds, FirstRequests, OneReading, Read
 use Rattle.nbd_wire.specs.declared.error.RequestFault.{RequestFault}
 use Rattle.nbd_wire.specs.declared.error.WireFault.{WireFault}
 use Rattle.nbd_wire.specs.declared.error.WireFault.TheVariants.{NoMemory, Malformed}
-use Rattle.nbdj_pipe.specs.Refusals.{IsEarly, IsOfSession, of_wire}
+use Rattle.front_end.specs.Refusals.{of_wire}
+use Rattle.nbdj_pipe.specs.Refusals.{IsOfSession}
+use Rattle.nbdj_pipe.specs.inner.Refusals.{IsEarly}
 use Rattle.nbdj_pipe.specs.Talk.{Exchange, asked, dialog}
 use Rattle.nbdj_pipe.specs.Pipe.{Conversation, ReadsTo, IsEnd, IsFaulty, IsOpen, IsOrderly, IsPiped, IsServed, IsToDisc, IsWhole}
 use Rattle.byte_streams.specs.Streams.{WritesPart}
 use Rattle.byte_streams.specs.declared.streams.StreamFault.{StreamFault}
-use Rattle.nbdj_pipe.specs.Session.{IsFed, IsTaken, StaysOpen, Takes, TakesOn, IsEndOr, ended_by}
+use Rattle.nbdj_pipe.specs.inner.Session.{IsFed, IsTaken, StaysOpen, Takes, TakesOn, IsEndOr, ended_by}
 use Rattle.nbdj_pipe.specs.declared.session.Flow.{Flow}
-use Rattle.nbdj_pipe.specs.declared.refusal.Refusal.{Refusal}
-use Rattle.nbdj_pipe.specs.declared.refusal.Refusal.TheVariants.{DeviceFault, PeerClosed, ProtocolEnd}
+use Rattle.front_end.specs.declared.refusal.Refusal.{Refusal}
+use Rattle.front_end.specs.declared.refusal.Refusal.TheVariants.{DeviceFault, PeerClosed, ProtocolEnd}
 use Rattle.nbdj_pipe.proofs.Causes.{IsBare}
 use Rattle.byte_streams.specs.laws.Bytes.{appends_none, appends_on, consumes_kept, consumes_none, consumes_on}
 use Rattle.nbdj_pipe.proofs.Dialogs.{HaveNoDisc, all_of, asked-append, asked_whole, behind, dialog-append, disc_behind, each_append, nothing, served_all, served_behind, served_cut, served_nothing, whole_all, whole_behind, whole_nothing}

@@ -34,8 +34,8 @@ use Rattle.export_model.specs.Serve.{Failure, Nothing, OutOfMemory, DeviceFailur
 use Rattle.export_model.specs.Shown.{bytes_from, shown_by}
 use Rattle.export_model.specs.Step.{after_step, append, publish, seal, sealed_more, stored_more, clean, in_time, with_generation, without_memory, written}
 use Rattle.export_model.specs.World.{World, fits, has_room, last_number, put, Stage}
-use Rattle.nbdj_pipe.specs.Export.{AwaitsAnswer, Follows, IsGiven, IsJudged, IsStoring, HasAnswer, Settles, said_of, told_by}
-use Rattle.nbdj_pipe.specs.declared.refusal.Refusal.{Refusal}
+use Rattle.nbdj_pipe.specs.inner.Export.{AwaitsAnswer, Follows, IsGiven, IsJudged, IsStoring, HasAnswer, Settles, said_of, told_by}
+use Rattle.front_end.specs.declared.refusal.Refusal.{Refusal}
 use Rattle.nbdj_pipe.specs.Talk.{IsAnswerOf, plain, spoken, verdict_on}
 use Rattle.export_model.specs.Checkpoint.{can_clean, can_copy, can_finish, can_map, can_rotate, is_full}
 

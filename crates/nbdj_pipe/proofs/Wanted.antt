@@ -11,7 +11,7 @@ use Rattle.export_model.specs.Step.{after_step, append_in_hand, in_time, sealed_
 use Rattle.image_model.specs.Bodies.{bodies_bytes}
 use Rattle.export_model.specs.World.{Stage, World, fits, in_hand}
 use Rattle.nbdj_pipe.specs.Causes.{HasNoGeneration}
-use Rattle.nbdj_pipe.specs.Export.{IsStoring}
+use Rattle.nbdj_pipe.specs.inner.Export.{IsStoring}
 use Rattle.nbdj_pipe.proofs.Steps.{last_same, of_test}
 
 module _ (world : World) where

@@ -1,17 +1,11 @@
 -- Why a session ends before its input does, by a world that its run passes (docs/FORMATS.md, "Refusals").
-use Rattle.std.specs.Prelude.{◌≡◌, ◌⊎◌, true, false, List, Ok}
-use Rattle.image_model.specs.Edit.{becomes}
-use Rattle.nbd_wire.specs.Request.{Message}
-use Rattle.export_model.specs.declared.action.Action.TheVariants.{Serve}
+use Rattle.std.specs.Prelude.{◌≡◌, ◌⊎◌, true, false, List}
 use Rattle.export_model.specs.declared.step.Step.{Step}
-use Rattle.export_model.specs.Log.{edit_asked, is_write}
 use Rattle.export_model.specs.Run.{IsRun}
 use Rattle.export_model.specs.Checkpoint.{can_finish, can_rotate, is_full}
-use Rattle.export_model.specs.Serve.{Failure, image_shown}
-use Rattle.export_model.specs.World.{World, has_room}
-use Rattle.nbdj_pipe.specs.Talk.{verdict_on}
-use Rattle.nbdj_pipe.specs.declared.refusal.Refusal.{Refusal}
-use Rattle.nbdj_pipe.specs.declared.refusal.Refusal.TheVariants.{NoMemory, DeviceFault, BadMap, NoHeader, BadHeader, NumbersFull, AreaFull, OutOfOrder, DamagedGroup, NotNow, Failed, NoRoom, PeerClosed, ProtocolEnd, StreamFault}
+use Rattle.export_model.specs.World.{World}
+use Rattle.front_end.specs.declared.refusal.Refusal.{Refusal}
+use Rattle.front_end.specs.declared.refusal.Refusal.TheVariants.{NoMemory, DeviceFault, BadMap, NoHeader, BadHeader, NumbersFull, AreaFull, OutOfOrder, DamagedGroup, NotNow, Failed, NoRoom, PeerClosed, ProtocolEnd, StreamFault}
 
 -- a run from one world to another passes one of which this holds
 pub record Passes (P : World → Type 0) (first last : World) : Type 0 where
@@ -27,14 +21,6 @@ pub record HasNoGeneration (world : World) : Type 0 where
   pub works : world.stage.stopped ≡ false
   pub wanted : (can_rotate world.stage ≡ true) ⊎ (can_finish world.stage ≡ true)
   pub full : is_full world.stage ≡ true
-
--- The device works, and there is no room for what the edit of this request becomes, which passes judgement and asks for one.
-pub record LacksRoom (world : World) (request : Message) : Type 0 where
-  pub works : world.stage.stopped ≡ false
-  pub judged : verdict_on request.head world.stage.setting.geometry world.stage.setting.flags ≡ Ok Serve
-  pub write : is_write request ≡ true
-  pub failure : Failure
-  pub full : has_room world (becomes (edit_asked request) (image_shown failure world.stage)) ≡ false
 
 -- What a run says of a refusal that ends its session: that a header was wanted and no generation is left for it. No area stays
 -- full, for no command is there no room in the end, and storing never fails to come to an end. Of the others it says nothing.

@@ -1,9 +1,7 @@
 -- the run of a pipe, from the opening of its device to the end
-use Rattle.std.specs.Prelude.{ℕ, ◌≡◌, ◌⊎◌, Bool, true, List, length, Option, Result, Ok, Err, IfErr}
+use Rattle.std.specs.Prelude.{ℕ, ◌≡◌, ◌⊎◌, Bool, true, List, length, Option, Result, Err, IfErr}
 use Rattle.std.specs.List.{AllByRecursion}
-use Rattle.checkpoint.specs.Opening.{IsOpening, StandsAs}
-use Rattle.checkpoint.specs.Recovery.{IsRecovered}
-use Rattle.device_image.specs.Keeper.{KeeperState}
+use Rattle.checkpoint.specs.Opening.{StandsAs}
 use Rattle.device_image.specs.Stands.{StandsFor}
 use Rattle.disk_model.specs.Disk.{State, LeavesOnly, MayLeave}
 use Rattle.disk_model.specs.Faults.{HasRisen}
@@ -20,8 +18,8 @@ use Rattle.export_model.specs.declared.step.Step.{Step}
 use Rattle.nbdj_pipe.specs.Causes.{HasCause}
 use Rattle.nbdj_pipe.specs.Pipe.{IsOrderly}
 use Rattle.nbdj_pipe.specs.Talk.{AreAnswered, Exchange, plain, spoken, talk_to}
-use Rattle.nbdj_pipe.specs.declared.refusal.Refusal.{Refusal}
-use Rattle.nbdj_pipe.specs.declared.refusal.Refusal.TheVariants.{StreamFault}
+use Rattle.front_end.specs.declared.refusal.Refusal.{Refusal}
+use Rattle.front_end.specs.declared.refusal.Refusal.TheVariants.{StreamFault}
 
 -- What an opening found on an honest device: a content that a crash at its start may leave stands for the image and the
 -- number with which the life begins, and so does what the device gives from then on, whose sizes and generation are the
@@ -36,13 +34,6 @@ pub record IsFound (setting : Setting) (start opened : State) : Type 0 where
   pub generation : setting.generation ≡ seen.header.generation
   pub base : setting.opening ≡ seen.header.base
   pub any_moment : LeavesOnly start opened (λ left. MayLeave start left ⊎ StandsAs content left)
-
--- A keeper as the opening of a device gave it: recovered, and what its content was.
-pub record IsOpenedFrom {D : Type 0} (state : D → State) (faults : D → ℕ) (honest : D → Type 0) (start : D) (keeper : KeeperState D) : Type 0 where
-  pub recovered : IsRecovered keeper
-  pub counted : faults keeper.disk ≡ faults start
-  pub stays : honest start → honest keeper.disk
-  pub found : honest start → (content : List ℕ) × IsOpening (state start) state (Ok keeper) content
 
 -- The run of a pipe is one of a world, from the opening of its device to the end, in which the requests were sent and
 -- answered in turn. What is said of a device's content has its honesty as a premise.

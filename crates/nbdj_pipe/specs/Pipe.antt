@@ -9,10 +9,11 @@ use Rattle.disk_model.specs.Disk.{State}
 use Rattle.nbd_wire.specs.Request.{Message}
 use Rattle.nbd_wire.specs.Stream.{Begins, Reader, Reads, end_of, failed, reading, starved}
 use Rattle.nbd_wire.specs.declared.error.RequestFault.{RequestFault}
-use Rattle.nbdj_pipe.specs.Refusals.{IsOfSession, of_keeper}
+use Rattle.front_end.specs.Refusals.{of_keeper}
+use Rattle.nbdj_pipe.specs.Refusals.{IsOfSession}
 use Rattle.nbdj_pipe.specs.Talk.{Exchange, asked, dialog}
-use Rattle.nbdj_pipe.specs.declared.refusal.Refusal.{Refusal}
-use Rattle.nbdj_pipe.specs.declared.refusal.Refusal.TheVariants.{DeviceFault, PeerClosed, ProtocolEnd}
+use Rattle.front_end.specs.declared.refusal.Refusal.{Refusal}
+use Rattle.front_end.specs.declared.refusal.Refusal.TheVariants.{DeviceFault, PeerClosed, ProtocolEnd}
 
 -- What became of the requests that were read: the first of them were answered in turn, and the others have no answer. The
 -- first of the others may have been sent to the export all the same. The text is what was written of the replies.

@@ -2,10 +2,11 @@ ghost use Rattle.std.specs.Prelude.{◌≡◌, ◌≤◌, ◌+◌, ◌↔◌, �
 ghost use Rattle.checkpoint.specs.Steps.{left_in};
 ghost use Rattle.nbd_wire.specs.Request.{Message};
 ghost use Rattle.nbd_wire.specs.declared.head.RequestHead.{RequestHead};
-ghost use Rattle.nbdj_pipe.specs.Causes.{HasCause, LacksRoom};
-ghost use Rattle.nbdj_pipe.specs.Checkpoint.{EndsBy, HasCopiedAll, IsCopied, IsDone, IsEmptied, IsFinished, OrStopped};
-ghost use Rattle.nbdj_pipe.specs.Export.{AwaitsAnswer, CameTo, Follows, GetsOn, HasAnswer, IsGiven, IsJudged, IsOfKind, IsSettled, IsStoring, IsWaiting, Settles, StoredBy, said_of, told, told_by};
-ghost use Rattle.nbdj_pipe.specs.Refusals.{IsOfExport};
+ghost use Rattle.nbdj_pipe.specs.Causes.{HasCause};
+ghost use Rattle.nbdj_pipe.specs.inner.Causes.{LacksRoom};
+ghost use Rattle.nbdj_pipe.specs.inner.Checkpoint.{EndsBy, HasCopiedAll, IsCopied, IsDone, IsEmptied, IsFinished, OrStopped};
+ghost use Rattle.nbdj_pipe.specs.inner.Export.{AwaitsAnswer, CameTo, Follows, GetsOn, HasAnswer, IsGiven, IsJudged, IsOfKind, IsSettled, IsStoring, IsWaiting, Settles, StoredBy, said_of, told, told_by};
+ghost use Rattle.nbdj_pipe.specs.inner.Refusals.{IsOfExport};
 ghost use Rattle.nbdj_pipe.specs.Talk.{plain, spoken, verdict_on};
 ghost use Rattle.order_book.specs.Order.{IsInHand};
 ghost use Rattle.request_core.specs.Life.{Trusts};
@@ -16,10 +17,10 @@ ghost use Rattle.export_model.specs.World.{World};
 ghost use Rattle.export_model.specs.declared.connection.Connection.TheVariants as Connection;
 ghost use Rattle.export_model.specs.declared.event.Event.TheVariants as Event;
 
-use crate::refusal::Refusal;
 use checkpoint::Keeper;
 use disk_model::Disk;
 use export_model_laws::schedule_law;
+use front_end::Refusal;
 use marks::{Board, BoardName, KeeperSeat};
 use nbd_wire::{Answer, DISCONNECT, Request};
 use order_book::Order;

@@ -4,9 +4,7 @@
 
 mod export;
 mod options;
-mod refusal;
 mod session;
 
-pub use options::{LEAST_FRAMES, MOST_FRAMES, PipeOptions};
-pub use refusal::Refusal;
+pub use options::PipeOptions;
 pub use session::pipe;

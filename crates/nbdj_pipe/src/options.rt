@@ -1,12 +1,7 @@
 ghost use Rattle.std.specs.Prelude.{◌≡◌, ◌≤◌, MatchOption};
 
 use export_model::Mode;
-
-/// The fewest blocks that may be allowed to wait for the checkpoint.
-pub const LEAST_FRAMES: u64 = 512;
-
-/// The most of them.
-pub const MOST_FRAMES: u64 = 65_536;
+use front_end::{LEAST_FRAMES, MOST_FRAMES};
 
 /// How a connection is served.
 #[derive(Clone, Copy, Debug, PartialEq, Eq)]

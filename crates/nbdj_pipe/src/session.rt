@@ -2,13 +2,14 @@ ghost use Rattle.std.specs.Prelude.{◌≡◌, ◌↔◌, ◌⊎◌, ◌<◌, �
 ghost use Rattle.std.specs.Io.KnownBytes.{ReadConsumes};
 ghost use Rattle.byte_streams.specs.Streams.{WritesPart};
 ghost use Rattle.disk_model.specs.Faults.{HasRisen};
-ghost use Rattle.nbdj_pipe.specs.Export.{IsSettled, Settles};
-ghost use Rattle.nbdj_pipe.specs.Life.{IsLived, IsOpenedFrom};
+ghost use Rattle.nbdj_pipe.specs.inner.Export.{IsSettled, Settles};
+ghost use Rattle.nbdj_pipe.specs.Life.{IsLived};
+ghost use Rattle.nbdj_pipe.specs.inner.Life.{IsOpenedFrom};
 ghost use Rattle.nbdj_pipe.specs.Pipe.{IsOrderly, IsPiped, IsUnopened};
-ghost use Rattle.nbdj_pipe.specs.Refusals.{IsOfExport};
-ghost use Rattle.nbdj_pipe.specs.Session.{IsEndOr, IsEndShown, IsFed, Runs, Serves, StaysOpen, Takes};
+ghost use Rattle.nbdj_pipe.specs.inner.Refusals.{IsOfExport};
+ghost use Rattle.nbdj_pipe.specs.inner.Session.{IsEndOr, IsEndShown, IsFed, Runs, Serves, StaysOpen, Takes};
 ghost use Rattle.nbdj_pipe.specs.Talk.{data_of, error_of, plain, reply_to};
-ghost use Rattle.nbdj_pipe.specs.declared.refusal.Refusal.TheVariants as Refusal;
+ghost use Rattle.front_end.specs.declared.refusal.Refusal.TheVariants as Refusal;
 ghost use Rattle.device_image.specs.Holds.{Holds};
 ghost use Rattle.image_model.specs.Image.{Image};
 ghost use Rattle.image_model.specs.declared.command.Kind.{Kind};
@@ -21,12 +22,12 @@ ghost use Rattle.export_model.specs.World.{World};
 
 use crate::export::Export;
 use crate::options::PipeOptions;
-use crate::refusal::Refusal;
 use byte_streams::{StreamFault, read_some, write_whole};
 use checkpoint::Keeper;
 use device_image::keeper_laws;
 use disk_model::Disk;
 use export_model_laws::schedule_law;
+use front_end::Refusal;
 use marks::{BlankBoard, Board, BoardName, KeeperSeat, Opened};
 use nbd_reply::encode_simple_reply;
 use nbd_wire::{Answer, Request, SessionFlags, StreamReader, one_reading};
@@ -90,6 +91,7 @@ fn pipe_over<B: BoardName, D: Disk, R: Read, W: Write>(
     output: &mut W,
 ) -> (Result<(), Refusal>, D)
     requires board { blank.board ≡ B.board }
+    requires named { blank.opening ≡ B.opening }
     requires opening { blank.opening ≡ keeper.count }
     ensures extent { D.extent result.1 ≡ D.extent keeper.disk }
     ensures honest { D.honest result.1 ↔ D.honest keeper.disk }
@@ -135,6 +137,7 @@ fn fresh_parts<B: BoardName, D: Disk>(
     options: PipeOptions,
 ) -> Result<(Board<B>, KeeperSeat<B>, Order<B>, Connections<B>), AllocError>
     requires board { blank.board ≡ B.board }
+    requires named { blank.opening ≡ B.opening }
     requires opening { blank.opening ≡ keeper.now.count }
     ensures order { IfOk result (λ parts. (states : List Kind) × (length states ≡ keeper.now.geometry.blocks)
         × (parts.2 ≡ new_order states keeper.now.count options.frames keeper.now.geometry.area)) }

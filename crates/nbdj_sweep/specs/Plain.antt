@@ -1,7 +1,8 @@
 -- When a plain image is an image.
 use Rattle.std.specs.Prelude.{ℕ, ◌≡◌, ◌*◌, ◌+◌, ◌<◌, length, slice_index, slice_index_or}
-use Rattle.image_model.specs.Image.{Image, PlainState}
+use Rattle.image_model.specs.Image.{Image}
 use Rattle.image_model.specs.declared.command.Kind.TheVariants.{Hole}
+use Rattle.plain_image.specs.Plain.{PlainState}
 
 -- the block has the same state and the same bytes in both
 pub record IsPlainBlock (plain : PlainState) (image : Image) (block : ℕ) : Type 0 where

@@ -5,7 +5,8 @@ ghost use Rattle.nbdj_sweep.specs.Plain.{IsPlain, IsPlainBlock};
 
 use checkpoint::{Keeper, KeeperFault};
 use disk_model::Disk;
-use image_model::{BLOCK_BYTES, Kind, PlainImage};
+use image_model::{BLOCK_BYTES, Kind};
+use plain_image::PlainImage;
 use std::alloc::Global;
 
 /// Whether the image of a keeper whose journal is empty is the plain one: as many blocks, and each of them with the same

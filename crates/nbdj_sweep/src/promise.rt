@@ -1,7 +1,8 @@
 use bitflags::Flags;
 use export_model::{Event, Mode};
-use image_model::{Edit, Kind, PlainImage};
+use image_model::{Edit, Kind};
 use nbd_wire::{Answer, CommandFlags, FLUSH, Request, RequestHead, TRIM, WRITE, WRITE_ZEROES};
+use plain_image::PlainImage;
 use std::alloc::{AllocError, Global};
 
 /// The most connections of a script.

@@ -39,6 +39,7 @@ fn rehearsed_over<B: BoardName>(
     steps: &[Step],
 ) -> Result<(Vec<Event>, SimDisk), AllocError>
     requires board { blank.board ≡ B.board }
+    requires named { blank.opening ≡ B.opening }
     requires opening { blank.opening ≡ keeper.count }
 {
     let Opened {

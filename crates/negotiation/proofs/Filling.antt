@@ -5,7 +5,8 @@ use Rattle.nbd_wire.specs.Stream.{Fills as FillsReader, Reader}
 use Rattle.negotiation.specs.declared.answer.Agreed.{Agreed}
 use Rattle.negotiation.specs.Dialog.{Standing, in_requests}
 use Rattle.negotiation.specs.Ends.{end_for}
-use Rattle.negotiation.specs.Session.{Fills, HandsNone}
+use Rattle.negotiation.specs.Session.{Fills}
+use Rattle.negotiation.specs.inner.Session.{HandsNone}
 use Rattle.negotiation.specs.laws.Dialogs.{session_at}
 use Rattle.negotiation.specs.laws.Requests.{hands_none}
 use Rattle.negotiation.proofs.Sessions.{fed_behind}

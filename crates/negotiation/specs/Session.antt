@@ -8,7 +8,6 @@ use Rattle.nbd_wire.specs.Stream.{fresh, held, end_of as end_of_requests, room_o
 use Rattle.option_wire.specs.Handshake.{client_flags_bytes, greeting_bytes}
 use Rattle.option_wire.specs.Head.{option_head}
 use Rattle.option_wire.specs.declared.handshake.ClientFlags.{ClientFlags}
-use Rattle.negotiation.specs.Answered.{Answered, answer_bytes}
 use Rattle.negotiation.specs.declared.answer.Agreed.{Agreed}
 use Rattle.negotiation.specs.declared.answer.Next.{Next}
 use Rattle.negotiation.specs.declared.answer.Next.TheVariants as behind
@@ -77,10 +76,6 @@ standing_behind behind.Transmission = in_requests fresh
 standing_behind behind.End = ended
 standing_behind behind.Fault = broken
 
--- a session over an export of so many bytes
-abbrev pub state_of : ℕ → Talk → SessionState
-state_of size talk = record { size = size; agreed = talk.agreed; standing = standing_of talk.stage }
-
 -- What a text that begins with an option comes to: it is whole, and answered, or this is left of it.
 abbrev pub Takes : Agreed → ℕ → List ℕ → List Turn → Agreed → Standing → Type 0
 Takes agreed size text [] new standing = (new ≡ agreed) × Leaves standing text
@@ -93,16 +88,6 @@ pub record Step (agreed : Agreed) (size : ℕ) (IsText : List ℕ → Type 0) (b
   pub turns : List Turn
   pub takes : (text : List ℕ) → IsText text → Takes agreed size text turns talk.agreed (standing_of talk.stage)
   pub written : after ≡ before ++ answers_text turns
-
--- an option was answered
-pub record Settles (code : ℕ) (answer : Answered) (before after : List ℕ) (talk : Talk) : Type 0 where
-  pub agreed : talk.agreed ≡ answer.agreed
-  pub standing : standing_of talk.stage ≡ standing_behind answer.next
-  pub written : after ≡ before ++ answer_bytes code answer
-
--- the text of an option with these data
-abbrev pub IsData : ℕ → List ℕ → List ℕ → Type 0
-IsData code content text = text ≡ option_head code (length content) ++ content
 
 -- the first bytes of an option whose data come next
 abbrev pub IsPart : ℕ → ℕ → List ℕ → List ℕ → Type 0
@@ -203,48 +188,6 @@ pub record Fills (old : SessionState) (input left : Option (List ℕ)) (count : 
   pub said : IsSaid new.standing
   pub going : IsOpen new.standing
   pub end : count ≡ 0 → IsAtEnd left
-
--- the greeting is written where nothing was said yet, and else nothing
-abbrev pub Greets : Standing → Standing → List ℕ → List ℕ → Type 0
-Greets silent new before after = (new ≡ in_flags []) × (after ≡ before ++ greeting_bytes)
-Greets old new before after = (new ≡ old) × (after ≡ before)
-
--- these bytes of a handshake were read
-pub record Advances (old : SessionState) (front before after : List ℕ) (new : SessionState) : Type 0 where
-  pub turns : List Turn
-  pub hears : HearsOn old front turns [] new
-  pub written : after ≡ before ++ answers_text turns
-
--- What was left of the piece behind the handshake was read, to its end but where memory ran out.
-pub record Hands (old : Standing) (piece : List ℕ) (requests : List Message) (new : Standing) : Type 0 where
-  pub first : List ℕ
-  pub rest : List ℕ
-  pub between : Standing
-  pub parts : piece ≡ first ++ rest
-  pub said : IsSaid between
-  pub behind : IsBehind old → IsBehind between
-  pub hears : (size : ℕ) (agreed : Agreed) → HearsOn (record { size = size; agreed = agreed; standing = old }) first [] requests
-      (record { size = size; agreed = agreed; standing = between })
-  pub whole : ((end_of new ≡ Some NoMemory) × ((requests ≡ []) ⊎ IsBehind between)) ⊎ ((rest ≡ []) × (new ≡ between))
-
--- so many bytes were read off a stream, as a piece behind the handshake that ends no request
-pub record HandsNone (old : Standing) (input left : Option (List ℕ)) (count : ℕ) (new : Standing) : Type 0 where
-  pub piece : List ℕ
-  pub len : length piece ≡ count
-  pub read : Consumes input left piece
-  pub hands : Hands old piece [] new
-  pub was : IsBehind old
-  pub said : IsSaid new
-  pub going : IsOpen new
-  pub end : count ≡ 0 → IsAtEnd left
-
--- some first part of the piece was read, and the answers to the options in it were written
-pub record Runs (old : SessionState) (piece behind before after : List ℕ) (new : SessionState) : Type 0 where
-  pub turns : List Turn
-  pub taken : List ℕ
-  pub parts : piece ≡ taken ++ behind
-  pub hears : HearsOn old taken turns [] new
-  pub written : after ≡ before ++ answers_text turns
 
 -- the requests that are handed out
 abbrev pub handed : Result (Vec Message) End → List Message

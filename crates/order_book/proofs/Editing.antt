@@ -21,7 +21,8 @@ use Rattle.shared_cache.specs.Blocks.{is_held}
 use Rattle.shared_cache.specs.Cache.{CacheState, LacksBytes, bytes_seen}
 use Rattle.shared_cache.specs.laws.Views.{missing_seen}
 use Rattle.order_book.specs.Cached.{dirty_of}
-use Rattle.order_book.specs.Edits.{IsMissing, LacksOld, bytes_or, edge_bytes, edges_given, image_with, is_in_part, needs_old, put_bytes, zeroed_block}
+use Rattle.order_book.specs.Edits.{IsMissing, LacksOld, bytes_or, image_with, is_in_part, needs_old}
+use Rattle.order_book.specs.inner.Edits.{edge_bytes, edges_given, put_bytes, zeroed_block}
 use Rattle.order_book.specs.Reading.{IsCleanAt}
 use Rattle.order_book.specs.Shown.{ShowsImage}
 use Rattle.order_book.specs.laws.Edited.{IsSameFor, byte-image_with}

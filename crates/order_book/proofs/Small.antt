@@ -10,7 +10,8 @@ use Rattle.image_model.specs.declared.command.Edges.TheVariants.{Head, Tail, Bot
 use Rattle.image_model.specs.Command.{IsCommand, body_of}
 use Rattle.image_model.specs.Dirty.{frames_suffice}
 use Rattle.image_model.specs.Change.{change_of, edge_count}
-use Rattle.order_book.specs.Order.{OrderState, has_room, refusal_of}
+use Rattle.order_book.specs.Order.{OrderState, has_room}
+use Rattle.order_book.specs.inner.Order.{refusal_of}
 use Rattle.order_book.specs.Pending.{HasSmallBody}
 use Rattle.order_book.specs.declared.fault.OrderFault.{OrderFault}
 

@@ -6,4 +6,5 @@ pub mod Pending
 pub mod Reading
 pub mod Shown
 pub mod State
+pub mod inner
 pub mod laws

@@ -1,6 +1,7 @@
 -- the order of write commands as callers see it
 use Rattle.std.specs.Prelude.{MatchBool, max, ◌≡◌, ℕ, ◌+◌, ◌-◌, ◌<◌, ◌≤◌, ◌&&◌, ◌==◌, Option, Some, None, Bool, false, nat_le, if◌then◌else◌, List, [], ◌∷◌, ◌++◌, length, drop, take, sum, All}
 use Rattle.std.specs.FinMap.{empty}
+use mathlib.Core.List.{IsPrefix}
 use Rattle.image_model.specs.declared.command.Command.{Command}
 use Rattle.image_model.specs.declared.command.Kind.{Kind}
 use Rattle.image_model.specs.Bodies.{body_bytes, body_limit}
@@ -8,7 +9,7 @@ use Rattle.image_model.specs.Change.{Change, change_of}
 use Rattle.image_model.specs.Command.{body_of, bodies_of}
 use Rattle.image_model.specs.Dirty.{Dirty, clean_through, dirty_after, frames_suffice}
 use Rattle.journal_format.specs.Group.{Numbered}
-use Rattle.marks.specs.Known.{Marks}
+use Rattle.marks.specs.Known.{KeeperKnows}
 use Rattle.order_book.specs.Cached.{cache_after, cache_cleaned}
 use Rattle.order_book.specs.declared.fault.OrderFault.{OrderFault}
 use Rattle.order_book.specs.declared.fault.OrderFault.TheVariants.{NumbersFull, NoRoom, Stopped}
@@ -23,6 +24,9 @@ pub record OrderState : Type 0 where
   pub durable : ℕ
   pub sealed : ℕ
   pub mark : ℕ
+  -- the changes of all commands, the first of them first, and a number up to which the image has them, as the order knows
+  pub history : List Change
+  pub base : ℕ
   -- how many commands the last group has, 0 once it was put back
   pub in_hand : ℕ
   -- the commands above the last sealed number, one number each
@@ -46,6 +50,8 @@ new_order states last most bytes = record {
   durable = last;
   sealed = last;
   mark = last;
+  history = [];
+  base = last;
   in_hand = 0;
   pending = [];
   bodies = [];
@@ -72,13 +78,11 @@ refusal_for order change =
     else (if order.mark == 18446744073709551615 then Some NumbersFull
     else (if has_room_for order change then None else Some NoRoom))
 
-abbrev pub refusal_of : OrderState → Command → Option OrderFault
-refusal_of order command = refusal_for order (change_of command)
-
 -- the order with one command more
 abbrev pub with_command : OrderState → Command → OrderState
 with_command order command = record order {
   mark = order.mark + 1;
+  history = order.history ++ change_of command ∷ [];
   pending = order.pending ++ command ∷ [];
   bodies = order.bodies ++ body_of command ∷ [];
   cache = cache_after order.cache (order.mark + 1) (change_of command);
@@ -122,24 +126,33 @@ with_durable order count =
     then record order { durable = count; bodies = drop (count - order.durable) order.bodies }
     else order
 
--- What the keeper's seat knows once the order has published a count: where it did, the count is durable, if no more was before,
--- and all of the order was accepted; else what it knew.
-abbrev pub PublishesTo : Marks → OrderState → ℕ → Marks → Type 0
-PublishesTo old order count new =
-    MatchBool (is_published order count)
-    ((new.durable ≡ max old.durable count) × (old.accepted ≤ new.accepted) × (order.mark ≤ new.accepted))
-    (new ≡ old)
+-- The keeper's seat is published a count: it is durable, if no more was before, and the seat knows all of the order. What it knew begins
+-- that, and the order's base is no greater than its own.
+pub record IsPublishedTo (old : KeeperKnows) (order : OrderState) (count : ℕ) (new : KeeperKnows) : Type 0 where
+  pub durable : new.durable ≡ max old.durable count
+  pub knew : IsPrefix old.history order.history
+  pub knows : IsPrefix order.history new.history
+  pub accepted : (old.accepted ≤ order.mark) × (order.mark ≤ new.accepted)
+  pub base : (order.base ≤ old.base) × (new.base ≡ old.base)
 
--- the numbers from the last sealed one to the mark are those of the pending commands, and from the durable one of the backlog
+-- What the keeper's seat knows once the order has published a count: where it didn't, what it knew.
+abbrev pub PublishesTo : KeeperKnows → OrderState → ℕ → KeeperKnows → Type 0
+PublishesTo old order count new = MatchBool (is_published order count) (IsPublishedTo old order count new) (new ≡ old)
+
+-- the numbers from the last sealed one to the mark are those of the pending commands, from the durable one of the backlog, and from
+-- the opening of the history
 pub record IsNumbered (order : OrderState) : Type 0 where
   pub pending : order.sealed + length order.pending ≡ order.mark
   pub backlog : order.durable + length order.bodies ≡ order.mark
+  pub history : order.opening + length order.history ≡ order.mark
   pub opened : (order.opening ≤ order.durable) × (order.opening + order.in_hand ≤ order.sealed)
   pub mark : order.mark < 18446744073709551616
 
--- what holds of each order; `spare` is the room behind the pending commands, `accepted` the number that its board shows
-pub record IsOrder (order : OrderState) (spare accepted : ℕ) : Type 0 where
+-- what holds of each order; `spare` is the room behind the pending commands, `opening` the number with which its board opened, and
+-- `accepted` the one that it shows
+pub record IsOrder (order : OrderState) (spare opening accepted : ℕ) : Type 0 where
   pub numbers : IsNumbered order
+  pub named : order.opening ≡ opening
   pub shown : accepted ≡ order.mark
   pub backlog : sum order.bodies ≤ 67108864
   pub small : All HasSmallBody order.pending

@@ -1,7 +1,7 @@
 -- commands that wait for a group
-use Rattle.std.specs.Prelude.{ℕ, ◌≤◌, ◌<◌, List, length, take}
+use Rattle.std.specs.Prelude.{ℕ, ◌≤◌, List}
 use Rattle.image_model.specs.declared.command.Command.{Command}
-use Rattle.image_model.specs.Command.{body_of, bodies_of}
+use Rattle.image_model.specs.Command.{body_of}
 
 -- commands in their order, and how many more there is room for
 pub record Waiting : Type 0 where
@@ -15,9 +15,3 @@ most_body = 1052685
 -- the command takes no more of them
 abbrev pub HasSmallBody : Command → Type 0
 HasSmallBody command = body_of command ≤ most_body
-
--- so many commands fit into the limit, and no more of them do
-pub record IsLongest (limit : ℕ) (commands : List Command) (count : ℕ) : Type 0 where
-  pub within : count ≤ length commands
-  pub fits : bodies_of (take count commands) ≤ limit
-  pub longest : (more : ℕ) → count < more → more ≤ length commands → limit < bodies_of (take more commands)

@@ -12,7 +12,8 @@ ghost use Rattle.image_model.specs.Edit.{BytesPut, BytesTrimmed, BytesZeroed, Is
 ghost use Rattle.image_model.specs.Image.{Image, last_of};
 ghost use Rattle.image_model.specs.declared.command.Kind.TheVariants.{Data};
 ghost use Rattle.order_book.specs.Cached.{dirty_of, frames_of};
-ghost use Rattle.order_book.specs.Edits.{IsMissing, IsPut, IsWholePut, LacksOld, bytes_or, edge_bytes, edges_given, image_in, image_with, is_in_part, needs_old, put_again, put_bytes, whole_change, zeroed_block};
+ghost use Rattle.order_book.specs.Edits.{IsMissing, LacksOld, bytes_or, image_in, image_with, is_in_part, needs_old};
+ghost use Rattle.order_book.specs.inner.Edits.{IsPut, IsWholePut, edge_bytes, edges_given, put_again, put_bytes, whole_change, zeroed_block};
 ghost use Rattle.order_book.specs.declared.fault.OrderFault.TheVariants as OrderFault;
 ghost use Rattle.shared_cache.specs.Cache.{bytes_seen};
 

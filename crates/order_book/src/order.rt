@@ -1,5 +1,6 @@
-ghost use Rattle.std.specs.Prelude.{◌≡◌, ◌≢◌, ◌+◌, ◌*◌, ◌<◌, ◌≤◌, ◌/◌, ◌%◌, ◌↔◌, ◌^◌, [], ℕ, List, length, slice_index, slice_index_or, sum, true, false, ◌⊎◌, Some, None, IsErr, IsErrAnd, IfErr, IfOk, IfSome, IfNone, IsTrue, OnErr, OnOk};
+ghost use Rattle.std.specs.Prelude.{◌≡◌, ◌≢◌, ◌+◌, ◌*◌, ◌<◌, ◌≤◌, ◌/◌, ◌%◌, ◌↔◌, ◌^◌, [], ℕ, max, List, length, slice_index, slice_index_or, sum, true, false, ◌⊎◌, Some, None, IsErr, IsErrAnd, IfErr, IfOk, IfSome, IfNone, IsTrue, OnErr, OnOk};
 ghost use Rattle.std.specs.FinMap.{len};
+ghost use mathlib.Core.List.{IsPrefix};
 ghost use Rattle.alloc_map.specs.Codes.{state_at};
 ghost use Rattle.alloc_map.specs.Runs.{AreRuns};
 ghost use Rattle.image_model.specs.Bodies.{body_limit};
@@ -14,10 +15,12 @@ ghost use Rattle.image_model.specs.Command.{IsCommand};
 ghost use Rattle.image_model.specs.Edit.{IsEdit, becomes, count_of, edit_of, offset_of};
 ghost use Rattle.image_model.specs.Image.{Image, apply as image_after};
 ghost use Rattle.order_book.specs.Cached.{ShowsCommand};
-ghost use Rattle.order_book.specs.Edits.{IsWholePut, NeedsDevice, TakesEdit, faults_after, image_in, image_with, keeper_after, whole_change};
+ghost use Rattle.order_book.specs.Edits.{NeedsDevice, TakesEdit, faults_after, image_in, image_with, keeper_after};
+ghost use Rattle.order_book.specs.inner.Edits.{IsWholePut, whole_change};
 ghost use Rattle.order_book.specs.Reading.{GivesBase, IsCleanAt, LiesIn, ShowsRead};
 ghost use Rattle.order_book.specs.Shown.{ShowsImage, IsZeroOutsideData};
-ghost use Rattle.order_book.specs.Order.{OrderState, new_order, IsNumbered, has_room, has_room_for, refusal_for, refusal_of, with_command, with_clean, Seals, IsInHand, with_group, with_durable, PublishesTo};
+ghost use Rattle.order_book.specs.Order.{OrderState, new_order, IsNumbered, has_room, has_room_for, refusal_for, with_command, with_clean, Seals, IsInHand, with_group, with_durable, PublishesTo};
+ghost use Rattle.order_book.specs.inner.Order.{refusal_of};
 ghost use Rattle.shared_cache.specs.Cache.{LacksBytes, bytes_seen};
 ghost use Rattle.shared_cache.specs.View.{ShowsClean};
 
@@ -37,7 +40,7 @@ use disk_model::Disk;
 use image_model::{Command, Edit, Kind};
 use journal::Group;
 use journal_format::MOST_BODY_BYTES;
-use marks::{Board, BoardName, KeeperSeat, OrderSeat, Pass};
+use marks::{Board, BoardName, KeeperSeat, OrderSeat, Pass, Told};
 use shared_cache::{Cache, Missing};
 use std::alloc::{AllocError, Global};
 use std::marker::Model;
@@ -99,7 +102,7 @@ impl<B: BoardName> Model for Order<B> {
 
     ghost view = { state_of };
 
-    ghost invariant = { λ order. IsOrder (state_of order) order.pending.spare order.seat };
+    ghost invariant = { λ order. IsOrder (state_of order) order.pending.spare B.opening order.seat.accepted };
 }
 
 // Makes room for `count` commands more to be pending, and for one more that isn't durable.
@@ -129,7 +132,8 @@ impl<B: BoardName> Order<B> {
         area: u32,
         seat: OrderSeat<B>,
     ) -> Result<Order<B>, AllocError>
-        requires seat { seat ≡ opening }
+        requires named { opening ≡ B.opening }
+        requires seat { seat ≡ record { history = []; accepted = opening; base = opening } }
         requires area { 2097152 ≤ area }
         requires frames { frames + 3 < 2 ^ 31 }
         requires few { length map ≤ 16777216 }
@@ -170,7 +174,8 @@ impl<B: BoardName> Order<B> {
 
     /// The last number before the first command.
     pub fn opening(&self) -> u64
-        ensures { result ≡ self.now.opening }
+        ensures opening { result ≡ self.now.opening }
+        ensures named { result ≡ B.opening }
     {
         self.opening
     }
@@ -179,6 +184,7 @@ impl<B: BoardName> Order<B> {
     pub fn mark(&self) -> u64
         ensures mark { result ≡ self.now.mark }
         ensures numbers { IsNumbered self.now }
+        ensures place { result ≡ B.opening + length self.now.history }
     {
         self.mark
     }
@@ -225,14 +231,51 @@ impl<B: BoardName> Order<B> {
         self.stopped
     }
 
-    /// The number of the last command that was accepted, shown to a pass: what a FLUSH waits for.
+    /// The number of the last command that was accepted, shown to a pass with the history: what a FLUSH waits for.
     pub fn show_mark(&mut self, board: &Board<B>, pass: &mut Pass<B>) -> u64
         ensures mark { result ≡ self.old.mark }
+        ensures place { result ≡ B.opening + length self.old.history }
         ensures same { self.new ≡ self.old }
         ensures known { known pass.old ≤ result }
-        ensures pass { pass.new ≡ record pass.old { accepted = result } }
+        ensures knew { IsPrefix pass.old.history self.old.history }
+        ensures pass { pass.new ≡ record pass.old { history = self.old.history; accepted = result } }
     {
         board.show_accepted(&mut self.seat, pass)
+    }
+
+    /// The history as it is, for the keeper's seat to be told of.
+    pub fn note(&mut self, board: &Board<B>) -> Told<B>
+        ensures same { self.new ≡ self.old }
+        ensures told { (result.history ≡ self.old.history) × (result.accepted ≡ self.old.mark) }
+    {
+        board.note(&mut self.seat)
+    }
+
+    /// Compares what was told with the history: that begins it.
+    pub fn compare(&mut self, board: &Board<B>, told: Told<B>)
+        ensures same { self.new ≡ self.old }
+        ensures told { IsPrefix told.history self.old.history }
+    {
+        board.compare(&mut self.seat, told);
+    }
+
+    /// The keeper's seat meets the order, and knows then all of it: what it knew begins the history, and the order's base is no
+    /// greater than its own.
+    pub fn meet(&mut self, board: &Board<B>, keeper: &mut KeeperSeat<B>)
+        ensures same { self.new ≡ self.old }
+        ensures knew { IsPrefix keeper.old.history self.old.history }
+        ensures base { self.old.base ≤ keeper.old.base }
+        ensures keeper { keeper.new ≡ record keeper.old { history = self.old.history; accepted = self.old.mark } }
+    {
+        board.brief(&mut self.seat, keeper);
+    }
+
+    /// Learns the base of the keeper's seat.
+    pub fn learn_base(&mut self, board: &Board<B>, seat: &mut KeeperSeat<B>)
+        ensures order { self.new ≡ record self.old { base = max self.old.base seat.old.base } }
+        ensures same { seat.new ≡ seat.old }
+    {
+        board.brief_base(&mut self.seat, seat);
     }
 
     /// Takes the command as the last one, for a pass, and gives its number, to which the board is raised; a refusal hands it
@@ -252,13 +295,16 @@ impl<B: BoardName> Order<B> {
         ensures image { OnOk result ((image : Image) → ShowsImage image self.old.cache → ShowsImage (image_after (change_of command) image) self.new.cache) }
         ensures blocks { length self.new.cache.states ≡ length self.old.cache.states }
         ensures numbers { IsNumbered self.old }
+        ensures place { self.old.mark ≡ B.opening + length self.old.history }
         ensures handed_back { IfErr result (λ refused. refused.1 ≡ command) }
         ensures unchanged { OnErr result (self.new ≡ self.old) }
 
-        // The number is above all that the pass had seen or was told, and the command is the pass's own under it.
+        // The number is above all that the pass had seen or was told, the command is the pass's own under it, and the history that
+        // the pass then knows has it as its last, behind all that the pass knew.
         ensures known { IfOk result (λ number. known pass.old < number) }
+        ensures knew { OnOk result (IsPrefix pass.old.history self.old.history) }
         ensures pass { IfOk result (λ number. pass.new
-            ≡ record pass.old { accepted = number; own = Some (record { number = number; change = change_of command }) }) }
+            ≡ record pass.old { history = self.new.history; accepted = number; own = Some (record { number = number; change = change_of command }) }) }
         ensures pass_unchanged { OnErr result (pass.new ≡ pass.old) }
 
         // Each refusal comes exactly where it is due and none before it is.
@@ -292,8 +338,9 @@ impl<B: BoardName> Order<B> {
         ensures handed_back { IfErr result (λ refused. refused.1 ≡ command) }
         ensures unchanged { OnErr result (self.new ≡ self.old) }
         ensures known { IfOk result (λ number. known pass.old < number) }
+        ensures knew { OnOk result (IsPrefix pass.old.history self.old.history) }
         ensures pass { IfOk result (λ number. pass.new
-            ≡ record pass.old { accepted = number; own = Some (record { number = number; change = change_of command }) }) }
+            ≡ record pass.old { history = self.new.history; accepted = number; own = Some (record { number = number; change = change_of command }) }) }
         ensures pass_unchanged { OnErr result (pass.new ≡ pass.old) }
         ensures memory { IfErr result (λ refused. refused.0 ≡ OrderFault.NoMemory) }
     {
@@ -390,9 +437,11 @@ impl<B: BoardName> Order<B> {
             → OnOk result (TakesEdit (edit_of edit) image self.old self.new pass.old pass.new) }
         ensures blocks { length self.new.cache.states ≡ length self.old.cache.states }
         ensures numbers { IsNumbered self.old }
+        ensures place { self.old.mark ≡ B.opening + length self.old.history }
         ensures handed_back { IfErr result (λ refused. refused.1 ≡ edit) }
         ensures unchanged { OnErr result (self.new ≡ self.old) }
         ensures known { IfOk result (λ number. known pass.old < number) }
+        ensures knew { OnOk result (IsPrefix pass.old.history self.old.history) }
         ensures pass_unchanged { OnErr result (pass.new ≡ pass.old) }
 
         // Each refusal comes exactly where it is due and none before it is.
@@ -433,6 +482,7 @@ impl<B: BoardName> Order<B> {
         ensures handed_back { IfErr result (λ refused. refused.1 ≡ edit) }
         ensures unchanged { OnErr result (self.new ≡ self.old) }
         ensures known { IfOk result (λ number. known pass.old < number) }
+        ensures knew { OnOk result (IsPrefix pass.old.history self.old.history) }
         ensures pass_unchanged { OnErr result (pass.new ≡ pass.old) }
         ensures memory { IfErr result (λ refused. refused.0 ≡ OrderFault.NoMemory) }
     {
@@ -466,6 +516,7 @@ impl<B: BoardName> Order<B> {
         ensures handed_back { IfErr result (λ refused. refused.1 ≡ edit) }
         ensures unchanged { OnErr result (self.new ≡ self.old) }
         ensures known { IfOk result (λ number. known pass.old < number) }
+        ensures knew { OnOk result (IsPrefix pass.old.history self.old.history) }
         ensures pass_unchanged { OnErr result (pass.new ≡ pass.old) }
         ensures memory { IfErr result (λ refused. refused.0 ≡ OrderFault.NoMemory) }
     {
@@ -482,7 +533,7 @@ impl<B: BoardName> Order<B> {
     /// device and not kept in memory. Edits of whole blocks and trims need no old bytes.
     ///
     /// The refusals, in the order in which they are looked for: 18 (stopped), 9 (numbers full), 17 (no room), 0 (no memory);
-    /// then 1 (device fault), or 16 (failed) after an earlier 1, where a block is to be read; memory may be refused after that too.
+    /// then 1 (device fault), or 16 (failed) after an earlier one, where a block is to be read; memory may be refused after that too.
     pub fn accept_edit<D: Disk>(
         &mut self,
         keeper: &mut Keeper<D>,
@@ -505,9 +556,11 @@ impl<B: BoardName> Order<B> {
             → OnOk result (TakesEdit (edit_of edit) image self.old self.new pass.old pass.new) }
         ensures blocks { length self.new.cache.states ≡ length self.old.cache.states }
         ensures numbers { IsNumbered self.old }
+        ensures place { self.old.mark ≡ B.opening + length self.old.history }
         ensures handed_back { IfErr result (λ refused. refused.1 ≡ edit) }
         ensures unchanged { OnErr result (self.new ≡ self.old) }
         ensures known { IfOk result (λ number. known pass.old < number) }
+        ensures knew { OnOk result (IsPrefix pass.old.history self.old.history) }
         ensures pass_unchanged { OnErr result (pass.new ≡ pass.old) }
 
         // Each refusal comes exactly where it is due and none before it is.
@@ -670,7 +723,7 @@ impl<B: BoardName> Order<B> {
     /// the data region each run of the others in one call of the device. These are then kept in memory, as far as there
     /// are frames that aren't dirty.
     ///
-    /// Where all are in memory nothing has changed. Else refusals 1 (device fault), and 16 (failed) after an earlier 1;
+    /// Where all are in memory nothing has changed. Else refusals 1 (device fault), and 16 (failed) after an earlier one;
     /// `into` then holds any bytes.
     pub fn read_with<D: Disk>(
         &mut self,

@@ -1,7 +1,8 @@
 ghost use Rattle.std.specs.Prelude.{◌≡◌, ◌+◌, ◌-◌, ◌<◌, ◌≤◌, ◌++◌, [], ◌∷◌, ◌↔◌, IsTrue, All, length, take, drop, OnOk, OnErr, IfOk};
 ghost use Rattle.std.specs.VecDeque.{deque_len, deque_capacity};
 ghost use Rattle.std.specs.Vec.{vec_capacity};
-ghost use Rattle.order_book.specs.Pending.{HasSmallBody, IsLongest, most_body};
+ghost use Rattle.order_book.specs.Pending.{HasSmallBody, most_body};
+ghost use Rattle.order_book.specs.inner.Pending.{IsLongest};
 
 use image_model::Command;
 use std::alloc::{AllocError, Global};

@@ -209,7 +209,8 @@ fn right_later<B: BoardName>(subject: &mut Subject<B>) -> u64 {
 
 // All cases over an image of data, and once more when they are at the base and other blocks have taken their frames.
 fn compare<B: BoardName>(alloc: Global, start: Start) -> Option<[u64; 2]>
-    requires { start.blank.board ≡ B.board }
+    requires board { start.blank.board ≡ B.board }
+    requires named { start.blank.opening ≡ B.opening }
 {
     let mut subject = start.subject::<B>(alloc, 512)?;
     let right = right_cases(&mut subject);

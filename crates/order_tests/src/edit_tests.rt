@@ -75,7 +75,8 @@ struct Compared<B: BoardName> {
 impl<B: BoardName> Compared<B> {
     // Blocks 32 to 47 are data, stored and at the base.
     fn new(alloc: Global, start: Start) -> Option<Compared<B>>
-        requires { start.blank.board ≡ B.board }
+        requires board { start.blank.board ≡ B.board }
+        requires named { start.blank.opening ≡ B.opening }
     {
         let plain = Plain::new(alloc)?;
         let subject = start.subject::<B>(alloc, 8)?;
@@ -175,7 +176,8 @@ impl<B: BoardName> Compared<B> {
 
 // How many of 500 cases go as they should, up to the first that doesn't.
 fn right_cases<B: BoardName>(alloc: Global, start: Start) -> Option<u64>
-    requires { start.blank.board ≡ B.board }
+    requires board { start.blank.board ≡ B.board }
+    requires named { start.blank.opening ≡ B.opening }
 {
     let mut compared = Compared::<B>::new(alloc, start)?;
     for which in 0..500 {
@@ -263,7 +265,8 @@ fn needs_no_device<B: BoardName>(subject: &mut Subject<B>) -> bool {
 // The next read of the device fails. It isn't asked by edits that need no old bytes, or find them in memory; then a put in part
 // of a block that is missing is refused with 1, and one more with 16. Nothing of memory is refused still.
 fn read_fails<B: BoardName>(alloc: Global, start: Start) -> Option<[bool; 4]>
-    requires { start.blank.board ≡ B.board }
+    requires board { start.blank.board ≡ B.board }
+    requires named { start.blank.opening ≡ B.opening }
 {
     let mut subject = start.subject::<B>(alloc, 512)?;
     subject.keeper.fail(CallKind::Read, 1);
@@ -282,7 +285,8 @@ fn old_bytes_are_refused_by_the_device(rt: HostRuntime) {
 // All frames are dirty, and the next read of the device fails: it isn't asked before there is room, also where what an edit
 // clears has frames. Once a trim has let one go, the edit is refused for the device.
 fn no_room_is_first<B: BoardName>(alloc: Global, start: Start) -> Option<[bool; 4]>
-    requires { start.blank.board ≡ B.board }
+    requires board { start.blank.board ≡ B.board }
+    requires named { start.blank.opening ≡ B.opening }
 {
     let mut subject = start.subject::<B>(alloc, 512)?;
     let filled = takes_put(&mut subject, 0, 1_048_576)

@@ -1,7 +1,8 @@
 //! An image as plain bytes and states, and edits of it.
 use crate::edits::{Asked, ByteRange, Shape, edit};
 use alloc_map::Run;
-use image_model::{Command, Kind, PlainImage};
+use image_model::{Command, Kind};
+use plain_image::PlainImage;
 use std::alloc::Global;
 
 // How many blocks it has.

@@ -77,7 +77,8 @@ struct Compared<B: BoardName> {
 impl<B: BoardName> Compared<B> {
     // An image of holes over 16 frames: blocks leave memory, and come back from the device.
     fn new(alloc: Global, start: Start) -> Option<Compared<B>>
-        requires { start.blank.board ≡ B.board }
+        requires board { start.blank.board ≡ B.board }
+        requires named { start.blank.opening ≡ B.opening }
     {
         let plain = Plain::new(alloc)?;
         let subject = start.subject::<B>(alloc, 16)?;
@@ -176,7 +177,8 @@ impl<B: BoardName> Compared<B> {
 
 // How many of 500 turns are answered as they should be, where all is then that of the image.
 fn compare<B: BoardName>(alloc: Global, start: Start) -> Option<u64>
-    requires { start.blank.board ≡ B.board }
+    requires board { start.blank.board ≡ B.board }
+    requires named { start.blank.opening ≡ B.opening }
 {
     let mut compared = Compared::<B>::new(alloc, start)?;
     let right = compared.right_turns(500);

@@ -15,7 +15,8 @@ fn lets_go<B: BoardName>(subject: &mut Subject<B>) -> bool {
 
 // With 512 frames and 513 blocks read in turn the first has no frame any more, and the second and the last have.
 fn read_in_turn<B: BoardName>(alloc: Global, start: Start) -> Option<[bool; 3]>
-    requires { start.blank.board ≡ B.board }
+    requires board { start.blank.board ≡ B.board }
+    requires named { start.blank.opening ≡ B.opening }
 {
     let mut subject = start.subject::<B>(alloc, 512)?;
     let gone = lets_go(&mut subject);
@@ -44,7 +45,8 @@ fn reads_twice<B: BoardName>(subject: &mut Subject<B>) -> bool {
 
 // Three missing runs are three calls of the device, and none once they were read: the fourth call is that of another read.
 fn read_three_runs<B: BoardName>(alloc: Global, start: Start) -> Option<[bool; 3]>
-    requires { start.blank.board ≡ B.board }
+    requires board { start.blank.board ≡ B.board }
+    requires named { start.blank.opening ≡ B.opening }
 {
     let mut subject = start.subject::<B>(alloc, 512)?;
     let left = leaves_three_runs(&mut subject, 4);
@@ -73,7 +75,8 @@ fn reads_from_memory<B: BoardName>(subject: &mut Subject<B>) -> bool {
 
 // The third call of the device fails: the first two runs were read by then.
 fn read_with_a_fault<B: BoardName>(alloc: Global, start: Start) -> Option<[bool; 3]>
-    requires { start.blank.board ≡ B.board }
+    requires board { start.blank.board ≡ B.board }
+    requires named { start.blank.opening ≡ B.opening }
 {
     let mut subject = start.subject::<B>(alloc, 512)?;
     let left = leaves_three_runs(&mut subject, 3);

@@ -27,7 +27,8 @@ fn is_served<B: BoardName>(alloc: Global, subject: &mut Subject<B>) -> bool {
 
 // Two puts of 256 blocks fill 512 frames. A third one waits until their blocks are at the base, and then takes a frame of one.
 fn fill_and_wait<B: BoardName>(alloc: Global, start: Start) -> Option<[bool; 4]>
-    requires { start.blank.board ≡ B.board }
+    requires board { start.blank.board ≡ B.board }
+    requires named { start.blank.opening ≡ B.opening }
 {
     let mut subject = start.subject::<B>(alloc, 512)?;
     let full = fills(alloc, &mut subject);
@@ -53,6 +54,7 @@ fn holes(alloc: Global, blocks: u64) -> Option<AllocMap>
 // An order with one frame over an image of holes.
 fn with_one_frame<B: BoardName>(alloc: Global, blank: BlankBoard, blocks: u64) -> Option<Desk<B>>
     requires board { blank.board ≡ B.board }
+    requires named { blank.opening ≡ B.opening }
     requires opening { blank.opening ≡ 0 }
     requires blocks { blocks ≤ 16777216 }
 {
@@ -108,6 +110,7 @@ fn are_zeroes_and_holes(runs: &[Run], zeroes: u64, holes: u64) -> bool {
 // Whether a put takes the only frame, and a clear of all blocks of the largest image lets it go.
 fn frees<B: BoardName>(alloc: Global, blank: BlankBoard) -> Option<bool>
     requires board { blank.board ≡ B.board }
+    requires named { blank.opening ≡ B.opening }
     requires opening { blank.opening ≡ 0 }
 {
     let mut desk = with_one_frame::<B>(alloc, blank, 16_777_216)?;
@@ -129,6 +132,7 @@ fn a_large_clear_frees_frames(rt: HostRuntime) {
 // The first two runs from block 1,000 on, once zeroes were made of many blocks from there on.
 fn runs_of_a_clear<B: BoardName>(alloc: Global, blank: BlankBoard) -> Option<Vec<Run>>
     requires board { blank.board ≡ B.board }
+    requires named { blank.opening ≡ B.opening }
     requires opening { blank.opening ≡ 0 }
 {
     let mut desk = with_one_frame::<B>(alloc, blank, 16_777_216)?;
@@ -148,7 +152,8 @@ fn a_large_clear_is_one_run(rt: HostRuntime) {
 
 // How many of eight puts of 257 blocks one group takes.
 fn longest_group<B: BoardName>(alloc: Global, start: Start) -> Option<usize>
-    requires { start.blank.board ≡ B.board }
+    requires board { start.blank.board ≡ B.board }
+    requires named { start.blank.opening ≡ B.opening }
 {
     let mut subject = start.subject::<B>(alloc, 4096)?;
     for place in 0..8 {

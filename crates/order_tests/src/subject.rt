@@ -1,5 +1,5 @@
 //! What is tested: an order over what a keeper of a simulated device holds, with a board.
-ghost use Rattle.std.specs.Prelude.{◌≡◌, ◌+◌, ◌*◌, ◌<◌, ◌≤◌, ◌^◌, length, true, IfSome};
+ghost use Rattle.std.specs.Prelude.{◌≡◌, ◌+◌, ◌*◌, ◌<◌, ◌≤◌, ◌^◌, [], length, true, IfSome};
 ghost use Rattle.image_model.specs.Change.{IsCleared};
 ghost use Rattle.image_model.specs.Edit.{IsEdit, IsEditKind, count_of, edit_of, offset_of};
 
@@ -79,7 +79,8 @@ pub fn order_over<B: BoardName>(
     seat: OrderSeat<B>,
 ) -> Option<Order<B>>
     requires frames { frames < 2 ^ 20 }
-    requires seat { seat ≡ keeper.now.count }
+    requires named { keeper.now.count ≡ B.opening }
+    requires seat { seat ≡ record { history = []; accepted = keeper.now.count; base = keeper.now.count } }
 {
     let map = keeper.map(alloc).ok()?;
     Order::new(alloc, map, keeper.count(), frames, AREA, seat).ok()
@@ -98,6 +99,7 @@ impl Start {
     // An order over what the keeper holds, on the board, which is then open.
     pub fn subject<B: BoardName>(self, alloc: Global, frames: u32) -> Option<Subject<B>>
         requires board { self.blank.board ≡ B.board }
+        requires named { self.blank.opening ≡ B.opening }
         requires frames { frames < 2 ^ 20 }
     {
         let (blank, keeper) = self.into_parts();
@@ -337,7 +339,8 @@ impl<B: BoardName> Subject<B> {
 
 // Writes all of 1,024 blocks and stores them, and gives the device.
 fn fill_all<B: BoardName>(alloc: Global, start: Start) -> Option<SimDisk>
-    requires { start.blank.board ≡ B.board }
+    requires board { start.blank.board ≡ B.board }
+    requires named { start.blank.opening ≡ B.opening }
 {
     let mut subject = start.subject::<B>(alloc, 1024)?;
     if subject.fill(4) && subject.store() {

@@ -81,7 +81,8 @@ fn share<B: BoardName + Send + Sync, R: Threads + Wait + Sync>(
     alloc: Global,
     start: Start,
 ) -> Option<Shared>
-    requires { start.blank.board ≡ B.board }
+    requires board { start.blank.board ≡ B.board }
+    requires named { start.blank.opening ≡ B.opening }
 {
     let (blank, keeper) = start.into_parts();
     let Opened {

@@ -14,9 +14,9 @@ use Rattle.image_model.specs.Change.{AreChanges, change_of, Change}
 use Rattle.image_model.specs.Image.{Image, apply_all}
 use Rattle.journal_format.specs.Group.{Numbered}
 use Rattle.order_book.specs.Order.{OrderState, with_group}
-use Rattle.request_core.specs.Steps.{IsAppended}
+use Rattle.request_core.specs.inner.Steps.{IsAppended}
 use Rattle.request_core.specs.Parts.{IsDiskOf, IsKeeperOf, IsOrderOf, StandsAfter, first_commands, last_commands, turned_at}
-use Rattle.request_core.specs.Storing.{IsKept, event_of, hand_after, order_after}
+use Rattle.request_core.specs.inner.Storing.{IsKept, event_of, hand_after, order_after}
 use Rattle.request_core.specs.laws.Lives.{either_stands, group_takes, IsOrdered, keeps_of, last_grows, ordered}
 use Rattle.request_core.proofs.Stored.{goes_failed, goes_full, goes_none, goes_on_to, kept_back, kept_faulted, kept_held, kept_out_of_memory, kept_stored, not_true_is}
 use Rattle.export_model.specs.declared.event.Event.{Event}

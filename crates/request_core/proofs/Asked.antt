@@ -13,7 +13,8 @@ use Rattle.image_model.specs.declared.geometry.Geometry.{Geometry}
 use Rattle.nbd_wire.specs.Request.{Message}
 use Rattle.nbd_wire.specs.declared.error.Errno.{Errno}
 use Rattle.order_book.specs.Order.{OrderState}
-use Rattle.request_core.specs.Outcomes.{IsEditRefused, IsEditServed, IsPassed, IsServedBy, IsServedWith, IsStopped, IsWriteAsked}
+use Rattle.request_core.specs.Outcomes.{IsEditRefused, IsEditServed, IsPassed, IsServedBy, IsWriteAsked}
+use Rattle.request_core.specs.inner.Outcomes.{IsServedWith, IsStopped}
 use Rattle.request_core.proofs.Lifted.{Comes, passes, refused_so, written}
 use Rattle.request_core.proofs.Serves.{if_false, if_true, write_accepted, write_others}
 use Rattle.export_model.specs.Log.{edit_asked, is_flush, is_write}
@@ -40,11 +41,11 @@ use Rattle.order_book.specs.Shown.{ShowsImage}
 use Rattle.device_image.specs.Holds.{Holds}
 use Rattle.image_model.specs.Change.{Change}
 use Rattle.request_core.specs.Parts.{AreConnectionsOf, IsDiskOf, IsKeeperOf, IsOrderOf, Shows, StandsAfter, first_commands}
-use Rattle.request_core.specs.Storing.{stopped_with}
+use Rattle.request_core.specs.inner.Storing.{stopped_with}
 use Rattle.request_core.proofs.CheckpointSteps.{order_stopped}
 use Rattle.nbd_wire.specs.declared.error.Errno.TheVariants.{Io, NoMemory}
-use Rattle.request_core.specs.Steps.{IsAnyServed, IsAnyTalked, IsAsked, IsSure, KeepsDisk}
-use Rattle.request_core.proofs.Clean.{clean_at}
+use Rattle.request_core.specs.inner.Steps.{IsAnyServed, IsAnyTalked, IsAsked, IsSure, KeepsDisk}
+use Rattle.request_core.specs.laws.Clean.{clean_at}
 use Rattle.request_core.specs.laws.Lives.{disk_grows, ordered}
 use Rattle.request_core.proofs.Performed.{keeper_grows}
 use Rattle.request_core.proofs.Serves.{event_quiet}
@@ -53,7 +54,8 @@ use Rattle.export_model.specs.declared.event.Event.TheVariants.{Took}
 use Rattle.export_model.specs.Serve.{DeviceFailure, Failure, Misread, Nothing, OutOfMemory, faulted, held, image_shown, judged, passed, read_served, ready, serve, shown, takes_old_bytes, write_served}
 use Rattle.export_model.specs.World.{World, Stage, image_after, put}
 use Rattle.export_model_laws.specs.Law.{IsWithin}
-use Rattle.request_core.specs.Serving.{IsWriteServed, event_for, quiet_event, ready_for, request_in, state_of}
+use Rattle.request_core.specs.Serving.{IsWriteServed, ready_for}
+use Rattle.request_core.specs.inner.Serving.{event_for, quiet_event, request_in, state_of}
 use Rattle.request_core.specs.declared.serving.Served.{Served}
 use Rattle.export_model.specs.declared.action.Action.{Action}
 use Rattle.export_model.specs.declared.action.Action.TheVariants.{End, Serve}

@@ -21,9 +21,9 @@ use Rattle.image_model.specs.Image.{Image, apply_all}
 use Rattle.image_model.specs.laws.DirtyCounts.{dirty_count}
 use Rattle.journal_format.specs.Group.{Numbered}
 use Rattle.order_book.specs.Order.{OrderState, with_group}
-use Rattle.request_core.specs.Steps.{IsAppended}
+use Rattle.request_core.specs.inner.Steps.{IsAppended}
 use Rattle.request_core.specs.Parts.{IsDiskOf, IsKeeperOf, IsOrderOf, StandsAfter, first_commands, last_commands, part, phase_at, turned_at}
-use Rattle.request_core.specs.Storing.{hand_refused, order_refused, step_event, stopped_with}
+use Rattle.request_core.specs.inner.Storing.{hand_refused, order_refused, step_event, stopped_with}
 use Rattle.request_core.specs.laws.Lives.{IsOrdered, apply_append, keeps_of, ordered, take_part}
 use Rattle.request_core.specs.laws.Orders.{order_puts_back, order_stops}
 use Rattle.request_core.proofs.Stored.{not_true_is}

@@ -11,7 +11,7 @@ use Rattle.request_core.specs.Bench.{ConnectionsState}
 use Rattle.request_core.specs.Copies.{copied}
 use Rattle.request_core.specs.Life.{Leads}
 use Rattle.request_core.specs.Parts.{IsExportOf}
-use Rattle.request_core.specs.Steps.{IsAppended}
+use Rattle.request_core.specs.inner.Steps.{IsAppended}
 use Rattle.request_core.specs.laws.Lives.{stands_less}
 use Rattle.export_model.specs.declared.event.Event.TheVariants.{Took, Failed}
 use Rattle.export_model.specs.declared.event.StepFault.TheVariants.{FailedBefore}

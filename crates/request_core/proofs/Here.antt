@@ -1,13 +1,12 @@
 -- what is served with no keeper at hand is served as with one, and what a pass knows once a READ was answered
 use Rattle.std.specs.Prelude.{MatchBool}
-use Rattle.std.proofs.Common.{◌≡◌, ◌<◌, inl, inr, ℕ, Bool, false, nat_lt, Result, Ok, Err, ap, refl, sym, subst, arith}
+use Rattle.std.proofs.Common.{◌≡◌, inl, inr, ℕ, Bool, false, nat_lt, Result, Ok, Err, ap, refl, sym, subst, arith}
 use Rattle.std.proofs.lemmas.Bool.Decides.{nat_tests}
 use Rattle.device_image.specs.Keeper.{KeeperState}
 use Rattle.disk_model.specs.Disk.{State}
-use Rattle.image_model.specs.Image.{Image}
 use Rattle.image_model.specs.declared.geometry.Geometry.{Geometry}
 use Rattle.journal_format.specs.Reading.{IsOnlyRead}
-use Rattle.marks.specs.Known.{PassState, known}
+use Rattle.marks.specs.Known.{PassState}
 use Rattle.nbd_wire.specs.Request.{Message}
 use Rattle.nbd_wire.specs.declared.error.Errno.{Errno}
 use Rattle.nbd_wire.specs.declared.head.RequestHead.{RequestHead}
@@ -15,7 +14,7 @@ use Rattle.nbd_wire.specs.declared.message.Answer.{Answer}
 use Rattle.order_book.specs.Order.{OrderState}
 use Rattle.request_core.specs.Outcomes.{IsServedBy, IsServedHere}
 use Rattle.request_core.specs.Reading.{IsHeldRead, IsHeldReadServed, IsRead, IsReadServed}
-use Rattle.request_core.specs.Serving.{IsPassServed, accepted_for, ready_for}
+use Rattle.request_core.specs.Serving.{IsAcceptedFor, IsPassServed, ready_for}
 use Rattle.request_core.specs.declared.serving.Served.{Served}
 use Rattle.export_model.specs.declared.action.Action.{Action}
 use Rattle.export_model.specs.declared.action.Action.TheVariants.{End, Serve}
@@ -48,6 +47,7 @@ module _ {D : Type 0} (state : D → State) (faults : D → ℕ) (honest : D →
     level = refl;
     only_read = still;
     holds = λ sure base front last holds. holds;
+    in_frames = λ failed. refl;
   }
 
   held_served : (head : RequestHead) (order : OrderState) (result : Served) → IsHeldReadServed head order result → IsReadServed state faults honest head order order keeper keeper result
@@ -63,14 +63,14 @@ module _ {D : Type 0} (state : D → State) (faults : D → ℕ) (honest : D →
   served_here (Err errno) request geometry kept old new result served = (refl, served.0, served.1)
 
   -- a READ changes no number, and its pass knows what it knew
-  module _ (request : Message) (result : Served) (pass : PassState) where
-    answered : (before after : ℕ) (cookie : ℕ) (given : Answer) → after ≡ before → result ≡ ready_for cookie given → IsPassServed request before after result pass pass
+  module _ (opening : ℕ) (request : Message) (result : Served) (pass : PassState) where
+    answered : (before after : ℕ) (cookie : ℕ) (given : Answer) → after ≡ before → result ≡ ready_for cookie given → IsPassServed opening request before after result pass pass
     answered before after cookie given same is =
-        subst (λ (r : Served). IsPassServed request before after r pass pass) (sym is)
+        subst (λ (r : Served). IsPassServed opening request before after r pass pass) (sym is)
         (let none : nat_lt before after ≡ false = grind (arith, nat_tests, same) in
-        subst (λ (b : Bool). MatchBool b ((known pass < after) × (image : Image) × (pass ≡ accepted_for request image after pass)) (pass ≡ pass)) (sym none) refl)
+        subst (λ (b : Bool). MatchBool b (IsAcceptedFor opening request after pass pass) (pass ≡ pass)) (sym none) refl)
 
-    pub read_passes : (head : RequestHead) (old new : OrderState) (next : KeeperState D) → IsReadServed state faults honest head old new keeper next result → IsPassServed request old.mark new.mark result pass pass
+    pub read_passes : (head : RequestHead) (old new : OrderState) (next : KeeperState D) → IsReadServed state faults honest head old new keeper next result → IsPassServed opening request old.mark new.mark result pass pass
     read_passes head old new next (inl none) = answered old.mark new.mark head.cookie _ (ap (λ (o : OrderState). o.mark) none.0) none.2
     read_passes head old new next (inr (inl read)) = answered old.mark new.mark head.cookie _ (ap (λ (o : OrderState). o.mark) read.order) read.answer
     read_passes head old new next (inr (inr unread)) = answered old.mark new.mark head.cookie _ (ap (λ (o : OrderState). o.mark) unread.order) unread.answer

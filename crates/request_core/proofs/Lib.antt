@@ -1,6 +1,5 @@
 mod Appended
 mod Asked
-mod Clean
 mod Copied
 mod Fresh
 mod Here

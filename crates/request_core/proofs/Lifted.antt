@@ -16,7 +16,8 @@ use Rattle.nbd_wire.specs.declared.error.Errno.TheVariants.{Io}
 use Rattle.nbd_wire.specs.declared.message.Answer.TheVariants.{Refused}
 use Rattle.order_book.specs.Order.{OrderState, has_room_for}
 use Rattle.request_core.specs.Parts.{IsOrderOf, Shows}
-use Rattle.request_core.specs.Serving.{IsMore, IsServed, IsWriteServed, event_for, ready_for, served_after, state_of}
+use Rattle.request_core.specs.Serving.{IsMore, IsWriteServed, ready_for, served_after}
+use Rattle.request_core.specs.inner.Serving.{IsServed, event_for, state_of}
 use Rattle.request_core.specs.Outcomes.{IsPassed}
 use Rattle.request_core.specs.Reading.{IsStatusServed}
 use Rattle.request_core.specs.declared.serving.Served.{Served}

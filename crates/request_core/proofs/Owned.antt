@@ -1,6 +1,7 @@
 -- what is known of an edit that an order took, or had room for
 use Rattle.std.specs.Prelude.{MatchBool}
-use Rattle.std.proofs.Common.{◌≡◌, ℕ, ◌+◌, ◌<◌, ◌≤◌, ◌==◌, Bool, true, false, not, nat_lt, if◌then◌else◌, Option, Some, None, length, sym, ◌∙◌, ap, subst, refl, arith}
+use Rattle.std.proofs.Common.{◌≡◌, ℕ, ◌+◌, ◌<◌, ◌≤◌, ◌==◌, Bool, true, false, not, nat_lt, if◌then◌else◌, Option, Some, None, List, [], ◌∷◌, ◌++◌, length, sym, ◌∙◌, ap, subst, refl, arith}
+use mathlib.Core.List.{IsPrefix}
 use Rattle.std.proofs.lemmas.Bool.{and_parts, eqb-false, lt-ltb}
 use Rattle.alloc_map.specs.Codes.{state_at}
 use Rattle.device_image.specs.Keeper.{KeeperState}
@@ -22,7 +23,7 @@ use Rattle.order_book.specs.declared.fault.OrderFault.TheVariants.{NumbersFull, 
 use Rattle.order_book.specs.laws.Edited.{room_shown}
 use Rattle.request_core.specs.Outcomes.{IsEditRefused}
 use Rattle.request_core.specs.Reading.{IsUnread}
-use Rattle.request_core.specs.Serving.{IsPassServed, IsRoom, IsTaken, accepted_for, served_after}
+use Rattle.request_core.specs.Serving.{IsAcceptedFor, IsPassServed, IsRoom, IsShownTo, IsTaken, served_after}
 use Rattle.request_core.specs.declared.serving.Served.{Served}
 use Rattle.request_core.proofs.Olds.{takes_there}
 use Rattle.export_model.specs.Log.{edit_asked, is_flush, waits_for_store}
@@ -115,19 +116,30 @@ edit_refused state faults honest request geometry old new keeper next result tak
     }
 
 -- what a pass knows for which an edit was taken
-module _ (request : Message) (kept : Mode) (old new : OrderState) (image : Image) (before after : PassState) (write : is_flush request ≡ false) (above : known before < old.mark + 1)
-    (taken : TakesEdit (edit_asked request) image old new before after) where
-  by_waits : (waits : Bool) → IsPassServed request old.mark new.mark (served_after waits request.head.cookie (old.mark + 1)) before after
-  by_waits true = subst (λ (b : Bool). MatchBool b ((known before ≤ old.mark + 1) × (after ≡ record before { accepted = old.mark + 1 })) ((known before < old.mark + 1) × (given : Image) × (after ≡ accepted_for request given (old.mark + 1) before)))
-      (sym write) (above, image, taken.pass)
+module _ (opening : ℕ) (request : Message) (kept : Mode) (old new : OrderState) (image : Image) (before after : PassState) (write : is_flush request ≡ false) (above : known before < old.mark + 1)
+    (knew : IsPrefix before.history old.history) (place : old.mark ≡ opening + length old.history) (taken : TakesEdit (edit_asked request) image old new before after) where
+  accepted_for : IsAcceptedFor opening request (old.mark + 1) before after
+  accepted_for =
+      let history : new.history ≡ old.history ++ becomes (edit_asked request) image ∷ [] =
+      ap (λ (o : OrderState). o.history) taken.taken ∙ ap (λ (change : Change). old.history ++ change ∷ []) taken.is in record {
+        above = above;
+        image = image;
+        earlier = old.history;
+        knew = knew;
+        place = omega (arith, place);
+        pass = taken.pass ∙ ap (λ (h : List Change). record before { history = h; accepted = old.mark + 1; own = Some (record { number = old.mark + 1; change = becomes (edit_asked request) image }) }) history;
+      }
+
+  by_waits : (waits : Bool) → IsPassServed opening request old.mark new.mark (served_after waits request.head.cookie (old.mark + 1)) before after
+  by_waits true = subst (λ (b : Bool). MatchBool b (IsShownTo opening (old.mark + 1) before after) (IsAcceptedFor opening request (old.mark + 1) before after)) (sym write) accepted_for
   by_waits false =
       let mark : new.mark ≡ old.mark + 1 = ap (λ (o : OrderState). o.mark) taken.taken in
       let more : nat_lt old.mark new.mark ≡ true = ap (nat_lt old.mark) mark ∙ lt-ltb old.mark (old.mark + 1) (omega arith) in
-      subst (λ (b : Bool). MatchBool b ((known before < new.mark) × (given : Image) × (after ≡ accepted_for request given new.mark before)) (after ≡ before)) (sym more)
-      (subst (λ (n : ℕ). (known before < n) × (given : Image) × (after ≡ accepted_for request given n before)) (sym mark) (above, image, taken.pass))
+      subst (λ (b : Bool). MatchBool b (IsAcceptedFor opening request new.mark before after) (after ≡ before)) (sym more)
+      (subst (λ (n : ℕ). IsAcceptedFor opening request n before after) (sym mark) accepted_for)
 
-  pub taken_passes : (result : Served) → result ≡ served_after (waits_for_store kept request) request.head.cookie (old.mark + 1) → IsPassServed request old.mark new.mark result before after
-  taken_passes result is = subst (λ (r : Served). IsPassServed request old.mark new.mark r before after) (sym is) (by_waits (waits_for_store kept request))
+  pub taken_passes : (result : Served) → result ≡ served_after (waits_for_store kept request) request.head.cookie (old.mark + 1) → IsPassServed opening request old.mark new.mark result before after
+  taken_passes result is = subst (λ (r : Served). IsPassServed opening request old.mark new.mark r before after) (sym is) (by_waits (waits_for_store kept request))
 
 -- want of memory is no other refusal
 pub faults_apart : (fault.NoMemory ≡ fault.NumbersFull → ⊥) × (fault.NoMemory ≡ fault.NoRoom → ⊥) × (fault.NoMemory ≡ fault.DeviceFault → ⊥)

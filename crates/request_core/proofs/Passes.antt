@@ -1,29 +1,29 @@
 -- what a pass knows once a BLOCK_STATUS was answered
 use Rattle.std.specs.Prelude.{MatchBool}
-use Rattle.std.proofs.Common.{◌≡◌, ◌<◌, ℕ, Bool, false, nat_lt, ⊎_elim, refl, sym, subst, arith}
+use Rattle.std.proofs.Common.{◌≡◌, ℕ, Bool, false, nat_lt, ⊎_elim, refl, sym, subst, arith}
 use Rattle.std.proofs.lemmas.Bool.Decides.{nat_tests}
 use Rattle.alloc_map.specs.Codes.{state_at}
 use Rattle.image_model.specs.Image.{Image}
-use Rattle.marks.specs.Known.{PassState, known}
+use Rattle.marks.specs.Known.{PassState}
 use Rattle.nbd_wire.specs.Request.{Message}
 use Rattle.nbd_wire.specs.declared.head.RequestHead.{RequestHead}
 use Rattle.nbd_wire.specs.declared.message.Answer.{Answer}
 use Rattle.order_book.specs.Order.{OrderState}
 use Rattle.request_core.specs.Reading.{IsStatusServed}
-use Rattle.request_core.specs.Serving.{IsPassServed, accepted_for, ready_for}
+use Rattle.request_core.specs.Serving.{IsAcceptedFor, IsPassServed, ready_for}
 use Rattle.request_core.specs.declared.serving.Served.{Served}
 
 is_same : (number : ℕ) → nat_lt number number ≡ false
 is_same number = grind (arith, nat_tests)
 
-module _ (request : Message) (number : ℕ) (result : Served) (pass : PassState) where
-  pass_answered : (cookie : ℕ) (given : Answer) → result ≡ ready_for cookie given → IsPassServed request number number result pass pass
+module _ (opening : ℕ) (request : Message) (number : ℕ) (result : Served) (pass : PassState) where
+  pass_answered : (cookie : ℕ) (given : Answer) → result ≡ ready_for cookie given → IsPassServed opening request number number result pass pass
   pass_answered cookie given is =
-      subst (λ (r : Served). IsPassServed request number number r pass pass) (sym is)
-      (subst (λ (b : Bool). MatchBool b ((known pass < number) × (image : Image) × (pass ≡ accepted_for request image number pass)) (pass ≡ pass)) (sym (is_same number)) refl)
+      subst (λ (r : Served). IsPassServed opening request number number r pass pass) (sym is)
+      (subst (λ (b : Bool). MatchBool b (IsAcceptedFor opening request number pass pass) (pass ≡ pass)) (sym (is_same number)) refl)
 
   -- it changes no number, and its pass knows what it knew
-  pub status_passes : (head : RequestHead) (order : OrderState) → IsStatusServed head order result → IsPassServed request number number result pass pass
+  pub status_passes : (head : RequestHead) (order : OrderState) → IsStatusServed head order result → IsPassServed opening request number number result pass pass
   status_passes head order served =
       let image : Image = record { blocks = 0; byte = λ place. 0; kind = state_at order.cache.states } in
       ⊎_elim (λ is. pass_answered head.cookie _ is) (λ shows. pass_answered head.cookie _ (shows image (λ block. refl))) served

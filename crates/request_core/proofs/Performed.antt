@@ -7,10 +7,10 @@ use Rattle.image_model.specs.Change.{Change, AreChanges}
 use Rattle.journal_format.specs.Group.{Numbered}
 use Rattle.order_book.specs.Order.{OrderState}
 use Rattle.request_core.specs.Bench.{ConnectionsState}
-use Rattle.request_core.specs.Steps.{IsAnyTalked, IsAppended, IsPerformed}
+use Rattle.request_core.specs.inner.Steps.{IsAnyTalked, IsAppended, IsPerformed}
 use Rattle.request_core.specs.Parts.{AreConnectionsOf, IsDiskOf, IsKeeperOf, IsOrderOf, Shows}
-use Rattle.request_core.specs.Serving.{IsTalked, with_commands}
-use Rattle.request_core.specs.Storing.{IsKept}
+use Rattle.request_core.specs.inner.Serving.{IsTalked, with_commands}
+use Rattle.request_core.specs.inner.Storing.{IsKept}
 use Rattle.request_core.specs.laws.Lives.{all_both, disk_grows, IsOrdered, last_stay, ordered}
 use Rattle.export_model.specs.declared.connection.Connection.{Connection}
 use Rattle.export_model.specs.declared.event.Event.{Event}

@@ -10,7 +10,7 @@ use Rattle.request_core.specs.Bench.{BenchState, ConnectionsState}
 use Rattle.request_core.specs.Life.{IsDurable, IsRehearsed, IsStepped, Leads, Trusts}
 use Rattle.request_core.specs.Parts.{IsExportOf, StandsAfter}
 use Rattle.request_core.specs.Serving.{sent_state}
-use Rattle.request_core.specs.Steps.{IsPerformed}
+use Rattle.request_core.specs.inner.Steps.{IsPerformed}
 use Rattle.request_core.specs.laws.Lives.{stands_less, stands_more}
 use Rattle.request_core.proofs.Talks.{sent_states}
 use Rattle.export_model.specs.declared.event.Event.{Event}

@@ -16,7 +16,8 @@ use Rattle.nbd_wire.specs.Request.{Message, data_len, handed_len, payload_limit}
 use Rattle.nbd_wire.specs.declared.error.Errno.TheVariants.{NoSpace}
 use Rattle.order_book.specs.Order.{OrderState, has_room_for, with_command}
 use Rattle.request_core.specs.Parts.{IsOrderOf}
-use Rattle.request_core.specs.Serving.{IsGrown, IsServed, event_for, quiet_event, request_in, served_after, state_of}
+use Rattle.request_core.specs.Serving.{served_after}
+use Rattle.request_core.specs.inner.Serving.{IsGrown, IsServed, event_for, quiet_event, request_in, state_of}
 use Rattle.request_core.specs.declared.serving.Served.{Served}
 use Rattle.request_core.specs.laws.Orders.{order_accepts, room_of}
 use Rattle.export_model.specs.declared.connection.Connection.{Connection}

@@ -11,7 +11,7 @@ use Rattle.image_model.specs.declared.geometry.Geometry.{Geometry}
 use Rattle.journal_format.specs.Group.{Numbered}
 use Rattle.order_book.specs.Order.{OrderState, Seals, with_durable, with_group, with_clean}
 use Rattle.request_core.specs.Parts.{IsKeeperOf, IsOrderOf, last_commands, turned_at}
-use Rattle.request_core.specs.Storing.{IsKept, PublishesBy, SealsBy, CleansBy}
+use Rattle.request_core.specs.inner.Storing.{IsKept, PublishesBy, SealsBy, CleansBy}
 use Rattle.request_core.specs.laws.Orders.{bodies_same, commands_length, hand_is, order_publishes, order_puts_back, order_seals, order_stops, order_stores, clean_due, order_cleans}
 use Rattle.request_core.proofs.Serves.{if_false, if_true}
 use Rattle.export_model.specs.declared.event.Event.{Event}

@@ -9,7 +9,8 @@ use Rattle.nbd_wire.specs.declared.error.Errno.TheVariants.{Io}
 use Rattle.journal_format.specs.Group.{Numbered}
 use Rattle.order_book.specs.Order.{OrderState}
 use Rattle.request_core.specs.Parts.{AreConnectionsOf, IsOrderOf}
-use Rattle.request_core.specs.Serving.{IsAnsweredBy, IsSentBy, IsServed, IsTalked, answer_due, due_of, is_idle, request_in, sent_state}
+use Rattle.request_core.specs.Serving.{is_idle, sent_state}
+use Rattle.request_core.specs.inner.Serving.{IsAnsweredBy, IsSentBy, IsServed, IsTalked, answer_due, due_of, request_in}
 use Rattle.request_core.proofs.Serves.{grown_same}
 use Rattle.export_model.specs.declared.connection.Connection.{Connection}
 use Rattle.export_model.specs.declared.connection.Connection.TheVariants.{Idle, Requested, Waiting, Ready, Closed}

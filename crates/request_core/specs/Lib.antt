@@ -5,6 +5,5 @@ pub mod Outcomes
 pub mod Parts
 pub mod Reading
 pub mod Serving
-pub mod Steps
-pub mod Storing
+pub mod inner
 pub mod laws

@@ -1,5 +1,5 @@
 -- what serving a request comes to, by the verdict on it
-use Rattle.std.specs.Prelude.{ℕ, ◌≡◌, ◌≢◌, ◌/◌, ◌<◌, ◌⊎◌, true, false, List, Option, None, Result, Ok, Err}
+use Rattle.std.specs.Prelude.{ℕ, ◌≡◌, ◌≢◌, ◌/◌, ◌<◌, ◌⊎◌, true, false, List, Result, Ok, Err}
 use Rattle.device_image.specs.Keeper.{KeeperState}
 use Rattle.disk_model.specs.Disk.{State}
 use Rattle.device_image.specs.Holds.{Holds}
@@ -9,7 +9,6 @@ use Rattle.image_model.specs.Edit.{becomes, blocks_met}
 use Rattle.image_model.specs.Image.{Image}
 use Rattle.order_book.specs.Shown.{ShowsImage}
 use Rattle.image_model.specs.declared.geometry.Geometry.{Geometry}
-use Rattle.journal_format.specs.Group.{Numbered}
 use Rattle.nbd_wire.specs.Request.{Message}
 use Rattle.nbd_wire.specs.declared.error.Errno.{Errno}
 use Rattle.nbd_wire.specs.declared.error.Errno.TheVariants.{Io}
@@ -18,7 +17,6 @@ use Rattle.order_book.specs.Edits.{NeedsDevice as NeedsOld}
 use Rattle.order_book.specs.Order.{OrderState, has_room_for}
 use Rattle.request_core.specs.Reading.{IsHeldReadServed, IsKnownBy, IsReadServed, IsStatusServed, IsUnread}
 use Rattle.request_core.specs.Serving.{IsWriteServed, ready_for}
-use Rattle.request_core.specs.Storing.{stopped_with}
 use Rattle.request_core.specs.declared.serving.Served.{Served}
 use Rattle.request_core.specs.declared.serving.Served.TheVariants as served
 use Rattle.shared_cache.specs.Cache.{LacksBytes}
@@ -87,16 +85,3 @@ IsServedBy state faults honest (Ok Action.Serve) request geometry kept old new k
     ⊎ ((old.stopped ≡ false) × (is_write request ≡ true) × IsWriteAsked state faults honest request geometry kept old new keeper next result)
 IsServedBy state faults honest (Err errno) request geometry kept old new keeper next result =
     (next ≡ keeper) × (new ≡ old) × (result ≡ ready_for request.head.cookie (Refused errno))
-
--- A call of the device failed while a request was served, or had failed before.
-abbrev pub IsStopped : {D : Type 0} → (D → State) → (D → ℕ) → (D → Type 0) → Message → OrderState → OrderState → KeeperState D → KeeperState D → Served → Type 0
-IsStopped state faults honest request old new keeper next result =
-    ((request.head.kind ≡ 0) × IsUnread state faults honest request.head old new keeper next result)
-    ⊎ ((is_write request ≡ true) × IsEditRefused state faults honest request old new keeper next result)
-
--- The same, where a group in hand is pending again once a call of the device has failed in it.
-abbrev pub IsServedWith : {D : Type 0} → (D → State) → (D → ℕ) → (D → Type 0) → Result Action Errno → Message → Geometry → Mode → OrderState → OrderState → KeeperState D → KeeperState D → Option Numbered → Option Numbered → Served → Type 0
-IsServedWith state faults honest given request geometry kept old new keeper next hand left result =
-    ((left ≡ hand) × (old.stopped ≡ false → new.stopped ≡ false) × IsServedBy state faults honest given request geometry kept old new keeper next result)
-    ⊎ ((given ≡ Ok Action.Serve) × (old.stopped ≡ false) × (left ≡ None) × (middle : OrderState) × IsStopped state faults honest request old middle keeper next result
-    × (new ≡ stopped_with hand middle))

@@ -1,40 +1,25 @@
 -- what serving and answering a connection do
-use Rattle.std.specs.Prelude.{ℕ, ◌≡◌, ◌+◌, ◌<◌, ◌≤◌, ◌⊎◌, MatchBool, MatchOption, slice_index_or, slice_set, Bool, true, false, nat_le, nat_lt, Result, Ok, Err, if◌then◌else◌, Option, Some, None, List, [], ◌∷◌, ◌++◌, vec_len}
-use Rattle.image_model.specs.Change.{Change, AreChanges, IsChange, change_of}
+use Rattle.std.specs.Prelude.{ℕ, ◌≡◌, ◌+◌, ◌<◌, ◌≤◌, ◌⊎◌, MatchBool, slice_index_or, slice_set, Bool, true, false, nat_lt, if◌then◌else◌, Some, List, [], ◌∷◌, ◌++◌, length}
+use mathlib.Core.List.{IsPrefix}
+use Rattle.image_model.specs.Change.{Change, IsChange, change_of}
 use Rattle.image_model.specs.Edit.{becomes}
 use Rattle.image_model.specs.declared.command.Command.{Command}
 use Rattle.image_model.specs.declared.geometry.Geometry.{Geometry}
 use Rattle.image_model.specs.Image.{Image, apply}
-use Rattle.journal_format.specs.Group.{Numbered}
 use Rattle.marks.specs.Known.{PassState, known}
-use Rattle.image_model.specs.declared.edit.Edit.{Edit}
-use Rattle.image_model.specs.declared.edit.Edit.TheVariants as edit
-use Rattle.nbd_wire.specs.Request.{Message, handed_len}
-use Rattle.nbd_wire.specs.declared.head.RequestHead.{RequestHead}
+use Rattle.nbd_wire.specs.Request.{Message}
 use Rattle.nbd_wire.specs.declared.error.Errno.TheVariants as errno
-use Rattle.nbd_wire.specs.declared.error.Errno.TheVariants.{Io}
-use Rattle.nbd_wire.specs.declared.message.SessionFlags.{SessionFlags}
 use Rattle.order_book.specs.Order.{OrderState, has_room_for, with_command}
 use Rattle.order_book.specs.Shown.{ShowsImage}
 use Rattle.request_core.specs.declared.serving.Served.{Served}
 use Rattle.request_core.specs.declared.serving.Served.TheVariants as served
-use Rattle.request_core.specs.Parts.{AreConnectionsOf, IsOrderOf}
 use Rattle.export_model.specs.Log.{edit_asked, is_flush, waits_for_store}
 use Rattle.export_model.specs.declared.connection.Connection.{Connection}
 use Rattle.export_model.specs.declared.connection.Connection.TheVariants.{Idle, Requested, Waiting, Ready, Closed}
-use Rattle.export_model.specs.declared.event.Event.{Event}
-use Rattle.export_model.specs.declared.event.Event.TheVariants.{Sent, Answered, Numbered as numbered, Took, Held, Failed}
 use Rattle.export_model.specs.declared.event.StepFault.TheVariants.{NoMemory}
 use Rattle.nbd_wire.specs.declared.message.Answer.{Answer}
 use Rattle.nbd_wire.specs.declared.message.Answer.TheVariants.{Done, Refused}
 use Rattle.export_model.specs.declared.step.Mode.{Mode}
-use Rattle.export_model.specs.World.{World, put, Stage}
-
--- the edit is one that a request with this head asks for, with as many bytes as were handed on
-abbrev pub IsHandedBack : RequestHead → Edit → Type 0
-IsHandedBack head (edit.Put offset bytes) = vec_len bytes ≡ handed_len head
-IsHandedBack head (edit.Zeroes offset length kind) = handed_len head ≡ 0
-IsHandedBack head (edit.Trim offset length) = handed_len head ≡ 0
 
 -- an answer to the request with this cookie
 abbrev pub ready_for : ℕ → Answer → Served
@@ -75,41 +60,34 @@ IsWriteServed request geometry kept own old new result =
     ⊎ (IsRoom request own old image true × (new ≡ old) × (result ≡ ready_for request.head.cookie (Refused errno.NoMemory)))
     ⊎ (IsTaken request geometry own old new image × (result ≡ served_after (waits_for_store kept request) request.head.cookie (old.mark + 1)))))
 
--- a pass for which a request's edit was accepted under a number, as what it becomes over an image
-abbrev pub accepted_for : Message → Image → ℕ → PassState → PassState
-accepted_for request image number pass =
-    record pass { accepted = number; own = Some (record { number = number; change = becomes (edit_asked request) image }) }
+-- A command was accepted for a pass under a number above all that the pass knew: it is what the request's edit becomes over an image,
+-- and the pass's own. The history that the pass then knows has it as its last, at its number, behind all that the pass knew.
+pub record IsAcceptedFor (opening : ℕ) (request : Message) (number : ℕ) (old new : PassState) : Type 0 where
+  pub above : known old < number
+  pub image : Image
+  pub earlier : List Change
+  pub knew : IsPrefix old.history earlier
+  pub place : number ≡ opening + length earlier + 1
+  pub pass : new ≡ record old {
+    history = earlier ++ becomes (edit_asked request) image ∷ [];
+    accepted = number;
+    own = Some (record { number = number; change = becomes (edit_asked request) image });
+  }
+
+-- All up to a number was shown to a pass, which knew no more: what it knew begins what it knows then.
+pub record IsShownTo (opening number : ℕ) (old new : PassState) : Type 0 where
+  pub known_is : known old ≤ number
+  pub knew : IsPrefix old.history new.history
+  pub place : number ≡ opening + length new.history
+  pub pass : new ≡ record old { history = new.history; accepted = number }
 
 -- What a pass knows once a request was served for it, where the last number of the order went from one to another. The number of a
 -- command is above all that the pass knew, and is then its own; a FLUSH waits for no less than what it knew; all else leaves it.
-abbrev pub IsPassServed : Message → ℕ → ℕ → Served → PassState → PassState → Type 0
-IsPassServed request before after (served.Ready reply) old new =
-    MatchBool (nat_lt before after) ((known old < after) × (image : Image) × (new ≡ accepted_for request image after old)) (new ≡ old)
-IsPassServed request before after (served.Wait number) old new =
-    MatchBool (is_flush request)
-    ((known old ≤ number) × (new ≡ record old { accepted = number }))
-    ((known old < number) × (image : Image) × (new ≡ accepted_for request image number old))
-IsPassServed request before after (served.NoRoom back) old new = new ≡ old
-
--- what a connection comes to whose request was served
-abbrev pub state_of : Served → Connection
-state_of (served.Ready reply) = Ready reply.answer
-state_of (served.Wait number) = Waiting number
-state_of (served.NoRoom request) = Requested request
-
-abbrev pub quiet_event : Served → Event
-quiet_event (served.Ready reply) = Took
-quiet_event (served.Wait number) = Took
-quiet_event (served.NoRoom request) = Held
-
--- the event of a request that was served, where the last number of the order went from one to another
-abbrev pub event_for : ℕ → ℕ → ℕ → Served → Event
-event_for connection before after result = if nat_lt before after then numbered connection after else quiet_event result
-
--- the group that was sealed last stays as it is
-pub record IsSameHand (old new : OrderState) : Type 0 where
-  pub sealed : new.sealed ≡ old.sealed
-  pub in_hand : new.in_hand ≡ old.in_hand
+abbrev pub IsPassServed : ℕ → Message → ℕ → ℕ → Served → PassState → PassState → Type 0
+IsPassServed opening request before after (served.Ready reply) old new = MatchBool (nat_lt before after) (IsAcceptedFor opening request after old new) (new ≡ old)
+IsPassServed opening request before after (served.Wait number) old new =
+    MatchBool (is_flush request) (IsShownTo opening number old new) (IsAcceptedFor opening request number old new)
+IsPassServed opening request before after (served.NoRoom back) old new = new ≡ old
 
 -- whether a connection has no request open
 abbrev pub is_idle : Connection → Bool
@@ -119,75 +97,7 @@ is_idle (Waiting number) = false
 is_idle (Ready outcome) = false
 is_idle Closed = false
 
--- the request that wasn't served yet
-abbrev pub request_in : Connection → Option Message
-request_in Idle = None
-request_in (Requested request) = Some request
-request_in (Waiting number) = None
-request_in (Ready outcome) = None
-request_in Closed = None
-
--- the answer that is due, once all up to a number is durable, before or after a device fault
-abbrev pub due_of : ℕ → Bool → Connection → Option Answer
-due_of durable stopped Idle = None
-due_of durable stopped (Requested request) = None
-due_of durable stopped (Waiting number) = if nat_le number durable then Some Done else (if stopped then Some (Refused Io) else None)
-due_of durable stopped (Ready outcome) = Some outcome
-due_of durable stopped Closed = None
-
--- the answer that is due, or else the state
-abbrev pub answer_due : ℕ → Bool → Connection → Result Answer Connection
-answer_due durable stopped Idle = Err Idle
-answer_due durable stopped (Requested request) = Err (Requested request)
-answer_due durable stopped (Waiting number) = if nat_le number durable then Ok Done else (if stopped then Ok (Refused Io) else Err (Waiting number))
-answer_due durable stopped (Ready outcome) = Ok outcome
-answer_due durable stopped Closed = Err Closed
-
--- A connection to which an answer is due gets it, and another one stays as it is.
-abbrev pub IsAnsweredBy : ℕ → Bool → List Connection → ℕ → List Connection → Event → Type 0
-IsAnsweredBy durable stopped old connection new event =
-    MatchOption (due_of durable stopped (slice_index_or old connection Closed))
-    ((new ≡ old) × (event ≡ Held))
-    (λ outcome. (new ≡ slice_set old connection Idle) × (event ≡ Answered connection outcome))
-
 -- the connections once one of them has sent a request, where it had none open
 abbrev pub sent_state : List Connection → ℕ → Message → List Connection
 sent_state old connection request =
     if is_idle (slice_index_or old connection Closed) then slice_set old connection (Requested request) else old
-
--- A connection that has no request open sends one, or memory is refused; another one sends nothing.
-abbrev pub IsSentBy : List Connection → ℕ → Message → List Connection → Event → Type 0
-IsSentBy old connection request new event =
-    MatchBool (is_idle (slice_index_or old connection Closed))
-    (((new ≡ slice_set old connection (Requested request)) × (event ≡ Sent connection request)) ⊎ ((new ≡ old) × (event ≡ Failed NoMemory)))
-    ((new ≡ old) × (event ≡ Held))
-
--- what every request is judged by is the world's
-pub record AreTermsOf (world : World) (geometry : Geometry) (flags : SessionFlags) (mode : Mode) : Type 0 where
-  pub geometry_is : geometry ≡ world.stage.setting.geometry
-  pub flags_is : flags ≡ world.stage.setting.flags
-  pub mode_is : mode ≡ world.stage.setting.mode
-
--- the stage with commands more
-abbrev pub with_commands : Stage → List Change → Stage
-with_commands stage commands = record stage { order = stage.order ++ commands }
-
--- The stage is as it was, but for commands more that the image takes.
-pub record IsGrown (old new : Stage) : Type 0 where
-  pub commands : List Change
-  pub is : new ≡ with_commands old commands
-  pub takes : AreChanges old.setting.geometry.blocks commands
-
--- A connection that is served comes to this state.
-pub record IsServed (world next : World) (connection : ℕ) (state : Connection) (event : Event) (order : OrderState) (group : Option Numbered) : Type 0 where
-  pub connections : (other : ℕ) → put world.connections connection state other ≡ next.connections other
-  pub log : next.log ≡ world.log ++ event ∷ []
-  pub grown : IsGrown world.stage next.stage
-  pub of_order : IsOrderOf next.stage order group
-
--- The connections and the order are those of the next world.
-pub record IsTalked (world next : World) (connections : List Connection) (event : Event) (order : OrderState) (group : Option Numbered) : Type 0 where
-  pub of_connections : AreConnectionsOf next connections
-  pub log : next.log ≡ world.log ++ event ∷ []
-  pub grown : IsGrown world.stage next.stage
-  pub of_order : IsOrderOf next.stage order group

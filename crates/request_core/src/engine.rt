@@ -5,7 +5,7 @@ ghost use Rattle.request_core.specs.Copies.{copied};
 ghost use Rattle.request_core.specs.Life.{IsStepped, Leads, Trusts};
 ghost use Rattle.request_core.specs.Parts.{AreConnectionsOf, IsExportOf, IsKeeperOf, IsOrderOf};
 ghost use Rattle.request_core.specs.Serving.{is_idle, sent_state};
-ghost use Rattle.request_core.specs.Steps.{IsPerformed, IsSure};
+ghost use Rattle.request_core.specs.inner.Steps.{IsPerformed, IsSure};
 ghost use Rattle.export_model.specs.Serve.{Failure};
 ghost use Rattle.export_model.specs.Step.{after_step};
 ghost use Rattle.export_model.specs.World.{World};
@@ -14,8 +14,8 @@ ghost use Rattle.export_model.specs.declared.event.Event.TheVariants as Event;
 ghost use Rattle.export_model.specs.declared.step.Step.TheVariants as Step;
 ghost use Rattle.export_model_laws.specs.Law.{IsWithin};
 
-use crate::bench::Connections;
 use crate::checkpointing::{clean, copy, finish, refused, rotate, write_map};
+use crate::connections::Connections;
 use crate::serving::{Terms, answer, send, send_owned, serve};
 use crate::storing::{append, publish, seal};
 use checkpoint::Keeper;

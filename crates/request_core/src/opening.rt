@@ -20,7 +20,8 @@ pub fn fresh_order<B: BoardName, D: Disk>(
     seat: OrderSeat<B>,
 ) -> Result<Order<B>, AllocError>
     requires frames { frames ≤ 65536 }
-    requires seat { seat ≡ keeper.now.count }
+    requires named { keeper.now.count ≡ B.opening }
+    requires seat { seat ≡ record { history = []; accepted = keeper.now.count; base = keeper.now.count } }
     ensures order { IfOk result (λ order. (states : List Kind) × (length states ≡ keeper.now.geometry.blocks)
         × (order ≡ new_order states keeper.now.count frames keeper.now.geometry.area)) }
     ensures few { OnOk result (keeper.now.count < 18446744073709551616) }

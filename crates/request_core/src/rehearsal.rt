@@ -1,5 +1,6 @@
-ghost use Rattle.std.specs.Prelude.{◌≡◌, ◌≤◌, ◌↔◌, ℕ, Bool, IfSome, OnErr, OnOk, length, take};
-ghost use Rattle.order_book.specs.Order.{IsInHand};
+ghost use Rattle.std.specs.Prelude.{◌≡◌, ◌≤◌, ◌↔◌, ℕ, Bool, IfOk, IfSome, MatchOption, OnErr, OnOk, length, take, vec_len};
+ghost use Rattle.order_book.specs.Order.{IsInHand, with_group};
+ghost use Rattle.request_core.specs.Bench.{new_bench};
 ghost use Rattle.request_core.specs.Life.{IsRehearsed, IsStepped, Trusts};
 ghost use Rattle.request_core.specs.Parts.{IsWorldOf};
 ghost use Rattle.export_model.specs.Serve.{Failure};
@@ -7,20 +8,79 @@ ghost use Rattle.export_model.specs.Step.{after_step};
 ghost use Rattle.export_model.specs.World.{World};
 ghost use Rattle.export_model.specs.declared.event.Event.{Event};
 
-use crate::bench::Bench;
+use crate::connections::Connections;
 use crate::engine::take_step;
 use checkpoint::Keeper;
 use disk_model::Disk;
-use export_model::{Event, Step};
+use export_model::{Event, Mode, Step};
 use export_model_laws::schedule_law;
-use marks::{Board, BoardName, KeeperSeat};
+use marks::{Board, BoardName, KeeperSeat, Pass};
+use nbd_wire::SessionFlags;
 use order_book::Order;
-use std::alloc::AllocError;
+use std::alloc::{AllocError, Global};
+use std::marker::Model;
+
+/// The connections of a rehearsal, and the log of what its steps did.
+///
+/// A bench can't be let go, since a group may be in hand: it is spent by `close`.
+pub struct Bench<B: BoardName> {
+    alloc: Global,
+    connections: Connections<B>,
+    log: Vec<Event>,
+}
+
+impl<B: BoardName> Model for Bench<B> {
+    ghost use Rattle.request_core.specs.Bench.{BenchState};
+
+    ghost Value = { BenchState };
+
+    ghost view = { λ bench. record { connections = bench.connections; log = bench.log.items } };
+}
+
+impl<B: BoardName> Bench<B> {
+    /// A bench of a connection for each pass, none of which has sent a request.
+    pub fn new(
+        alloc: Global,
+        passes: Vec<Pass<B>>,
+        flags: SessionFlags,
+        mode: Mode,
+    ) -> Result<Bench<B>, AllocError>
+        ensures { IfOk result (λ bench. bench ≡ new_bench (vec_len passes) flags mode) }
+    {
+        Ok(Bench {
+            alloc,
+            connections: Connections::new(alloc, passes, flags, mode)?,
+            log: Vec::new(alloc),
+        })
+    }
+
+    /// What each step did, the first of them first.
+    pub fn log(&self) -> &[Event]
+        ensures { result.now ≡ self.now.log }
+    {
+        &self.log
+    }
+
+    /// Puts a group in hand back into the order, and gives the log.
+    pub fn close(self, order: &mut Order<B>) -> Vec<Event>
+        requires { IfSome self.connections.group (IsInHand order.old) }
+        ensures log { result.items ≡ self.log }
+        ensures order { MatchOption self.connections.group (order.new ≡ order.old) (λ group. order.new ≡ with_group order.old group) }
+    {
+        let Bench {
+            alloc: _,
+            connections,
+            log,
+        } = self;
+        connections.close(order);
+        log
+    }
+}
 
 /// Carries out the steps, and adds what each did to the bench's log.
 ///
 /// A step whose condition doesn't hold changes nothing, but an `Append` of a group that doesn't fit the area puts it
-/// back. The one refusal is 0, where the log can't grow: the steps before it are done and stand in the log, and the
+/// back. The one refusal is 0 (no memory), where the log can't grow: the steps before it are done and stand in the log, and the
 /// others changed nothing. The order and the keeper have to be of images with as many blocks.
 pub fn rehearse<B: BoardName, D: Disk>(
     steps: &[Step],

@@ -6,11 +6,13 @@ ghost use Rattle.order_book.specs.Order.{IsInHand};
 ghost use Rattle.image_model.specs.Edit.{blocks_met};
 ghost use Rattle.order_book.specs.Edits.{NeedsDevice as NeedsOld};
 ghost use Rattle.order_book.specs.Shown.{ShowsImage};
-ghost use Rattle.request_core.specs.Outcomes.{IsServedBy, IsServedHere, IsServedWith, IsWriteAsked, NeedsDevice};
+ghost use Rattle.request_core.specs.Outcomes.{IsServedBy, IsServedHere, IsWriteAsked, NeedsDevice};
+ghost use Rattle.request_core.specs.inner.Outcomes.{IsServedWith};
 ghost use Rattle.request_core.specs.Parts.{AreConnectionsOf, IsKeeperOf, IsOrderOf};
-ghost use Rattle.request_core.specs.Steps.{IsAnyServed, IsAnyTalked, IsSure};
+ghost use Rattle.request_core.specs.inner.Steps.{IsAnyServed, IsAnyTalked, IsSure};
 ghost use Rattle.shared_cache.specs.Cache.{LacksBytes};
-ghost use Rattle.request_core.specs.Serving.{AreTermsOf, IsAnsweredBy, IsPassServed, IsSentBy, IsWriteServed, answer_due, event_for, is_idle, ready_for, request_in, sent_state, served_after, state_of};
+ghost use Rattle.request_core.specs.Serving.{IsPassServed, IsWriteServed, is_idle, ready_for, sent_state, served_after};
+ghost use Rattle.request_core.specs.inner.Serving.{AreTermsOf, IsAnsweredBy, IsSentBy, answer_due, event_for, request_in, state_of};
 ghost use Rattle.export_model.specs.Log.{edit_asked, is_write, waits_for_store};
 ghost use Rattle.export_model.specs.Serve.{Failure, answer as answer_of, serve as serve_of};
 ghost use Rattle.export_model.specs.Step.{send as send_of};
@@ -295,8 +297,9 @@ pub fn serve_held<B: BoardName>(
     ensures range { OnErr result (request.head.kind ≢ 3 → IsServedRange request.head terms.geometry) }
     ensures unchanged { OnErr result ((order.new ≡ order.old) × (pass.new ≡ pass.old)) }
 
-    // What the pass knows then: a command's number is above all that it knew, and a FLUSH waits for no less than that.
-    ensures pass { IfOk result (λ served. IsPassServed request order.old.mark order.new.mark served pass.old pass.new) }
+    // What the pass knows then: a command's number is above all that it knew, a FLUSH waits for no less than that, and the history
+    // that it then knows begins with the one that it knew.
+    ensures pass { IfOk result (λ served. IsPassServed B.opening request order.old.mark order.new.mark served pass.old pass.new) }
 {
     let head = request.head();
     match judge(&head, &terms.geometry, &terms.flags) {
@@ -325,7 +328,7 @@ fn serve_passed<B: BoardName>(
     ensures needs { IsErr result ↔ NeedsDevice (Ok Action.Serve) request order.old }
     ensures handed_back { IfErr result (λ back. back.0 ≡ request) }
     ensures unchanged { OnErr result ((order.new ≡ order.old) × (pass.new ≡ pass.old)) }
-    ensures pass { IfOk result (λ served. IsPassServed request order.old.mark order.new.mark served pass.old pass.new) }
+    ensures pass { IfOk result (λ served. IsPassServed B.opening request order.old.mark order.new.mark served pass.old pass.new) }
 {
     let head = request.head();
     match head.kind {
@@ -373,8 +376,9 @@ pub fn serve_with_keeper<B: BoardName, D: Disk>(
     // A READ of blocks that are all in memory leaves the order too.
     ensures hit { request.head.kind ≡ 0 → (LacksBytes order.old.cache (request.head.offset / 4096) (blocks_met request.head.offset request.head.length) → ⊥) → (order.new ≡ order.old) × (keeper.new ≡ keeper.old) }
 
-    // What the pass knows then: a command's number is above all that it knew, and a FLUSH waits for no less than that.
-    ensures pass { IsPassServed request order.old.mark order.new.mark result pass.old pass.new }
+    // What the pass knows then: a command's number is above all that it knew, a FLUSH waits for no less than that, and the history
+    // that it then knows begins with the one that it knew.
+    ensures pass { IsPassServed B.opening request order.old.mark order.new.mark result pass.old pass.new }
 {
     match serve_held(alloc, request, order, board, pass, terms) {
         Ok(served) => served,
@@ -413,7 +417,7 @@ fn serve_held_edit<B: BoardName>(
     ensures needs { IsErr result ↔ NeedsOld order.old (edit_asked request) }
     ensures handed_back { IfErr result (λ back. back.0 ≡ request) }
     ensures unchanged { OnErr result ((order.new ≡ order.old) × (pass.new ≡ pass.old)) }
-    ensures pass { IfOk result (λ served. IsPassServed request order.old.mark order.new.mark served pass.old pass.new) }
+    ensures pass { IfOk result (λ served. IsPassServed B.opening request order.old.mark order.new.mark served pass.old pass.new) }
 {
     let (head, edit) = split(request);
     if order.needs_device(&edit) {
@@ -451,7 +455,7 @@ fn serve_edit<B: BoardName, D: Disk>(
     ensures extent { D.extent keeper.new.disk ≡ D.extent keeper.old.disk }
     ensures honest { D.honest keeper.new.disk ↔ D.honest keeper.old.disk }
     ensures asked { IsWriteAsked D.state D.faults D.honest request terms.geometry terms.mode order.old order.new keeper.old keeper.new result }
-    ensures pass { IsPassServed request order.old.mark order.new.mark result pass.old pass.new }
+    ensures pass { IsPassServed B.opening request order.old.mark order.new.mark result pass.old pass.new }
 {
     let (head, edit) = split(request);
     match order.accept_edit(keeper, board, pass, edit) {

@@ -1,13 +1,13 @@
 ghost use Rattle.std.specs.Prelude.{◌≡◌, ◌≤◌, ◌↔◌, None, Some, IfSome, length};
-ghost use Rattle.request_core.specs.Steps.{IsAppended};
+ghost use Rattle.request_core.specs.inner.Steps.{IsAppended};
 ghost use Rattle.request_core.specs.Parts.{IsKeeperOf, IsOrderOf};
-ghost use Rattle.request_core.specs.Storing.{PublishesBy, SealsBy, event_of, hand_after, order_after};
+ghost use Rattle.request_core.specs.inner.Storing.{PublishesBy, SealsBy, event_of, hand_after, order_after};
 ghost use Rattle.export_model.specs.Serve.{Failure};
 ghost use Rattle.export_model.specs.Step.{append as append_of};
 ghost use Rattle.export_model.specs.World.{World};
 ghost use Rattle.export_model_laws.specs.Law.{IsWithin};
 ghost use Rattle.order_book.specs.Order.{IsInHand};
-ghost use Rattle.request_core.specs.Serving.{IsSameHand};
+ghost use Rattle.request_core.specs.inner.Serving.{IsSameHand};
 
 use checkpoint::{Keeper, KeeperFault};
 use device_image::keeper_laws;

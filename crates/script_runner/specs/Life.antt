@@ -23,10 +23,6 @@ pub record IsOpened {D : Type 0} (start : State) (keeper : KeeperState D) (state
   pub stands : StandsFor content image keeper.count
   pub keeps : Keeps keeper state image keeper.count
 
--- every content that a crash may leave of the later device it might have left of the earlier one
-abbrev pub LeavesNoMore : State → State → Type 0
-LeavesNoMore before after = (content : List ℕ) → MayLeave after content → MayLeave before content
-
 -- a content that a crash might have left of the device stands for this image and this number
 abbrev pub IsFoundFrom : State → Image → ℕ → Type 0
 IsFoundFrom start image number = (content : List ℕ) × MayLeave start content × StandsFor content image number

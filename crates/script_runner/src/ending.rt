@@ -1,5 +1,5 @@
 use checkpoint::KeeperFault;
-use nbdj_pipe::Refusal;
+use front_end::Refusal;
 use std::alloc::AllocError;
 use std::fmt::Display;
 use std::io::Write;

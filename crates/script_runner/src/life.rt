@@ -5,7 +5,8 @@ ghost use Rattle.device_image.specs.Holds.{Holds};
 ghost use Rattle.device_image.specs.Keeps.{Keeps};
 ghost use Rattle.image_model.specs.Image.{Image};
 ghost use Rattle.image_model.specs.declared.command.Kind.{Kind};
-ghost use Rattle.script_runner.specs.Life.{FindsNoMore, IsLifeOf, IsOpened, LeavesNoMore};
+ghost use Rattle.script_runner.specs.Life.{FindsNoMore, IsLifeOf, IsOpened};
+ghost use Rattle.script_runner.specs.inner.Life.{LeavesNoMore};
 ghost use Rattle.order_book.specs.Order.{IsInHand, new_order};
 ghost use Rattle.order_book.specs.Shown.{ShowsImage};
 ghost use Rattle.request_core.specs.Bench.{new_bench};
@@ -128,6 +129,7 @@ fn first_parts<B: BoardName, D: Disk>(
     setup: Setup,
 ) -> Result<(Board<B>, KeeperSeat<B>, Order<B>, Bench<B>), AllocError>
     requires board { blank.board ≡ B.board }
+    requires named { blank.opening ≡ B.opening }
     requires opening { blank.opening ≡ keeper.now.count }
     ensures order { IfOk result (λ parts. (states : List Kind) × (length states ≡ keeper.now.geometry.blocks)
         × (parts.2 ≡ new_order states keeper.now.count setup.frames keeper.now.geometry.area)) }
@@ -156,6 +158,7 @@ impl<B: BoardName, D: Disk> Life<B, D> {
         setup: Setup,
     ) -> Result<Life<B, D>, D>
         requires board { blank.board ≡ B.board }
+        requires named { blank.opening ≡ B.opening }
         requires opening { blank.opening ≡ keeper.count }
         requires recovered { IsRecovered keeper }
         requires keeps { ∥ (D.honest keeper.disk → (image : Image) × Keeps keeper (D.state keeper.disk) image keeper.count) ∥₁ }

@@ -1,6 +1,6 @@
 use crate::ending::End;
 use crate::script_line::{Line, Setup, StepLine, parse};
-use nbdj_pipe::Refusal;
+use front_end::Refusal;
 use std::alloc::{AllocError, Global};
 use std::io::{BufRead, BufReader, ErrorKind, Read};
 

@@ -61,6 +61,7 @@ fn play_on<B: BoardName>(
     most: usize,
 ) -> Result<Played, KeeperFault>
     requires board { blank.board ≡ B.board }
+    requires named { blank.opening ≡ B.opening }
     requires opening { blank.opening ≡ keeper.count }
     requires recovered { IsRecovered keeper }
     requires keeps { (image : Image) × Keeps keeper (⟦<SimDisk as Disk>⟧.state keeper.disk) image keeper.count }

@@ -14,9 +14,9 @@ use crate::script_line::{Line, Setup, StepLine};
 use crate::stepping::carry_out;
 use checkpoint::{Keeper, KeeperFault};
 use disk_model::{CrashChoice, Disk, SimDisk};
+use front_end::Refusal;
 use image_model::Kind;
 use marks::{BlankBoard, BoardName};
-use nbdj_pipe::Refusal;
 use request_core::{StepFault, next_life_law};
 use std::alloc::Global;
 use std::fmt::Display;
@@ -72,6 +72,7 @@ fn live<B: BoardName, R: Read, W: Write>(
     output: &mut W,
 ) -> Result<Option<Course>, End>
     requires board { blank.board ≡ B.board }
+    requires named { blank.opening ≡ B.opening }
     requires opening { blank.opening ≡ course.keeper.count }
 {
     let mut rehearsal = Rehearsal::<B>::begin(alloc, blank, course, output)?;
@@ -136,6 +137,7 @@ impl<B: BoardName> Rehearsal<B> {
         output: &mut W,
     ) -> Result<Rehearsal<B>, End>
         requires board { blank.board ≡ B.board }
+        requires named { blank.opening ≡ B.opening }
         requires opening { blank.opening ≡ course.keeper.count }
     {
         let Course {

@@ -1,7 +1,7 @@
 ghost use Rattle.std.specs.Prelude.{◌≡◌, ◌<◌, ◌≤◌, MatchOption};
 
 use export_model::Mode;
-use nbdj_pipe::{LEAST_FRAMES, MOST_FRAMES};
+use front_end::{LEAST_FRAMES, MOST_FRAMES};
 use std::time::Duration;
 
 /// The most clients that are served at a time.

@@ -36,7 +36,7 @@ pub struct RequestHandler<'a, B: ExportName, D: Disk, H: ReadBeside, R: Wait, L:
 
 impl<'a, B: ExportName, D: Disk, H: ReadBeside, R: Wait, L: Log> Serve<Pass<B>>
     for RequestHandler<'a, B, D, H, R, L> {
-    ghost allows = { λ handler pass request flags next reply. IsSubmitted request handler.export.now.mode pass next reply.answer
+    ghost allows = { λ handler pass request flags next reply. IsSubmitted B.opening request handler.export.now.mode pass next reply.answer
         × IsJudged (verdict request.head handler.export.now.geometry flags) request reply.answer };
 
     ghost extent = { λ handler. handler.export.now.geometry };

@@ -1,4 +1,5 @@
-ghost use Rattle.std.specs.Prelude.{◌≡◌, IfOk, vec_len};
+ghost use Rattle.std.specs.Prelude.{◌≡◌, IfOk, vec_len, Some};
+ghost use Rattle.export.specs.Trusted.{IsTrusted, VouchesTruly};
 
 use crate::client_registry::ClientRegistry;
 use crate::listener::Listener;
@@ -7,8 +8,8 @@ use crate::options::{OnFault, ServeOptions};
 use crate::worker::{WorkerPool, worker};
 use disk_model::Disk;
 use export::{Export, ExportName, OpenDevice, ReadBeside, SyncPoints};
+use front_end::Refusal;
 use marks::Pass;
-use nbdj_pipe::Refusal;
 use std::alloc::Global;
 use std::io::{ErrorKind, Read};
 use std::marker::Brand;
@@ -100,6 +101,10 @@ where
     R: Threads + Wait + Clock + Sync,
     G: SyncPoints + Log + Copy + Send + Sync,
     requires board { device.blank.board ≡ B.board }
+    requires named { device.blank.opening ≡ B.opening }
+    requires image { device.keeper.geometry.blocks ≡ B.image.blocks }
+    requires trusted { B.trusted → IsTrusted D.state D.honest device.keeper B.image }
+    requires shown { B.shown → (handle : H) → device.beside ≡ Some handle → VouchesTruly (H.vouches handle) B.image }
     requires geometry { device.keeper.geometry ≡ B.geometry }
 {
     match open_export::<B, D, H>(alloc, device, &options) {
@@ -133,6 +138,10 @@ where
     D: Disk,
     H: ReadBeside,
     requires board { device.blank.board ≡ B.board }
+    requires named { device.blank.opening ≡ B.opening }
+    requires image { device.keeper.geometry.blocks ≡ B.image.blocks }
+    requires trusted { B.trusted → IsTrusted D.state D.honest device.keeper B.image }
+    requires shown { B.shown → (handle : H) → device.beside ≡ Some handle → VouchesTruly (H.vouches handle) B.image }
     requires geometry { device.keeper.geometry ≡ B.geometry }
     ensures mode { IfOk result (λ made. made.0.mode ≡ options.now.mode) }
     ensures passes { IfOk result (λ made. vec_len made.1 ≡ options.now.workers) }

@@ -13,7 +13,8 @@ use Rattle.negotiation.specs.declared.end.End.{End}
 use Rattle.byte_streams.specs.Streams.{WritesPart}
 use Rattle.byte_streams.specs.declared.streams.StreamFault.{StreamFault}
 use Rattle.session.specs.Streams.{Writes}
-use Rattle.session.specs.Talk.{Answers, AreSteps, Exchange, ServesOn, asked, exchange_text, talk_text}
+use Rattle.session.specs.Talk.{Answers, AreSteps, Exchange, asked, exchange_text, talk_text}
+use Rattle.session.specs.inner.Talk.{ServesOn}
 use Rattle.byte_streams.specs.laws.Bytes.{appends_none, appends_on}
 
 -- ---- writing

@@ -10,7 +10,8 @@ use Rattle.negotiation.specs.declared.end.End.{End}
 use Rattle.negotiation.specs.declared.end.End.TheVariants.{IoFault, NoMemory, PeerClosed}
 use Rattle.negotiation.specs.laws.Dialogs.{hears_none}
 use Rattle.byte_streams.specs.laws.Bytes.{appends_none}
-use Rattle.session.specs.Hearing.{Hearing, IsTimely, ReadsOn, Tells, as_outcome, piece_bytes}
+use Rattle.session.specs.Hearing.{Hearing, IsTimely, ReadsOn, Tells, piece_bytes}
+use Rattle.session.specs.inner.Hearing.{as_outcome}
 use Rattle.session.proofs.Hearing.{consumes_failed, no_greeting}
 
 -- where there is room something was said

@@ -62,8 +62,3 @@ pub record Hearing (old : SessionState) (IsRead : List ℕ → Type 0) (output m
   pub said : IsSaid old.standing → IsSaid between.standing
   pub behind : IsBehind old.standing → (turns ≡ []) × (between.agreed ≡ old.agreed) × IsBehind between.standing
   pub tells : Tells requests unsent unheard between new outcome
-
--- these requests, or why there are none
-abbrev pub as_outcome : Vec Message → Result (Unit {0}) End → Result (Vec Message) End
-as_outcome requests (Ok done) = Ok requests
-as_outcome requests (Err end) = Err end

@@ -2,3 +2,4 @@ pub mod Hearing
 pub mod Serving
 pub mod Streams
 pub mod Talk
+pub mod inner

@@ -9,7 +9,6 @@ use Rattle.nbd_wire.specs.declared.head.RequestHead.{RequestHead}
 use Rattle.nbd_wire.specs.declared.message.Answer.TheVariants as answers
 use Rattle.nbd_wire.specs.declared.message.Reply.{Reply}
 use Rattle.nbd_wire.specs.declared.message.SessionFlags.{SessionFlags}
-use Rattle.session.specs.Streams.{Writes}
 
 -- a request and its reply
 pub record Exchange : Type 0 where
@@ -53,13 +52,6 @@ abbrev pub AreSteps : {P : Type 0} → (P → Message → SessionFlags → P →
 AreSteps allows flags old [] new = new ≡ old
 AreSteps {P} allows flags old (exchange ∷ exchanges) new =
     (between : P) × IsStep allows flags old exchange between × AreSteps allows flags between exchanges new
-
--- A request had its step. Of what was due before and its reply behind it the first bytes were written, and the others are due; where
--- memory ran out or a write failed they are lost.
-pub record ServesOn {P : Type 0} (allows : P → Message → SessionFlags → P → Reply → Type 0) (flags : SessionFlags) (old : P) (request : Message) (new : P) (output made : Option (List ℕ)) (before after : List ℕ) (is_kept : Bool) : Type 0 where
-  pub reply : Reply
-  pub step : IsStep allows flags old (record { request = request; reply = reply }) new
-  pub writes : Writes output made (before ++ exchange_text flags (record { request = request; reply = reply })) after is_kept
 
 -- The first of the requests had their steps, all of them at Ok, and of the text of the replies to these some first part was
 -- written, at Ok all of it.

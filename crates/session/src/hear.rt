@@ -5,7 +5,8 @@ ghost use Rattle.nbd_wire.specs.Request.{Message};
 ghost use Rattle.negotiation.specs.Dialog.{HasNoDisc, ended};
 ghost use Rattle.negotiation.specs.Session.{Fills, IsBehind, IsOpen, IsSaid, end_of, room_of};
 ghost use Rattle.negotiation.specs.declared.end.End.{End};
-ghost use Rattle.session.specs.Hearing.{Hearing, ReadsOn, ReadsSome, as_outcome, piece_bytes};
+ghost use Rattle.session.specs.Hearing.{Hearing, ReadsOn, ReadsSome, piece_bytes};
+ghost use Rattle.session.specs.inner.Hearing.{as_outcome};
 ghost use Rattle.session.specs.Streams.{IsEarly};
 
 use crate::serve::write_due;

@@ -6,7 +6,8 @@ ghost use Rattle.nbd_wire.specs.declared.message.Reply.{Reply};
 ghost use Rattle.nbd_wire.specs.declared.message.SessionFlags.{SessionFlags};
 ghost use Rattle.image_model.specs.declared.geometry.Geometry.{Geometry};
 ghost use Rattle.session.specs.Streams.{IsEarly, Writes};
-ghost use Rattle.session.specs.Talk.{Answers, IsStep, ServesOn, is_thrown_away, is_whole};
+ghost use Rattle.session.specs.Talk.{Answers, IsStep, is_thrown_away, is_whole};
+ghost use Rattle.session.specs.inner.Talk.{ServesOn};
 
 use bitflags::Flags;
 use byte_streams::{StreamFault, write_whole};

@@ -49,17 +49,9 @@ without inside blocks = record {
   dirty = dirty_outside inside blocks.dirty;
 }
 
--- the frame of the clean front is free
-abbrev pub evicted : BlocksState → BlocksState
-evicted blocks = record { free = blocks.free + 1; clean = drop 1 blocks.clean; dirty = blocks.dirty }
-
 -- a frame taken: a free one, else that of the clean front, whose block is let go
 abbrev pub taken : BlocksState → BlocksState
 taken blocks = record { free = blocks.free - 1; clean = drop (1 - blocks.free) blocks.clean; dirty = blocks.dirty }
-
--- A frame was made free, which `taken` then takes.
-abbrev pub taken_leaves : BlocksState → BlocksState → Type 0
-taken_leaves old new = (taken new ≡ taken old) × (1 ≤ new.free) × (new.dirty ≡ old.dirty)
 
 -- a block written by the command with this number: in its own frame, else in one that is taken
 abbrev pub with_put : ℕ → ℕ → List ℕ → BlocksState → BlocksState

@@ -1,5 +1,6 @@
 //! A plain image against a small case computed by hand.
-use image_model::{Edit, Kind, OutOfRange, PlainImage};
+use image_model::{Edit, Kind};
+use plain_image::{OutOfRange, PlainImage};
 use std::alloc::{AllocError, Global};
 use std::test::Fail;
 

@@ -3,6 +3,7 @@ use Rattle.nbdj_pipe.specs.declared.options.PipeOptions.{PipeOptions}
 use Rattle.subcommands.specs.declared.plan.Plan.{Plan}
 use Rattle.subcommands.specs.declared.plan.Plan.TheVariants.{Format, Pipe, Serve, Recover, Check, Rehearse}
 use Rattle.image_model.specs.Geometry.{device_bytes_of}
+use Rattle.image_model.specs.declared.geometry.Geometry.{Geometry}
 
 -- a device of this size can be worked on as the plan says; the plan of a script has no device, and that of a server is
 -- carried out elsewhere
@@ -31,3 +32,21 @@ IfCheck (Serve path address options) P = Unit {0}
 IfCheck (Recover path) P = Unit {0}
 IfCheck (Check path) P = P
 IfCheck (Rehearse course) P = Unit {0}
+
+-- what a plan that formats a device comes to, by the sizes
+abbrev pub IfFormat : Plan → (Geometry → Type 0) → Type 0
+IfFormat (Format path geometry preallocates) P = P geometry
+IfFormat (Pipe path options) P = Unit {0}
+IfFormat (Serve path address options) P = Unit {0}
+IfFormat (Recover path) P = Unit {0}
+IfFormat (Check path) P = Unit {0}
+IfFormat (Rehearse course) P = Unit {0}
+
+-- what a plan that recovers a device comes to
+abbrev pub IfRecover : Plan → Type 0 → Type 0
+IfRecover (Format path geometry preallocates) P = Unit {0}
+IfRecover (Pipe path options) P = Unit {0}
+IfRecover (Serve path address options) P = Unit {0}
+IfRecover (Recover path) P = P
+IfRecover (Check path) P = Unit {0}
+IfRecover (Rehearse course) P = Unit {0}

@@ -3,17 +3,19 @@ ghost use Rattle.disk_model.specs.Faults.{HasRisen};
 ghost use Rattle.image_model.specs.Geometry.{device_bytes_of};
 ghost use Rattle.nbdj_pipe.specs.Life.{IsLived};
 ghost use Rattle.nbdj_pipe.specs.Pipe.{IsPiped, IsUnopened, status_of};
-ghost use Rattle.nbdj_pipe.specs.declared.refusal.Refusal.{Refusal};
-ghost use Rattle.nbdj_pipe.specs.declared.refusal.Refusal.TheVariants.{DeviceFault};
+ghost use Rattle.front_end.specs.declared.refusal.Refusal.{Refusal};
+ghost use Rattle.front_end.specs.declared.refusal.Refusal.TheVariants.{DeviceFault};
 ghost use Rattle.journal_format.specs.Reading.{IsOnlyRead};
-ghost use Rattle.subcommands.specs.Plan.{IfCheck, IfPipe, Suits};
+ghost use Rattle.subcommands.specs.Devices.{IsFormatCarriedOut, IsPrinted, IsRecoveryCarriedOut};
+ghost use Rattle.subcommands.specs.Plan.{IfCheck, IfFormat, IfPipe, IfRecover, Suits};
 
 use crate::plan::Plan;
 use checkpoint::{Keeper, Report};
 use disk_model::Disk;
+use front_end::Refusal;
 use header_slots::Areas;
 use image_model::Geometry;
-use nbdj_pipe::{Refusal, pipe};
+use nbdj_pipe::pipe;
 use std::alloc::Global;
 use std::fmt::Display;
 use std::io::{Read, Write};
@@ -38,6 +40,11 @@ pub fn perform<D: Disk + Drop, R: Read, W: Write, E: Write>(
         ⊎ IsPiped (R.remaining input.old) (R.remaining input.new) (W.contents output.old) (W.contents output.new) outcome
         (IsLived D.state D.faults D.honest options.frames options.mode disk result.1))
         × (IsErrOf outcome DeviceFault → HasRisen (D.faults disk) (D.faults result.1))) }
+    // A format and a recovery do what the keeper's calls do, and tell what that came to.
+    ensures formatted { IfFormat plan.now (λ geometry. (outcome : Result (Unit {0}) Refusal) × (result.0 ≡ status_of outcome)
+        × IsFormatCarriedOut D.state D.faults D.extent D.honest disk result.1 geometry outcome) }
+    ensures recovered { IfRecover plan.now ((outcome : Result (Unit {0}) Refusal) × (result.0 ≡ status_of outcome)
+        × IsRecoveryCarriedOut D.state D.faults D.extent D.honest disk result.1 outcome) }
     // A check only reads.
     ensures checked { IfCheck plan.now (D.honest disk → IsOnlyRead (D.state disk) (D.state result.1)) }
 {
@@ -54,7 +61,9 @@ pub fn perform<D: Disk + Drop, R: Read, W: Write, E: Write>(
 }
 
 // Prints one line.
-fn print<W: Write, T: Display + Drop>(output: &mut W, line: T) -> Result<(), Refusal> {
+fn print<W: Write, T: Display + Drop>(output: &mut W, line: T) -> Result<(), Refusal>
+    ensures { IsPrinted result }
+{
     writeln!(output, "{line}").map_err(|_| Refusal::StreamFault)
 }
 
@@ -79,18 +88,23 @@ fn format<D: Disk, W: Write>(
     output: &mut W,
 ) -> (Result<(), Refusal>, D)
     requires { D.extent disk ≡ device_bytes_of geometry.blocks geometry.area }
+    ensures { IsFormatCarriedOut D.state D.faults D.extent D.honest disk result.1 geometry result.0 }
 {
-    let result = match Keeper::format(alloc, &mut disk, geometry) {
-        Ok(()) => print(
-            output,
-            format_args!("formatted {}", geometry.device_bytes()),
-        ),
-        Err(fault) => Err(Refusal::from(fault)),
-    };
-    (result, disk)
+    match Keeper::format(alloc, &mut disk, geometry) {
+        Ok(()) => {
+            let result = print(
+                output,
+                format_args!("formatted {}", geometry.device_bytes()),
+            );
+            (result, disk)
+        }
+        Err(fault) => (Err(Refusal::from(fault)), disk),
+    }
 }
 
-fn recover<D: Disk, W: Write>(alloc: Global, disk: D, output: &mut W) -> (Result<(), Refusal>, D) {
+fn recover<D: Disk, W: Write>(alloc: Global, disk: D, output: &mut W) -> (Result<(), Refusal>, D)
+    ensures { IsRecoveryCarriedOut D.state D.faults D.extent D.honest disk result.1 result.0 }
+{
     match Keeper::open(alloc, disk) {
         Ok(keeper) => {
             let result = print(output, format_args!("commands {}", keeper.count()));

@@ -65,7 +65,7 @@ fn accept_two<B: BoardName>(
     keeper: &Keeper<SimDisk>,
     command: &Command,
 ) -> u64
-    requires { order.old + 2 < 2 ^ 64 }
+    requires { order.old.accepted + 2 < 2 ^ 64 }
 {
     board.raise_accepted(order, pass, command);
     let number = board.raise_accepted(order, pass, command);
@@ -80,7 +80,7 @@ fn numbers_of<B: BoardName>(
     keeper: &Keeper<SimDisk>,
     command: &Command,
 ) -> Option<[u64; 4]>
-    requires { opened.order ≡ 0 }
+    requires { opened.order.accepted ≡ 0 }
 {
     let Opened {
         board,
@@ -104,6 +104,7 @@ pub fn numbers<B: BoardName>(
     command: &Command,
 ) -> Result<[u64; 4]>
     requires board { blank.board ≡ B.board }
+    requires named { blank.opening ≡ B.opening }
     requires opening { blank.opening ≡ 0 }
 {
     let keeper = stored(alloc)?;

@@ -9,12 +9,12 @@ use marks::{Board, BoardName, OrderSeat, Pass};
 pub struct Line<B: BoardName> {
     order: OrderSeat<B>,
     last: u64,
-    ghost exact: { order ≡ last },
+    ghost exact: { order.accepted ≡ last },
 }
 
 impl<B: BoardName> Line<B> {
     pub fn new(order: OrderSeat<B>, last: u64) -> Line<B>
-        requires { order ≡ last }
+        requires { order.accepted ≡ last }
     {
         Line { order, last }
     }

@@ -1,5 +1,5 @@
 ghost use Rattle.std.specs.Prelude.{◌≡◌, ◌+◌, ◌≤◌, ◌<◌, ◌^◌, IfOk};
-ghost use Rattle.benches.specs.States.{AreData};
+ghost use Rattle.benches.specs.inner.States.{AreData};
 
 use alloc_map::AllocMap;
 use anyhow::Result;

@@ -50,6 +50,7 @@ fn next_group<B: BoardName>(order: &mut Order<B>) -> Result<Shape> {
 /// 40 puts and one more, put back once and sealed again.
 pub fn long_group<B: BoardName>(alloc: Global, blank: BlankBoard) -> Result<Shape>
     requires board { blank.board ≡ B.board }
+    requires named { blank.opening ≡ B.opening }
     requires opening { blank.opening ≡ 7 }
 {
     let mut desk = open_desk::<B>(alloc, blank, 7, 4_096, LEAST_AREA_BYTES)?;
@@ -69,6 +70,7 @@ pub fn long_group<B: BoardName>(alloc: Global, blank: BlankBoard) -> Result<Shap
 /// Commands with bodies of one command more than the least area takes in a group.
 pub fn cut_group<B: BoardName>(alloc: Global, blank: BlankBoard) -> Result<Shape>
     requires board { blank.board ≡ B.board }
+    requires named { blank.opening ≡ B.opening }
     requires opening { blank.opening ≡ 0 }
 {
     let mut desk = open_desk::<B>(alloc, blank, 0, 4_096, LEAST_AREA_BYTES)?;
@@ -83,6 +85,7 @@ pub fn cut_group<B: BoardName>(alloc: Global, blank: BlankBoard) -> Result<Shape
 // An order whose 512 frames all hold a dirty block.
 fn full_order<B: BoardName>(alloc: Global, blank: BlankBoard) -> Result<Desk<B>>
     requires board { blank.board ≡ B.board }
+    requires named { blank.opening ≡ B.opening }
     requires opening { blank.opening ≡ 0 }
 {
     let mut desk = open_desk::<B>(alloc, blank, 0, 512, LEAST_AREA_BYTES)?;
@@ -105,6 +108,7 @@ pub fn full_frames<B: BoardName>(
     blank: BlankBoard,
 ) -> Result<(OrderFault, u64, u64, u64)>
     requires board { blank.board ≡ B.board }
+    requires named { blank.opening ≡ B.opening }
     requires opening { blank.opening ≡ 0 }
 {
     let mut desk = full_order::<B>(alloc, blank)?;
@@ -134,6 +138,7 @@ fn free_frames<B: BoardName>(alloc: Global, desk: &mut Desk<B>, first: u64) -> R
 /// How many of 512 full frames are free after a clear of ten blocks, and of all blocks from the twentieth on.
 pub fn cleared_frames<B: BoardName>(alloc: Global, blank: BlankBoard) -> Result<(u64, u64)>
     requires board { blank.board ≡ B.board }
+    requires named { blank.opening ≡ B.opening }
     requires opening { blank.opening ≡ 0 }
 {
     let mut desk = full_order::<B>(alloc, blank)?;
@@ -180,6 +185,7 @@ pub fn full_backlog<B: BoardName>(
     blank: BlankBoard,
 ) -> Result<(u64, OrderFault, u64)>
     requires board { blank.board ≡ B.board }
+    requires named { blank.opening ≡ B.opening }
     requires opening { blank.opening ≡ 0 }
 {
     let mut desk = open_desk::<B>(alloc, blank, 0, 4_096, ROOMY_AREA_BYTES)?;
@@ -192,6 +198,7 @@ pub fn full_backlog<B: BoardName>(
 /// The last number of an order that was stopped before its first command, and why it refuses that command.
 pub fn stopped_order<B: BoardName>(alloc: Global, blank: BlankBoard) -> Result<(u64, OrderFault)>
     requires board { blank.board ≡ B.board }
+    requires named { blank.opening ≡ B.opening }
     requires opening { blank.opening ≡ 7 }
 {
     let mut desk = open_desk::<B>(alloc, blank, 7, 4_096, LEAST_AREA_BYTES)?;

@@ -1,4 +1,4 @@
-ghost use Rattle.std.specs.Prelude.{◌≡◌, ◌+◌, ◌*◌, ◌≤◌, ◌<◌, ◌^◌, length, true, IfOk, IfSome};
+ghost use Rattle.std.specs.Prelude.{◌≡◌, ◌+◌, ◌*◌, ◌≤◌, ◌<◌, ◌^◌, [], length, true, IfOk, IfSome};
 ghost use Rattle.image_model.specs.Command.{IsCommand};
 
 use alloc_map::AllocMap;
@@ -38,7 +38,8 @@ pub fn order<B: BoardName>(
     area: u32,
     line: OrderSeat<B>,
 ) -> Result<Order<B>>
-    requires seat { line ≡ opening }
+    requires named { opening ≡ B.opening }
+    requires seat { line ≡ record { history = []; accepted = opening; base = opening } }
     requires area { 2097152 ≤ area }
     requires frames { frames + 3 < 2 ^ 31 }
 {
@@ -55,6 +56,7 @@ pub fn open_desk<B: BoardName>(
     area: u32,
 ) -> Result<Desk<B>>
     requires board { blank.board ≡ B.board }
+    requires named { blank.opening ≡ B.opening }
     requires opening { blank.opening ≡ opening }
     requires area { 2097152 ≤ area }
     requires frames { frames + 3 < 2 ^ 31 }

@@ -58,6 +58,7 @@ pub fn shared_accepts<B: BoardName + Send + Sync, R: Threads + Wait + Sync + Clo
     count: u64,
 ) -> Result<Duration>
     requires board { blank.board ≡ B.board }
+    requires named { blank.opening ≡ B.opening }
     requires opening { blank.opening ≡ 0 }
 {
     let Opened {

@@ -17,7 +17,7 @@ use Rattle.journal_format.specs.declared.touch.TouchedRange.{TouchedRange}
 use Rattle.journal_format.specs.Touches.{AreWithin, HasBytesWithin, IsWithin, edge_ranges, touched_by, touched_by_changes}
 use Rattle.journal_format.specs.Spelling.{clear_byte, edged_byte, edges_byte, change_head, change_bytes}
 use Rattle.journal_format.specs.GroupList.{StandsAt}
-use Rattle.journal_format.specs.Scanning.{IsHead, IsPutHead, IsClearHead, IsEdgedHead, IsEdgedKind, edges_said, touch_of_head, FoundChange, HasNoChange, StandBetween, FoundChanges, HasNoChanges}
+use Rattle.journal_format.specs.inner.Scanning.{IsHead, IsPutHead, IsClearHead, IsEdgedHead, IsEdgedKind, edges_said, touch_of_head, FoundChange, HasNoChange, StandBetween, FoundChanges, HasNoChanges}
 use Rattle.journal_format.specs.laws.Heads.{stands_append}
 use Rattle.journal_format.specs.laws.OneList.{front, back, same_bytes, same_heads}
 use Rattle.journal_format.specs.laws.Spelled.{length-change_head}

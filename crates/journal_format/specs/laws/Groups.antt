@@ -12,7 +12,8 @@ use Rattle.journal_format.specs.Spelling.{StoredGroup, clear_byte, edged_byte, e
 use Rattle.journal_format.specs.GroupList.{StandsAt, IsOpen, size_of, sizes_of, number_behind, next_behind, IsNextGroup, Lead, Stand, IsList, IsDamaged, HoldsList}
 use Rattle.journal_format.specs.Area.{AreaState}
 use Rattle.disk_model.specs.Disk.{State, IsSyncedIn}
-use Rattle.journal_format.specs.Scanning.{FoundChanges, FoundDamage, FoundGroup, FoundList, HasNoChanges, HasNoGroup, IsNextHead}
+use Rattle.journal_format.specs.Scanning.{FoundDamage, FoundList, HasNoGroup}
+use Rattle.journal_format.specs.inner.Scanning.{FoundChanges, FoundGroup, HasNoChanges, IsNextHead}
 use Rattle.journal_format.specs.laws.Heads.{stands_append}
 use Rattle.journal_format.specs.laws.OneList.{front, back, same_bytes, body_read}
 use Rattle.journal_format.specs.laws.Spelled.{length-change_head, length-group_head, sizes-push, next-push}

@@ -11,7 +11,8 @@ use Rattle.nbd_wire.specs.declared.stream.State.TheVariants.{Head, Data, Discard
 use Rattle.nbd_wire.specs.Head.{request_magic, head_bytes, IsHead}
 use Rattle.nbd_wire.specs.Request.{write_type, payload_limit, stream_limit, Message, data_len, IsRequest}
 use Rattle.nbd_wire.specs.Stream.{Kept, in_head, in_data, in_discard, failed, Reader, reading, starved, fresh, held, IsFault, Keeps, Reads, Begins, Feeds, Fed, IsRun, all_bytes, all_requests}
-use Rattle.nbd_wire.specs.State.{kept, reader_of, IsReader, found, Advances, AdvancesTo}
+use Rattle.nbd_wire.specs.State.{kept, reader_of, IsReader}
+use Rattle.nbd_wire.specs.inner.State.{found, Advances, AdvancesTo}
 use Rattle.nbd_wire.specs.laws.Heads.{length-head_bytes, take-head_bytes, one_head_lem}
 use Rattle.nbd_wire.specs.laws.Requests.{same_front, one_request_lem, data_len_write}
 

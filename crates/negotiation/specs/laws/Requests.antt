@@ -10,7 +10,7 @@ use Rattle.std.proofs.lemmas.List.Folds.{list_any-append}
 use Rattle.nbd_wire.specs.Request.{Message}
 use Rattle.nbd_wire.specs.Stream.{Begins, Feeds, Kept, Reader, Reads, reading, starved}
 use Rattle.negotiation.specs.Dialog.{before_disc, ended, in_requests, is_disc}
-use Rattle.negotiation.specs.Session.{Hands}
+use Rattle.negotiation.specs.inner.Session.{Hands}
 use Rattle.negotiation.specs.laws.Dialogs.{hears_on}
 
 -- ---- the place of the first that passes a test

@@ -8,7 +8,8 @@ use Rattle.std.proofs.lemmas.List.{get_or-set_same, get_or-set_other, length-map
 use Rattle.frame_pool.specs.Lists.{times, without as without_frame, total}
 use Rattle.frame_pool.specs.Pool.{DirtyFrame, PoolState, IsPool, frames_of, lists_in, others, with_bytes, with_free, with_clean, with_dirty}
 use Rattle.frame_pool.specs.laws.Times.{times-without_same, length-without, without_absent, times_head}
-use Rattle.shared_cache.specs.Blocks.{BlocksState, CleanBlock, DirtyBlock, clean_outside, dirty_outside, without, evicted, with_put}
+use Rattle.shared_cache.specs.Blocks.{BlocksState, CleanBlock, DirtyBlock, clean_outside, dirty_outside, without, with_put}
+use Rattle.shared_cache.specs.inner.Blocks.{evicted}
 use Rattle.shared_cache.specs.Held.{HeldState, IsHeld, block_at, bytes_at, blocks_of, clean_block, dirty_block, held_times}
 use Rattle.shared_cache.specs.laws.Indexed.{frames_of-others, free_apart, frame_below}
 

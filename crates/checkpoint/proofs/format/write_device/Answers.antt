@@ -1,7 +1,7 @@
 use Rattle.std.proofs.Common.{◌≡◌, inl, inr, rules, subst, ◌∙◌}
 use Rattle.disk_model.specs.Disk.{State}
 use Rattle.disk_model.specs.laws.Moments.{goes_on, weakens}
-use Rattle.checkpoint.specs.Format.{AreClosed}
+use Rattle.checkpoint.specs.inner.Format.{AreClosed}
 use Rattle.checkpoint.proofs.format.write_device.Goals as goal
 
 -- That the header is opened right behind what was written for it is searched for.

@@ -1,9 +1,14 @@
+use Rattle.device_image.specs.Stands.{holes}
 use Rattle.export_tests.proofs.pass_tests.flush_now_is_ok_after_publish.Given as goal
 
 -- the board that was just made
 abbrev pub ghosts-ask_beside_a_flusher-B-BoardName : goal.ghosts-ask_beside_a_flusher-B-BoardName
-ghosts-ask_beside_a_flusher-B-BoardName g a = record { board = a.device.blank.board }
+ghosts-ask_beside_a_flusher-B-BoardName g a = record { board = a.device.blank.board; opening = a.device.blank.opening }
 
 -- the sizes of the device
 abbrev pub ghosts-ask_beside_a_flusher-B-ExportName : goal.ghosts-ask_beside_a_flusher-B-ExportName
 ghosts-ask_beside_a_flusher-B-ExportName g a = record { geometry = a.device.keeper.geometry }
+
+-- an image of as many blocks, and nothing that is trusted
+abbrev pub ghosts-ask_beside_a_flusher-B-ImageName : goal.ghosts-ask_beside_a_flusher-B-ImageName
+ghosts-ask_beside_a_flusher-B-ImageName g a = record { image = holes a.device.keeper.geometry.blocks; trusted = ⊥; shown = ⊥ }

@@ -1,8 +1,9 @@
+use Rattle.device_image.specs.Stands.{holes}
 use Rattle.export_tests.proofs.plain_tests.eight_threads_match_plain_images.Given as goal
 
 -- the board that was just made
 abbrev pub ghosts-run-B-BoardName : goal.ghosts-run-B-BoardName
-ghosts-run-B-BoardName g a = record { board = a.device.blank.board }
+ghosts-run-B-BoardName g a = record { board = a.device.blank.board; opening = a.device.blank.opening }
 
 -- the sizes of the device
 abbrev pub ghosts-run-B-ExportName : goal.ghosts-run-B-ExportName
@@ -10,7 +11,14 @@ ghosts-run-B-ExportName g a = record { geometry = a.device.keeper.geometry }
 
 -- the like of the device that was opened again
 abbrev pub ghosts-reads_as-B-BoardName : goal.ghosts-reads_as-B-BoardName
-ghosts-reads_as-B-BoardName g a = record { board = a.device.blank.board }
+ghosts-reads_as-B-BoardName g a = record { board = a.device.blank.board; opening = a.device.blank.opening }
 
 abbrev pub ghosts-reads_as-B-ExportName : goal.ghosts-reads_as-B-ExportName
 ghosts-reads_as-B-ExportName g a = record { geometry = a.device.keeper.geometry }
+
+-- an image of as many blocks, and nothing that is trusted
+abbrev pub ghosts-run-B-ImageName : goal.ghosts-run-B-ImageName
+ghosts-run-B-ImageName g a = record { image = holes a.device.keeper.geometry.blocks; trusted = ⊥; shown = ⊥ }
+
+abbrev pub ghosts-reads_as-B-ImageName : goal.ghosts-reads_as-B-ImageName
+ghosts-reads_as-B-ImageName g a = record { image = holes a.device.keeper.geometry.blocks; trusted = ⊥; shown = ⊥ }

@@ -1,7 +1,8 @@
 use Rattle.std.proofs.Common.{◌≡◌, ◌+◌, ℕ, List, [], ◌∷◌, Option, drop, ap, sym, subst, ◌∙◌, arith}
 use Rattle.std.specs.Option.{option_map_or}
 use Rattle.latest_writes.specs.declared.range.LastRange.{LastRange}
-use Rattle.latest_writes.specs.Ranges.{AreRanges, IsNextLaid, left_at}
+use Rattle.latest_writes.specs.Ranges.{AreRanges}
+use Rattle.latest_writes.specs.inner.Ranges.{IsNextLaid, left_at}
 use Rattle.latest_writes.proofs.Laid.{first_limits, left_by_older, next_by_older, next_is_newer, next_is_part, nothing_left}
 use Rattle.latest_writes.proofs.overlay.next_range.Goals as goal
 

@@ -1,5 +1,6 @@
 use Rattle.std.proofs.Common.{◌≡◌, ◌-◌, ◌≤◌, ℕ, drop}
-use Rattle.latest_writes.specs.Ranges.{AreLeft, AreLongest, AreRanges, left_at, touch_at}
+use Rattle.latest_writes.specs.Ranges.{AreLongest, AreRanges, touch_at}
+use Rattle.latest_writes.specs.inner.Ranges.{AreLeft, left_at}
 use Rattle.latest_writes.specs.Touches.{later}
 use Rattle.latest_writes.proofs.overlay.overlay.Given as goal
 

@@ -1,6 +1,6 @@
 use Rattle.std.proofs.Common.{◌≡◌, ◌+◌, ◌<◌, vec_len, vec_capacity, ap, ◌∙◌, arith}
 use Rattle.std.specs.List.{sum_by}
-use Rattle.nbd_reply.specs.Reply.{part_len}
+use Rattle.nbd_reply.specs.inner.Reply.{part_len}
 use Rattle.nbd_reply.proofs.Appends.{no_room}
 use Rattle.nbd_reply.proofs.Parts.{length-parts}
 use Rattle.nbd_reply.proofs.reply.append_parts.Goals as goal

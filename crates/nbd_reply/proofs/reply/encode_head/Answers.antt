@@ -1,7 +1,7 @@
 use Rattle.std.proofs.Common.{◌+◌, ◌<◌, true, Bool, OnErr, sym, subst, length, vec_len, vec_capacity, arith, length-append}
 use Rattle.std.specs.Int.{w64, to_be_bytes}
 use Rattle.nbd_reply.specs.Chunk.{offset_data}
-use Rattle.nbd_reply.specs.Reply.{whole_text}
+use Rattle.nbd_reply.specs.inner.Reply.{whole_text}
 use Rattle.nbd_reply.proofs.Appends.{length-chunk, on_err}
 use Rattle.nbd_reply.proofs.reply.encode_head.Goals as goal
 

@@ -1,6 +1,6 @@
 use Rattle.std.proofs.Common.{◌≡◌, ◌≤◌, ◌*◌, take}
 use Rattle.std.specs.List.{sum_by}
-use Rattle.nbd_reply.specs.Reply.{part_len}
+use Rattle.nbd_reply.specs.inner.Reply.{part_len}
 use Rattle.nbd_reply.proofs.reply.parts_len.Given as goal
 
 abbrev pub invariant-loop-run : goal.invariant-loop-run

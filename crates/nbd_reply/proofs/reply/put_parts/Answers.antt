@@ -5,7 +5,8 @@ use Rattle.std.proofs.lemmas.List.Sums.{sum_by-cons}
 use Rattle.nbd_wire.specs.declared.message.Run.{Run}
 use Rattle.nbd_wire.specs.Answer.{PartsBytes}
 use Rattle.nbd_reply.specs.Chunk.{Chunk, offset_data, offset_hole, chunk_bytes, chunks_bytes}
-use Rattle.nbd_reply.specs.Reply.{part_chunks, part_len}
+use Rattle.nbd_reply.specs.Reply.{part_chunks}
+use Rattle.nbd_reply.specs.inner.Reply.{part_len}
 use Rattle.nbd_reply.proofs.Parts.{part_items}
 use Rattle.nbd_reply.proofs.reply.put_parts.Goals as goal
 

@@ -2,7 +2,8 @@ use Rattle.std.proofs.Common.{◌≡◌, ◌<◌, ◌≤◌, ◌+◌, ◌^◌, �
 use Rattle.std.specs.List.{sum_by}
 use Rattle.nbd_wire.specs.Answer.{PartsBytes}
 use Rattle.nbd_reply.specs.Chunk.{chunks_bytes}
-use Rattle.nbd_reply.specs.Reply.{part_chunks, part_len}
+use Rattle.nbd_reply.specs.Reply.{part_chunks}
+use Rattle.nbd_reply.specs.inner.Reply.{part_len}
 use Rattle.nbd_reply.proofs.reply.put_parts.Given as goal
 
 abbrev pub invariant-loop-run : goal.invariant-loop-run

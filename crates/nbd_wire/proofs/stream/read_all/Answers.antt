@@ -1,6 +1,6 @@
 use Rattle.std.proofs.Common.{◌≡◌, ◌<◌, [], ◌∷◌, ◌++◌, length, refl, inr, rules}
 use Rattle.std.specs.Prelude.{min}
-use Rattle.nbd_wire.specs.State.{wanted_of}
+use Rattle.nbd_wire.specs.inner.State.{wanted_of}
 use Rattle.nbd_wire.specs.laws.Streams.{Step-none, Step-some, Step-starved, state_failed}
 use Rattle.nbd_wire.proofs.Parts.{Quiet-next}
 use Rattle.nbd_wire.proofs.stream.read_all.Goals as goal

@@ -10,7 +10,7 @@ use Rattle.order_book.specs.Shown.{ShowsImage}
 use Rattle.request_core.specs.Bench.{ConnectionsState}
 use Rattle.nbdj_pipe.specs.Life.{IsLived}
 use Rattle.nbdj_pipe.specs.Pipe.{IsPiped}
-use Rattle.nbdj_pipe.specs.Session.{Runs}
+use Rattle.nbdj_pipe.specs.inner.Session.{Runs}
 use Rattle.nbdj_pipe.specs.Talk.{Exchange}
 use Rattle.byte_streams.specs.laws.Bytes.{keeps_same}
 use Rattle.nbdj_pipe.proofs.Lives.{lived, starved_opening, told_fault}

@@ -2,7 +2,7 @@ use Rattle.std.proofs.Common.{◌≡◌, List, [], Some, None, take, rules, sym,
 use Rattle.std.specs.List.{position}
 use Rattle.nbd_wire.specs.Request.{Message}
 use Rattle.negotiation.specs.Dialog.{HasNoDisc, ended, in_requests, is_disc}
-use Rattle.negotiation.specs.Session.{Hands}
+use Rattle.negotiation.specs.inner.Session.{Hands}
 use Rattle.negotiation.specs.laws.Requests.{found_place, hands_disc, hands_none, no_place, none_before_first}
 use Rattle.negotiation.proofs.Sessions.{end_from}
 use Rattle.negotiation.proofs.session.ask.Goals as goal

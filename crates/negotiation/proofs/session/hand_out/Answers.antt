@@ -1,7 +1,8 @@
 use Rattle.std.proofs.Common.{List, [], refl, sym, subst, ap, arith}
 use Rattle.nbd_wire.specs.Request.{Message}
 use Rattle.negotiation.specs.Dialog.{HasNoDisc, Standing, broken, exhausted}
-use Rattle.negotiation.specs.Session.{Hands, standing_of}
+use Rattle.negotiation.specs.Session.{standing_of}
+use Rattle.negotiation.specs.inner.Session.{Hands}
 use Rattle.negotiation.proofs.Sessions.{goes_on_still, hands_broken, hands_exhausted, hands_still, held_still}
 use Rattle.negotiation.proofs.session.hand_out.Goals as goal
 

@@ -1,5 +1,6 @@
 use Rattle.std.proofs.lemmas.Result.{IfOk-weaker}
-use Rattle.negotiation.specs.Session.{IsData, Settles, Step}
+use Rattle.negotiation.specs.Session.{Step}
+use Rattle.negotiation.specs.inner.Session.{IsData, Settles}
 use Rattle.negotiation.proofs.Sessions.{closed}
 use Rattle.negotiation.proofs.stage.close.Goals as goal
 

@@ -6,7 +6,7 @@ use Rattle.journal_format.specs.Group.{Numbered}
 use Rattle.request_core.specs.Bench.{ConnectionsState}
 use Rattle.request_core.specs.Life.{Trusts}
 use Rattle.request_core.specs.Parts.{AreConnectionsOf}
-use Rattle.request_core.specs.Storing.{hand_refused, order_refused}
+use Rattle.request_core.specs.inner.Storing.{hand_refused, order_refused}
 use Rattle.request_core.proofs.Copied.{copied_fewer, leads_copied, told_never, told_same}
 use Rattle.request_core.proofs.Performed.{performed_appended}
 use Rattle.request_core.proofs.Runs.{stepped, trusted_honest, trusts_as}

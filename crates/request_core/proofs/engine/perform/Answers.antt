@@ -2,7 +2,7 @@ use Rattle.std.proofs.Common.{Option, refl, sym, ◌∙◌, ap, subst}
 use Rattle.journal_format.specs.Group.{Numbered}
 use Rattle.request_core.specs.Bench.{ConnectionsState}
 use Rattle.request_core.specs.Parts.{AreConnectionsOf, IsOrderOf}
-use Rattle.request_core.specs.Serving.{AreTermsOf}
+use Rattle.request_core.specs.inner.Serving.{AreTermsOf}
 use Rattle.request_core.proofs.Talks.{talked_answer, talked_send}
 use Rattle.request_core.proofs.Performed.{disk_cleans, disk_publishes, disk_seals, of_step, performed_any, performed_appended, performed_kept, performed_talked}
 use Rattle.request_core.proofs.Steady.{shows_after, shows_still, steady_answer, steady_append, steady_clean, steady_copy, steady_finish, steady_map, steady_publish, steady_rotate, steady_seal, steady_send}

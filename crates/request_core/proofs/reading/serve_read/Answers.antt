@@ -66,4 +66,5 @@ returns-clause-read g c =
       level = read.faults_ok;
       only_read = read.only_read;
       holds = λ honest base front last holds. read.holds honest base front last holds;
+      in_frames = λ failed. (read.hit (λ lacks. let wrong = read.failed.1 (failed, lacks) in cc)).0;
     }))

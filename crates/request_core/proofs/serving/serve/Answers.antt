@@ -1,7 +1,7 @@
 use Rattle.std.proofs.Common.{◌≡◌, inl, None, List, get_or, refl, sym, ◌∙◌, ap, subst}
 use Rattle.std.proofs.Math.ListN.{set}
-use Rattle.request_core.specs.Serving.{request_in}
-use Rattle.request_core.specs.Steps.{IsAnyTalked}
+use Rattle.request_core.specs.inner.Serving.{request_in}
+use Rattle.request_core.specs.inner.Steps.{IsAnyTalked}
 use Rattle.request_core.proofs.Asked.{any_talked, serve_none}
 use Rattle.request_core.proofs.Talks.{open_unlike, request_found, talked_held, within_list}
 use Rattle.export_model.specs.Serve.{Nothing, serve}

@@ -55,7 +55,7 @@ returns-in-Ok-clause-pass g c =
     let waits = waits_for_store c.args.terms.mode request in
     let others = write_others request.head.kind c.requires.write in
     let known_is = c.in-Ok.ensures.known in
-    taken_passes request c.args.terms.mode old new image c.args.pass.now c.accept_held.new.pass others.0 (omega (arith, known_is, c.in-Ok.ensures.number)) taken c.accepted.result
+    taken_passes g.B.BoardName.opening request c.args.terms.mode old new image c.args.pass.now c.accept_held.new.pass others.0 (omega (arith, known_is, c.in-Ok.ensures.number)) c.in-Ok.ensures.knew c.in-Ok.ensures.place taken c.accepted.result
     (c.accepted.ensures ∙ ap (λ (b : Bool). served_after b head.cookie c.in-Ok.number) (waits_same c.args.terms.mode head request head_is)
     ∙ ap (λ (h : RequestHead). served_after waits h.cookie c.in-Ok.number) head_is ∙ ap (λ (n : ℕ). served_after waits request.head.cookie n) c.in-Ok.ensures.number)
 

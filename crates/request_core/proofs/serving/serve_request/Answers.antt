@@ -2,9 +2,9 @@ use Rattle.std.proofs.Common.{◌≡◌, inl, ℕ, Result, ap, refl, sym, subst,
 use Rattle.image_model.specs.declared.geometry.Geometry.{Geometry}
 use Rattle.nbd_wire.specs.declared.error.Errno.{Errno}
 use Rattle.nbd_wire.specs.declared.message.SessionFlags.{SessionFlags}
-use Rattle.request_core.specs.Outcomes.{IsServedWith}
-use Rattle.request_core.specs.Serving.{event_for, state_of}
-use Rattle.request_core.specs.Steps.{IsAnyServed}
+use Rattle.request_core.specs.inner.Outcomes.{IsServedWith}
+use Rattle.request_core.specs.inner.Serving.{event_for, state_of}
+use Rattle.request_core.specs.inner.Steps.{IsAnyServed}
 use Rattle.request_core.proofs.Asked.{any_served, verdict_ends}
 use Rattle.request_core.proofs.Serves.{served_moved}
 use Rattle.request_core.proofs.serving.serve_request.Goals as goal

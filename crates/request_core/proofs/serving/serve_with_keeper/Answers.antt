@@ -28,9 +28,9 @@ returns-in-Ok-clause-hit g c = λ kind held. (
 pub returns-in-Err-clause-pass : goal.returns-in-Err-clause-pass
 returns-in-Err-clause-pass g c =
     let same = c.in-Err.ensures.unchanged in
-    subst (λ (pass : PassState). IsPassServed c.args.request c.args.order.now.mark c.serve_read.new.order.mark c.serve_read.result c.args.pass.now pass) (sym same.1)
-    (subst (λ (order : OrderState). IsPassServed c.args.request order.mark c.serve_read.new.order.mark c.serve_read.result c.args.pass.now c.args.pass.now) same.0
-    (read_passes g.D.Disk.state g.D.Disk.faults g.D.Disk.honest c.args.keeper.now (λ sure. none_read (g.met.D.Disk.sound c.args.keeper.now.disk sure)) c.args.request c.serve_read.result c.args.pass.now
+    subst (λ (pass : PassState). IsPassServed g.B.BoardName.opening c.args.request c.args.order.now.mark c.serve_read.new.order.mark c.serve_read.result c.args.pass.now pass) (sym same.1)
+    (subst (λ (order : OrderState). IsPassServed g.B.BoardName.opening c.args.request order.mark c.serve_read.new.order.mark c.serve_read.result c.args.pass.now c.args.pass.now) same.0
+    (read_passes g.D.Disk.state g.D.Disk.faults g.D.Disk.honest c.args.keeper.now (λ sure. none_read (g.met.D.Disk.sound c.args.keeper.now.disk sure)) g.B.BoardName.opening c.args.request c.serve_read.result c.args.pass.now
     _ c.serve_held.new.order c.serve_read.new.order c.serve_read.new.keeper c.serve_read.ensures.read))
 
 pub serve_edit-requires-clause-needs : goal.serve_edit-requires-clause-needs

@@ -3,9 +3,9 @@ use Rattle.std.proofs.lemmas.Bool.{cases_lt}
 use Rattle.checkpoint.specs.Keeper.{end_after}
 use Rattle.journal_format.specs.Group.{Numbered}
 use Rattle.order_book.specs.Order.{OrderState}
-use Rattle.request_core.specs.Steps.{IsAppended}
+use Rattle.request_core.specs.inner.Steps.{IsAppended}
 use Rattle.request_core.specs.Parts.{IsOrderOf}
-use Rattle.request_core.specs.Storing.{event_of, hand_after, order_after}
+use Rattle.request_core.specs.inner.Storing.{event_of, hand_after, order_after}
 use Rattle.request_core.proofs.Appended.{appended, appended_none, appended_refused}
 use Rattle.request_core.proofs.Stored.{not_true_is}
 use Rattle.export_model.specs.Serve.{Nothing}

@@ -2,7 +2,7 @@ use Rattle.std.proofs.Common.{◌≡◌, []}
 use Rattle.std.specs.Prelude.{◌↔◌}
 use Rattle.device_image.specs.Holds.{Holds}
 use Rattle.image_model.specs.Image.{Image}
-use Rattle.script_runner.specs.Life.{LeavesNoMore}
+use Rattle.script_runner.specs.inner.Life.{LeavesNoMore}
 use Rattle.script_runner.proofs.life.runs.Given as goal
 
 -- the keeper goes on holding what it held, and its device leaves no more than it did

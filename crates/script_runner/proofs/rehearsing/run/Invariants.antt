@@ -13,4 +13,4 @@ invariant-loop g l = record {
 
 -- the board that was just made
 abbrev pub ghosts-live : goal.ghosts-live
-ghosts-live g a = record { board = a.blank.board }
+ghosts-live g a = record { board = a.blank.board; opening = a.blank.opening }

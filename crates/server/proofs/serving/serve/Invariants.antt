@@ -1,9 +1,19 @@
+use Rattle.std.specs.Prelude.{◌≡◌, Some}
+use Rattle.export.specs.Trusted.{IsTrusted, VouchesTruly, image_found}
 use Rattle.server.proofs.serving.serve.Given as goal
 
 -- the board that was just made
 abbrev pub ghosts-serve_over-B-BoardName : goal.ghosts-serve_over-B-BoardName
-ghosts-serve_over-B-BoardName g a = record { board = a.device.blank.board }
+ghosts-serve_over-B-BoardName g a = record { board = a.device.blank.board; opening = a.device.blank.opening }
 
 -- the sizes of the device
 abbrev pub ghosts-serve_over-B-ExportName : goal.ghosts-serve_over-B-ExportName
 ghosts-serve_over-B-ExportName g a = record { geometry = a.device.keeper.geometry }
+
+-- the image that was found, and what is trusted of the device and of its second handle
+abbrev pub ghosts-serve_over-B-ImageName : goal.ghosts-serve_over-B-ImageName
+ghosts-serve_over-B-ImageName g a = record {
+  image = image_found g.D.Disk.state a.device.keeper;
+  trusted = IsTrusted g.D.Disk.state g.D.Disk.honest a.device.keeper (image_found g.D.Disk.state a.device.keeper);
+  shown = (handle : g.row.H.Denot) → a.device.beside ≡ Some handle → VouchesTruly (g.H.ReadBeside.vouches handle) (image_found g.D.Disk.state a.device.keeper);
+}

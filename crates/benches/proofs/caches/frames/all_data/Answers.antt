@@ -7,7 +7,7 @@ use Rattle.image_model.specs.declared.command.Kind.TheVariants.{Data, Hole}
 use Rattle.image_model.specs.Patched.{patched}
 use Rattle.image_model.specs.laws.Positions.{filled_at}
 use Rattle.shared_cache.specs.laws.Ranges.{covers_true}
-use Rattle.benches.specs.States.{AreData}
+use Rattle.benches.specs.inner.States.{AreData}
 use Rattle.benches.proofs.caches.frames.all_data.Goals as goal
 
 -- as many blocks as there are, all set to data

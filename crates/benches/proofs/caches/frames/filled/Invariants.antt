@@ -1,4 +1,4 @@
-use Rattle.benches.specs.States.{AreData}
+use Rattle.benches.specs.inner.States.{AreData}
 use Rattle.benches.proofs.caches.frames.filled.Given as goal
 
 abbrev pub invariant-loop-number : goal.invariant-loop-number

@@ -5,13 +5,13 @@ use Rattle.export.proofs.commit_queue.CommitQueue.serve_with.Goals as goal
 
 pub returns-clause-served : goal.returns-clause-served
 returns-clause-served g c =
-    let (given, given_is, by) = c.serve_with_keeper.ensures.serves in
-    served_with c.args.request c.args.terms.mode c.args.pass.now c.serve_with_keeper.new.pass c.args.terms.geometry _ c.serve_with_keeper.new.order c.serve_with_keeper.result c.serve_with_keeper.ensures.pass
-    g.D.Disk.state g.D.Disk.faults g.D.Disk.honest c.args.keeper.now c.serve_with_keeper.new.keeper given
+    let (given, given_is, by) = c.serve_with.ensures.serves in
+    served_with g.B.BoardName.opening c.args.request c.args.terms.mode c.args.pass.now c.serve_with.new.pass c.args.terms.geometry _ c.serve_with.new.self c.serve_with.result c.serve_with.ensures.pass
+    g.D.Disk.state g.D.Disk.faults g.D.Disk.honest c.args.keeper.now.keeper c.serve_with.new.keeper.keeper given
     (λ passes. writes c.args.request c.args.terms.geometry c.args.terms.flags (sym given_is ∙ passes)) by
 
 pub returns-clause-fits : goal.returns-clause-fits
 returns-clause-fits g c =
-    let (given, given_is, by) = c.serve_with_keeper.ensures.serves in
-    with_fits c.args.request c.args.terms.geometry c.args.terms.flags c.args.terms.mode _ c.serve_with_keeper.new.order c.serve_with_keeper.result
-    g.D.Disk.state g.D.Disk.faults g.D.Disk.honest c.args.keeper.now c.serve_with_keeper.new.keeper given (sym given_is) by
+    let (given, given_is, by) = c.serve_with.ensures.serves in
+    with_fits c.args.request c.args.terms.geometry c.args.terms.flags c.args.terms.mode _ c.serve_with.new.self c.serve_with.result
+    g.D.Disk.state g.D.Disk.faults g.D.Disk.honest c.args.keeper.now.keeper c.serve_with.new.keeper.keeper given (sym given_is) by

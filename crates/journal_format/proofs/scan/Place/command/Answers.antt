@@ -2,7 +2,7 @@ use Rattle.std.proofs.Common.{◌≡◌, ⊎_elim, ℕ, ◌+◌, ◌*◌, ◌∷
 use Rattle.image_model.specs.Change.{edge_count}
 use Rattle.image_model.specs.declared.command.Edges.{Edges}
 use Rattle.journal_format.specs.declared.touch.TouchedRange.{TouchedRange}
-use Rattle.journal_format.specs.Scanning.{IsEdgedKind, touch_of_head}
+use Rattle.journal_format.specs.inner.Scanning.{IsEdgedKind, touch_of_head}
 use Rattle.journal_format.specs.Touches.{edge_ranges}
 use Rattle.journal_format.specs.laws.Chained.{reads_on}
 use Rattle.journal_format.specs.laws.Found.{no_head, no_edges, no_change, no_room, change_found, edged_or_not, head_within}

@@ -1,6 +1,7 @@
 use Rattle.std.proofs.Common.{◌≡◌, ◌≤◌, ◌+◌, ◌↔◌, List, ℕ}
 use Rattle.journal_format.specs.Reading.{IsOnlyRead}
-use Rattle.journal_format.specs.Scanning.{FoundChanges, IsReadAs}
+use Rattle.journal_format.specs.Scanning.{IsReadAs}
+use Rattle.journal_format.specs.inner.Scanning.{FoundChanges}
 use Rattle.journal_format.specs.Touches.{AreWithin}
 use Rattle.journal_format.specs.laws.Found.{AreLeft}
 use Rattle.journal_format.proofs.scan.Place.commands.Given as goal

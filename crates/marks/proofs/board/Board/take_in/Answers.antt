@@ -1,7 +1,14 @@
 use Rattle.std.proofs.Common.{sym, ◌∙◌, arith}
-use Rattle.marks.proofs.Moves.{learns}
+use Rattle.image_model.specs.Change.{change_of}
+use Rattle.marks.proofs.Beginnings.{prefix_map}
+use Rattle.marks.proofs.Moves.{takes_in}
 use Rattle.marks.proofs.board.Board.take_in.Goals as goal
 
-pub join_seat-requires : goal.join_seat-requires
-join_seat-requires g c = let same = sym c.args.self.now.named in
-    (c.requires.0.table ∙ same, c.requires.1.table ∙ same, c.requires.1.no_slots, omega (arith, c.args.self.now.two_words), learns _ _ _ _)
+pub load-requires : goal.load-requires
+load-requires g c = (c.requires.seat.table ∙ sym c.args.self.now.named, omega (arith, c.args.self.now.two_words), takes_in _ _ _ c.requires.no_order)
+
+pub returns-clause-seen : goal.returns-clause-seen
+returns-clause-seen g c = prefix_map change_of _ _ c.load.ensures.2.grows
+
+pub returns-clause-told : goal.returns-clause-told
+returns-clause-told g c = prefix_map change_of _ _ c.load.ensures.2.told

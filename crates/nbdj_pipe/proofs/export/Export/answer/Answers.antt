@@ -5,7 +5,7 @@ use Rattle.export_model.specs.declared.connection.Connection.{Connection}
 use Rattle.export_model.specs.declared.connection.Connection.TheVariants.{Idle}
 use Rattle.export_model.specs.declared.event.Event.{Event}
 use Rattle.nbdj_pipe.specs.Causes.{HasCause}
-use Rattle.nbdj_pipe.specs.Export.{AwaitsAnswer, Follows, IsGiven, IsWaiting, told}
+use Rattle.nbdj_pipe.specs.inner.Export.{AwaitsAnswer, Follows, IsGiven, IsWaiting, told}
 use Rattle.nbdj_pipe.proofs.Causes.{cause_behind, if_error, none_waiting}
 use Rattle.nbdj_pipe.proofs.Steps.{follows_on, no_ok, none_is, told_err}
 use Rattle.nbdj_pipe.proofs.export.Export.answer.Goals as goal

@@ -1,6 +1,6 @@
 use Rattle.std.proofs.Common.{refl, sym, subst, ◌∙◌}
 use Rattle.export_model.specs.World.{World}
-use Rattle.nbdj_pipe.specs.Checkpoint.{HasCopied}
+use Rattle.nbdj_pipe.specs.inner.Checkpoint.{HasCopied}
 use Rattle.nbdj_pipe.proofs.Checkpoints.{all_copied, copied_on, copies_keep, none_copied}
 use Rattle.nbdj_pipe.proofs.Steps.{settles_none, settles_on}
 use Rattle.nbdj_pipe.proofs.export.Export.copy_all.Goals as goal

@@ -5,8 +5,8 @@ use Rattle.order_book.specs.Order.{IsInHand}
 use Rattle.request_core.specs.Life.{Trusts}
 use Rattle.request_core.specs.Parts.{IsExportOf}
 use Rattle.export_model.specs.World.{World}
-use Rattle.nbdj_pipe.specs.Checkpoint.{HasCopied}
-use Rattle.nbdj_pipe.specs.Export.{Settles}
+use Rattle.nbdj_pipe.specs.inner.Checkpoint.{HasCopied}
+use Rattle.nbdj_pipe.specs.inner.Export.{Settles}
 use Rattle.nbdj_pipe.proofs.export.Export.copy_all.Given as goal
 
 -- blocks were copied

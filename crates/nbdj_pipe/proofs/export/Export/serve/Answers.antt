@@ -8,7 +8,7 @@ use Rattle.export_model.specs.declared.step.Step.TheVariants.{Send}
 use Rattle.export_model.specs.Serve.{Nothing}
 use Rattle.export_model.specs.Step.{sent}
 use Rattle.nbdj_pipe.specs.Causes.{HasCause}
-use Rattle.nbdj_pipe.specs.Export.{Follows, HasAnswer}
+use Rattle.nbdj_pipe.specs.inner.Export.{Follows, HasAnswer}
 use Rattle.nbdj_pipe.specs.Talk.{verdict_on}
 use Rattle.nbdj_pipe.proofs.Causes.{cause_behind, if_error}
 use Rattle.nbdj_pipe.proofs.Steps.{end_kind, follows_on, has_answer, judged_awaits, no_ok, said_err, spoken_on}

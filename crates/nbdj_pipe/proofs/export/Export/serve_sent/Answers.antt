@@ -1,8 +1,9 @@
 use Rattle.std.proofs.Common.{◌≡◌, Bool, [], MatchBool, ap, sym, subst, ◌∙◌}
 use Rattle.std.specs.Prelude.{◌≤◌}
 use Rattle.export_model.specs.World.{Setting}
-use Rattle.nbdj_pipe.specs.Causes.{HasCause, LacksRoom}
-use Rattle.nbdj_pipe.specs.Export.{IsJudged}
+use Rattle.nbdj_pipe.specs.Causes.{HasCause}
+use Rattle.nbdj_pipe.specs.inner.Causes.{LacksRoom}
+use Rattle.nbdj_pipe.specs.inner.Export.{IsJudged}
 use Rattle.nbdj_pipe.specs.Talk.{verdict_on}
 use Rattle.nbdj_pipe.proofs.Causes.{cause_behind, caused_behind, if_error}
 use Rattle.nbdj_pipe.proofs.Checkpoints.{judged_as}

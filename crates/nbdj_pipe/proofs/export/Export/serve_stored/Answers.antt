@@ -4,9 +4,10 @@ use Rattle.std.proofs.lemmas.Bool.{both_ways}
 use Rattle.nbd_wire.specs.Request.{Message}
 use Rattle.export_model.specs.World.{Setting, Stage, World}
 use Rattle.export_model_laws.specs.Law.{IsWithin}
-use Rattle.nbdj_pipe.specs.Causes.{HasCause, LacksRoom}
-use Rattle.nbdj_pipe.specs.Checkpoint.{IsEmptied, OrStopped}
-use Rattle.nbdj_pipe.specs.Export.{IsJudged}
+use Rattle.nbdj_pipe.specs.Causes.{HasCause}
+use Rattle.nbdj_pipe.specs.inner.Causes.{LacksRoom}
+use Rattle.nbdj_pipe.specs.inner.Checkpoint.{IsEmptied, OrStopped}
+use Rattle.nbdj_pipe.specs.inner.Export.{IsJudged}
 use Rattle.nbdj_pipe.specs.Talk.{verdict_on}
 use Rattle.nbdj_pipe.proofs.Causes.{all_durable, cause_behind, if_error}
 use Rattle.nbdj_pipe.proofs.Checkpoints.{emptied_has_room}

@@ -3,7 +3,7 @@ use Rattle.order_book.specs.Order.{IsInHand}
 use Rattle.request_core.specs.Life.{Trusts}
 use Rattle.request_core.specs.Parts.{IsExportOf}
 use Rattle.export_model.specs.World.{World}
-use Rattle.nbdj_pipe.specs.Export.{Settles}
+use Rattle.nbdj_pipe.specs.inner.Export.{Settles}
 use Rattle.nbdj_pipe.proofs.Causes.{HasStored}
 use Rattle.nbdj_pipe.proofs.export.Export.store_all.Given as goal
 

@@ -2,9 +2,9 @@ use Rattle.std.proofs.Common.{◌≡◌, inl, inr, Bool, true, Ok, sym, subst, �
 use Rattle.std.proofs.lemmas.Bool.{both_ways}
 use Rattle.export_model.specs.World.{World}
 use Rattle.nbdj_pipe.specs.Causes.{HasCause}
-use Rattle.nbdj_pipe.specs.Checkpoint.{IsEmptied, IsUnfit, OrStopped}
-use Rattle.nbdj_pipe.specs.Export.{CameTo}
-use Rattle.nbdj_pipe.specs.declared.refusal.Refusal.{Refusal}
+use Rattle.nbdj_pipe.specs.inner.Checkpoint.{IsEmptied, IsUnfit, OrStopped}
+use Rattle.nbdj_pipe.specs.inner.Export.{CameTo}
+use Rattle.front_end.specs.declared.refusal.Refusal.{Refusal}
 use Rattle.nbdj_pipe.proofs.Causes.{cause_behind, gets_on_behind, if_matched, settled_gets_on, unsettled}
 use Rattle.nbdj_pipe.proofs.Checkpoints.{empty_takes}
 use Rattle.nbdj_pipe.proofs.Steps.{settles_on}

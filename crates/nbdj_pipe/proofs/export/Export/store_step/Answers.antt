@@ -1,6 +1,6 @@
 use Rattle.std.proofs.Common.{List, [], ◌∷◌, ap, sym, subst, ◌∙◌}
 use Rattle.request_core.specs.Life.{Trusts}
-use Rattle.nbdj_pipe.specs.Export.{Follows}
+use Rattle.nbdj_pipe.specs.inner.Export.{Follows}
 use Rattle.nbdj_pipe.specs.Talk.{spoken}
 use Rattle.nbdj_pipe.proofs.Steps.{last_same, still_step}
 use Rattle.export_model.specs.declared.event.Event.{Event}

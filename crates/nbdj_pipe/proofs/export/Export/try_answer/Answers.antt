@@ -7,7 +7,7 @@ use Rattle.export_model.specs.declared.event.Event.TheVariants.{Answered, Held}
 use Rattle.export_model.specs.declared.step.Step.TheVariants as steps
 use Rattle.export_model.specs.Step.{after_step}
 use Rattle.export_model.specs.World.{World}
-use Rattle.nbdj_pipe.specs.Export.{Follows, IsGiven, IsWaiting}
+use Rattle.nbdj_pipe.specs.inner.Export.{Follows, IsGiven, IsWaiting}
 use Rattle.nbdj_pipe.specs.Talk.{spoken}
 use Rattle.nbdj_pipe.proofs.Steps.{IsAnsweredAs, answered_as, last_same}
 use Rattle.nbdj_pipe.proofs.export.Export.try_answer.Goals as goal

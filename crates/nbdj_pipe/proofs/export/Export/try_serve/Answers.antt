@@ -12,8 +12,8 @@ use Rattle.export_model.specs.Serve.{Failure, serve}
 use Rattle.export_model.specs.Step.{after_step}
 use Rattle.export_model.specs.World.{World}
 use Rattle.export_model_laws.specs.laws.Steps.{passes_write}
-use Rattle.nbdj_pipe.specs.Causes.{LacksRoom}
-use Rattle.nbdj_pipe.specs.Export.{Follows, IsJudged}
+use Rattle.nbdj_pipe.specs.inner.Causes.{LacksRoom}
+use Rattle.nbdj_pipe.specs.inner.Export.{Follows, IsJudged}
 use Rattle.nbdj_pipe.specs.Talk.{spoken, verdict_on}
 use Rattle.nbdj_pipe.proofs.Steps.{IsServedAs, last_same, served_as}
 use Rattle.nbdj_pipe.proofs.export.Export.try_serve.Goals as goal

@@ -4,10 +4,10 @@ use Rattle.std.specs.Io.KnownBytes.{Consumes}
 use Rattle.order_book.specs.Order.{IsInHand}
 use Rattle.nbd_wire.specs.Stream.{Reader}
 use Rattle.nbdj_pipe.specs.Pipe.{IsPiped}
-use Rattle.nbdj_pipe.specs.Refusals.{IsEarly}
-use Rattle.nbdj_pipe.specs.Session.{Runs, Takes}
-use Rattle.nbdj_pipe.specs.declared.refusal.Refusal.{Refusal}
-use Rattle.nbdj_pipe.specs.declared.refusal.Refusal.TheVariants.{DeviceFault, NoMemory, StreamFault}
+use Rattle.nbdj_pipe.specs.inner.Refusals.{IsEarly}
+use Rattle.nbdj_pipe.specs.inner.Session.{Runs, Takes}
+use Rattle.front_end.specs.declared.refusal.Refusal.{Refusal}
+use Rattle.front_end.specs.declared.refusal.Refusal.TheVariants.{DeviceFault, NoMemory, StreamFault}
 use Rattle.nbdj_pipe.specs.declared.session.Flow.{Flow}
 use Rattle.byte_streams.specs.laws.Bytes.{keeps_same}
 use Rattle.nbdj_pipe.proofs.Runs.{runs_bare, runs_none, runs_on}

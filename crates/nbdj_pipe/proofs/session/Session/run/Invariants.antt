@@ -1,7 +1,7 @@
 use Rattle.std.proofs.Common.{◌≡◌, []}
 use Rattle.std.specs.Prelude.{IfSome, ◌↔◌}
 use Rattle.order_book.specs.Order.{IsInHand}
-use Rattle.nbdj_pipe.specs.Session.{Runs}
+use Rattle.nbdj_pipe.specs.inner.Session.{Runs}
 use Rattle.nbdj_pipe.proofs.Sessions.{IsGoing}
 use Rattle.nbdj_pipe.proofs.session.Session.run.Given as goal
 

@@ -1,11 +1,11 @@
 use Rattle.std.proofs.Common.{inl, inr, [], ◌∷◌, ◌++◌, Option, None, Result, Ok, IfOk, ap, subst, ◌∙◌, refl}
 use Rattle.nbd_wire.specs.declared.message.Answer.{Answer}
 use Rattle.nbd_wire.specs.declared.head.RequestHead.{RequestHead}
-use Rattle.nbdj_pipe.specs.Export.{IsOfKind}
-use Rattle.nbdj_pipe.specs.Session.{Runs, Serves}
+use Rattle.nbdj_pipe.specs.inner.Export.{IsOfKind}
+use Rattle.nbdj_pipe.specs.inner.Session.{Runs, Serves}
 use Rattle.nbdj_pipe.specs.Talk.{reply_to}
-use Rattle.nbdj_pipe.specs.declared.refusal.Refusal.{Refusal}
-use Rattle.nbdj_pipe.specs.declared.refusal.Refusal.TheVariants.{NoMemory}
+use Rattle.front_end.specs.declared.refusal.Refusal.{Refusal}
+use Rattle.front_end.specs.declared.refusal.Refusal.TheVariants.{NoMemory}
 use Rattle.nbdj_pipe.specs.declared.session.Flow.{Flow}
 use Rattle.nbdj_pipe.proofs.Causes.{early_of}
 use Rattle.nbdj_pipe.proofs.Runs.{answered_run, disc_run, failed_run, runs_bare}

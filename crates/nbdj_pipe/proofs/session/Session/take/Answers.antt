@@ -1,6 +1,6 @@
 use Rattle.std.proofs.Common.{subst, List, ℕ, [], Ok}
 use Rattle.std.proofs.lemmas.List.{append-nil}
-use Rattle.nbdj_pipe.specs.Session.{Runs, Takes}
+use Rattle.nbdj_pipe.specs.inner.Session.{Runs, Takes}
 use Rattle.nbdj_pipe.specs.declared.session.Flow.{Flow}
 use Rattle.nbdj_pipe.proofs.Runs.{runs_on}
 use Rattle.nbdj_pipe.proofs.Sessions.{stays_open, takes-on}

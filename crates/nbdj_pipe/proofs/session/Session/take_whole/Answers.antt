@@ -2,10 +2,10 @@ use Rattle.std.proofs.Common.{arith, rules, ◌++◌, ◌≡◌, ◌≢◌, [], 
 use Rattle.std.specs.Prelude.{reverse}
 use Rattle.nbd_wire.specs.Request.{Message}
 use Rattle.nbd_wire.specs.Stream.{Reader}
-use Rattle.nbdj_pipe.specs.Session.{Runs, Serves, Takes, TakesOn}
+use Rattle.nbdj_pipe.specs.inner.Session.{Runs, Serves, Takes, TakesOn}
 use Rattle.nbdj_pipe.specs.Talk.{Exchange, asked, dialog, reply_to}
-use Rattle.nbdj_pipe.specs.Refusals.{of_wire}
-use Rattle.nbdj_pipe.specs.declared.refusal.Refusal.{Refusal}
+use Rattle.front_end.specs.Refusals.{of_wire}
+use Rattle.front_end.specs.declared.refusal.Refusal.{Refusal}
 use Rattle.nbdj_pipe.specs.declared.session.Flow.{Flow}
 use Rattle.nbdj_pipe.proofs.Dialogs.{HaveNoDisc, asked-append, dialog-append, each_append}
 use Rattle.nbdj_pipe.proofs.Runs.{bare_wire, runs_bare, runs_none, runs_on}

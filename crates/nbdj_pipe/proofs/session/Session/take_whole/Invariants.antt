@@ -1,7 +1,7 @@
 use Rattle.std.proofs.Common.{◌≡◌, ◌++◌, List, length, None, Ok}
 use Rattle.std.specs.Prelude.{IfSome, ◌↔◌, reverse}
 use Rattle.order_book.specs.Order.{IsInHand}
-use Rattle.nbdj_pipe.specs.Session.{Runs}
+use Rattle.nbdj_pipe.specs.inner.Session.{Runs}
 use Rattle.nbdj_pipe.specs.Talk.{Exchange, asked, dialog}
 use Rattle.nbdj_pipe.proofs.Dialogs.{HaveNoDisc}
 use Rattle.nbdj_pipe.proofs.session.Session.take_whole.Given as goal

@@ -2,7 +2,8 @@ use Rattle.std.proofs.Common.{◌≡◌, ℕ, inl, inr, List, Some, rules, sym, 
 use Rattle.nbd_wire.specs.Request.{Message}
 use Rattle.negotiation.specs.declared.answer.Agreed.{Agreed}
 use Rattle.negotiation.specs.Dialog.{Standing}
-use Rattle.negotiation.specs.Session.{Feeds, Hands, IsBehind, SessionState, end_of, handed, standing_of}
+use Rattle.negotiation.specs.Session.{Feeds, IsBehind, SessionState, end_of, handed, standing_of}
+use Rattle.negotiation.specs.inner.Session.{Hands}
 use Rattle.negotiation.specs.declared.end.End.TheVariants.{NoMemory}
 use Rattle.negotiation.specs.declared.stage.Stage.{Stage}
 use Rattle.negotiation.specs.declared.stage.Talk.{Talk}

@@ -12,9 +12,11 @@ invariant_of-self g c =
       numbers = record {
         pending = c.self.invariant.numbers.pending;
         backlog = c.self.invariant.numbers.backlog;
+        history = c.self.invariant.numbers.history;
         opened = c.self.invariant.numbers.opened;
         mark = c.self.invariant.numbers.mark;
       };
+      named = c.self.invariant.named;
       shown = c.self.invariant.shown;
       backlog = c.self.invariant.backlog;
       small = c.self.invariant.small;

@@ -13,9 +13,11 @@ invariant_of-self-2 g c = record {
   numbers = record {
     pending = grind (arith, common_steps);
     backlog = grind (arith, common_steps);
+    history = grind (arith, common_steps);
     opened = search rules;
     mark = search rules;
   };
+  named = search rules;
   shown = search rules;
   backlog =
       let room = room_left c.args.self.now c.args.command c.requires.free in

@@ -1,6 +1,6 @@
 use Rattle.std.proofs.Common.{◌≤◌, nat_eq, ap, ◌∙◌, subst}
 use Rattle.std.specs.HashMap as hash
-use Rattle.shared_cache.specs.Blocks.{evicted}
+use Rattle.shared_cache.specs.inner.Blocks.{evicted}
 use Rattle.shared_cache.specs.Held.{HeldState, IsIndexed, blocks_of, held_times}
 use Rattle.shared_cache.specs.laws.Indexed.{IsHeld_indexed, held_before, free_now, indexed-evict}
 use Rattle.shared_cache.specs.laws.Kept.{blocks_of-evict}

@@ -1,0 +1,17 @@
+-- What functions of this crate hand to one another, beside `Recovery`.
+use Rattle.checkpoint.specs.declared.fault.KeeperFault.{KeeperFault}
+use Rattle.checkpoint.specs.declared.fault.KeeperFault.TheVariants.{NoMemory, DeviceFault, BadMap, NoHeader, BadHeader, NumbersFull, AreaFull, OutOfOrder, DamagedGroup, NotNow, Failed}
+
+-- the refusals that the steps of a checkpoint give in their times
+abbrev pub IsRecoveryFault : KeeperFault → Type 0
+IsRecoveryFault NoMemory = Unit {0}
+IsRecoveryFault DeviceFault = Unit {0}
+IsRecoveryFault BadMap = ⊥
+IsRecoveryFault NoHeader = ⊥
+IsRecoveryFault BadHeader = ⊥
+IsRecoveryFault NumbersFull = Unit {0}
+IsRecoveryFault AreaFull = ⊥
+IsRecoveryFault OutOfOrder = ⊥
+IsRecoveryFault DamagedGroup = ⊥
+IsRecoveryFault NotNow = ⊥
+IsRecoveryFault Failed = ⊥

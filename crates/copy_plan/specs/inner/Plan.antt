@@ -1,0 +1,11 @@
+-- What functions of this crate hand to one another, beside `Plan`.
+use Rattle.image_model.specs.declared.command.Kind.{Kind}
+use Rattle.image_model.specs.declared.command.Kind.TheVariants.{Data}
+use Rattle.journal_format.specs.declared.touch.Touch.TheVariants.{Put}
+use Rattle.latest_writes.specs.declared.touch.LastTouch.{LastTouch}
+use Rattle.latest_writes.specs.declared.touch.LastTouch.TheVariants as last
+
+-- the state that a touch gives to its blocks
+abbrev pub kind_given : LastTouch → Kind
+kind_given (last.Put place) = Data
+kind_given (last.Clear kind) = kind

@@ -1,0 +1,125 @@
+ghost use Rattle.std.specs.Prelude.{◌≡◌};
+ghost use Rattle.front_end.specs.Refusals.{number_of, of_keeper, of_wire};
+ghost use Rattle.front_end.specs.declared.refusal.Refusal.TheVariants as Refusal;
+
+use byte_streams::StreamFault;
+use checkpoint::KeeperFault;
+use disk_model::DeviceFault;
+use nbd_wire::WireFault;
+use std::alloc::AllocError;
+use thiserror::Error;
+
+/// Why a run of the program ended early; `docs/FORMATS.md`, "Refusals", has the numbers.
+#[derive(Clone, Copy, Debug, PartialEq, Eq, Error)]
+pub enum Refusal {
+    #[error("no memory")]
+    NoMemory,
+    #[error("device fault")]
+    DeviceFault,
+    #[error("bad map")]
+    BadMap,
+    #[error("no header")]
+    NoHeader,
+    #[error("bad header")]
+    BadHeader,
+    #[error("numbers full")]
+    NumbersFull,
+    #[error("area full")]
+    AreaFull,
+    #[error("out of order")]
+    OutOfOrder,
+    #[error("damaged group")]
+    DamagedGroup,
+    #[error("not now")]
+    NotNow,
+    #[error("failed")]
+    Failed,
+    #[error("no room")]
+    NoRoom,
+    #[error("peer closed")]
+    PeerClosed,
+    #[error("protocol end")]
+    ProtocolEnd,
+    #[error("stream fault")]
+    StreamFault,
+}
+
+impl Refusal {
+    /// The number that is printed behind the text.
+    pub fn number(self) -> u8
+        ensures { result ≡ number_of self }
+    {
+        match self {
+            Refusal::NoMemory => 0,
+            Refusal::DeviceFault => 1,
+            Refusal::BadMap => 6,
+            Refusal::NoHeader => 7,
+            Refusal::BadHeader => 8,
+            Refusal::NumbersFull => 9,
+            Refusal::AreaFull => 10,
+            Refusal::OutOfOrder => 11,
+            Refusal::DamagedGroup => 12,
+            Refusal::NotNow => 15,
+            Refusal::Failed => 16,
+            Refusal::NoRoom => 17,
+            Refusal::PeerClosed => 19,
+            Refusal::ProtocolEnd => 20,
+            Refusal::StreamFault => 21,
+        }
+    }
+}
+
+impl From<AllocError> for Refusal {
+    ghost from_gives = { λ _ refusal. refusal ≡ Refusal.NoMemory };
+
+    fn from(_error: AllocError) -> Refusal {
+        Refusal::NoMemory
+    }
+}
+
+impl From<DeviceFault> for Refusal {
+    ghost from_gives = { λ _ refusal. refusal ≡ Refusal.DeviceFault };
+
+    fn from(_fault: DeviceFault) -> Refusal {
+        Refusal::DeviceFault
+    }
+}
+
+impl From<StreamFault> for Refusal {
+    ghost from_gives = { λ _ refusal. refusal ≡ Refusal.StreamFault };
+
+    fn from(_fault: StreamFault) -> Refusal {
+        Refusal::StreamFault
+    }
+}
+
+impl From<KeeperFault> for Refusal {
+    ghost from_gives = { λ fault refusal. refusal ≡ of_keeper fault };
+
+    fn from(fault: KeeperFault) -> Refusal {
+        match fault {
+            KeeperFault::NoMemory => Refusal::NoMemory,
+            KeeperFault::DeviceFault => Refusal::DeviceFault,
+            KeeperFault::BadMap => Refusal::BadMap,
+            KeeperFault::NoHeader => Refusal::NoHeader,
+            KeeperFault::BadHeader => Refusal::BadHeader,
+            KeeperFault::NumbersFull => Refusal::NumbersFull,
+            KeeperFault::AreaFull => Refusal::AreaFull,
+            KeeperFault::OutOfOrder => Refusal::OutOfOrder,
+            KeeperFault::DamagedGroup => Refusal::DamagedGroup,
+            KeeperFault::NotNow => Refusal::NotNow,
+            KeeperFault::Failed => Refusal::Failed,
+        }
+    }
+}
+
+impl From<WireFault> for Refusal {
+    ghost from_gives = { λ fault refusal. refusal ≡ of_wire fault };
+
+    fn from(fault: WireFault) -> Refusal {
+        match fault {
+            WireFault::NoMemory => Refusal::NoMemory,
+            WireFault::Malformed(_) => Refusal::ProtocolEnd,
+        }
+    }
+}

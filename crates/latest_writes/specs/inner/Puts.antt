@@ -1,0 +1,10 @@
+-- What functions of this crate hand to one another, beside `Puts`.
+use Rattle.std.specs.Prelude.{ℕ, ◌+◌, ◌-◌, ◌<◌, ◌≤◌}
+use Rattle.latest_writes.specs.declared.range.PutRange.{PutRange}
+
+-- a put ends before or at the block, or behind it
+abbrev pub EndsBy : ℕ → PutRange → Type 0
+EndsBy block put = put.first + put.blocks ≤ block
+
+abbrev pub EndsBehind : ℕ → PutRange → Type 0
+EndsBehind block put = block < put.first + put.blocks

@@ -1,0 +1,147 @@
+-- blocks of an image that are data and not dirty: the base has them as they are
+use Rattle.std.proofs.Common.{◌≡◌, ◌⊎◌, ℕ, Option, zero, suc, ◌+◌, ◌-◌, ◌*◌, ◌<◌, ◌≤◌, ◌||◌, inl, inr, Bool, true, false, if◌then◌else◌, Some, None, List, [], ◌∷◌, drop, take, length, sym, ◌∙◌, ap, subst, refl, arith}
+use Rattle.std.specs.FinMap.{get}
+use Rattle.std.specs.List.{list_any}
+use Rattle.std.specs.Option.{is_some}
+use Rattle.std.proofs.lemmas.Bool.{both_ways, cases_Bool, or_parts}
+use Rattle.std.proofs.lemmas.List.{drop-drop, take-append-drop, take_all}
+use Rattle.device_image.specs.laws.Written.{untouched_unwritten}
+use Rattle.image_model.specs.Change.{AreChanges, Change, Cleared, Edged, IsChange, IsCleared, Written}
+use Rattle.image_model.specs.Dirty.{last_write}
+use Rattle.image_model.specs.Image.{Image, apply, apply_all, kind_given, kind_in, slot, touches, writes}
+use Rattle.image_model.specs.declared.command.Kind.{Kind}
+use Rattle.image_model.specs.declared.command.Kind.TheVariants.{Data, Zero, Hole}
+use Rattle.image_model.specs.laws.DirtyMaps.{get-dirty_blocks}
+use Rattle.image_model.specs.laws.Slots.{byte-apply, untouched_byte}
+use Rattle.order_book.specs.Reading.{IsCleanAt}
+use Rattle.request_core.specs.Parts.{first_commands, part, turned_at}
+use Rattle.request_core.specs.laws.Lives.{IsOrdered, all_behind, apply_append, take_part}
+use Rattle.export_model.specs.World.{Stage, dirty_behind, image_after}
+
+-- a block that no command touches keeps its state
+pub kind_stays : (block : ℕ) (changes : List Change) (image : Image) → list_any (touches block) changes ≡ false → (apply_all changes image).kind block ≡ image.kind block
+kind_stays block [] image none = refl
+kind_stays block (change ∷ changes) image none =
+    let parts = or_parts (touches block change) (list_any (touches block) changes) none in
+    kind_stays block changes (apply change image) parts.1
+    ∙ ap (λ (b : Bool). if b then kind_in (slot block change) (kind_given change) else image.kind block) parts.0
+
+-- and its bytes
+pub byte_stays : (block k : ℕ) (changes : List Change) (image : Image) → k < 4096 → list_any (touches block) changes ≡ false
+    → (apply_all changes image).byte (4096 * block + k) ≡ image.byte (4096 * block + k)
+byte_stays block k [] image inside none = refl
+byte_stays block k (change ∷ changes) image inside none =
+    let parts = or_parts (touches block change) (list_any (touches block) changes) none in
+    byte_stays block k changes (apply change image) inside parts.1
+    ∙ byte-apply change image block k inside ∙ untouched_byte change block k (image.byte (4096 * block + k)) parts.0
+
+-- a block that a command touches and doesn't write is data no more
+not_data : (kind : Kind) → IsCleared kind → kind ≡ Data → ⊥
+not_data Data cleared is = absurd cleared
+not_data Zero cleared is = cc
+not_data Hole cleared is = cc
+
+unwritten : (at : Option ℕ) (kind : Kind) → is_some at ≡ false → kind_in at kind ≡ kind
+unwritten None kind is = refl
+unwritten (Some place) kind is = cc
+
+not_cleared : (limit block : ℕ) (change : Change) (image : Image) → IsChange limit change → touches block change ≡ true → writes block change ≡ false
+    → (apply change image).kind block ≡ Data → ⊥
+not_cleared limit block change image is touched write is_data = by_change change is touched write
+    (sym (unwritten (slot block change) (kind_given change) write)
+    ∙ sym (ap (λ (b : Bool). if b then kind_in (slot block change) (kind_given change) else image.kind block) touched) ∙ is_data)
+  where
+    by_change : (change : Change) → IsChange limit change → touches block change ≡ true → writes block change ≡ false → kind_given change ≡ Data → ⊥
+    by_change (Written first bytes) is touched write given = both_ways true (sym (ap (λ (b : Bool). is_some (if b then Some (4096 * (block - first)) else None)) touched) ∙ write) refl
+    by_change (Cleared first blocks kind) is touched write given = not_data kind is.3 given
+    by_change (Edged first blocks kind edges bytes) is touched write given = not_data kind is.3 given
+
+-- a block that is data, and that none wrote last, is touched by none
+pub data_untouched : (limit last block : ℕ) (changes : List Change) (image : Image) → AreChanges limit changes → last_write block last changes ≡ None → (apply_all changes image).kind block ≡ Data
+    → list_any (touches block) changes ≡ false
+data_untouched limit last block [] image are none is_data = refl
+data_untouched limit last block (change ∷ later) image are none is_data = by_later (cases_Bool (list_any (touches block) later))
+    (λ unwritten. data_untouched limit (last + 1) block later (apply change image) are.1 unwritten is_data)
+  where
+    first_none : (b : Bool) → (if b then Some (last + 1) else None) ≡ None → b ≡ false
+    first_none true is = cc
+    first_none false is = refl
+
+    by_later : (list_any (touches block) later ≡ true) ⊎ (list_any (touches block) later ≡ false) → (last_write block (last + 1) later ≡ None → list_any (touches block) later ≡ false) → list_any (touches block) (change ∷ later) ≡ false
+    by_later (inl touched) further =
+        let rest = further
+        (sym (ap (λ (b : Bool). if b then last_write block (last + 1) later else (if writes block change then Some (last + 1) else None)) touched) ∙ none) in
+        absurd (both_ways (list_any (touches block) later) rest touched)
+    by_later (inr untouched) further =
+        let own = first_none (writes block change)
+        (sym (ap (λ (b : Bool). if b then last_write block (last + 1) later else (if writes block change then Some (last + 1) else None)) untouched) ∙ none) in
+        let kind = sym (kind_stays block later (apply change image) untouched) ∙ is_data in
+        by_touch (cases_Bool (touches block change)) own kind
+      where
+        by_touch : (touches block change ≡ true) ⊎ (touches block change ≡ false) → writes block change ≡ false → (apply change image).kind block ≡ Data
+            → (touches block change || list_any (touches block) later) ≡ false
+        by_touch (inl touched) own kind = absurd (not_cleared limit block change image are.0 touched own kind)
+        by_touch (inr apart) own kind = ap (λ (b : Bool). b || list_any (touches block) later) apart ∙ untouched
+
+-- none of some commands, none of a part of them
+none_taken : (block n : ℕ) (changes : List Change) → list_any (touches block) changes ≡ false → list_any (touches block) (take n changes) ≡ false
+none_taken block zero changes none = refl
+none_taken block (suc n) [] none = refl
+none_taken block (suc n) (change ∷ changes) none =
+    let parts = or_parts (touches block change) (list_any (touches block) changes) none in
+    λ i. parts.0 i || none_taken block n changes parts.1 i
+
+none_dropped : (block n : ℕ) (changes : List Change) → list_any (touches block) changes ≡ false → list_any (touches block) (drop n changes) ≡ false
+none_dropped block zero changes none = none
+none_dropped block (suc n) [] none = refl
+none_dropped block (suc n) (change ∷ changes) none = none_dropped block n changes (or_parts (touches block change) (list_any (touches block) changes) none).1
+
+module _ (stage : Stage) (is : IsOrdered stage) (cleaned : stage.cleaned ≤ stage.base) (takes : AreChanges stage.setting.geometry.blocks stage.order) where
+  abbrev behind : List Change
+  behind = drop stage.cleaned stage.order
+
+  abbrev front : Image
+  front = image_after stage.order stage.cleaned stage.setting.image
+
+  changes_behind : AreChanges stage.setting.geometry.blocks behind
+  changes_behind = all_behind (IsChange stage.setting.geometry.blocks) (take stage.cleaned stage.order) behind
+      (subst (AreChanges stage.setting.geometry.blocks) (sym (take-append-drop stage.cleaned stage.order)) takes)
+
+  all_image : image_after stage.order (length stage.order) stage.setting.image ≡ apply_all behind front
+  all_image =
+      ap (λ (l : List Change). apply_all l stage.setting.image) (take_all (length stage.order) stage.order (omega arith) ∙ sym (take-append-drop stage.cleaned stage.order))
+      ∙ apply_append (take stage.cleaned stage.order) behind stage.setting.image
+
+  base_image : image_after stage.order stage.base stage.setting.image ≡ apply_all (part stage.order stage.cleaned stage.base) front
+  base_image =
+      ap (λ (l : List Change). apply_all l stage.setting.image) (take_part stage.order stage.cleaned stage.base cleaned)
+      ∙ apply_append (take stage.cleaned stage.order) (part stage.order stage.cleaned stage.base) stage.setting.image
+
+  -- no command behind those whose frames were let go touches such a block
+  untouched : (block : ℕ) → (image_after stage.order (length stage.order) stage.setting.image).kind block ≡ Data → get (dirty_behind stage.cleaned stage) block ≡ None
+      → list_any (touches block) behind ≡ false
+  untouched block is_data clean = data_untouched stage.setting.geometry.blocks (stage.setting.opening + stage.cleaned) block behind front changes_behind
+      (sym (get-dirty_blocks (stage.setting.opening + stage.cleaned) behind block) ∙ clean)
+      (sym (ap (λ (i : Image). i.kind block) all_image) ∙ is_data)
+
+  pub clean_at : IsCleanAt (image_after stage.order stage.base stage.setting.image) (first_commands stage) (image_after stage.order (length stage.order) stage.setting.image) (dirty_behind stage.cleaned stage)
+  clean_at = record {
+    kinds = λ block is_data clean.
+        let none = untouched block is_data clean in
+        ap (λ (i : Image). i.kind block) base_image
+        ∙ kind_stays block (part stage.order stage.cleaned stage.base) front (none_taken block (stage.base - stage.cleaned) behind none)
+        ∙ sym (kind_stays block behind front none)
+        ∙ sym (ap (λ (i : Image). i.kind block) all_image) ∙ is_data;
+    unwritten = λ block is_data clean.
+        let none = untouched block is_data clean in
+        let from : stage.cleaned + (stage.base - stage.cleaned) ≡ stage.base = omega (arith, cleaned) in
+        let further = none_dropped block (stage.base - stage.cleaned) behind none in
+        untouched_unwritten block (first_commands stage) (none_taken block (turned_at stage - stage.base) (drop stage.base stage.order)
+        (subst (λ (l : List Change). list_any (touches block) l ≡ false) (drop-drop (stage.base - stage.cleaned) stage.cleaned stage.order ∙ ap (λ (n : ℕ). drop n stage.order) from) further));
+    bytes = λ block is_data clean k inside.
+        let none = untouched block is_data clean in
+        ap (λ (i : Image). i.byte (4096 * block + k)) base_image
+        ∙ byte_stays block k (part stage.order stage.cleaned stage.base) front inside (none_taken block (stage.base - stage.cleaned) behind none)
+        ∙ sym (byte_stays block k behind front inside none)
+        ∙ sym (ap (λ (i : Image). i.byte (4096 * block + k)) all_image);
+  }

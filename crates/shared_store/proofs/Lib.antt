@@ -1,0 +1,4 @@
+mod CleanBlocks
+mod Keeping
+mod Ordering
+mod Serving

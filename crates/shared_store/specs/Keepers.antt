@@ -1,0 +1,36 @@
+-- what lies under the keeper's lock
+use Rattle.std.specs.Prelude.{ℕ, ◌≡◌, ◌+◌, ◌≤◌, true, false, List, [], ◌++◌, length}
+use mathlib.Core.List.{IsPrefix}
+use Rattle.device_image.specs.Holds.{Holds}
+use Rattle.device_image.specs.Keeper.{KeeperState, One}
+use Rattle.disk_model.specs.Disk.{MayLeave, State}
+use Rattle.image_model.specs.Change.{Change}
+use Rattle.image_model.specs.Image.{Image, apply_all}
+use Rattle.marks.specs.Known.{KeeperKnows}
+use Rattle.shared_store.specs.Parts.{StandsWithin}
+
+-- a keeper with its seat
+pub record SeatedState (D : Type 0) : Type 0 where
+  pub seat : KeeperKnows
+  pub keeper : KeeperState D
+
+-- What the keeper has stored is the beginning of the history that its seat knows: what map and data hold, what stands in the areas
+-- in front of the last, and what stands in the last. Where the device is trusted, the keeper holds just these over the image as it
+-- was at the opening; and once a call of the device has failed, whatever a crash may leave has at least these.
+pub record IsOfHistory {D : Type 0} (state : D → State) (honest : D → Type 0) (opening : ℕ) (image : Image) (trusted : Type 0) (seat : KeeperKnows) (keeper : KeeperState D) : Type 0 where
+  pub copied : List Change
+  pub front : List Change
+  pub last : List Change
+  pub base : keeper.base ≡ opening + length copied
+  pub turned : keeper.turned ≡ keeper.base + length front
+  pub count : keeper.count ≡ keeper.turned + length last
+  pub within : IsPrefix ((copied ++ front) ++ last) seat.history
+  pub one : keeper.phase ≡ One → front ≡ []
+  pub blocks : keeper.geometry.blocks ≡ image.blocks
+  pub sure : trusted → honest keeper.disk
+  pub holds : trusted → keeper.failed ≡ false → Holds keeper (state keeper.disk) (apply_all copied image) front last
+  pub leaves : trusted → keeper.failed ≡ true → (content : List ℕ) → MayLeave (state keeper.disk) content
+      → StandsWithin opening image seat.history keeper.count content
+  -- what the seat has raised the durable number to is stored, and it knows the base
+  pub seat_durable : seat.durable ≤ keeper.count
+  pub seat_base : seat.base ≡ keeper.base

@@ -1,0 +1,4 @@
+pub mod Back
+pub mod Keepers
+pub mod Orders
+pub mod Parts

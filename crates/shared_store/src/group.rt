@@ -1,0 +1,54 @@
+ghost use Rattle.std.specs.Prelude.{◌≡◌};
+ghost use Rattle.shared_store.specs.Parts.{IsSealed};
+
+use crate::name::ImageName;
+use journal::Group;
+use marks::Told;
+use std::marker::Model;
+
+/// A group of commands that stand in the history under their numbers, as is told with it. It has to be spent.
+pub struct SealedGroup<B: ImageName> {
+    group: Group,
+    told: Told<B>,
+}
+
+impl<B: ImageName> Model for SealedGroup<B> {
+    ghost use Rattle.shared_store.specs.Parts.{IsSealed, SealedState};
+
+    ghost Value = { SealedState };
+
+    ghost view = { λ sealed. record { group = sealed.group; told = sealed.told.history } };
+
+    ghost invariant = { λ sealed. IsSealed B.opening B.image.blocks (record { group = sealed.group; told = sealed.told.history }) };
+}
+
+impl<B: ImageName> SealedGroup<B> {
+    pub(crate) fn of(group: Group, told: Told<B>) -> SealedGroup<B>
+        requires { IsSealed B.opening B.image.blocks (record { group = group; told = told.history }) }
+        ensures { result ≡ record { group = group; told = told.history } }
+    {
+        SealedGroup { group, told }
+    }
+
+    pub(crate) fn into_parts(self) -> (Group, Told<B>)
+        ensures sealed { IsSealed B.opening B.image.blocks self }
+        ensures group { result.0 ≡ self.group }
+        ensures told { result.1.history ≡ self.told }
+    {
+        let SealedGroup { group, told } = self;
+        (group, told)
+    }
+
+    /// The group.
+    pub fn group(&self) -> &Group
+        ensures { result.now ≡ self.now.group }
+    {
+        &self.group
+    }
+
+    /// Lets the group go: nobody will store it.
+    pub fn let_go(self) {
+        let SealedGroup { group, told: _ } = self;
+        let _parts = group.into_parts();
+    }
+}

@@ -1,0 +1,249 @@
+ghost use Rattle.std.specs.Prelude.{◌≡◌, ◌+◌, ◌≤◌, ◌↔◌, ◌≢◌, [], ℕ, List, Result, true, IfErr, IfOk, OnErr, OnOk, length, max};
+ghost use mathlib.Core.List.{IsPrefix};
+ghost use Rattle.checkpoint.specs.Keeper.{refused_by};
+ghost use Rattle.checkpoint.specs.Recovery.{IsRecovered};
+ghost use Rattle.checkpoint.specs.Steps.{copied_by, finished_by, mapped_by, rotated_by};
+ghost use Rattle.checkpoint.specs.declared.fault.KeeperFault.TheVariants as KeeperFault;
+ghost use Rattle.device_image.specs.Holds.{Holds};
+ghost use Rattle.disk_model.specs.Disk.{LeavesOnly, MayLeave};
+ghost use Rattle.export_model.specs.Verdict.{verdict};
+ghost use Rattle.export_model.specs.declared.action.Action.{Action};
+ghost use Rattle.nbd_wire.specs.declared.error.Errno.{Errno};
+ghost use Rattle.order_book.specs.Order.{PublishesTo, with_durable};
+ghost use Rattle.request_core.specs.Outcomes.{IsServedBy};
+ghost use Rattle.request_core.specs.Serving.{IsPassServed};
+ghost use Rattle.shared_store.specs.Keepers.{IsOfHistory};
+ghost use Rattle.shared_store.specs.Parts.{StandsWithin};
+ghost use Rattle.shared_store.specs.Back.{IsBack};
+
+use crate::group::SealedGroup;
+use crate::name::ImageName;
+use checkpoint::{Keeper, KeeperFault};
+use disk_model::Disk;
+use marks::{Board, KeeperSeat, Pass};
+use nbd_wire::Request;
+use order_book::Order;
+use request_core::{Served, Terms, serve_with_keeper};
+use std::alloc::Global;
+use std::marker::Model;
+
+/// Why a group wasn't stored.
+pub enum Unstored<B: ImageName> {
+    /// Memory was refused.
+    NoMemory(SealedGroup<B>),
+    /// The group doesn't fit the area.
+    AreaFull(SealedGroup<B>),
+    /// A call of the device failed, in this call or before: no group will be stored any more.
+    Failed,
+}
+
+/// A keeper with the seat that raises the durable number, as one lock holds them. What it has stored begins the history.
+pub struct SharedKeeper<B: ImageName, D: Disk> {
+    seat: KeeperSeat<B>,
+    keeper: Keeper<D>,
+}
+
+// Written out, it is proved once, and not again in each function that lets a keeper go.
+impl<B: ImageName, D: Disk + Drop> Drop for SharedKeeper<B, D> {
+    fn drop(self) {
+        let SharedKeeper { seat: _, keeper: _ } = self;
+    }
+}
+
+impl<B: ImageName, D: Disk> Model for SharedKeeper<B, D> {
+    ghost use Rattle.shared_store.specs.Keepers.{IsOfHistory, SeatedState};
+
+    ghost Value = { SeatedState D };
+
+    ghost view = { λ shared. record { seat = shared.seat; keeper = shared.keeper } };
+
+    ghost invariant = { λ shared. IsOfHistory D.state D.honest B.opening B.image B.trusted shared.seat shared.keeper };
+}
+
+impl<B: ImageName, D: Disk> SharedKeeper<B, D> {
+    /// The keeper of a device that was opened: nothing is stored above what the opening found.
+    pub fn new(keeper: Keeper<D>, seat: KeeperSeat<B>) -> SharedKeeper<B, D>
+        requires recovered { IsRecovered keeper }
+        requires opening { keeper.count ≡ B.opening }
+        requires seat { seat ≡ record { history = []; accepted = keeper.count; durable = keeper.count; base = keeper.count } }
+        requires blocks { keeper.geometry.blocks ≡ B.image.blocks }
+        requires honest { B.trusted → D.honest keeper.disk }
+        requires image { B.trusted → Holds keeper (D.state keeper.disk) B.image [] [] }
+        ensures { result ≡ record { seat = seat; keeper = keeper } }
+    {
+        SharedKeeper { seat, keeper }
+    }
+
+    /// The keeper.
+    pub fn keeper(&self) -> &Keeper<D>
+        ensures { result.now ≡ self.now.keeper }
+    {
+        &self.keeper
+    }
+
+    /// The keeper, as it is.
+    pub fn into_keeper(self) -> Keeper<D>
+        ensures { result ≡ self.keeper }
+    {
+        let SharedKeeper { seat: _, keeper } = self;
+        keeper
+    }
+
+    /// Stores a sealed group behind all that is stored; one that may be stored later comes back.
+    pub fn append(&mut self, board: &Board<B>, sealed: SealedGroup<B>) -> Result<(), Unstored<B>>
+        ensures count { OnOk result (self.new.keeper.count ≡ self.old.keeper.count + length sealed.group.commands) }
+        ensures told { OnOk result (IsPrefix sealed.told self.new.seat.history) }
+        ensures kept { OnErr result (self.new.keeper.count ≡ self.old.keeper.count) }
+        ensures back { IfErr result (IsBack sealed) }
+        ensures seen { IsPrefix self.old.seat.history self.new.seat.history }
+        ensures durable { self.new.seat.durable ≡ self.old.seat.durable }
+        ensures geometry { self.new.keeper.geometry ≡ self.old.keeper.geometry }
+
+        // A crash at any moment leaves all that was stored before it, of one history.
+        ensures any_moment { B.trusted → LeavesOnly (D.state self.old.keeper.disk) (D.state self.new.keeper.disk)
+            (StandsWithin B.opening B.image self.new.seat.history self.old.keeper.count) }
+    {
+        let (group, told) = sealed.into_parts();
+        match self.keeper.append(group) {
+            Ok(()) => {
+                board.inform(&mut self.seat, told);
+                Ok(())
+            }
+            Err((KeeperFault::NoMemory, group)) => {
+                Err(Unstored::NoMemory(SealedGroup::of(group, told)))
+            }
+            Err((KeeperFault::AreaFull, group)) => {
+                Err(Unstored::AreaFull(SealedGroup::of(group, told)))
+            }
+            Err((_, group)) => {
+                board.inform(&mut self.seat, told);
+                let _parts = group.into_parts();
+                Err(Unstored::Failed)
+            }
+        }
+    }
+
+    /// Makes durable in the order what is stored.
+    pub fn publish(&mut self, board: &Board<B>, order: &mut Order<B>)
+        ensures order { order.new ≡ with_durable order.old self.old.keeper.count }
+        ensures keeper { self.new.keeper ≡ self.old.keeper }
+        ensures seat { PublishesTo self.old.seat order.old self.old.keeper.count self.new.seat }
+    {
+        order.publish(board, &mut self.seat, &self.keeper);
+    }
+}
+
+impl<B: ImageName, D: Disk> SharedKeeper<B, D> {
+    /// Takes the next area into use.
+    pub fn rotate(&mut self) -> Result<(), KeeperFault>
+        ensures ok { OnOk result (self.new.keeper ≡ rotated_by self.old.keeper self.new.keeper.disk self.new.keeper.memory) }
+        ensures err { IfErr result (λ fault. self.new.keeper ≡ refused_by fault self.old.keeper self.new.keeper.disk) }
+        ensures seat { self.new.seat ≡ self.old.seat }
+        ensures any_moment { B.trusted → LeavesOnly (D.state self.old.keeper.disk) (D.state self.new.keeper.disk)
+            (StandsWithin B.opening B.image self.new.seat.history self.old.keeper.count) }
+    {
+        self.keeper.rotate()
+    }
+
+    /// Copies the next blocks of the first area into the image, at most `most`, and answers how many.
+    pub fn copy_some(&mut self, most: u32) -> Result<u32, KeeperFault>
+        requires { 1 ≤ most }
+        ensures ok { IfOk result (λ blocks. (1 ≤ blocks) × (blocks ≤ most)
+            × (self.new.keeper ≡ copied_by self.old.keeper blocks self.new.keeper.disk self.new.keeper.memory)) }
+        ensures err { IfErr result (λ fault. self.new.keeper ≡ refused_by fault self.old.keeper self.new.keeper.disk) }
+        ensures seat { self.new.seat ≡ self.old.seat }
+        ensures any_moment { B.trusted → LeavesOnly (D.state self.old.keeper.disk) (D.state self.new.keeper.disk)
+            (StandsWithin B.opening B.image self.new.seat.history self.old.keeper.count) }
+    {
+        self.keeper.copy_some(most)
+    }
+
+    /// Writes the map after the first area.
+    pub fn write_map(&mut self) -> Result<(), KeeperFault>
+        ensures ok { OnOk result (self.new.keeper ≡ mapped_by self.old.keeper self.new.keeper.disk self.new.keeper.memory) }
+        ensures err { IfErr result (λ fault. self.new.keeper ≡ refused_by fault self.old.keeper self.new.keeper.disk) }
+        ensures seat { self.new.seat ≡ self.old.seat }
+        ensures any_moment { B.trusted → LeavesOnly (D.state self.old.keeper.disk) (D.state self.new.keeper.disk)
+            (StandsWithin B.opening B.image self.new.seat.history self.old.keeper.count) }
+    {
+        self.keeper.write_map()
+    }
+
+    /// Lets the first area go: map and data hold what it did, and the base is raised to its end.
+    pub fn finish(&mut self, board: &Board<B>) -> Result<(), KeeperFault>
+        ensures ok { OnOk result (self.new.keeper ≡ finished_by self.old.keeper self.new.keeper.disk self.new.keeper.memory) }
+        ensures err { IfErr result (λ fault. self.new.keeper ≡ refused_by fault self.old.keeper self.new.keeper.disk) }
+        ensures seat { OnOk result (self.new.seat ≡ record self.old.seat { base = self.old.keeper.turned }) }
+        ensures same { OnErr result (self.new.seat ≡ self.old.seat) }
+        ensures any_moment { B.trusted → LeavesOnly (D.state self.old.keeper.disk) (D.state self.new.keeper.disk)
+            (StandsWithin B.opening B.image self.new.seat.history self.old.keeper.count) }
+    {
+        self.keeper.finish()?;
+        let base = self.keeper.base();
+        board.raise_base(&mut self.seat, base);
+        Ok(())
+    }
+}
+
+impl<B: ImageName, D: Disk> SharedKeeper<B, D> {
+    /// Meets the order: what is stored begins its history, and the base is no less than the one that it knows.
+    pub fn meet(&mut self, board: &Board<B>, order: &mut Order<B>)
+        ensures order { order.new ≡ order.old }
+        ensures keeper { self.new.keeper ≡ self.old.keeper }
+        ensures history { self.new.seat.history ≡ order.old.history }
+        ensures base { order.old.base ≤ self.new.keeper.base }
+        ensures stored { IsOfHistory D.state D.honest B.opening B.image B.trusted self.new.seat self.new.keeper }
+    {
+        order.meet(board, &mut self.seat);
+    }
+
+    /// Tells the order the base.
+    pub fn tell_base(&mut self, board: &Board<B>, order: &mut Order<B>)
+        ensures order { order.new ≡ record order.old { base = max order.old.base self.old.keeper.base } }
+        ensures same { self.new ≡ self.old }
+    {
+        order.learn_base(board, &mut self.seat);
+    }
+
+    /// Meets a pass: what it knows begins the history too, and what it knows to be durable is stored. Whatever a crash may leave of the
+    /// device now stands for the image after a beginning of that history, with all of this.
+    pub fn meet_pass(&mut self, board: &Board<B>, pass: &mut Pass<B>)
+        ensures keeper { self.new.keeper ≡ self.old.keeper }
+        ensures seen { IsPrefix self.old.seat.history self.new.seat.history }
+        ensures known { IsPrefix pass.old.history self.new.seat.history }
+        ensures knew { IsPrefix pass.old.history pass.new.history }
+        ensures durable { pass.old.durable ≤ self.old.keeper.count }
+        ensures pass { pass.new.durable ≡ pass.old.durable }
+        ensures left { B.trusted → (content : List ℕ) → MayLeave (D.state self.old.keeper.disk) content
+            → StandsWithin B.opening B.image self.new.seat.history pass.old.durable content }
+    {
+        let told = board.tell(pass);
+        board.inform(&mut self.seat, told);
+    }
+
+    /// Serves a request that isn't a DISC, with the keeper.
+    pub(crate) fn serve(
+        &mut self,
+        alloc: Global,
+        request: Request,
+        order: &mut Order<B>,
+        board: &Board<B>,
+        pass: &mut Pass<B>,
+        terms: Terms,
+    ) -> Served
+        requires kind { request.head.kind ≢ 2 }
+        requires blocks { length order.old.cache.states ≡ terms.geometry.blocks }
+        requires device { terms.geometry ≡ self.old.keeper.geometry }
+        ensures geometry { self.new.keeper.geometry ≡ self.old.keeper.geometry }
+        ensures count { self.new.keeper.count ≡ self.old.keeper.count }
+        ensures blocks { length order.new.cache.states ≡ length order.old.cache.states }
+        ensures serves { (given : Result Action Errno) × (given ≡ verdict request.head terms.geometry terms.flags)
+            × IsServedBy D.state D.faults D.honest given request terms.geometry terms.mode order.old order.new self.old.keeper self.new.keeper result }
+        ensures pass { IsPassServed B.opening request order.old.mark order.new.mark result pass.old pass.new }
+        ensures seat { self.new.seat ≡ self.old.seat }
+        ensures any_moment { B.trusted → LeavesOnly (D.state self.old.keeper.disk) (D.state self.new.keeper.disk)
+            (StandsWithin B.opening B.image self.new.seat.history self.old.keeper.count) }
+    {
+        serve_with_keeper(alloc, request, order, &mut self.keeper, board, pass, terms)
+    }
+}

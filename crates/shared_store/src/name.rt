@@ -1,0 +1,29 @@
+use marks::BoardName;
+use std::marker::Brand;
+
+/// Which image it is that an order and a keeper share: what it was at the opening, and what is trusted of its device.
+///
+/// What lies under a lock can name neither, since no contract knows what a lock holds. They are picked where the board is.
+pub trait ImageName: BoardName {
+    ghost use Rattle.image_model.specs.Image.{Image};
+
+    /// The image as the opening found it.
+    ghost image: { Image };
+
+    /// What is trusted of the device: that it is honest, and holds the image.
+    ghost trusted: { Type 0 };
+
+    /// What is trusted of a second handle, by which blocks are read with no lock held.
+    ghost shown: { Type 0 };
+}
+
+/// The members that stand here are the ones that nobody picked.
+impl ImageName for Brand {
+    ghost use Rattle.device_image.specs.Stands.{holes};
+
+    ghost image = { holes 1 };
+
+    ghost trusted = { ⊥ };
+
+    ghost shown = { ⊥ };
+}

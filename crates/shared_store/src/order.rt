@@ -1,0 +1,243 @@
+ghost use Rattle.std.specs.Prelude.{◌≡◌, ◌≢◌, ◌*◌, ◌+◌, ◌/◌, ◌<◌, ◌≤◌, ◌↔◌, ℕ, List, Result, [], true, IfErr, IfNone, IfOk, IfSome, IsErr, OnErr, OnOk, length, max, vec_len};
+ghost use mathlib.Core.List.{IsPrefix};
+ghost use Rattle.disk_model.specs.Disk.{LeavesOnly, MayLeave};
+ghost use Rattle.export_model.specs.Verdict.{verdict};
+ghost use Rattle.export_model.specs.declared.action.Action.{Action};
+ghost use Rattle.image_model.specs.Edit.{blocks_met};
+ghost use Rattle.image_model.specs.Image.{apply_all};
+ghost use Rattle.image_model.specs.declared.command.Kind.{Kind};
+ghost use Rattle.marks.specs.Known.{known};
+ghost use Rattle.nbd_wire.specs.declared.error.Errno.{Errno};
+ghost use Rattle.order_book.specs.Order.{IsInHand, Seals, new_order, with_clean, with_durable, with_group};
+ghost use Rattle.order_book.specs.Shown.{ShowsImage};
+ghost use Rattle.request_core.specs.Outcomes.{IsServedBy, IsServedHere, NeedsDevice};
+ghost use Rattle.request_core.specs.Reading.{IsPlanned, IsReadOverServed};
+ghost use Rattle.request_core.specs.Serving.{IsPassServed};
+ghost use Rattle.shared_store.specs.Orders.{GivesImage};
+ghost use Rattle.shared_store.specs.Parts.{StandsWithin};
+
+use crate::group::SealedGroup;
+use crate::keeper::SharedKeeper;
+use crate::name::ImageName;
+use disk_model::Disk;
+use marks::{Board, Pass};
+use nbd_wire::{Request, RequestHead};
+use order_book::{Order, OrderFault, Span};
+use request_core::{NeedsKeeper, Served, Terms, serve_held, serve_read_over};
+use std::alloc::Global;
+use std::marker::Model;
+
+/// The order of write commands, as one lock holds it. Its history is the one history, and what it shows of the image is what that
+/// makes of the image as it was at the opening.
+pub struct SharedOrder<B: ImageName> {
+    order: Order<B>,
+}
+
+// Written out, it is proved once, and not again in each function that lets an order go.
+impl<B: ImageName> Drop for SharedOrder<B> {
+    fn drop(self) {
+        let SharedOrder { order: _ } = self;
+    }
+}
+
+impl<B: ImageName> Model for SharedOrder<B> {
+    ghost use Rattle.std.specs.Coded.{codes, coded_ℕ};
+    ghost use Rattle.std.specs.Ordering.{nat_cmp};
+    ghost use Rattle.std.specs.FinMap as map;
+    ghost use Rattle.order_book.specs.Order.{OrderState};
+    ghost use Rattle.shared_store.specs.Orders.{IsOrderOfHistory};
+
+    ghost Value = { OrderState };
+
+    ghost coded = { Prim.hlevel (codes, map.code {R = nat_cmp} coded_ℕ coded_ℕ) };
+
+    ghost view = { λ shared. shared.order };
+
+    ghost invariant = { λ shared. IsOrderOfHistory B.opening B.image (B.trusted × B.shown) shared.order };
+}
+
+impl<B: ImageName> SharedOrder<B> {
+    /// The order of a device that was opened: nothing was accepted yet.
+    pub fn new(order: Order<B>) -> SharedOrder<B>
+        requires fresh { (states : List Kind) × (frames : ℕ) × (area : ℕ) × (length states ≡ B.image.blocks) × (order ≡ new_order states B.opening frames area) }
+        requires shows { B.trusted → ShowsImage B.image order.cache }
+        ensures { result ≡ order }
+    {
+        SharedOrder { order }
+    }
+
+    /// The order.
+    pub fn order(&self) -> &Order<B>
+        ensures { result.now ≡ self.now }
+    {
+        &self.order
+    }
+
+    /// Refuses all commands from now on.
+    pub fn stop(&mut self)
+        ensures { self.new ≡ record self.old { stopped = true } }
+    {
+        self.order.stop();
+    }
+
+    /// The number of the last command that was accepted, shown to a pass with the history: what memory shows is the image after
+    /// that.
+    pub fn show(&mut self, board: &Board<B>, pass: &mut Pass<B>) -> u64
+        ensures mark { result ≡ self.old.mark }
+        ensures place { result ≡ B.opening + length self.old.history }
+        ensures same { self.new ≡ self.old }
+        ensures known { known pass.old ≤ result }
+        ensures knew { IsPrefix pass.old.history self.old.history }
+        ensures pass { pass.new ≡ record pass.old { history = self.old.history; accepted = result } }
+        ensures shows { B.trusted → B.shown → ShowsImage (apply_all pass.new.history B.image) self.old.cache }
+    {
+        self.order.show_mark(board, pass)
+    }
+}
+
+impl<B: ImageName> SharedOrder<B> {
+    /// Serves a request that isn't a DISC, as far as no keeper is needed.
+    pub fn serve(
+        &mut self,
+        alloc: Global,
+        request: Request,
+        board: &Board<B>,
+        pass: &mut Pass<B>,
+        terms: Terms,
+    ) -> Result<Served, NeedsKeeper>
+        requires kind { request.head.kind ≢ 2 }
+        requires blocks { length self.old.cache.states ≡ terms.geometry.blocks }
+        ensures blocks { length self.new.cache.states ≡ length self.old.cache.states }
+        ensures serves { IfOk result (λ served. IsServedHere (verdict request.head terms.geometry terms.flags) request terms.geometry terms.mode self.old self.new served) }
+        ensures needs { IsErr result ↔ NeedsDevice (verdict request.head terms.geometry terms.flags) request self.old }
+        ensures handed_back { IfErr result (λ back. back.0 ≡ request) }
+        ensures unchanged { OnErr result ((self.new ≡ self.old) × (pass.new ≡ pass.old)) }
+        ensures pass { IfOk result (λ served. IsPassServed B.opening request self.old.mark self.new.mark served pass.old pass.new) }
+        ensures shows { B.trusted → B.shown → ShowsImage (apply_all self.old.history B.image) self.old.cache }
+    {
+        serve_held(alloc, request, &mut self.order, board, pass, terms)
+    }
+
+    /// Serves a READ with bytes that were read before, with no lock held. They come back where that isn't enough.
+    ///
+    /// That those of blocks which aren't in memory are the image's is the caller's to know, where the device is trusted.
+    pub fn serve_over(
+        &mut self,
+        alloc: Global,
+        head: &RequestHead,
+        span: Span,
+        bytes: Vec<u8>,
+        terms: &Terms,
+    ) -> Result<Served, Vec<u8>>
+        requires planned { IsPlanned head.now terms.now.geometry terms.now.flags span }
+        requires blocks { length self.old.cache.states ≡ terms.now.geometry.blocks }
+        requires size { vec_len bytes ≡ 4096 * blocks_met head.now.offset head.now.length }
+        requires given { B.trusted → B.shown → GivesImage (head.now.offset / 4096) span bytes.items self.old.cache (apply_all self.old.history B.image) }
+        ensures read { IfOk result (λ served. IsReadOverServed head.now span bytes.items self.old self.new served) }
+        ensures blocks { length self.new.cache.states ≡ length self.old.cache.states }
+        ensures stopped { self.old.stopped ≡ true → IsErr result }
+        ensures size { IfErr result (λ back. vec_len back ≡ 4096 * blocks_met head.now.offset head.now.length) }
+        ensures unchanged { OnErr result (self.new ≡ self.old) }
+        ensures shows { B.trusted → B.shown → ShowsImage (apply_all self.old.history B.image) self.old.cache }
+    {
+        serve_read_over(alloc, head, &mut self.order, span, bytes, terms)
+    }
+
+    /// Serves a request that isn't a DISC, with the keeper.
+    pub fn serve_with<D: Disk>(
+        &mut self,
+        alloc: Global,
+        request: Request,
+        keeper: &mut SharedKeeper<B, D>,
+        board: &Board<B>,
+        pass: &mut Pass<B>,
+        terms: Terms,
+    ) -> Served
+        requires kind { request.head.kind ≢ 2 }
+        requires blocks { length self.old.cache.states ≡ terms.geometry.blocks }
+        requires device { terms.geometry ≡ keeper.old.keeper.geometry }
+        ensures blocks { length self.new.cache.states ≡ length self.old.cache.states }
+        ensures geometry { keeper.new.keeper.geometry ≡ keeper.old.keeper.geometry }
+        ensures count { keeper.new.keeper.count ≡ keeper.old.keeper.count }
+        ensures serves { (given : Result Action Errno) × (given ≡ verdict request.head terms.geometry terms.flags)
+            × IsServedBy D.state D.faults D.honest given request terms.geometry terms.mode self.old self.new keeper.old.keeper keeper.new.keeper result }
+        ensures pass { IsPassServed B.opening request self.old.mark self.new.mark result pass.old pass.new }
+        ensures any_moment { B.trusted → LeavesOnly (D.state keeper.old.keeper.disk) (D.state keeper.new.keeper.disk)
+            (StandsWithin B.opening B.image self.old.history keeper.old.keeper.count) }
+    {
+        keeper.meet(board, &mut self.order);
+        keeper.serve(alloc, request, &mut self.order, board, pass, terms)
+    }
+}
+
+impl<B: ImageName> SharedOrder<B> {
+    /// The longest beginning of the pending commands that a group may hold, which stands in the history.
+    pub fn seal(&mut self, board: &Board<B>) -> Result<Option<SealedGroup<B>>, OrderFault>
+        ensures group { IfOk result (λ sealed. IfSome sealed (λ group. Seals self.old self.new group.group × (group.told ≡ self.old.history))) }
+        ensures unchanged { IfOk result (λ sealed. IfNone sealed (self.new ≡ self.old)) }
+        ensures err { OnErr result (self.new ≡ self.old) }
+    {
+        let Some(group) = self.order.seal()? else {
+            return Ok(None);
+        };
+        let told = self.order.note(board);
+        Ok(Some(SealedGroup::of(group, told)))
+    }
+
+    /// Makes a group pending again, the last that was sealed; another one comes back.
+    pub fn put_back(
+        &mut self,
+        board: &Board<B>,
+        sealed: SealedGroup<B>,
+    ) -> Result<(), SealedGroup<B>>
+        ensures taken { OnOk result (IsInHand self.old sealed.group × (self.new ≡ with_group self.old sealed.group)) }
+        ensures back { IfErr result (λ back. (back ≡ sealed) × (IsInHand self.old sealed.group → ⊥)) }
+        ensures err { OnErr result (self.new ≡ self.old) }
+    {
+        let (group, told) = sealed.into_parts();
+        if !self.order.is_in_hand(&group) {
+            return Err(SealedGroup::of(group, told));
+        }
+        self.order.compare(board, told);
+        self.order.put_back(group);
+        Ok(())
+    }
+
+    /// Makes durable what the keeper has stored.
+    pub fn publish<D: Disk>(&mut self, board: &Board<B>, keeper: &mut SharedKeeper<B, D>)
+        ensures order { self.new ≡ with_durable self.old keeper.old.keeper.count }
+        ensures keeper { keeper.new.keeper ≡ keeper.old.keeper }
+    {
+        keeper.publish(board, &mut self.order);
+    }
+
+    /// Keeper and pass meet the order: the pass knows all of the history then. Whatever a crash may leave of the device now stands for
+    /// the image after a beginning of that, with all that the pass knows to be durable.
+    pub fn meet_all<D: Disk>(
+        &mut self,
+        board: &Board<B>,
+        keeper: &mut SharedKeeper<B, D>,
+        pass: &mut Pass<B>,
+    )
+        ensures order { self.new ≡ self.old }
+        ensures keeper { keeper.new.keeper ≡ keeper.old.keeper }
+        ensures history { pass.new.history ≡ self.old.history }
+        ensures knew { IsPrefix pass.old.history pass.new.history }
+        ensures left { B.trusted → (content : List ℕ) → MayLeave (D.state keeper.old.keeper.disk) content
+            → StandsWithin B.opening B.image pass.new.history pass.old.durable content }
+    {
+        keeper.meet_pass(board, pass);
+        keeper.meet(board, &mut self.order);
+        self.order.show_mark(board, pass);
+    }
+
+    /// Makes the dirty blocks clean that map and data hold: their frames can be let go.
+    pub fn clean<D: Disk>(&mut self, board: &Board<B>, keeper: &mut SharedKeeper<B, D>)
+        ensures order { self.new ≡ with_clean (record self.old { base = max self.old.base keeper.old.keeper.base }) keeper.old.keeper.base }
+        ensures keeper { keeper.new.keeper ≡ keeper.old.keeper }
+    {
+        keeper.meet(board, &mut self.order);
+        keeper.tell_base(board, &mut self.order);
+        self.order.clean(keeper.keeper());
+    }
+}
