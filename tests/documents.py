@@ -8,6 +8,7 @@
 - The shell block of README.md, a first served image, runs to its end, where its client is installed.
 - The man page, docs/nbdj.1: its synopsis, and of each command the texts, arguments, options, names of values, defaults and values, as
   the command's `--help` has them.
+- Each wrong body, of crates/CRATE/must-fail/ and of wrong-bodies/CRATE/, changes texts that stand once in the crate's sources.
 - docs/DESIGN.md has the table of the crates that tools/crate-table makes of crates.txt, and docs/HEADLINE.md those of the definitions
   that tools/headline-definitions makes of the sources.
 - Prose wraps at 100 columns.
@@ -170,6 +171,30 @@ def check_headline():
     check("the definitions of the guarantee", wanted, [it.rstrip("\n") for it in found])
 
 
+def check_wrong_bodies():
+    crates = sorted(os.listdir(f"{TOP}/crates"))
+    for crate in crates:
+        edits = glob.glob(f"{TOP}/crates/{crate}/must-fail/*.edit") + glob.glob(f"{TOP}/wrong-bodies/{crate}/*.edit")
+        stale = []
+        for edit in edits:
+            texts, path, old = {}, None, None
+            for line in read(edit).splitlines():
+                word, _, rest = line.partition(":")
+                if word == "file":
+                    path = f"{TOP}/crates/{crate}/{rest.strip()}"
+                    if path not in texts:
+                        texts[path] = read(path) if os.path.isfile(path) else ""
+                elif word == "old":
+                    old = rest[1:]
+                    if texts[path].count(old) != 1:
+                        stale.append(os.path.relpath(edit, TOP))
+                elif word == "new":
+                    texts[path] = texts[path].replace(old, rest[1:])
+        if edits:
+            check(f"the wrong bodies of {crate} change what is there", [], stale)
+    check("each wrong body is of a crate", [], [it for it in sorted(os.listdir(f"{TOP}/wrong-bodies")) if it not in crates])
+
+
 def check_columns():
     """Lines of prose and of lists; a table's row can't be broken, and a block of code has its own width."""
     for path in documents():
@@ -183,6 +208,7 @@ def main():
     check_design()
     check_headline()
     check_columns()
+    check_wrong_bodies()
     program = os.environ.get("NBDJ")
     if program and os.access(program, os.X_OK):
         check_examples(os.path.abspath(program))
