@@ -587,7 +587,8 @@ ends 'zeroes between data, recovered' 0 "$(text 'commands 2')" '' recover d.img
 stands 'the blocks of zeroes between data' $((8192 + 2 * 2097152 + 2 * 4096))
 is 'the map of zeroes between data' 22000000 "$(part d.img $((8192 + 2 * 2097152 + 4096)) 4)"
 
-# READs of what was written, of a hole with FUA, past the end, with DF, and a BLOCK_STATUS; then of what an opening found.
+# READs of what was written, of a hole with FUA, past the end, with DF, a BLOCK_STATUS, READs up to 2^64, too long and of nothing; then
+# of what an opening found.
 fresh 16 2097152
 differing 8192 5 >data
 {
@@ -597,9 +598,14 @@ differing 8192 5 >data
     request 0000 0 4 61440 8192
     request 0004 0 5 0 4096
     request 0000 7 6 0 4096
-    request 0000 2 7 0 0
+    request 0000 0 7 65535 2
+    request 0000 0 8 65536 4096
+    bytes '25609513 0000 0000 0000000000000009 fffffffffffff000 00001000'
+    request 0000 0 10 0 1052672
+    request 0000 0 11 512 0
+    request 0000 2 12 0 0
 } >input
-refused="$(reply 4 22)$(reply 5 22)$(reply 6 22)"
+refused=$(for cookie in 4 5 6 7 8 9 10 11; do reply $cookie 22; done)
 ends 'reads' 0 "$(reply 1 0)$(reply 2 0)$(part data 4096 4096)$(reply 3 0)$(filled 4096 '\000' | hex)$refused" '' pipe d.img
 { request 0000 0 1 4096 8192; request 0000 2 2 0 0; } >input
 ends 'reads of an opened device' 0 "$(reply 1 0)$(hex <data)" '' pipe d.img

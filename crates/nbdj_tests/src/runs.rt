@@ -109,30 +109,3 @@ pub fn send(
     stream.extend_from_slice(&encode_request(&head))?;
     stream.extend_from_slice(payload)
 }
-
-// Adds a request without data.
-pub fn ask(
-    stream: &mut Vec<u8>,
-    kind: u16,
-    flags: u16,
-    cookie: u64,
-    offset: u64,
-    length: u32,
-) -> Result<(), AllocError> {
-    let head = RequestHead {
-        flags,
-        kind,
-        cookie,
-        offset,
-        length,
-    };
-    stream.extend_from_slice(&encode_request(&head))
-}
-
-// Adds a simple reply, as NBD's proto.md spells it.
-pub fn owe(replies: &mut Vec<u8>, error: u32, cookie: u64, data: &[u8]) -> Result<(), AllocError> {
-    replies.extend_from_slice(b"\x67\x44\x66\x98")?;
-    replies.extend_from_slice(&error.to_be_bytes())?;
-    replies.extend_from_slice(&cookie.to_be_bytes())?;
-    replies.extend_from_slice(data)
-}
