@@ -1,6 +1,6 @@
 #!/usr/bin/env python3
 """How `serve` of the built program NBDJ begins, goes on and ends, as who runs it sees it: what a kill leaves, also of sectors that clients
-write beside one another, an end that is asked for, dead clients, a device that fails, and what is told.
+write beside one another, clients beside a slow device, an end that is asked for, dead clients, a device that fails, and what is told.
 
 Prints a line for each check that fails, and last 'N passed, M failed'.
 """
@@ -8,6 +8,7 @@ import os
 import random
 import re
 import resource
+import select
 import signal
 import socket
 import subprocess
@@ -17,9 +18,11 @@ import threading
 import time
 
 import hostile
-from hostile import BLOCK, DISC, FLUSH, MIB, NBDJ, READ, WRITE, Server, block_of, check, request, take
+from hostile import BLOCK, DISC, FLUSH, MIB, NBDJ, READ, TRIM, WRITE, Server, block_of, check, request, take
 
 EIO, SECTOR = 5, 512
+FUA = 1
+TOP = os.path.dirname(os.path.dirname(os.path.abspath(__file__)))
 
 
 def reply(cookie, error=0):
@@ -184,6 +187,40 @@ def sectors(folder):
     print(f"sectors: {writes} writes of {SECTOR} bytes, {it.flushes} flushes", flush=True)
 
 
+def is_silent(client):
+    """Whether no byte for the client has come."""
+    return not select.select([client], [], [], 0)[0]
+
+
+def slow(folder):
+    """How a server whose device takes five seconds for each sync is run."""
+    preload = os.path.join(folder, "slow_sync.so")
+    source = os.path.join(TOP, "tools", "slow_sync.c")
+    subprocess.run([os.environ.get("CC", "cc"), "-Wall", "-Werror", "-shared", "-fPIC", "-O2", "-o", preload, source, "-ldl"], check=True)
+    return {"env": {**os.environ, "SLOW_SYNC_US": "5000000", "LD_PRELOAD": preload}}
+
+
+def beside(folder):
+    """While one client waits for the device another one is answered, and what is due is sent before a FLUSH waits; a FLUSH covers what
+    others were answered before."""
+    with Server(folder, "beside", 2, "--flush-interval", "0", **slow(folder)) as server, server.shaken(60) as one, server.shaken(60) as other:
+        one.sendall(request(WRITE, 1, MIB, BLOCK, FUA) + bytes([1]) * BLOCK)
+        time.sleep(0.5)
+        check("beside a write that waits: another one", True, write(other, 2, BLOCK))
+        check("beside a write that waits: it waits", True, is_silent(one))
+        check("beside a write that waits: it is done", reply(1), take(one, 16))
+        other.sendall(request(TRIM, 3, 0, BLOCK) + request(FLUSH, 4, 0, 0))
+        check("before a flush waits: what is due", reply(3), take(other, 16))
+        check("before a flush waits: it waits", True, is_silent(other))
+        check("before a flush waits: it is done", reply(4), take(other, 16))
+        check("commands of two clients, and a kill", "commands 3", killed(server))
+    with Server(folder, "covered", 2, "--flush-interval", "0") as server, server.shaken() as one, server.shaken() as other:
+        check("sixteen writes", True, all(write(one, cookie, BLOCK) for cookie in range(16)))
+        other.sendall(request(FLUSH, 77, 0, 0) + request(READ, 78, 5 * MIB, BLOCK))
+        check("another client's flush and read", reply(77) + reply(78) + bytes([5]) * BLOCK, take(other, 32 + BLOCK))
+        check("what another client's flush covered, and a kill", "commands 16", killed(server))
+
+
 def asked_to_end(folder):
     """The end of standard input, with a client that waits, one that takes no reply, and none."""
     for name, flushes in (("waiting", False), ("flushed", True)):
@@ -257,6 +294,8 @@ def failing(folder):
         check("failing: the image", "commands 0", recovered(server))
     with Server(folder, "staying", 3, "--on-fault", "stay", **LIMITED) as server, server.shaken() as client:
         check("staying: a write", True, write(client, 1, BLOCK))
+        client.sendall(request(WRITE, 4, 0, BLOCK, FUA) + bytes(BLOCK))
+        check("staying: a write with FUA", reply(4, EIO), take(client, 16))
         for cookie in (2, 3):
             client.sendall(request(FLUSH, cookie, 0, 0))
             check("staying: a flush", reply(cookie, EIO), take(client, 16))
@@ -316,7 +355,7 @@ def copied(folder):
 
 def main():
     with tempfile.TemporaryDirectory() as folder:
-        for scenario in (kills, intervals, sectors, asked_to_end, idle, failing, told, copied):
+        for scenario in (kills, intervals, sectors, beside, asked_to_end, idle, failing, told, copied):
             begun = time.monotonic()
             hostile.guarded(scenario, folder)
             print(f"{scenario.__name__}: {time.monotonic() - begun:.1f} s", flush=True)

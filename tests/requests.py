@@ -63,6 +63,15 @@ def shaken(path):
     return client
 
 
+def taken(client, count):
+    """So many bytes; fewer where the server closes, also with input that it hasn't read."""
+    found = b""
+    with contextlib.suppress(ConnectionResetError):
+        while len(found) < count and (piece := client.recv(count - len(found))):
+            found += piece
+    return found
+
+
 def answers(begin, path, pieces, count):
     """What the pieces are answered, up to one byte more than so many; the client ends its side behind them."""
     with begin(path) as client:
@@ -72,7 +81,7 @@ def answers(begin, path, pieces, count):
                 client.sendall(piece)
         with contextlib.suppress(OSError):
             client.shutdown(socket.SHUT_WR)
-        return take(client, count + 1)
+        return taken(client, count + 1)
 
 
 def hold(name, begin, path, sent, wanted):
@@ -115,6 +124,8 @@ REQUESTS = [
      of(simple(26), "668e33ef 0001 0001 000000000000001b 00000009 0000000000000fff 41")),
     ("a trim of a block and a byte, and the block written again", request(TRIM, 28, 0, 4097) + request(READ, 29, 4095, 2) + FIRST,
      of(simple(28), "668e33ef 0001 0002 000000000000001d 0000000c 0000000000000fff 00000002", simple(1))),
+    ("a read of a hole", request(READ, 31, 8192, BLOCK), of("668e33ef 0001 0002 000000000000001f 0000000c 0000000000002000 00001000")),
+    ("a flush of a block", request(FLUSH, 32, BLOCK, 0) + request(FLUSH, 33, 0, BLOCK), of(simple(32, 22), simple(33, 22))),
 ]
 
 NOTHING = [
@@ -190,9 +201,58 @@ def by_turns(folder):
         check("a read of 1 MiB from byte 1 on", True, found == wanted or (len(wanted), len(found)))
 
 
+# Each type, with the flags that it may have beside FUA, and what its success is answered: of a block that is a hole where it is read.
+TYPES = [
+    (READ, DF, f"668e33ef 0001 0002 %016x 0000000c {15 * BLOCK:016x} 00001000"),
+    (WRITE, 0, "67446698 00000000 %016x"),
+    (FLUSH, 0, "67446698 00000000 %016x"),
+    (TRIM, 0, "67446698 00000000 %016x"),
+    (5, None, ""),
+    (ZEROES, NO_HOLE, "67446698 00000000 %016x"),
+    (STATUS, REQ_ONE, "668e33ef 0001 0005 %016x 0000000c 00000001 00001000 00000003"),
+    (8, None, ""),
+    (0xFFFF, None, ""),
+]
+
+
+def flags(folder):
+    """Each type of request with each flag by itself."""
+    with served(folder, "flags", 16) as path:
+        for kind, allowed, done in TYPES:
+            sent = wanted = b""
+            for bit in range(16):
+                cookie, flag = 0x0102030405060700 + bit, 1 << bit
+                place = (0, 0) if kind == FLUSH else ((15 if kind in (READ, STATUS) else 1) * BLOCK, BLOCK)
+                sent += request(kind, cookie, *place, flag) + b"A" * (BLOCK * (kind == WRITE))
+                if allowed is not None and flag & (FUA | allowed):
+                    # (with DF a hole is shown by its bytes)
+                    wanted += of(f"668e33ef 0001 0001 {cookie:016x} 00001008 {15 * BLOCK:016x}", bytes(BLOCK)) if flag == DF else of(done % cookie)
+                else:
+                    wanted += of(f"668e33ef 0001 8001 {cookie:016x} 00000006 00000016 0000") if kind in (READ, STATUS) else simple(cookie, 22)
+            check(f"type {kind} with each flag", True, answers(shaken, path, [sent], len(wanted)) == wanted)
+        for bit in range(16):
+            check(f"a DISC with flag {bit}", b"", answers(shaken, path, [request(DISC, 1, 0, 0, 1 << bit) + request(FLUSH, 2, 0, 0)], 1))
+
+
+def lengths(folder):
+    """WRITEs that are taken, thrown away and not read, their heads cut in two, and another magic number behind a request."""
+    with served(folder, "lengths", 2050) as path:
+        for length, error in ((0, 22), (1, 0), (BLOCK, 0), (MIB, 0), (MIB + 1, 22), (32 * MIB, 22)):
+            head = request(WRITE, 8, 0, length)
+            for cut in (0, 1, 27, 28):
+                pieces = [head[:cut], head[cut:], bytes([7]) * length, request(FLUSH, 9, 0, 0)]
+                check(f"a WRITE of {length} bytes, cut at {cut}", simple(8, error) + simple(9), answers(shaken, path, pieces, 32))
+        check("a WRITE that is too long", simple(7), answers(shaken, path, [request(FLUSH, 7, 0, 0) + request(WRITE, 8, 0, 32 * MIB + 1)], 16))
+        for place in range(4):
+            broken = bytearray(request(FLUSH, 8, 0, 0))
+            broken[place] ^= 1
+            sent = request(FLUSH, 7, 0, 0) + broken + request(FLUSH, 9, 0, 0)
+            check(f"another magic number at {place}", simple(7), answers(shaken, path, [sent], 16))
+
+
 def main():
     with tempfile.TemporaryDirectory() as folder:
-        for scenario in (requests, nothing, beginnings, by_turns):
+        for scenario in (requests, nothing, beginnings, by_turns, flags, lengths):
             hostile.guarded(scenario, folder)
     print(f"{hostile.passed} passed, {hostile.failed} failed")
     return hostile.failed > 0

@@ -7,12 +7,22 @@ use frame_pool::FramePool;
 use std::alloc::{AllocError, Global};
 
 // Both, and a number that no dirty frame's passes.
-#[derive(Drop)]
 pub struct Both {
     pool: FramePool,
     plain: PlainPool,
     last: u64,
     ghost order: { IsAtMost last pool.dirty },
+}
+
+// Written out, it is proved once, and not again in each function that lets such a value go.
+impl Drop for Both {
+    fn drop(self) {
+        let Both {
+            pool: _,
+            plain: _,
+            last: _,
+        } = self;
+    }
 }
 
 // The bytes that this call writes.

@@ -2,12 +2,23 @@
 use std::alloc::{AllocError, Global};
 
 // The frames of each list from its front to its back, the dirty ones with their numbers, and the bytes of each frame.
-#[derive(Drop)]
 pub struct PlainPool {
     free: Vec<u32>,
     clean: Vec<u32>,
     dirty: Vec<(u32, u64)>,
     bytes: Vec<[u8; 4096]>,
+}
+
+// Written out, it is proved once, and not again in each function that lets such a value go.
+impl Drop for PlainPool {
+    fn drop(self) {
+        let PlainPool {
+            free: _,
+            clean: _,
+            dirty: _,
+            bytes: _,
+        } = self;
+    }
 }
 
 impl PlainPool {

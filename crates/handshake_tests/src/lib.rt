@@ -1,12 +1,8 @@
-//! Tests of the handshake's messages and answers against bytes written by hand. They stand beside their
-//! crates, since a crate with tests is proved twice.
+//! Tests of the handshake's messages against bytes written by hand. They stand beside their crate, since a crate with tests is proved
+//! twice.
 #![tactic(auto)]
 
-#[cfg(test)]
-mod answer_tests;
 #[cfg(test)]
 mod option_tests;
 #[cfg(test)]
 mod reply_tests;
-#[cfg(test)]
-mod session_tests;

@@ -10,12 +10,12 @@ use std::alloc::Global;
 use std::test::Fail;
 use stream_fakes::bytes_of;
 
-// Whether the reply is appended as these bytes, behind what stands there.
-fn appends(alloc: Global, option: u32, reply: &OptionReply, row: &str) -> Result<bool, Fail>
-    requires { length (reply_data reply.now) < 2 ^ 32 }
+// Whether the reply is appended as these bytes, behind what stands there. It is let go here, and nowhere else.
+fn appends(alloc: Global, option: u32, reply: OptionReply, row: &str) -> Result<bool, Fail>
+    requires { length (reply_data reply) < 2 ^ 32 }
 {
     let mut out = bytes_of(alloc, "0708")?;
-    encode_option_reply(option, reply, &mut out)?;
+    encode_option_reply(option, &reply, &mut out)?;
     let wanted = bytes_of(alloc, row)?;
     Ok(out.starts_with(&[7, 8]) && out[2..] == wanted[..])
 }
@@ -38,7 +38,7 @@ const ACKNOWLEDGED: [(u32, &str); 4] = [
 fn options_are_acknowledged(rt: HostRuntime) -> Result<(), Fail> {
     for (option, row) in ACKNOWLEDGED {
         assert!(rt;
-            appends(rt.alloc(), option, &OptionReply::Ack, row)?,
+            appends(rt.alloc(), option, OptionReply::Ack, row)?,
             "{row}"
         );
     }
@@ -50,7 +50,7 @@ fn lists(alloc: Global, name: &[u8], row: &str) -> Result<bool, Fail>
     requires { length name.now < 2 ^ 16 }
 {
     let reply = OptionReply::Server(Text::from_slice(alloc, name)?);
-    appends(alloc, LIST, &reply, row)
+    appends(alloc, LIST, reply, row)
 }
 
 #[test]
@@ -69,7 +69,7 @@ fn export_is_told(rt: HostRuntime) -> Result<(), Fail> {
         flags: 0x01ed,
     });
     let row = "0003e889045565a9 00000007 00000003 0000000c 0000 0000000000010000 01ed";
-    assert!(rt; appends(rt.alloc(), GO, &reply, row)?);
+    assert!(rt; appends(rt.alloc(), GO, reply, row)?);
     Ok(())
 }
 
@@ -103,7 +103,7 @@ fn tells_sizes(alloc: Global, option: u32, sizes: [u32; 3], row: &str) -> Result
         preferred,
         maximum,
     });
-    appends(alloc, option, &reply, row)
+    appends(alloc, option, reply, row)
 }
 
 #[test]
@@ -115,27 +115,43 @@ fn block_sizes_are_told(rt: HostRuntime) -> Result<(), Fail> {
     Ok(())
 }
 
+// Whether an export's name is told as these bytes.
+fn tells_name(alloc: Global, name: &[u8], row: &str) -> Result<bool, Fail>
+    requires { length name.now < 2 ^ 16 }
+{
+    let name = Information::Name(Text::from_slice(alloc, name)?);
+    appends(alloc, INFO, OptionReply::Info(name), row)
+}
+
+// Whether an export's description is told as these bytes.
+fn tells_description(alloc: Global, text: &[u8], row: &str) -> Result<bool, Fail>
+    requires { length text.now < 2 ^ 16 }
+{
+    let description = Information::Description(Text::from_slice(alloc, text)?);
+    appends(alloc, GO, OptionReply::Info(description), row)
+}
+
 #[test]
 fn name_and_description_are_told(rt: HostRuntime) -> Result<(), Fail> {
-    let name = Information::Name(Text::from_slice(rt.alloc(), b"disk")?);
     let row = "0003e889045565a9 00000006 00000003 00000006 0001 6469736b";
-    assert!(rt; appends(rt.alloc(), INFO, &OptionReply::Info(name), row)?);
-    let description = Information::Description(Text::from_slice(rt.alloc(), b"two")?);
+    assert!(rt; tells_name(rt.alloc(), b"disk", row)?);
     let row = "0003e889045565a9 00000007 00000003 00000005 0002 74776f";
-    assert!(rt; appends(rt.alloc(), GO, &OptionReply::Info(description), row)?);
+    assert!(rt; tells_description(rt.alloc(), b"two", row)?);
     Ok(())
+}
+
+// Whether the context is told with this number as these bytes.
+fn tells_context(alloc: Global, option: u32, id: u32, row: &str) -> Result<bool, Fail> {
+    let name = Text::from_slice(alloc, b"base:allocation")?;
+    appends(alloc, option, OptionReply::MetaContext { id, name }, row)
 }
 
 #[test]
 fn contexts_are_told_with_their_number(rt: HostRuntime) -> Result<(), Fail> {
-    let name = Text::from_slice(rt.alloc(), b"base:allocation")?;
-    let reply = OptionReply::MetaContext { id: 1, name };
     let row = "0003e889045565a9 0000000a 00000004 00000013 00000001 626173653a616c6c6f636174696f6e";
-    assert!(rt; appends(rt.alloc(), SET_META_CONTEXT, &reply, row)?);
-    let name = Text::from_slice(rt.alloc(), b"base:allocation")?;
-    let reply = OptionReply::MetaContext { id: 0, name };
+    assert!(rt; tells_context(rt.alloc(), SET_META_CONTEXT, 1, row)?);
     let row = "0003e889045565a9 00000009 00000004 00000013 00000000 626173653a616c6c6f636174696f6e";
-    assert!(rt; appends(rt.alloc(), LIST_META_CONTEXT, &reply, row)?);
+    assert!(rt; tells_context(rt.alloc(), LIST_META_CONTEXT, 0, row)?);
     Ok(())
 }
 
@@ -196,8 +212,10 @@ const REFUSED: [(u32, OptionError, &str); 10] = [
 #[test]
 fn refusals_carry_no_text(rt: HostRuntime) -> Result<(), Fail> {
     for (option, error, row) in REFUSED {
-        let reply = OptionReply::Refused(error);
-        assert!(rt; appends(rt.alloc(), option, &reply, row)?, "{row}");
+        assert!(rt;
+            appends(rt.alloc(), option, OptionReply::Refused(error), row)?,
+            "{row}"
+        );
     }
     Ok(())
 }

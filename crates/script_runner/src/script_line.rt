@@ -1,8 +1,8 @@
 ghost use Rattle.std.specs.Prelude.{◌≡◌, ◌≤◌, ◌<◌, IfSome};
 
 use disk_model::{CallKind, CrashChoice};
+use front_end::{LEAST_FRAMES, MOST_FRAMES};
 use image_model::{BLOCK_BYTES, Geometry};
-use nbdj_pipe::PipeOptions;
 use request_core::Mode;
 use std::alloc::{AllocError, Global};
 use std::str;
@@ -178,11 +178,14 @@ fn ranged(connection: usize, words: &[&str], fua: bool) -> Option<StepLine> {
 fn format(blocks: &str, area: &str, frames: &str, mode: Mode) -> Option<Line> {
     let area = u32::try_from(number_of(area)?).ok()?;
     let geometry = Geometry::new(number_of(blocks)?, area)?;
-    let options = PipeOptions::new(number_of(frames)?, mode)?;
+    let frames = number_of(frames)?;
+    if !(LEAST_FRAMES..=MOST_FRAMES).contains(&frames) {
+        return None;
+    }
     Some(Line::Format(Setup {
         geometry,
-        frames: options.frames,
-        mode: options.mode,
+        frames: frames as u32,
+        mode,
     }))
 }
 

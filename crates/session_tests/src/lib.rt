@@ -11,8 +11,6 @@ mod failing;
 #[cfg(test)]
 mod interrupted;
 #[cfg(test)]
-mod name_tests;
-#[cfg(test)]
 mod room_tests;
 #[cfg(test)]
 mod stream_tests;

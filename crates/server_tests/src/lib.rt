@@ -1,8 +1,0 @@
-//! Tests of the server over loopback sockets, with both ends in one process. They stand beside it, since a crate with tests is
-//! proved twice.
-#![tactic(auto)]
-
-#[cfg(test)]
-mod client;
-#[cfg(test)]
-mod loopback_tests;

@@ -1,0 +1,186 @@
+#!/usr/bin/env python3
+"""Handshakes over a socket of `serve` of the built program NBDJ, bytes in and bytes out: each option by what was agreed on before it, what
+comes behind it, data that are too long, and sessions that are broken off.
+
+What an option has changed is seen by an EXPORT_NAME and requests behind it. What each client has to be answered was written by hand.
+Prints a line for each check that fails, and last 'N passed, M failed'.
+"""
+import sys
+import tempfile
+
+import hostile
+from hostile import BLOCK, DISC, FLUSH, READ, STATUS, WRITE, check, request
+from requests import GREETING, answers, connected, hold, of, served, simple
+
+MAGIC, REPLY = "49484156454f5054", "0003e889045565a9"
+ABORT, LIST, STARTTLS, INFO, GO, STRUCTURED_REPLY, LIST_CONTEXT, SET_CONTEXT = 2, 3, 5, 6, 7, 8, 9, 10
+ALLOCATION = "626173653a616c6c6f636174696f6e"
+# A byte of the last block, which is a hole.
+LAST = 15 * BLOCK
+
+
+def option(number, data=""):
+    data = of(data)
+    return of(MAGIC) + hostile.struct.pack(">II", number, len(data)) + data
+
+
+def told(number, kind, data=""):
+    data = of(data)
+    return of(REPLY) + hostile.struct.pack(">III", number, kind, len(data)) + data
+
+
+def acknowledged(number):
+    return told(number, 1)
+
+
+def refused(number, error):
+    return told(number, 0x80000000 + error)
+
+
+def export(flags):
+    return told(GO, 3, f"0000 0000000000010000 {flags}")
+
+
+EXPORTS = of(told(LIST, 2, "00000000"), acknowledged(LIST))
+SELECT, SELECTS = f"00000000 00000001 0000000f {ALLOCATION}", of(told(SET_CONTEXT, 4, f"00000001 {ALLOCATION}"), acknowledged(SET_CONTEXT))
+GO_TOLD = of(told(GO, 3, "0000 0000000000010000 01ed"), told(GO, 3, "0003 00000001 00001000 00100000"), acknowledged(GO))
+INFO_TOLD = of(told(INFO, 3, "0000 0000000000010000 016d"), told(INFO, 3, "0003 00000001 00001000 00100000"), acknowledged(INFO))
+LISTED = of(told(LIST_CONTEXT, 4, f"00000000 {ALLOCATION}"), acknowledged(LIST_CONTEXT))
+
+# What has been agreed on: what is sent for it and answered, the transmission flags, and the replies to a READ and a BLOCK_STATUS.
+PLAIN = (b"", b"", "016d", of(simple(5), "00", simple(6, 22)))
+NO_STATES = "668e33ef 0001 8001 0000000000000006 00000006 00000016 0000"
+STATES = "668e33ef 0001 0005 0000000000000006 0000000c 00000001 00001000 00000003"
+CHUNK = f"668e33ef 0001 0002 0000000000000005 0000000c {LAST:016x} 00000001"
+STRUCTURED = (option(STRUCTURED_REPLY), acknowledged(STRUCTURED_REPLY), "01ed", of(CHUNK, NO_STATES))
+SELECTED = (STRUCTURED[0] + option(SET_CONTEXT, SELECT), STRUCTURED[1] + SELECTS, "01ed", of(CHUNK, STATES))
+
+PROBES = request(READ, 5, LAST, 1) + request(STATUS, 6, LAST, BLOCK)
+NEXT_OPTION, TRANSMISSION, NOTHING = "an option", "transmission", "nothing"
+
+# An option with its data, what was agreed on before, the answer, what is agreed on then, and what comes behind it.
+OPTIONS = [
+    (ABORT, "07", SELECTED, acknowledged(ABORT), SELECTED, NOTHING),
+    (LIST, "", STRUCTURED, EXPORTS, STRUCTURED, NEXT_OPTION),
+    (LIST, "00", PLAIN, refused(LIST, 3), PLAIN, NEXT_OPTION),
+    (STARTTLS, "", PLAIN, refused(STARTTLS, 1), PLAIN, NEXT_OPTION),
+    (STRUCTURED_REPLY, "", PLAIN, acknowledged(STRUCTURED_REPLY), STRUCTURED, NEXT_OPTION),
+    (STRUCTURED_REPLY, "", SELECTED, acknowledged(STRUCTURED_REPLY), SELECTED, NEXT_OPTION),
+    (STRUCTURED_REPLY, "00000000", PLAIN, refused(STRUCTURED_REPLY, 3), PLAIN, NEXT_OPTION),
+    (11, "ff", SELECTED, refused(11, 1), SELECTED, NEXT_OPTION),
+    # The name of the export, and of another one.
+    (1, "61", PLAIN, b"", PLAIN, NOTHING),
+    (1, "00000000", PLAIN, b"", PLAIN, NOTHING),
+    # Options that ask for information.
+    (GO, "00000000 0001 0003", STRUCTURED, GO_TOLD, STRUCTURED, TRANSMISSION),
+    (GO, "00000000 0002 0000 0001", SELECTED, of(export("01ed"), acknowledged(GO)), SELECTED, TRANSMISSION),
+    (GO, "00000001 78 0001 0003", PLAIN, refused(GO, 6), PLAIN, NEXT_OPTION),
+    (GO, "00000005 0000", PLAIN, refused(GO, 3), PLAIN, NEXT_OPTION),
+    (INFO, "00000000 0002 0101 0003", PLAIN, INFO_TOLD, PLAIN, NEXT_OPTION),
+    (INFO, "00000000 0000", PLAIN, of(told(INFO, 3, "0000 0000000000010000 016d"), acknowledged(INFO)), PLAIN, NEXT_OPTION),
+    # Selections of contexts, and lists of them.
+    (SET_CONTEXT, SELECT, PLAIN, refused(SET_CONTEXT, 3), PLAIN, NEXT_OPTION),
+    (SET_CONTEXT, SELECT, STRUCTURED, SELECTS, SELECTED, NEXT_OPTION),
+    (SET_CONTEXT, SELECT, SELECTED, SELECTS, SELECTED, NEXT_OPTION),
+    (SET_CONTEXT, "00000000 00000001 00000005 626173653a", SELECTED, acknowledged(SET_CONTEXT), STRUCTURED, NEXT_OPTION),
+    (SET_CONTEXT, "00000000 00000000", SELECTED, acknowledged(SET_CONTEXT), STRUCTURED, NEXT_OPTION),
+    (SET_CONTEXT, "00000001 78 00000000", SELECTED, refused(SET_CONTEXT, 6), STRUCTURED, NEXT_OPTION),
+    (SET_CONTEXT, "00000000", SELECTED, refused(SET_CONTEXT, 3), STRUCTURED, NEXT_OPTION),
+    (LIST_CONTEXT, "00000000 00000000", PLAIN, refused(LIST_CONTEXT, 3), PLAIN, NEXT_OPTION),
+    (LIST_CONTEXT, "00000000 00000000", SELECTED, LISTED, SELECTED, NEXT_OPTION),
+    (LIST_CONTEXT, "00000000 00000002 00000001 78 00000005 626173653a", STRUCTURED, LISTED, STRUCTURED, NEXT_OPTION),
+    (LIST_CONTEXT, "00000000 00000001 00000006 626173653a61", STRUCTURED, acknowledged(LIST_CONTEXT), STRUCTURED, NEXT_OPTION),
+    # Data of 65,536 bytes are read, and longer ones aren't.
+    (LIST, bytes(65_536), PLAIN, refused(LIST, 3), PLAIN, NEXT_OPTION),
+    (LIST, bytes(65_537), SELECTED, refused(LIST, 9), SELECTED, NEXT_OPTION),
+    (LIST, bytes(1_000_000), PLAIN, refused(LIST, 9), PLAIN, NEXT_OPTION),
+    (SET_CONTEXT, bytes(65_537), SELECTED, refused(SET_CONTEXT, 9), STRUCTURED, NEXT_OPTION),
+]
+
+
+def options(folder):
+    with served(folder, "options", 16) as path:
+        for number, data, before, written, after, behind in OPTIONS:
+            for flags, zeroes in ((1, 124), (3, 0)):
+                sent = of(f"{flags:08x}", before[0], option(number, data))
+                wanted = of(GREETING, before[1], written)
+                if behind == NEXT_OPTION:
+                    sent += option(LIST) + option(1)
+                    wanted += EXPORTS + of("0000000000010000", after[2], bytes(zeroes))
+                if behind != NOTHING:
+                    wanted += after[3]
+                name = f"option {number} with {len(of(data))} bytes {of(data)[:40].hex(' ', 4)}, flags {flags}, behind {len(before[0])} bytes"
+                check(name, wanted.hex(" ", 4), answers(connected, path, [sent + PROBES], len(wanted)).hex(" ", 4))
+
+
+# The last block read, two bytes written over a border, a FLUSH and a DISC; the second byte of the last request isn't looked at.
+REQUESTS = request(READ, 2, LAST, 1) + request(WRITE, 3, BLOCK - 1, 2) + b"AB" + request(FLUSH, 5, 0, 0) + request(DISC, 7, 0, 0)
+SIMPLE = of(simple(2), "00", simple(3), simple(5))
+CHUNKS = of(f"668e33ef 0001 0002 0000000000000002 0000000c {LAST:016x} 00000001", simple(3), simple(5))
+
+# What a client sends behind its flags, and what is written behind the greeting.
+BEGINNINGS = [
+    ("a name with zeroes", of("00000001", option(1)), of("0000000000010000 016d", bytes(124), SIMPLE)),
+    ("a name without zeroes", of("00000003", option(1)), of("0000000000010000 016d", SIMPLE)),
+    ("a name with zeroes behind structured replies", of("00000001", STRUCTURED[0], option(1)),
+     of(STRUCTURED[1], "0000000000010000 01ed", bytes(124), CHUNKS)),
+    ("a name without zeroes behind structured replies", of("00000003", STRUCTURED[0], option(1)),
+     of(STRUCTURED[1], "0000000000010000 01ed", CHUNKS)),
+    ("a GO that asks for nothing", of("00000003", option(GO, "00000000 0000")), of(export("016d"), acknowledged(GO), SIMPLE)),
+    # The name's length is 5, in 6 bytes; an INFO that asks for the sizes doesn't count for the GO behind it.
+    ("a GO that is malformed, an INFO and a GO",
+     of("00000003", option(GO, "00000005 6162"), option(INFO, "00000000 0001 0003"), option(GO, "00000000 0000")),
+     of(refused(GO, 3), INFO_TOLD, export("016d"), acknowledged(GO), SIMPLE)),
+    ("options in turn",
+     of("00000003", option(LIST, "00"), option(STARTTLS, "abcd"), option(STRUCTURED_REPLY), option(0x63), option(GO, "00000000 0001 0003")),
+     of(refused(LIST, 3), refused(STARTTLS, 1), acknowledged(STRUCTURED_REPLY), refused(0x63, 1), GO_TOLD, CHUNKS)),
+    # What ends a session: client flags other than those of a fixed newstyle, a name that can't be refused, an ABORT, another magic
+    # number, and a GO in the place of a request.
+    *[(f"client flags {flags}", of(flags, option(1)), b"") for flags in ("00000000", "00000002", "00000004", "00000007", "80000003", "01000001")],
+    *[(f"the name of another export, flags {flags}", of(flags, option(1, "61")), b"") for flags in ("00000001", "00000003")],
+    ("a name that is too long", of("00000003", MAGIC, "00000001 00010001"), b""),
+    ("a length of 32 MiB and a byte", of("00000003", MAGIC, "00000003 02000001"), b""),
+    ("an ABORT", of("00000003", option(ABORT), option(LIST)), acknowledged(ABORT)),
+    ("an ABORT with data", of("00000003", option(ABORT, "010203"), "ffffffff"), acknowledged(ABORT)),
+    ("a second GO", of("00000003", option(GO, "00000000 0001 0003"), option(GO, "00000000 0001 0003")),
+     of(export("016d"), told(GO, 3, "0003 00000001 00001000 00100000"), acknowledged(GO))),
+]
+
+
+def beginnings(folder):
+    with served(folder, "handshakes", 16) as path:
+        check("an empty input", GREETING, answers(connected, path, [], 18))
+        for name, sent, written in BEGINNINGS:
+            hold(name, connected, path, sent + REQUESTS, GREETING + written)
+
+
+DATA = bytes(place % 253 for place in range(BLOCK))
+WHOLE = of("00000003", STRUCTURED[0], option(GO, "00000000 0001 0003"), request(WRITE, 0x0102030405060708, 0, BLOCK), DATA,
+           request(READ, 2, 0, BLOCK), request(FLUSH, 3, 0, 0), request(DISC, 4, 0, 0))
+WHOLE_TOLD = of(GREETING, STRUCTURED[1], GO_TOLD, simple(0x0102030405060708),
+                "668e33ef 0001 0001 0000000000000002 00001008 0000000000000000", DATA, simple(3))
+
+
+def whole(folder):
+    """A whole session, cut in two round each message, byte by byte, and with another byte in the magic number of its second option."""
+    with served(folder, "whole", 16) as path:
+        for cut in [*range(160), *range(len(WHOLE) - 100, len(WHOLE))]:
+            check(f"cut at {cut}", True, answers(connected, path, [WHOLE[:cut], WHOLE[cut:]], len(WHOLE_TOLD)) == WHOLE_TOLD)
+        check("byte by byte", True, answers(connected, path, [bytes([it]) for it in WHOLE], len(WHOLE_TOLD)) == WHOLE_TOLD)
+        for place in range(20, 28):
+            broken = bytearray(WHOLE)
+            broken[place] ^= 1
+            wanted = of(GREETING, STRUCTURED[1])
+            check(f"another byte at {place}", wanted, answers(connected, path, [bytes(broken)], len(wanted)))
+
+
+def main():
+    with tempfile.TemporaryDirectory() as folder:
+        for scenario in (options, beginnings, whole):
+            hostile.guarded(scenario, folder)
+    print(f"{hostile.passed} passed, {hostile.failed} failed")
+    return hostile.failed > 0
+
+
+if __name__ == "__main__":
+    sys.exit(main())
