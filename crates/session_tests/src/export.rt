@@ -57,11 +57,21 @@ fn read(alloc: Global, length: u32) -> Result<ReadBytes, AllocError> {
 }
 
 /// How a session over such an export ended.
-#[derive(Drop)]
 pub struct Served {
     pub end: Result<(), End>,
     pub answered: u64,
     pub output: FakeWriter,
+}
+
+// Written out, it is proved once, and not again in each function that lets such a value go.
+impl Drop for Served {
+    fn drop(self) {
+        let Served {
+            end: _,
+            answered: _,
+            output: _,
+        } = self;
+    }
 }
 
 /// Serves what this reader gives.

@@ -2,12 +2,23 @@ use std::io::{self, ErrorKind, Read, Write};
 use stream_fakes::{FakeReader, FakeWriter};
 
 /// A stream of which one call fails, and those behind it work again.
-#[derive(Drop)]
 pub struct FailsOnce<S> {
     pub stream: S,
     before: usize,
     failed: bool,
     behind: usize,
+}
+
+// Written out, it is proved once, and not again in each function that lets such a value go.
+impl<S: Drop> Drop for FailsOnce<S> {
+    fn drop(self) {
+        let FailsOnce {
+            stream: _,
+            before: _,
+            failed: _,
+            behind: _,
+        } = self;
+    }
 }
 
 impl<S> FailsOnce<S> {
