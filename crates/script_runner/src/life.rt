@@ -282,11 +282,14 @@ fn add_block(runs: &mut Vec<BlockRun>, first: u64, kind: Kind, byte: u8) -> Resu
 
 // What the last event of a log says.
 fn last_event(log: &[Event]) -> Told {
-    match log.last() {
-        Some(Event::Held) | None => Told::Held,
-        Some(Event::Failed(fault)) => Told::Failed(*fault),
-        Some(Event::Answered(..)) => Told::Answered,
-        Some(Event::Sent(..) | Event::Numbered(..) | Event::Took) => Told::Done,
+    let Some(event) = log.last() else {
+        return Told::Held;
+    };
+    match event {
+        Event::Held => Told::Held,
+        Event::Failed(fault) => Told::Failed(*fault),
+        Event::Answered(..) => Told::Answered,
+        Event::Sent(..) | Event::Numbered(..) | Event::Took => Told::Done,
     }
 }
 

@@ -114,17 +114,33 @@ fn line_of(words: &[&str]) -> Option<Line> {
 fn step_of(words: &[&str]) -> Option<StepLine> {
     match words {
         ["send", connection, ..] => sent(connection_of(connection)?, &words[2..]),
-        ["serve", connection] => Some(StepLine::Serve(connection_of(connection)?)),
-        ["answer", connection] => Some(StepLine::Answer(connection_of(connection)?)),
-        ["seal"] => Some(StepLine::Seal),
-        ["append"] => Some(StepLine::Append),
-        ["publish"] => Some(StepLine::Publish),
-        ["rotate"] => Some(StepLine::Rotate),
-        ["copy"] => Some(StepLine::Copy(1)),
-        ["copy", count] => Some(StepLine::Copy(count_of(count)?)),
-        ["map"] => Some(StepLine::Map),
-        ["finish"] => Some(StepLine::Finish),
-        ["clean"] => Some(StepLine::Clean),
+        [word] => step_alone(word),
+        [word, operand] => step_with(word, operand),
+        _ => None,
+    }
+}
+
+// A step of one word.
+fn step_alone(word: &str) -> Option<StepLine> {
+    match word {
+        "seal" => Some(StepLine::Seal),
+        "append" => Some(StepLine::Append),
+        "publish" => Some(StepLine::Publish),
+        "rotate" => Some(StepLine::Rotate),
+        "copy" => Some(StepLine::Copy(1)),
+        "map" => Some(StepLine::Map),
+        "finish" => Some(StepLine::Finish),
+        "clean" => Some(StepLine::Clean),
+        _ => None,
+    }
+}
+
+// A step of a connection, or so many copies.
+fn step_with(word: &str, operand: &str) -> Option<StepLine> {
+    match word {
+        "serve" => Some(StepLine::Serve(connection_of(operand)?)),
+        "answer" => Some(StepLine::Answer(connection_of(operand)?)),
+        "copy" => Some(StepLine::Copy(count_of(operand)?)),
         _ => None,
     }
 }
@@ -143,34 +159,43 @@ fn ranged(connection: usize, words: &[&str], fua: bool) -> Option<StepLine> {
     match words {
         ["put", first, blocks, byte] => put(connection, blocks_of(first, blocks, fua)?, byte),
         ["bytes", offset, length, byte] => put(connection, bytes_of(offset, length, fua)?, byte),
-        ["clear", "hole", first, blocks] => {
+        ["clear", kind, first, blocks] => {
             let range = blocks_of(first, blocks, fua)?;
+            cleared(connection, kind, Clearing::Trim, range)
+        }
+        ["zeroes", offset, length, kind] => {
+            let range = bytes_of(offset, length, fua)?;
+            cleared(connection, kind, Clearing::Holes, range)
+        }
+        [word, from, count] => plainly_ranged(connection, word, from, count, fua),
+        _ => None,
+    }
+}
+
+// One that names nothing but its range.
+fn plainly_ranged(
+    connection: usize,
+    word: &str,
+    from: &str,
+    count: &str,
+    fua: bool,
+) -> Option<StepLine> {
+    match word {
+        "trim" => {
+            let range = bytes_of(from, count, fua)?;
             Some(StepLine::Clear(connection, Clearing::Trim, range))
         }
-        ["clear", "zero", first, blocks] => {
-            let range = blocks_of(first, blocks, fua)?;
-            Some(StepLine::Clear(connection, Clearing::Zeroes, range))
-        }
-        ["zeroes", offset, length, "hole"] => {
-            let range = bytes_of(offset, length, fua)?;
-            Some(StepLine::Clear(connection, Clearing::Holes, range))
-        }
-        ["zeroes", offset, length, "zero"] => {
-            let range = bytes_of(offset, length, fua)?;
-            Some(StepLine::Clear(connection, Clearing::Zeroes, range))
-        }
-        ["trim", offset, length] => {
-            let range = bytes_of(offset, length, fua)?;
-            Some(StepLine::Clear(connection, Clearing::Trim, range))
-        }
-        ["read", first, blocks] => {
-            let range = blocks_of(first, blocks, fua)?;
-            Some(StepLine::Read(connection, range))
-        }
-        ["status", first, blocks] => {
-            let range = blocks_of(first, blocks, fua)?;
-            Some(StepLine::Status(connection, range))
-        }
+        "read" => Some(StepLine::Read(connection, blocks_of(from, count, fua)?)),
+        "status" => Some(StepLine::Status(connection, blocks_of(from, count, fua)?)),
+        _ => None,
+    }
+}
+
+// One by which bytes are made zero: where they may be holes, by this request.
+fn cleared(connection: usize, kind: &str, hole: Clearing, range: Range) -> Option<StepLine> {
+    match kind {
+        "hole" => Some(StepLine::Clear(connection, hole, range)),
+        "zero" => Some(StepLine::Clear(connection, Clearing::Zeroes, range)),
         _ => None,
     }
 }
