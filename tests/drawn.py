@@ -1,9 +1,9 @@
 #!/usr/bin/env python3
 """Scripts of `rehearse` and sessions of `pipe` of the built program NBDJ, drawn at random, beside an image of plain bytes.
 
-A script has all commands of sixteen connections, checkpoints and crashes, and prints what plain bytes hold. Sessions come one after
-another over one image, whose journal of 2 MiB fills on the way, and are answered as plain bytes answer them. Prints a line for each check
-that fails, and last 'N passed, M failed'.
+A script has all commands of sixteen connections, checkpoints and crashes, over a small image and over one with more blocks than frames, and
+prints what plain bytes hold. Sessions come one after another over one image, whose journal of 2 MiB fills on the way, and are answered as
+plain bytes answer them, the last of each with the whole image. Prints a line for each check that fails, and last 'N passed, M failed'.
 """
 import os
 import random
@@ -17,9 +17,15 @@ import hostile
 
 FUA, NO_HOLE = 1, 2
 DATA, ZERO, HOLE = 0, 2, 3
-SCRIPT_BLOCKS, SCRIPT_TURNS = 24, 1500
+# Of a script: the blocks of its image, the bytes of an area, the most blocks of a command, and its turns. It has 512 frames.
+SCRIPTS = [(24, 2 * MIB, 5, 1500), (700, 16 * MIB, 40, 1500)]
+MOST_WRITTEN = 400
 SESSION_BLOCKS, SESSIONS, SESSION_TURNS = 48, 6, 150
 SEEDS = 4711, 20260, 998244353
+
+
+def simple(cookie):
+    return struct.pack(">IIQ", 0x67446698, 0, cookie)
 
 
 def place_in_block(draws):
@@ -65,17 +71,17 @@ class Image:
 class Script:
     """A script, what it has to print, and what the device then holds."""
 
-    def __init__(self, draws):
-        self.draws = draws
+    def __init__(self, draws, blocks, area, most):
+        self.draws, self.blocks, self.most = draws, blocks, most
         self.lines, self.printed = [], []
         # The image with all commands, and with those that are stored.
-        self.image = Image(SCRIPT_BLOCKS)
+        self.image = Image(blocks)
         self.stored = self.image.copy()
         # How many commands there are, are stored, and are in map and data.
         self.count = self.durable = self.base = 0
         # The blocks that a command which isn't in map and data wrote last.
         self.written = set()
-        self.line(f"format {SCRIPT_BLOCKS} 2097152 512", "done")
+        self.line(f"format {blocks} {area} 512", "done")
 
     def line(self, line, printed):
         self.lines.append(line)
@@ -88,12 +94,12 @@ class Script:
         self.lines.append(f"answer {connection}")
 
     def drawn_blocks(self):
-        """At most five blocks: the first one and the one behind them."""
-        first = self.draws.randrange(SCRIPT_BLOCKS - 1)
-        return first, first + 1 + self.draws.randrange(min(SCRIPT_BLOCKS - first, 5))
+        """A few blocks: the first one and the one behind them."""
+        first = self.draws.randrange(self.blocks - 1)
+        return first, first + 1 + self.draws.randrange(min(self.blocks - first, self.most))
 
     def drawn_bytes(self):
-        """Bytes of at most five blocks, which often begin or end at the border of a block, or beside it."""
+        """Bytes of a few blocks, which often begin or end at the border of a block, or beside it."""
         first, behind = self.drawn_blocks()
         start = BLOCK * first + min(place_in_block(self.draws), BLOCK - 1)
         return start, max(BLOCK * (behind - 1) + place_in_block(self.draws), start + 1)
@@ -182,7 +188,7 @@ class Script:
 
     def status(self, connection):
         first, _ = self.drawn_blocks()
-        self.ask(connection, f"status {first} {SCRIPT_BLOCKS - first}")
+        self.ask(connection, f"status {first} {self.blocks - first}")
         states = self.image.states
         runs = self.image.runs(first, lambda one, other: states[one] == states[other])
         self.printed.append(f"answer {connection} runs" + "".join(f" {length}:{states[block]}" for block, length in runs))
@@ -195,7 +201,7 @@ class Script:
             return
         some = "done" if self.written else "held"
         self.line("rotate", "done")
-        self.line("copy 99", some)
+        self.line("copy 999", some)
         self.read(connection)
         self.line("map", "done")
         self.line("finish", "done")
@@ -216,8 +222,8 @@ class Script:
 
     def turn(self):
         connection = 1 + self.draws.randrange(16)
-        # So many commands always fit the area.
-        if self.count - self.base > 60:
+        # So many commands always fit the area, and so many blocks the frames.
+        if self.count - self.base > 60 or len(self.written) > MOST_WRITTEN:
             self.checkpoint(connection)
         kind = self.draws.randrange(50)
         if kind == 0:
@@ -273,26 +279,28 @@ class Session:
                 # the parts of blocks stay as they are
                 start, end = -(-start // BLOCK) * BLOCK, end // BLOCK * BLOCK
             self.image[start:end] = bytes(max(end - start, 0))
-        return request(kind, self.cookie, offset, length, flags) + data, struct.pack(">IIQ", 0x67446698, 0, self.cookie) + shown
+        return request(kind, self.cookie, offset, length, flags) + data, simple(self.cookie) + shown
 
     def talk(self):
         turns = [self.turn() for _ in range(SESSION_TURNS)]
-        return b"".join(it[0] for it in turns) + request(DISC, 0, 0, 0), b"".join(it[1] for it in turns)
+        turns.append((request(READ, 0, 0, len(self.image)) + request(DISC, 0, 0, 0), simple(0) + self.image))
+        return b"".join(it[0] for it in turns), b"".join(it[1] for it in turns)
 
 
 def run(words, given):
     return subprocess.run([NBDJ, *words], input=given, capture_output=True, timeout=120)
 
 
-def check_script(seed):
-    script = Script(random.Random(seed))
-    for _ in range(SCRIPT_TURNS):
+def check_script(seed, blocks, area, most, turns):
+    script = Script(random.Random(seed), blocks, area, most)
+    for _ in range(turns):
         script.turn()
     ran = run(["rehearse"], "".join(f"{it}\n" for it in script.lines).encode())
     printed = ran.stdout.decode().splitlines()
-    check(f"how the script of seed {seed} ends", (0, b"", len(script.printed)), (ran.returncode, ran.stderr, len(printed)))
+    name = f"the script of seed {seed} over {blocks} blocks"
+    check(f"how {name} ends", (0, b"", len(script.printed)), (ran.returncode, ran.stderr, len(printed)))
     differ = [place for place, (wanted, got) in enumerate(zip(script.printed, printed)) if wanted != got][:1]
-    check(f"what the script of seed {seed} prints", [], [(place, script.printed[place], printed[place]) for place in differ])
+    check(f"what {name} prints", [], [(place, script.printed[place], printed[place]) for place in differ])
 
 
 def check_sessions(folder, seed):
@@ -309,7 +317,8 @@ def check_sessions(folder, seed):
 def main():
     with tempfile.TemporaryDirectory() as folder:
         for seed in SEEDS:
-            check_script(seed)
+            for shape in SCRIPTS:
+                check_script(seed, *shape)
             check_sessions(folder, seed)
     print(f"{hostile.passed} passed, {hostile.failed} failed")
     return hostile.failed > 0

@@ -222,5 +222,5 @@ fn compare<B: BoardName>(alloc: Global, start: Start) -> Option<[u64; 2]>
 #[test]
 fn edges_are_data_and_the_rest_is_cleared(rt: HostRuntime) {
     let start = filled(rt.alloc()).expect(&rt, "a board over data");
-    assert_eq!(rt; compare::<Brand>(rt.alloc(), start), Some([48, 48]));
+    assert!(rt; compare::<Brand>(rt.alloc(), start) == Some([48, 48]));
 }

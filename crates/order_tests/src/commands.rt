@@ -102,11 +102,21 @@ fn is_inside(image: u64, command: &Command) -> bool
 }
 
 // An order with its board, and the pass that commands are accepted for.
-#[derive(Drop)]
 pub struct Desk<B: BoardName> {
     pub board: Board<B>,
     pub pass: Pass<B>,
     pub order: Order<B>,
+}
+
+// Written out, it is proved once, and not again in each function that lets such a value go.
+impl<B: BoardName> Drop for Desk<B> {
+    fn drop(self) {
+        let Desk {
+            board: _,
+            pass: _,
+            order: _,
+        } = self;
+    }
 }
 
 // What the order says to a command that comes with a pass, and nothing to one outside its image; one that is refused is let go.

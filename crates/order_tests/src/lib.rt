@@ -1,8 +1,6 @@
-//! Tests of frames, caches, and orders that read, over keepers of simulated devices, and that threads share. They stand beside these crates, since a crate with tests is proved twice.
+//! Tests of orders that read, over keepers of simulated devices, and that threads share. They stand beside these crates, since a crate with tests is proved twice.
 #![tactic(auto)]
 
-#[cfg(test)]
-mod cache_tests;
 #[cfg(test)]
 mod clear_tests;
 #[cfg(test)]
@@ -12,11 +10,7 @@ mod edit_tests;
 #[cfg(test)]
 mod edits;
 #[cfg(test)]
-mod frame_tests;
-#[cfg(test)]
 mod plain;
-#[cfg(test)]
-mod random_tests;
 #[cfg(test)]
 mod read_tests;
 #[cfg(test)]

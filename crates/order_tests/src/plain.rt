@@ -9,9 +9,15 @@ use std::alloc::Global;
 pub const BLOCKS: u64 = 64;
 
 // The bytes of an image, one after another, and the states of its blocks.
-#[derive(Drop)]
 pub struct Plain {
     image: PlainImage,
+}
+
+// Written out, it is proved once, and not again in each function that lets such a value go.
+impl Drop for Plain {
+    fn drop(self) {
+        let Plain { image: _ } = self;
+    }
 }
 
 // Whether a block is one of so many from the first one on.

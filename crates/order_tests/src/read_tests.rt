@@ -27,7 +27,7 @@ fn read_in_turn<B: BoardName>(alloc: Global, start: Start) -> Option<[bool; 3]>
 #[test]
 fn the_first_block_leaves_memory(rt: HostRuntime) {
     let start = filled(rt.alloc()).expect(&rt, "a board over data");
-    assert_eq!(rt; read_in_turn::<Brand>(rt.alloc(), start), Some([true; 3]));
+    assert!(rt; read_in_turn::<Brand>(rt.alloc(), start) == Some([true; 3]));
 }
 
 // Reads three of the first eight blocks, which leaves three runs that are missing: of one block, of one, and of three. From
@@ -57,10 +57,7 @@ fn read_three_runs<B: BoardName>(alloc: Global, start: Start) -> Option<[bool; 3
 #[test]
 fn a_run_is_one_call(rt: HostRuntime) {
     let start = filled(rt.alloc()).expect(&rt, "a board over data");
-    assert_eq!(rt;
-        read_three_runs::<Brand>(rt.alloc(), start),
-        Some([true; 3])
-    );
+    assert!(rt; read_three_runs::<Brand>(rt.alloc(), start) == Some([true; 3]));
 }
 
 // Whether a read of the first eight blocks is refused for the device, and leaves none of those that were missing in memory.
@@ -87,8 +84,5 @@ fn read_with_a_fault<B: BoardName>(alloc: Global, start: Start) -> Option<[bool;
 #[test]
 fn a_fault_keeps_nothing(rt: HostRuntime) {
     let start = filled(rt.alloc()).expect(&rt, "a board over data");
-    assert_eq!(rt;
-        read_with_a_fault::<Brand>(rt.alloc(), start),
-        Some([true; 3])
-    );
+    assert!(rt; read_with_a_fault::<Brand>(rt.alloc(), start) == Some([true; 3]));
 }

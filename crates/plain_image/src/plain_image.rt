@@ -15,10 +15,16 @@ use thiserror::Error;
 pub struct OutOfRange;
 
 /// An image as an array in memory: what edits mean, for tests to compare with.
-#[derive(Drop)]
 pub struct PlainImage {
     bytes: Vec<u8>,
     kinds: Vec<Kind>,
+}
+
+// Written out, it is proved once, and not again in each function that lets such a value go.
+impl Drop for PlainImage {
+    fn drop(self) {
+        let PlainImage { bytes: _, kinds: _ } = self;
+    }
 }
 
 impl Model for PlainImage {
