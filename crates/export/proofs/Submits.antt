@@ -10,7 +10,7 @@ use Rattle.export_model.specs.Log.{edit_asked}
 use Rattle.image_model.specs.Change.{Change}
 use Rattle.image_model.specs.Edit.{becomes}
 use Rattle.image_model.specs.Image.{Image}
-use Rattle.marks.proofs.Beginnings.{prefix_of_append, prefix_self, prefix_trans}
+use Rattle.marks.specs.laws.Beginnings.{prefix_of_append, prefix_self, prefix_trans}
 use mathlib.Core.List.{IsPrefix}
 use Rattle.image_model.specs.declared.geometry.Geometry.{Geometry}
 use Rattle.marks.specs.Known.{PassState, known}

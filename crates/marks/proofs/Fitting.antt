@@ -9,7 +9,7 @@ use Rattle.image_model.specs.declared.command.Command.{Command}
 use Rattle.marks.specs.declared.view.View.{View}
 use Rattle.marks.specs.Rule.{World, Fits, IsBoard, first_view}
 use Rattle.marks.specs.Steps.{without_keeper, keeper_only, nothing}
-use Rattle.marks.proofs.Beginnings.{prefix_none, prefix_self, prefix_trans}
+use Rattle.marks.specs.laws.Beginnings.{prefix_none, prefix_self, prefix_trans}
 
 abbrev pub Board : Type 0
 Board = State Command View

@@ -9,11 +9,9 @@ mod laws;
 mod order;
 mod pending;
 mod reading;
-mod seated;
 mod span;
 
 pub use fault::OrderFault;
 pub use laws::dirty_blocks_law;
 pub use order::Order;
-pub use seated::SeatedKeeper;
 pub use span::Span;

@@ -4,9 +4,10 @@ ghost use Rattle.marks.specs.Known.{known};
 
 use crate::commands::{accept, put};
 use crate::subject::{Start, fresh, order_over};
+use checkpoint::Keeper;
 use disk_model::SimDisk;
-use marks::{Board, BoardName, Opened, Pass};
-use order_book::{Order, SeatedKeeper};
+use marks::{Board, BoardName, KeeperSeat, Opened, Pass};
+use order_book::Order;
 use std::alloc::Global;
 use std::marker::Brand;
 use std::sync::{Mutex, Wait};
@@ -26,6 +27,13 @@ impl<B: BoardName> Drop for Ran<B> {
             pass: _,
         } = self;
     }
+}
+
+// A keeper with the seat that raises the durable number, as one lock holds them.
+#[derive(Drop)]
+struct SeatedKeeper<B: BoardName> {
+    seat: KeeperSeat<B>,
+    keeper: Keeper<SimDisk>,
 }
 
 // Accepts 100 puts of one block through the lock.
@@ -59,7 +67,7 @@ fn told<B: BoardName>(board: &Board<B>, one: &mut Pass<B>, other: &mut Pass<B>) 
 fn store<B: BoardName>(
     rt: &impl Wait,
     board: &Board<B>,
-    keeper: &Mutex<SeatedKeeper<B, SimDisk>>,
+    keeper: &Mutex<SeatedKeeper<B>>,
     order: &Mutex<Order<B>>,
 ) -> bool {
     let mut guard = keeper.lock(rt);

@@ -22,7 +22,7 @@ use Rattle.image_model.specs.declared.geometry.Geometry.{Geometry}
 use Rattle.journal_format.specs.Group.{Numbered}
 use Rattle.journal_format.specs.Reading.{IsOnlyRead}
 use Rattle.marks.specs.Known.{KeeperKnows}
-use Rattle.marks.proofs.Beginnings.{prefix_none, prefix_trans}
+use Rattle.marks.specs.laws.Beginnings.{prefix_none, prefix_trans}
 use Rattle.order_book.specs.Order.{IsPublishedTo, OrderState}
 use Rattle.request_core.specs.laws.Lives.{apply_append}
 use Rattle.request_core.specs.laws.Orders.{commands_length}

@@ -13,7 +13,7 @@ use Rattle.journal_format.specs.Group.{Numbered}
 use Rattle.device_image.specs.Keeper.{KeeperState}
 use Rattle.disk_model.specs.Disk.{State}
 use Rattle.marks.specs.Known.{KeeperKnows}
-use Rattle.marks.proofs.Beginnings.{prefix_length, prefix_of_append, prefix_shorter, prefix_trans}
+use Rattle.marks.specs.laws.Beginnings.{prefix_length, prefix_of_append, prefix_shorter, prefix_trans}
 use Rattle.shared_store.specs.Keepers.{IsOfHistory}
 use Rattle.order_book.specs.Order.{OrderState, IsInHand, Seals, is_published, new_order, with_clean, with_command, with_durable, with_group}
 use Rattle.order_book.specs.Reading.{IsCleanAt}

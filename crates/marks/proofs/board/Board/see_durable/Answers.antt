@@ -1,6 +1,6 @@
 use Rattle.std.proofs.Common.{sym, ◌∙◌, arith}
 use Rattle.image_model.specs.Change.{change_of}
-use Rattle.marks.proofs.Beginnings.{prefix_map}
+use Rattle.marks.specs.laws.Beginnings.{prefix_map}
 use Rattle.marks.proofs.Moves.{looks_durable}
 use Rattle.marks.proofs.board.Board.see_durable.Goals as goal
 

@@ -3,7 +3,7 @@ use mathlib.Core.List.{IsPrefix}
 use Rattle.disk_model.specs.Disk.{MayLeave}
 use Rattle.image_model.specs.Change.{Change}
 use Rattle.marks.specs.Known.{KeeperKnows, Marks, PassState}
-use Rattle.marks.proofs.Beginnings.{prefix_trans}
+use Rattle.marks.specs.laws.Beginnings.{prefix_trans}
 use Rattle.shared_store.specs.Keepers.{SeatedState}
 use Rattle.shared_store.specs.Parts.{StandsWithin}
 use Rattle.shared_store.proofs.Keeping.{seated, stands_less}
