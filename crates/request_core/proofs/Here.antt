@@ -48,6 +48,7 @@ module _ {D : Type 0} (state : D → State) (faults : D → ℕ) (honest : D →
     only_read = still;
     holds = λ sure base front last holds. holds;
     in_frames = λ failed. refl;
+    there = λ failed. read.there;
   }
 
   held_served : (head : RequestHead) (order : OrderState) (result : Served) → IsHeldReadServed head order result → IsReadServed state faults honest head order order keeper keeper result
@@ -62,7 +63,13 @@ module _ {D : Type 0} (state : D → State) (faults : D → ℕ) (honest : D →
       inr (inl (read.0, read.1, subst (λ (o : OrderState). IsReadServed state faults honest request.head old o keeper keeper result) (sym read.2) (held_served request.head old result read.3)))
   served_here (Err errno) request geometry kept old new result served = (refl, served.0, served.1)
 
-  -- a READ changes no number, and its pass knows what it knew
+  -- a READ changes no number
+  pub read_mark : (head : RequestHead) (old new : OrderState) (next : KeeperState D) (result : Served) → IsReadServed state faults honest head old new keeper next result → new.mark ≡ old.mark
+  read_mark head old new next result (inl none) = ap (λ (o : OrderState). o.mark) none.0
+  read_mark head old new next result (inr (inl read)) = ap (λ (o : OrderState). o.mark) read.order
+  read_mark head old new next result (inr (inr unread)) = ap (λ (o : OrderState). o.mark) unread.order
+
+  -- and its pass knows what it knew
   module _ (opening : ℕ) (request : Message) (result : Served) (pass : PassState) where
     answered : (before after : ℕ) (cookie : ℕ) (given : Answer) → after ≡ before → result ≡ ready_for cookie given → IsPassServed opening request before after result pass pass
     answered before after cookie given same is =

@@ -1,12 +1,13 @@
 -- bytes that are in memory
-use Rattle.std.proofs.Common.{◌≡◌, ◌≢◌, ◌++◌, ◌+◌, ◌-◌, ◌*◌, ◌/◌, ◌%◌, ◌<◌, ◌≤◌, arith, rules, ℕ, zero, suc, Option, Some, List, drop, take, get_or, length, length-drop, replicate, sym, ◌∙◌, ap, subst, refl}
+use Rattle.std.proofs.Common.{◌≡◌, ◌≢◌, ◌++◌, ◌+◌, ◌-◌, ◌*◌, ◌/◌, ◌%◌, ◌<◌, ◌≤◌, arith, rules, ℕ, zero, suc, Option, None, Some, List, drop, take, get_or, length, length-drop, replicate, sym, ◌∙◌, ap, subst, refl}
 use Rattle.std.proofs.lemmas.List.{length-take-le, places, take_at}
 use Rattle.alloc_map.specs.Codes.{state_at}
 use Rattle.image_model.specs.Edit.{blocks_met}
 use Rattle.image_model.specs.declared.command.Kind.{Kind}
 use Rattle.image_model.specs.declared.command.Kind.TheVariants.{Data, Zero, Hole}
 use Rattle.shared_cache.specs.Blocks.{bytes_of}
-use Rattle.shared_cache.specs.Cache.{CacheState, bytes_for, bytes_seen}
+use Rattle.shared_cache.specs.Cache.{CacheState, LacksBytes, bytes_for, bytes_seen}
+use Rattle.shared_cache.specs.laws.Views.{missing_seen}
 
 -- what isn't data is zero in memory
 pub seen_zero : (cache : CacheState) (block : ℕ) → state_at cache.states block ≢ Data → bytes_seen cache block ≡ Some (replicate 4096 0)
@@ -16,6 +17,12 @@ seen_zero cache block other = by_kind (state_at cache.states block) (bytes_of bl
     by_kind Data held other = absurd (other refl)
     by_kind Zero held other = refl
     by_kind Hole held other = refl
+
+-- a block that isn't in memory is one that these lack
+pub lacks_at : (cache : CacheState) (first count block : ℕ) → block < count → bytes_seen cache (first + block) ≡ None → LacksBytes cache first count
+lacks_at cache first count block below none =
+    let is = missing_seen cache (first + block) none in
+    (block, below, is.0, is.1)
 
 pub zero_there : (n k : ℕ) → let none : ℕ = 0 in get_or (replicate n none) k none ≡ none
 zero_there zero k = refl

@@ -52,9 +52,11 @@ IsServedHere (Ok Action.Serve) request geometry kept old new result =
 IsServedHere (Err errno) request geometry kept old new result = (new ≡ old) × (result ≡ ready_for request.head.cookie (Refused errno))
 
 -- The device was asked for old bytes of a write request, but nothing of it has changed, and the keeper holds what it held. The edit
--- becomes the same over the order's own image, where the keeper holds what the order has clean.
+-- becomes the same over the order's own image, where the keeper holds what the order has clean; over a keeper that had failed no
+-- command was accepted.
 pub record IsEditServed {D : Type 0} (state : D → State) (faults : D → ℕ) (honest : D → Type 0) (request : Message) (geometry : Geometry) (kept : Mode) (old new : OrderState) (keeper next : KeeperState D) (result : Served) : Type 0 where
   pub served : IsWriteServed request geometry kept (IsKnownBy state honest keeper old) old new result
+  pub works : keeper.failed ≡ true → new ≡ old
   pub keeper_is : next ≡ record keeper { disk = next.disk }
   pub level : faults next.disk ≡ faults keeper.disk
   pub only_read : honest keeper.disk → IsOnlyRead (state keeper.disk) (state next.disk)

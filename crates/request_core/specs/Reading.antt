@@ -54,6 +54,7 @@ pub record IsRead {D : Type 0} (state : D → State) (faults : D → ℕ) (hones
   pub holds : honest keeper.disk → (base : Image) (front last : List Change) → Holds keeper (state keeper.disk) base front last → Holds next (state next.disk) base front last
   -- of a keeper that had failed nothing was read: all was in memory
   pub in_frames : keeper.failed ≡ true → new ≡ old
+  pub there : keeper.failed ≡ true → (k : ℕ) → k < head.length → bytes_seen old.cache ((head.offset + k) / 4096) ≢ None
 
 -- The image is the order's own: memory shows it, and the keeper of an honest device holds what the order has clean.
 pub record IsKnownBy {D : Type 0} (state : D → State) (honest : D → Type 0) (keeper : KeeperState D) (order : OrderState) (image : Image) : Type 0 where

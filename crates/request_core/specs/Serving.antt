@@ -16,7 +16,6 @@ use Rattle.request_core.specs.declared.serving.Served.TheVariants as served
 use Rattle.export_model.specs.Log.{edit_asked, is_flush, waits_for_store}
 use Rattle.export_model.specs.declared.connection.Connection.{Connection}
 use Rattle.export_model.specs.declared.connection.Connection.TheVariants.{Idle, Requested, Waiting, Ready, Closed}
-use Rattle.export_model.specs.declared.event.StepFault.TheVariants.{NoMemory}
 use Rattle.nbd_wire.specs.declared.message.Answer.{Answer}
 use Rattle.nbd_wire.specs.declared.message.Answer.TheVariants.{Done, Refused}
 use Rattle.export_model.specs.declared.step.Mode.{Mode}

@@ -298,8 +298,9 @@ pub fn serve_held<B: BoardName>(
     ensures unchanged { OnErr result ((order.new ≡ order.old) × (pass.new ≡ pass.old)) }
 
     // What the pass knows then: a command's number is above all that it knew, a FLUSH waits for no less than that, and the history
-    // that it then knows begins with the one that it knew.
+    // that it then knows begins with the one that it knew. One for which a command was accepted knows all of the order's.
     ensures pass { IfOk result (λ served. IsPassServed B.opening request order.old.mark order.new.mark served pass.old pass.new) }
+    ensures grown { order.old.mark < order.new.mark → pass.new.history ≡ order.new.history }
 {
     let head = request.head();
     match judge(&head, &terms.geometry, &terms.flags) {
@@ -329,6 +330,7 @@ fn serve_passed<B: BoardName>(
     ensures handed_back { IfErr result (λ back. back.0 ≡ request) }
     ensures unchanged { OnErr result ((order.new ≡ order.old) × (pass.new ≡ pass.old)) }
     ensures pass { IfOk result (λ served. IsPassServed B.opening request order.old.mark order.new.mark served pass.old pass.new) }
+    ensures grown { order.old.mark < order.new.mark → pass.new.history ≡ order.new.history }
 {
     let head = request.head();
     match head.kind {
@@ -377,8 +379,9 @@ pub fn serve_with_keeper<B: BoardName, D: Disk>(
     ensures hit { request.head.kind ≡ 0 → (LacksBytes order.old.cache (request.head.offset / 4096) (blocks_met request.head.offset request.head.length) → ⊥) → (order.new ≡ order.old) × (keeper.new ≡ keeper.old) }
 
     // What the pass knows then: a command's number is above all that it knew, a FLUSH waits for no less than that, and the history
-    // that it then knows begins with the one that it knew.
+    // that it then knows begins with the one that it knew. One for which a command was accepted knows all of the order's.
     ensures pass { IsPassServed B.opening request order.old.mark order.new.mark result pass.old pass.new }
+    ensures grown { order.old.mark < order.new.mark → pass.new.history ≡ order.new.history }
 {
     match serve_held(alloc, request, order, board, pass, terms) {
         Ok(served) => served,
@@ -418,6 +421,7 @@ fn serve_held_edit<B: BoardName>(
     ensures handed_back { IfErr result (λ back. back.0 ≡ request) }
     ensures unchanged { OnErr result ((order.new ≡ order.old) × (pass.new ≡ pass.old)) }
     ensures pass { IfOk result (λ served. IsPassServed B.opening request order.old.mark order.new.mark served pass.old pass.new) }
+    ensures grown { order.old.mark < order.new.mark → pass.new.history ≡ order.new.history }
 {
     let (head, edit) = split(request);
     if order.needs_device(&edit) {
@@ -456,6 +460,7 @@ fn serve_edit<B: BoardName, D: Disk>(
     ensures honest { D.honest keeper.new.disk ↔ D.honest keeper.old.disk }
     ensures asked { IsWriteAsked D.state D.faults D.honest request terms.geometry terms.mode order.old order.new keeper.old keeper.new result }
     ensures pass { IsPassServed B.opening request order.old.mark order.new.mark result pass.old pass.new }
+    ensures grown { order.old.mark < order.new.mark → pass.new.history ≡ order.new.history }
 {
     let (head, edit) = split(request);
     match order.accept_edit(keeper, board, pass, edit) {

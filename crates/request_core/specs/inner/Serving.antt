@@ -1,5 +1,5 @@
 -- What functions of this crate hand to one another, beside `Serving`.
-use Rattle.std.specs.Prelude.{ℕ, ◌≡◌, ◌+◌, ◌⊎◌, MatchBool, MatchOption, slice_index_or, slice_set, Bool, nat_le, nat_lt, Result, Ok, Err, if◌then◌else◌, Option, Some, None, List, [], ◌∷◌, ◌++◌, length, vec_len}
+use Rattle.std.specs.Prelude.{ℕ, ◌≡◌, ◌⊎◌, MatchBool, MatchOption, slice_index_or, slice_set, Bool, nat_le, nat_lt, Result, Ok, Err, if◌then◌else◌, Option, Some, None, List, [], ◌∷◌, ◌++◌, length, vec_len}
 use Rattle.image_model.specs.Change.{Change, AreChanges}
 use Rattle.image_model.specs.declared.geometry.Geometry.{Geometry}
 use Rattle.journal_format.specs.Group.{Numbered}

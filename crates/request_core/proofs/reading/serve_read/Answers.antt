@@ -1,4 +1,4 @@
-use Rattle.std.proofs.Common.{◌≡◌, ◌+◌, ◌-◌, ◌*◌, ◌/◌, ◌%◌, ℕ, false, inl, inr, List, drop, take, get_or, length, None, Some, sym, ◌∙◌, ap, refl, arith}
+use Rattle.std.proofs.Common.{◌≡◌, ◌≢◌, ◌+◌, ◌-◌, ◌*◌, ◌/◌, ◌%◌, ℕ, false, inl, inr, List, drop, take, get_or, length, None, Some, sym, ◌∙◌, ap, refl, arith}
 use Rattle.alloc_map.specs.Codes.{state_at}
 use Rattle.device_image.specs.Holds.{is_written}
 use Rattle.image_model.specs.Edit.{blocks_met}
@@ -7,7 +7,7 @@ use Rattle.image_model.specs.declared.command.Kind.{Kind}
 use Rattle.image_model.specs.declared.command.Kind.TheVariants.{Data}
 use Rattle.nbd_wire.specs.declared.message.Answer.{Answer}
 use Rattle.request_core.specs.Serving.{ready_for}
-use Rattle.request_core.proofs.InMemory.{part_holds, part_size, part_zero, whole}
+use Rattle.request_core.proofs.InMemory.{lacks_at, part_holds, part_size, part_zero, whole}
 use Rattle.request_core.proofs.reading.serve_read.Goals as goal
 use Rattle.shared_cache.specs.Cache.{bytes_seen}
 
@@ -67,4 +67,6 @@ returns-clause-read g c =
       only_read = read.only_read;
       holds = λ honest base front last holds. read.holds honest base front last holds;
       in_frames = λ failed. (read.hit (λ lacks. let wrong = read.failed.1 (failed, lacks) in cc)).0;
+      there = λ failed. part_holds head.offset head.length into items part long (λ block r byte. bytes_seen old.cache block ≢ None)
+          (λ j r under inside none. let wrong = read.failed.1 (failed, lacks_at old.cache c.of-blocks.result.first (length c.deref_mut.result.now / 4096) j (let size = read.size in omega (arith, under, size)) (seen j ∙ none)) in cc);
     }))

@@ -1,10 +1,11 @@
 use Rattle.std.proofs.Common.{◌∙◌, inl, inr, ap, refl, subst, sym, true, ℕ, Bool, arith}
 use Rattle.image_model.specs.Edit.{ByteEdit, IsEdit, becomes, edit_of}
 use Rattle.image_model.specs.Image.{Image}
+use Rattle.marks.specs.Known.{PassState}
 use Rattle.nbd_wire.specs.declared.error.Errno.TheVariants.{Io, NoMemory}
 use Rattle.nbd_wire.specs.declared.head.RequestHead.{RequestHead}
 use Rattle.nbd_wire.specs.declared.message.Answer.TheVariants.{Refused}
-use Rattle.order_book.specs.Edits.{TakesEdit, faults_after, image_in, keeper_after}
+use Rattle.order_book.specs.Edits.{NeedsDevice, TakesEdit, faults_after, image_in, keeper_after}
 use Rattle.order_book.specs.Order.{OrderState}
 use Rattle.order_book.specs.declared.fault.OrderFault.{OrderFault}
 use Rattle.checkpoint.specs.declared.fault.KeeperFault.TheVariants as refusal
@@ -46,6 +47,7 @@ returns-in-Ok-clause-asked g c =
               ∙ ap (λ (h : RequestHead). served_after waits h.cookie c.in-Ok.number) head_is ∙ ap (λ (n : ℕ). served_after waits request.head.cookie n) c.in-Ok.ensures.number,
         )),
       );
+      works = λ failed. let wrong = c.in-Ok.ensures.failed.1 (failed, subst (λ (e : ByteEdit). NeedsDevice old e) (sym edit_is) c.requires.needs) in absurd wrong;
       keeper_is = c.in-Ok.ensures.keeper_ok;
       level = c.in-Ok.ensures.faults_ok;
       only_read = c.in-Ok.ensures.only_read;
@@ -69,6 +71,11 @@ returns-in-Ok-clause-pass g c =
     (c.accepted.ensures ∙ ap (λ (b : Bool). served_after b head.cookie c.in-Ok.number) (waits_same c.args.terms.mode head request head_is)
     ∙ ap (λ (h : RequestHead). served_after waits h.cookie c.in-Ok.number) head_is ∙ ap (λ (n : ℕ). served_after waits request.head.cookie n) c.in-Ok.ensures.number)
 
+pub returns-in-Ok-clause-grown : goal.returns-in-Ok-clause-grown
+returns-in-Ok-clause-grown g c = λ more.
+    let (image, shows, own) = c.in-Ok.ensures.taken in
+    ap (λ (p : PassState). p.history) own.pass
+
 pub returns-in-Err-NoMemory-default-clause-asked : goal.returns-in-Err-NoMemory-default-clause-asked
 returns-in-Err-NoMemory-default-clause-asked g c =
     let state = g.D.Disk.state in
@@ -88,6 +95,7 @@ returns-in-Err-NoMemory-default-clause-asked g c =
           c.refused.ensures ∙ ap (λ (h : RequestHead). ready_for h.cookie (Refused NoMemory)) c.split-edit.ensures.head,
         )),
       );
+      works = λ failed. c.in-Err-NoMemory-default.ensures.unchanged;
       keeper_is = c.in-Err-NoMemory-default.ensures.keeper_err ∙ ap (λ (f : OrderFault). keeper_after f keeper c.accept_edit.new.keeper.disk) fault_is;
       level = c.in-Err-NoMemory-default.ensures.faults_err ∙ ap (λ (f : OrderFault). faults_after f (g.D.Disk.faults keeper.disk)) fault_is;
       only_read = c.in-Err-NoMemory-default.ensures.only_read;

@@ -1,6 +1,7 @@
 use Rattle.std.proofs.Common.{◌≡◌, ◌∙◌, inl, inr, ap, subst, sym, true, false, ℕ, Bool, arith}
 use Rattle.image_model.specs.Edit.{ByteEdit, IsEdit, becomes, edit_of}
 use Rattle.image_model.specs.Image.{Image}
+use Rattle.marks.specs.Known.{PassState}
 use Rattle.nbd_wire.specs.declared.error.Errno.TheVariants.{NoMemory}
 use Rattle.nbd_wire.specs.declared.head.RequestHead.{RequestHead}
 use Rattle.nbd_wire.specs.declared.message.Answer.TheVariants.{Refused}
@@ -58,6 +59,11 @@ returns-in-Ok-clause-pass g c =
     taken_passes g.B.BoardName.opening request c.args.terms.mode old new image c.args.pass.now c.accept_held.new.pass others.0 (omega (arith, known_is, c.in-Ok.ensures.number)) c.in-Ok.ensures.knew c.in-Ok.ensures.place taken c.accepted.result
     (c.accepted.ensures ∙ ap (λ (b : Bool). served_after b head.cookie c.in-Ok.number) (waits_same c.args.terms.mode head request head_is)
     ∙ ap (λ (h : RequestHead). served_after waits h.cookie c.in-Ok.number) head_is ∙ ap (λ (n : ℕ). served_after waits request.head.cookie n) c.in-Ok.ensures.number)
+
+pub returns-in-Ok-clause-grown : goal.returns-in-Ok-clause-grown
+returns-in-Ok-clause-grown g c = λ more.
+    let old = c.args.order.now in
+    ap (λ (p : PassState). p.history) (c.in-Ok.ensures.taken (image_in old.cache) (shows_in old.cache)).pass
 
 pub returns-in-Err-NoRoom-default-clause-served : goal.returns-in-Err-NoRoom-default-clause-served
 returns-in-Err-NoRoom-default-clause-served g c =

@@ -1,4 +1,4 @@
-use Rattle.std.proofs.Common.{◌≡◌, ◌⊎◌, ◌∙◌, inl, inr, ap, refl, sym, subst}
+use Rattle.std.proofs.Common.{◌≡◌, ◌⊎◌, ◌∙◌, inl, inr, ap, refl, sym, subst, arith}
 use Rattle.journal_format.specs.laws.Chained.{none_read}
 use Rattle.marks.specs.Known.{PassState}
 use Rattle.nbd_wire.specs.Request.{Message}
@@ -6,7 +6,7 @@ use Rattle.nbd_wire.specs.declared.head.RequestHead.{RequestHead}
 use Rattle.order_book.specs.Edits.{NeedsDevice as NeedsOld}
 use Rattle.order_book.specs.Order.{OrderState}
 use Rattle.request_core.specs.Serving.{IsPassServed}
-use Rattle.request_core.proofs.Here.{read_leaves, read_passes, served_here}
+use Rattle.request_core.proofs.Here.{read_leaves, read_mark, read_passes, served_here}
 use Rattle.request_core.proofs.serving.serve_with_keeper.Goals as goal
 use Rattle.export_model.specs.Log.{edit_asked}
 use Rattle.export_model.specs.Verdict.{verdict}
@@ -32,6 +32,12 @@ returns-in-Err-clause-pass g c =
     (subst (λ (order : OrderState). IsPassServed g.B.BoardName.opening c.args.request order.mark c.serve_read.new.order.mark c.serve_read.result c.args.pass.now c.args.pass.now) same.0
     (read_passes g.D.Disk.state g.D.Disk.faults g.D.Disk.honest c.args.keeper.now (λ sure. none_read (g.met.D.Disk.sound c.args.keeper.now.disk sure)) g.B.BoardName.opening c.args.request c.serve_read.result c.args.pass.now
     _ c.serve_held.new.order c.serve_read.new.order c.serve_read.new.keeper c.serve_read.ensures.read))
+
+pub returns-in-Err-clause-grown : goal.returns-in-Err-clause-grown
+returns-in-Err-clause-grown g c = λ more.
+    let left = ap (λ (o : OrderState). o.mark) c.in-Err.ensures.unchanged.0 in
+    let same = read_mark g.D.Disk.state g.D.Disk.faults g.D.Disk.honest c.args.keeper.now (λ sure. none_read (g.met.D.Disk.sound c.args.keeper.now.disk sure)) _ c.serve_held.new.order c.serve_read.new.order c.serve_read.new.keeper c.serve_read.result c.serve_read.ensures.read in
+    absurd (omega (arith, more, left, same))
 
 pub serve_edit-requires-clause-needs : goal.serve_edit-requires-clause-needs
 serve_edit-requires-clause-needs g c =
