@@ -15,18 +15,18 @@ use Rattle.device_image.specs.Keeps.{Keeps}
 use Rattle.device_image.specs.Stands.{StandsFor}
 use Rattle.device_image.specs.laws.Kept.{kept_content}
 use Rattle.disk_model.specs.Disk.{IsSound, LeavesOnly, MayLeave, State}
-use Rattle.disk_model.specs.laws.Moments.{begins, ends, weakens}
+use Rattle.disk_model.specs.laws.Moments.{begins, ends, goes_on, weakens}
 use Rattle.image_model.specs.Change.{AreChanges, Change, change_of}
 use Rattle.image_model.specs.Image.{Image, apply_all}
 use Rattle.image_model.specs.declared.geometry.Geometry.{Geometry}
 use Rattle.journal_format.specs.Group.{Numbered}
 use Rattle.journal_format.specs.Reading.{IsOnlyRead}
 use Rattle.marks.specs.Known.{KeeperKnows}
-use Rattle.marks.specs.laws.Beginnings.{prefix_none, prefix_trans}
+use Rattle.marks.specs.laws.Beginnings.{prefix_none, prefix_self, prefix_trans}
 use Rattle.order_book.specs.Order.{IsPublishedTo, OrderState}
 use Rattle.request_core.specs.laws.Lives.{apply_append}
 use Rattle.request_core.specs.laws.Orders.{commands_length}
-use Rattle.shared_store.specs.Keepers.{IsOfHistory}
+use Rattle.shared_store.specs.Keepers.{HasLeft, IsOfHistory, KeepsHistory}
 use Rattle.shared_store.specs.Parts.{IsPartOf, IsSealed, SealedState, StandsWithin}
 
 -- of two beginnings of one list that are as long each is the other
@@ -97,6 +97,11 @@ opened state honest opening image trusted seat keeper recovered count known bloc
   seat_durable = omega (arith, ap (λ (s : KeeperKnows). s.durable) known);
   seat_base = ap (λ (s : KeeperKnows). s.base) known ∙ sym recovered.base;
 }
+
+-- a seat that is published a count knows no less
+pub grown_seat : (seat : KeeperKnows) (count : ℕ) (new : KeeperKnows) (order : OrderState) (b : Bool) → MatchBool b (IsPublishedTo seat order count new) (new ≡ seat) → IsPrefix seat.history new.history
+grown_seat seat count new order true to = prefix_trans seat.history order.history new.history to.knew to.knows
+grown_seat seat count new order false same = subst (λ (s : KeeperKnows). IsPrefix seat.history s.history) (sym same) (prefix_self seat.history)
 
 module _ {D : Type 0} (state : D → State) (honest : D → Type 0) (opening : ℕ) (image : Image) (trusted : Type 0) where
   abbrev pub Of : KeeperKnows → KeeperState D → Type 0
@@ -394,7 +399,7 @@ module _ {D : Type 0} (state : D → State) (honest : D → Type 0) (opening : �
     -- the order made durable what is stored
     pub published : (new : KeeperKnows) (order : OrderState) (b : Bool) → MatchBool b (IsPublishedTo seat order keeper.count new) (new ≡ seat) → Of new keeper
     published new order true to =
-        seated seat new keeper is (prefix_trans seat.history order.history new.history to.knew to.knows) (omega (arith, to.durable, is.seat_durable)) to.base.1
+        seated seat new keeper is (grown_seat seat keeper.count new order true to) (omega (arith, to.durable, is.seat_durable)) to.base.1
     published new order false same = subst (λ (s : KeeperKnows). Of s keeper) (sym same) is
 
     -- a group of the history that follows what is stored
@@ -549,3 +554,49 @@ module _ {D : Type 0} (state : D → State) (honest : D → Type 0) (opening : �
     stands_less new least grows less sure content left =
         let stands = stands_longer opening image seat.history new.history keeper.count content (leaves_all seat keeper is sure content left) grows in
         record { stored = stands.stored; begins = stands.begins; reaches = (let reaches = stands.reaches in omega (arith, reaches, less)); stands = stands.stands }
+
+-- what stands with so many commands does so with fewer
+stands_fewer : (opening : ℕ) (image : Image) (history : List Change) (least fewer : ℕ) (content : List ℕ) → fewer ≤ least → StandsWithin opening image history least content → StandsWithin opening image history fewer content
+stands_fewer opening image history least fewer content less is =
+    record { stored = is.stored; begins = is.begins; reaches = (let reaches = is.reaches in omega (arith, reaches, less)); stands = is.stands }
+
+-- all that was left stands for a beginning of a longer history too
+pub left_longer : (opening : ℕ) (image : Image) (start now : State) (history longer : List Change) → IsPrefix history longer → HasLeft start now opening image history → HasLeft start now opening image longer
+left_longer opening image start now history longer grows left = weakens left (λ content stands. stands_longer opening image history longer opening content stands grows)
+
+module _ {D : Type 0} (state : D → State) (honest : D → Type 0) (opening : ℕ) (image : Image) (start : State) (trusted : Type 0) where
+  abbrev pub Keeps_all : KeeperKnows → KeeperState D → Type 0
+  Keeps_all seat keeper = KeepsHistory state honest opening image start trusted seat keeper
+
+  -- the keeper of a device that was opened
+  pub begun : (seat : KeeperKnows) (keeper : KeeperState D) → (trusted → LeavesOnly start (state keeper.disk) (λ content. StandsFor content image opening))
+      → IsOfHistory state honest opening image trusted seat keeper → Keeps_all seat keeper
+  begun seat keeper from is = record {
+    stored = is;
+    passed = λ sure. weakens (from sure)
+        (λ content stands. record { stored = []; begins = prefix_none seat.history; reaches = omega arith; stands = subst (λ (n : ℕ). StandsFor content image n) (omega arith) stands });
+  }
+
+  module _ (seat : KeeperKnows) (keeper : KeeperState D) (is : Keeps_all seat keeper) where
+    -- a call of the device, which leaves only what stands for the image after a beginning of the history
+    pub passing : (new : KeeperKnows) (next : KeeperState D) → IsOfHistory state honest opening image trusted new next → IsPrefix seat.history new.history
+        → (trusted → LeavesOnly (state keeper.disk) (state next.disk) (StandsWithin opening image new.history keeper.count)) → Keeps_all new next
+    passing new next stored grows step = record {
+      stored = stored;
+      passed = λ sure.
+          goes_on (left_longer opening image start (state keeper.disk) seat.history new.history grows (is.passed sure)) (step sure)
+          (λ content stands. stands_fewer opening image new.history keeper.count opening content
+          (let count = all_count state honest opening image trusted seat keeper is.stored in omega (arith, count)) stands);
+    }
+
+    -- the same where the seat knows the same history
+    pub passing_by : (new : KeeperKnows) (next : KeeperState D) → IsOfHistory state honest opening image trusted new next → new.history ≡ seat.history
+        → (trusted → LeavesOnly (state keeper.disk) (state next.disk) (StandsWithin opening image seat.history keeper.count)) → Keeps_all new next
+    passing_by new next stored same step =
+        passing new next stored (subst (λ (h : List Change). IsPrefix seat.history h) (sym same) (prefix_self seat.history))
+        (subst (λ (h : List Change). trusted → LeavesOnly (state keeper.disk) (state next.disk) (StandsWithin opening image h keeper.count)) (sym same) step)
+
+    -- no call of the device
+    pub passing_still : (new : KeeperKnows) → IsOfHistory state honest opening image trusted new keeper → IsPrefix seat.history new.history → Keeps_all new keeper
+    passing_still new stored grows =
+        record { stored = stored; passed = λ sure. left_longer opening image start (state keeper.disk) seat.history new.history grows (is.passed sure) }

@@ -1,3 +1,4 @@
+mod Answering
 mod CleanBlocks
 mod Keeping
 mod Ordering

@@ -138,7 +138,7 @@ if_here X opening image trusted request geometry kept old new is given (Ok serve
 if_here X opening image trusted request geometry kept old new is given (Err back) blocks sizes by unchanged = subst (λ (o : OrderState). IsOrderOfHistory opening image trusted o) (sym unchanged.0) is
 
 -- each block that is data and not in memory is at the base as the image has it, where the base is the image
-clean_itself : (image : Image) (order : OrderState) → IsCleanAt image [] image order.dirty
+pub clean_itself : (image : Image) (order : OrderState) → IsCleanAt image [] image order.dirty
 clean_itself image order = record {
   kinds = λ block is_data clean. is_data;
   unwritten = λ block is_data clean. refl;
@@ -154,7 +154,7 @@ module _ (offset count : ℕ) (some : 0 < count) (span : Span) (bytes : List ℕ
       at : (k : ℕ) → k < count → (offset + k) / 4096 ≡ offset / 4096 + j → LiesIn (offset / 4096 + j) span
       at k under same = subst (λ (b : ℕ). LiesIn b span) same (inside k under (ap (bytes_seen cache) same ∙ none))
 
-  gives_base : (image : Image) → GivesImage (offset / 4096) span bytes cache image → GivesBase (offset / 4096) bytes cache image []
+  pub gives_base : (image : Image) → GivesImage (offset / 4096) span bytes cache image → GivesBase (offset / 4096) bytes cache image []
   gives_base image gives = λ j k below within none is_data unwritten. gives j k below within (lies_in j below none) none is_data
 
 pub if_over : {E : Type 0} (opening : ℕ) (image : Image) (trusted : Type 0) (head : RequestHead) (span : Span) (bytes : List ℕ) (old new : OrderState) → IsOrderOfHistory opening image trusted old

@@ -1,11 +1,28 @@
--- what comes back of a group that wasn't stored
-use Rattle.std.specs.Prelude.{◌≡◌}
+-- what comes back of a group that wasn't stored, and what is left then
+use Rattle.std.specs.Prelude.{ℕ, ◌≡◌, ◌≢◌, ◌+◌, ◌⊎◌, true, false}
+use Rattle.checkpoint.specs.Keeper.{refused_by}
+use Rattle.checkpoint.specs.declared.fault.KeeperFault.TheVariants as fault
+use Rattle.device_image.specs.Keeper.{KeeperState}
+use Rattle.disk_model.specs.Faults.{counted}
 use Rattle.shared_store.specs.Parts.{SealedState}
 use Rattle.shared_store.specs.declared.keeper.Unstored.{Unstored}
 use Rattle.shared_store.specs.declared.keeper.Unstored.TheVariants.{AreaFull, Failed, NoMemory}
 
--- The group comes back, or the device has failed.
-abbrev pub IsBack : {B : Type 0} → SealedState → Unstored B → Type 0
-IsBack sealed (NoMemory back) = back ≡ sealed
-IsBack sealed (AreaFull back) = back ≡ sealed
-IsBack sealed Failed = Unit {0}
+-- it has no room in the area
+abbrev pub IsFull : {B : Type 0} → Unstored B → Type 0
+IsFull (NoMemory back) = ⊥
+IsFull (AreaFull back) = Unit {0}
+IsFull Failed = ⊥
+
+-- Why it is let go: a call of the device fails now, which is counted, or has failed before, or the group isn't the next one.
+abbrev pub IsLetGo : {D : Type 0} → (D → ℕ) → SealedState → KeeperState D → KeeperState D → Type 0
+IsLetGo faults sealed old new =
+    ((old.failed ≡ false) × (new ≡ refused_by fault.DeviceFault old new.disk) × (faults new.disk ≡ counted (faults old.disk)))
+    ⊎ ((old.failed ≡ true) × (new ≡ old))
+    ⊎ ((sealed.group.first ≢ old.count + 1) × (new ≡ old))
+
+-- The group comes back, and the keeper is as it was; or it is let go.
+abbrev pub IsBack : {B D : Type 0} → (D → ℕ) → SealedState → KeeperState D → KeeperState D → Unstored B → Type 0
+IsBack faults sealed old new (NoMemory back) = (back ≡ sealed) × (new ≡ old)
+IsBack faults sealed old new (AreaFull back) = (back ≡ sealed) × (new ≡ old)
+IsBack faults sealed old new Failed = IsLetGo faults sealed old new

@@ -3,7 +3,7 @@ use Rattle.std.specs.Prelude.{ℕ, ◌≡◌, ◌+◌, ◌≤◌, true, false, L
 use mathlib.Core.List.{IsPrefix}
 use Rattle.device_image.specs.Holds.{Holds}
 use Rattle.device_image.specs.Keeper.{KeeperState, One}
-use Rattle.disk_model.specs.Disk.{MayLeave, State}
+use Rattle.disk_model.specs.Disk.{LeavesOnly, MayLeave, State}
 use Rattle.image_model.specs.Change.{Change}
 use Rattle.image_model.specs.Image.{Image, apply_all}
 use Rattle.marks.specs.Known.{KeeperKnows}
@@ -13,6 +13,10 @@ use Rattle.shared_store.specs.Parts.{StandsWithin}
 pub record SeatedState (D : Type 0) : Type 0 where
   pub seat : KeeperKnows
   pub keeper : KeeperState D
+
+-- a device of no bytes, for names of exports of which nothing is said
+abbrev pub empty_device : State
+empty_device = record { seen = []; unsynced = λ place. ⊥; loose = λ place. ⊥; moment = 0; left_since = λ moment content. ⊥ }
 
 -- What the keeper has stored is the beginning of the history that its seat knows: what map and data hold, what stands in the areas
 -- in front of the last, and what stands in the last. Where the device is trusted, the keeper holds just these over the image as it
@@ -34,3 +38,13 @@ pub record IsOfHistory {D : Type 0} (state : D → State) (honest : D → Type 0
   -- what the seat has raised the durable number to is stored, and it knows the base
   pub seat_durable : seat.durable ≤ keeper.count
   pub seat_base : seat.base ≡ keeper.base
+
+-- Whatever a crash at some moment from the opening on may have left stands for the image after a beginning of the history.
+abbrev pub HasLeft : State → State → ℕ → Image → List Change → Type 0
+HasLeft start now opening image history = LeavesOnly start now (StandsWithin opening image history opening)
+
+-- What the keeper has stored begins the history, and where the device is trusted so did all that a crash may have left since the
+-- opening.
+pub record KeepsHistory {D : Type 0} (state : D → State) (honest : D → Type 0) (opening : ℕ) (image : Image) (start : State) (trusted : Type 0) (seat : KeeperKnows) (keeper : KeeperState D) : Type 0 where
+  pub stored : IsOfHistory state honest opening image trusted seat keeper
+  pub passed : trusted → HasLeft start (state keeper.disk) opening image seat.history

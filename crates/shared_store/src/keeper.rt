@@ -1,10 +1,11 @@
-ghost use Rattle.std.specs.Prelude.{◌≡◌, ◌+◌, ◌≤◌, ◌↔◌, ◌≢◌, [], ℕ, List, Result, true, IfErr, IfOk, OnErr, OnOk, length, max};
+ghost use Rattle.std.specs.Prelude.{◌≡◌, ◌+◌, ◌<◌, ◌≤◌, ◌↔◌, ◌≢◌, [], ℕ, List, Result, Err, true, false, IfErr, IfOk, IsErrAnd, IsTrue, OnErr, OnOk, length, max};
 ghost use mathlib.Core.List.{IsPrefix};
-ghost use Rattle.checkpoint.specs.Keeper.{refused_by};
+ghost use Rattle.checkpoint.specs.Keeper.{end_after, faults_by, grown_by, refused_by};
 ghost use Rattle.checkpoint.specs.Recovery.{IsRecovered};
-ghost use Rattle.checkpoint.specs.Steps.{copied_by, finished_by, mapped_by, rotated_by};
+ghost use Rattle.checkpoint.specs.Steps.{IsCopyTime, IsFinishTime, IsMapTime, IsRotateTime, IsStepFault, copied_by, finished_by, mapped_by, rotated_by};
 ghost use Rattle.checkpoint.specs.declared.fault.KeeperFault.TheVariants as KeeperFault;
 ghost use Rattle.device_image.specs.Holds.{Holds};
+ghost use Rattle.device_image.specs.Stands.{StandsFor};
 ghost use Rattle.disk_model.specs.Disk.{LeavesOnly, MayLeave};
 ghost use Rattle.export_model.specs.Verdict.{verdict};
 ghost use Rattle.export_model.specs.declared.action.Action.{Action};
@@ -12,9 +13,9 @@ ghost use Rattle.nbd_wire.specs.declared.error.Errno.{Errno};
 ghost use Rattle.order_book.specs.Order.{PublishesTo, with_durable};
 ghost use Rattle.request_core.specs.Outcomes.{IsServedBy};
 ghost use Rattle.request_core.specs.Serving.{IsPassServed};
-ghost use Rattle.shared_store.specs.Keepers.{IsOfHistory};
+ghost use Rattle.shared_store.specs.Keepers.{HasLeft, IsOfHistory};
 ghost use Rattle.shared_store.specs.Parts.{StandsWithin};
-ghost use Rattle.shared_store.specs.Back.{IsBack};
+ghost use Rattle.shared_store.specs.Back.{IsBack, IsFull};
 
 use crate::group::SealedGroup;
 use crate::name::ImageName;
@@ -51,13 +52,13 @@ impl<B: ImageName, D: Disk + Drop> Drop for SharedKeeper<B, D> {
 }
 
 impl<B: ImageName, D: Disk> Model for SharedKeeper<B, D> {
-    ghost use Rattle.shared_store.specs.Keepers.{IsOfHistory, SeatedState};
+    ghost use Rattle.shared_store.specs.Keepers.{KeepsHistory, SeatedState};
 
     ghost Value = { SeatedState D };
 
     ghost view = { λ shared. record { seat = shared.seat; keeper = shared.keeper } };
 
-    ghost invariant = { λ shared. IsOfHistory D.state D.honest B.opening B.image B.trusted shared.seat shared.keeper };
+    ghost invariant = { λ shared. KeepsHistory D.state D.honest B.opening B.image B.start B.trusted shared.seat shared.keeper };
 }
 
 impl<B: ImageName, D: Disk> SharedKeeper<B, D> {
@@ -69,6 +70,7 @@ impl<B: ImageName, D: Disk> SharedKeeper<B, D> {
         requires blocks { keeper.geometry.blocks ≡ B.image.blocks }
         requires honest { B.trusted → D.honest keeper.disk }
         requires image { B.trusted → Holds keeper (D.state keeper.disk) B.image [] [] }
+        requires start { B.trusted → LeavesOnly B.start (D.state keeper.disk) (λ content. StandsFor content B.image B.opening) }
         ensures { result ≡ record { seat = seat; keeper = keeper } }
     {
         SharedKeeper { seat, keeper }
@@ -91,10 +93,10 @@ impl<B: ImageName, D: Disk> SharedKeeper<B, D> {
 
     /// Stores a sealed group behind all that is stored; one that may be stored later comes back.
     pub fn append(&mut self, board: &Board<B>, sealed: SealedGroup<B>) -> Result<(), Unstored<B>>
-        ensures count { OnOk result (self.new.keeper.count ≡ self.old.keeper.count + length sealed.group.commands) }
+        ensures ok { OnOk result (self.new.keeper ≡ grown_by self.old.keeper sealed.group self.new.keeper.disk self.new.keeper.memory) }
         ensures told { OnOk result (IsPrefix sealed.told self.new.seat.history) }
-        ensures kept { OnErr result (self.new.keeper.count ≡ self.old.keeper.count) }
-        ensures back { IfErr result (IsBack sealed) }
+        ensures full { IsErrAnd result IsFull ↔ ((self.old.keeper.failed ≡ false) × (self.old.keeper.geometry.area < end_after self.old.keeper sealed.group)) }
+        ensures back { IfErr result (IsBack D.faults sealed self.old.keeper self.new.keeper) }
         ensures seen { IsPrefix self.old.seat.history self.new.seat.history }
         ensures durable { self.new.seat.durable ≡ self.old.seat.durable }
         ensures geometry { self.new.keeper.geometry ≡ self.old.keeper.geometry }
@@ -138,6 +140,13 @@ impl<B: ImageName, D: Disk> SharedKeeper<B, D> {
     pub fn rotate(&mut self) -> Result<(), KeeperFault>
         ensures ok { OnOk result (self.new.keeper ≡ rotated_by self.old.keeper self.new.keeper.disk self.new.keeper.memory) }
         ensures err { IfErr result (λ fault. self.new.keeper ≡ refused_by fault self.old.keeper self.new.keeper.disk) }
+        ensures failed { (result ≡ Err KeeperFault.Failed) ↔ IsTrue self.old.keeper.failed }
+        ensures not_now { (result ≡ Err KeeperFault.NotNow) ↔ ((self.old.keeper.failed ≡ false) × (IsRotateTime self.old.keeper.phase self.old.keeper.used → ⊥)) }
+        ensures full { (result ≡ Err KeeperFault.NumbersFull)
+            ↔ ((self.old.keeper.failed ≡ false) × IsRotateTime self.old.keeper.phase self.old.keeper.used × (self.old.keeper.generation ≡ 18446744073709551615)) }
+        ensures only { IfErr result IsStepFault }
+        ensures faults_ok { OnOk result (D.faults self.new.keeper.disk ≡ D.faults self.old.keeper.disk) }
+        ensures faults_err { IfErr result (λ fault. D.faults self.new.keeper.disk ≡ faults_by fault (D.faults self.old.keeper.disk)) }
         ensures seat { self.new.seat ≡ self.old.seat }
         ensures any_moment { B.trusted → LeavesOnly (D.state self.old.keeper.disk) (D.state self.new.keeper.disk)
             (StandsWithin B.opening B.image self.new.seat.history self.old.keeper.count) }
@@ -151,6 +160,12 @@ impl<B: ImageName, D: Disk> SharedKeeper<B, D> {
         ensures ok { IfOk result (λ blocks. (1 ≤ blocks) × (blocks ≤ most)
             × (self.new.keeper ≡ copied_by self.old.keeper blocks self.new.keeper.disk self.new.keeper.memory)) }
         ensures err { IfErr result (λ fault. self.new.keeper ≡ refused_by fault self.old.keeper self.new.keeper.disk) }
+        ensures failed { (result ≡ Err KeeperFault.Failed) ↔ IsTrue self.old.keeper.failed }
+        ensures not_now { (result ≡ Err KeeperFault.NotNow) ↔ ((self.old.keeper.failed ≡ false) × (IsCopyTime self.old.keeper.phase → ⊥)) }
+        ensures full { result ≢ Err KeeperFault.NumbersFull }
+        ensures only { IfErr result IsStepFault }
+        ensures faults_ok { OnOk result (D.faults self.new.keeper.disk ≡ D.faults self.old.keeper.disk) }
+        ensures faults_err { IfErr result (λ fault. D.faults self.new.keeper.disk ≡ faults_by fault (D.faults self.old.keeper.disk)) }
         ensures seat { self.new.seat ≡ self.old.seat }
         ensures any_moment { B.trusted → LeavesOnly (D.state self.old.keeper.disk) (D.state self.new.keeper.disk)
             (StandsWithin B.opening B.image self.new.seat.history self.old.keeper.count) }
@@ -162,6 +177,12 @@ impl<B: ImageName, D: Disk> SharedKeeper<B, D> {
     pub fn write_map(&mut self) -> Result<(), KeeperFault>
         ensures ok { OnOk result (self.new.keeper ≡ mapped_by self.old.keeper self.new.keeper.disk self.new.keeper.memory) }
         ensures err { IfErr result (λ fault. self.new.keeper ≡ refused_by fault self.old.keeper self.new.keeper.disk) }
+        ensures failed { (result ≡ Err KeeperFault.Failed) ↔ IsTrue self.old.keeper.failed }
+        ensures not_now { (result ≡ Err KeeperFault.NotNow) ↔ ((self.old.keeper.failed ≡ false) × (IsMapTime self.old.keeper.phase → ⊥)) }
+        ensures full { result ≢ Err KeeperFault.NumbersFull }
+        ensures only { IfErr result IsStepFault }
+        ensures faults_ok { OnOk result (D.faults self.new.keeper.disk ≡ D.faults self.old.keeper.disk) }
+        ensures faults_err { IfErr result (λ fault. D.faults self.new.keeper.disk ≡ faults_by fault (D.faults self.old.keeper.disk)) }
         ensures seat { self.new.seat ≡ self.old.seat }
         ensures any_moment { B.trusted → LeavesOnly (D.state self.old.keeper.disk) (D.state self.new.keeper.disk)
             (StandsWithin B.opening B.image self.new.seat.history self.old.keeper.count) }
@@ -173,6 +194,14 @@ impl<B: ImageName, D: Disk> SharedKeeper<B, D> {
     pub fn finish(&mut self, board: &Board<B>) -> Result<(), KeeperFault>
         ensures ok { OnOk result (self.new.keeper ≡ finished_by self.old.keeper self.new.keeper.disk self.new.keeper.memory) }
         ensures err { IfErr result (λ fault. self.new.keeper ≡ refused_by fault self.old.keeper self.new.keeper.disk) }
+        ensures failed { (result ≡ Err KeeperFault.Failed) ↔ IsTrue self.old.keeper.failed }
+        ensures not_now { (result ≡ Err KeeperFault.NotNow) ↔ ((self.old.keeper.failed ≡ false) × (IsFinishTime self.old.keeper.phase → ⊥)) }
+        ensures full { (result ≡ Err KeeperFault.NumbersFull)
+            ↔ ((self.old.keeper.failed ≡ false) × IsFinishTime self.old.keeper.phase × (self.old.keeper.generation ≡ 18446744073709551615)) }
+        ensures memory { result ≢ Err KeeperFault.NoMemory }
+        ensures only { IfErr result IsStepFault }
+        ensures faults_ok { OnOk result (D.faults self.new.keeper.disk ≡ D.faults self.old.keeper.disk) }
+        ensures faults_err { IfErr result (λ fault. D.faults self.new.keeper.disk ≡ faults_by fault (D.faults self.old.keeper.disk)) }
         ensures seat { OnOk result (self.new.seat ≡ record self.old.seat { base = self.old.keeper.turned }) }
         ensures same { OnErr result (self.new.seat ≡ self.old.seat) }
         ensures any_moment { B.trusted → LeavesOnly (D.state self.old.keeper.disk) (D.state self.new.keeper.disk)
@@ -193,6 +222,7 @@ impl<B: ImageName, D: Disk> SharedKeeper<B, D> {
         ensures history { self.new.seat.history ≡ order.old.history }
         ensures base { order.old.base ≤ self.new.keeper.base }
         ensures stored { IsOfHistory D.state D.honest B.opening B.image B.trusted self.new.seat self.new.keeper }
+        ensures passed { B.trusted → HasLeft B.start (D.state self.new.keeper.disk) B.opening B.image self.new.seat.history }
     {
         order.meet(board, &mut self.seat);
     }
@@ -213,9 +243,10 @@ impl<B: ImageName, D: Disk> SharedKeeper<B, D> {
         ensures known { IsPrefix pass.old.history self.new.seat.history }
         ensures knew { IsPrefix pass.old.history pass.new.history }
         ensures durable { pass.old.durable ≤ self.old.keeper.count }
-        ensures pass { pass.new.durable ≡ pass.old.durable }
+        ensures pass { pass.new ≡ record pass.old { history = pass.new.history; accepted = pass.new.accepted } }
         ensures left { B.trusted → (content : List ℕ) → MayLeave (D.state self.old.keeper.disk) content
             → StandsWithin B.opening B.image self.new.seat.history pass.old.durable content }
+        ensures passed { B.trusted → HasLeft B.start (D.state self.old.keeper.disk) B.opening B.image self.new.seat.history }
     {
         let told = board.tell(pass);
         board.inform(&mut self.seat, told);
@@ -240,6 +271,7 @@ impl<B: ImageName, D: Disk> SharedKeeper<B, D> {
         ensures serves { (given : Result Action Errno) × (given ≡ verdict request.head terms.geometry terms.flags)
             × IsServedBy D.state D.faults D.honest given request terms.geometry terms.mode order.old order.new self.old.keeper self.new.keeper result }
         ensures pass { IsPassServed B.opening request order.old.mark order.new.mark result pass.old pass.new }
+        ensures grown { order.old.mark < order.new.mark → pass.new.history ≡ order.new.history }
         ensures seat { self.new.seat ≡ self.old.seat }
         ensures any_moment { B.trusted → LeavesOnly (D.state self.old.keeper.disk) (D.state self.new.keeper.disk)
             (StandsWithin B.opening B.image self.new.seat.history self.old.keeper.count) }

@@ -1,9 +1,10 @@
-ghost use Rattle.std.specs.Prelude.{◌≡◌, ◌≢◌, ◌*◌, ◌+◌, ◌/◌, ◌<◌, ◌≤◌, ◌↔◌, ℕ, List, Result, [], true, IfErr, IfNone, IfOk, IfSome, IsErr, OnErr, OnOk, length, max, vec_len};
+ghost use Rattle.std.specs.Prelude.{◌≡◌, ◌≢◌, ◌*◌, ◌+◌, ◌/◌, ◌<◌, ◌≤◌, ◌⊎◌, ◌↔◌, ℕ, List, None, Ok, Result, [], true, IfErr, IfNone, IfOk, IfSome, IsErr, OnErr, OnOk, length, max, vec_len, ◌++◌, ◌∷◌};
 ghost use mathlib.Core.List.{IsPrefix};
 ghost use Rattle.disk_model.specs.Disk.{LeavesOnly, MayLeave};
+ghost use Rattle.export_model.specs.Log.{edit_asked};
 ghost use Rattle.export_model.specs.Verdict.{verdict};
 ghost use Rattle.export_model.specs.declared.action.Action.{Action};
-ghost use Rattle.image_model.specs.Edit.{blocks_met};
+ghost use Rattle.image_model.specs.Edit.{becomes, blocks_met};
 ghost use Rattle.image_model.specs.Image.{apply_all};
 ghost use Rattle.image_model.specs.declared.command.Kind.{Kind};
 ghost use Rattle.marks.specs.Known.{known};
@@ -13,6 +14,9 @@ ghost use Rattle.order_book.specs.Shown.{ShowsImage};
 ghost use Rattle.request_core.specs.Outcomes.{IsServedBy, IsServedHere, NeedsDevice};
 ghost use Rattle.request_core.specs.Reading.{IsPlanned, IsReadOverServed};
 ghost use Rattle.request_core.specs.Serving.{IsPassServed};
+ghost use Rattle.order_book.specs.declared.fault.OrderFault.TheVariants as OrderFault;
+ghost use Rattle.shared_store.specs.Keepers.{HasLeft};
+ghost use Rattle.shared_store.specs.Answers.{ServesImage};
 ghost use Rattle.shared_store.specs.Orders.{GivesImage};
 ghost use Rattle.shared_store.specs.Parts.{StandsWithin};
 
@@ -114,6 +118,12 @@ impl<B: ImageName> SharedOrder<B> {
         ensures unchanged { OnErr result ((self.new ≡ self.old) × (pass.new ≡ pass.old)) }
         ensures pass { IfOk result (λ served. IsPassServed B.opening request self.old.mark self.new.mark served pass.old pass.new) }
         ensures shows { B.trusted → B.shown → ShowsImage (apply_all self.old.history B.image) self.old.cache }
+
+        // Bytes and states are those of the image after the history. A command that was accepted is what the request's edit becomes
+        // over the image after the history before it, and its pass knows both.
+        ensures tells { IfOk result (λ served. B.trusted → B.shown → ServesImage (apply_all self.new.history B.image) request.head served) }
+        ensures over { B.trusted → B.shown → self.old.mark < self.new.mark
+            → pass.new.history ≡ self.old.history ++ becomes (edit_asked request) (apply_all self.old.history B.image) ∷ [] }
     {
         serve_held(alloc, request, &mut self.order, board, pass, terms)
     }
@@ -139,6 +149,7 @@ impl<B: ImageName> SharedOrder<B> {
         ensures size { IfErr result (λ back. vec_len back ≡ 4096 * blocks_met head.now.offset head.now.length) }
         ensures unchanged { OnErr result (self.new ≡ self.old) }
         ensures shows { B.trusted → B.shown → ShowsImage (apply_all self.old.history B.image) self.old.cache }
+        ensures tells { IfOk result (λ served. B.trusted → B.shown → ServesImage (apply_all self.new.history B.image) head.now served) }
     {
         serve_read_over(alloc, head, &mut self.order, span, bytes, terms)
     }
@@ -162,6 +173,9 @@ impl<B: ImageName> SharedOrder<B> {
         ensures serves { (given : Result Action Errno) × (given ≡ verdict request.head terms.geometry terms.flags)
             × IsServedBy D.state D.faults D.honest given request terms.geometry terms.mode self.old self.new keeper.old.keeper keeper.new.keeper result }
         ensures pass { IsPassServed B.opening request self.old.mark self.new.mark result pass.old pass.new }
+        ensures tells { B.trusted → B.shown → ServesImage (apply_all self.new.history B.image) request.head result }
+        ensures over { B.trusted → B.shown → self.old.mark < self.new.mark
+            → pass.new.history ≡ self.old.history ++ becomes (edit_asked request) (apply_all self.old.history B.image) ∷ [] }
         ensures any_moment { B.trusted → LeavesOnly (D.state keeper.old.keeper.disk) (D.state keeper.new.keeper.disk)
             (StandsWithin B.opening B.image self.old.history keeper.old.keeper.count) }
     {
@@ -174,7 +188,10 @@ impl<B: ImageName> SharedOrder<B> {
     /// The longest beginning of the pending commands that a group may hold, which stands in the history.
     pub fn seal(&mut self, board: &Board<B>) -> Result<Option<SealedGroup<B>>, OrderFault>
         ensures group { IfOk result (λ sealed. IfSome sealed (λ group. Seals self.old self.new group.group × (group.told ≡ self.old.history))) }
+        ensures in_hand { IfOk result (λ sealed. IfSome sealed (λ group. IsInHand self.new group.group)) }
+        ensures none { (result ≡ Ok None) ↔ ((self.old.pending ≡ []) ⊎ (self.old.durable < self.old.sealed)) }
         ensures unchanged { IfOk result (λ sealed. IfNone sealed (self.new ≡ self.old)) }
+        ensures fault { IfErr result (λ fault. fault ≡ OrderFault.NoMemory) }
         ensures err { OnErr result (self.new ≡ self.old) }
     {
         let Some(group) = self.order.seal()? else {
@@ -212,23 +229,27 @@ impl<B: ImageName> SharedOrder<B> {
     }
 
     /// Keeper and pass meet the order: the pass knows all of the history then. Whatever a crash may leave of the device now stands for
-    /// the image after a beginning of that, with all that the pass knows to be durable.
+    /// the image after a beginning of that, with all that the pass knows to be durable. It gives the order's last number.
     pub fn meet_all<D: Disk>(
         &mut self,
         board: &Board<B>,
         keeper: &mut SharedKeeper<B, D>,
         pass: &mut Pass<B>,
-    )
+    ) -> u64
+        ensures mark { result ≡ self.old.mark }
         ensures order { self.new ≡ self.old }
         ensures keeper { keeper.new.keeper ≡ keeper.old.keeper }
         ensures history { pass.new.history ≡ self.old.history }
         ensures knew { IsPrefix pass.old.history pass.new.history }
+        ensures pass { pass.new ≡ record pass.old { history = self.old.history; accepted = self.old.mark } }
+        ensures place { self.old.mark ≡ B.opening + length self.old.history }
         ensures left { B.trusted → (content : List ℕ) → MayLeave (D.state keeper.old.keeper.disk) content
             → StandsWithin B.opening B.image pass.new.history pass.old.durable content }
+        ensures passed { B.trusted → HasLeft B.start (D.state keeper.old.keeper.disk) B.opening B.image pass.new.history }
     {
         keeper.meet_pass(board, pass);
         keeper.meet(board, &mut self.order);
-        self.order.show_mark(board, pass);
+        self.order.show_mark(board, pass)
     }
 
     /// Makes the dirty blocks clean that map and data hold: their frames can be let go.

@@ -4,17 +4,19 @@ use Rattle.disk_model.specs.Disk.{MayLeave}
 use Rattle.image_model.specs.Change.{Change}
 use Rattle.marks.specs.Known.{KeeperKnows, Marks, PassState}
 use Rattle.marks.specs.laws.Beginnings.{prefix_trans}
-use Rattle.shared_store.specs.Keepers.{SeatedState}
+use Rattle.shared_store.specs.Keepers.{SeatedState, HasLeft}
 use Rattle.shared_store.specs.Parts.{StandsWithin}
-use Rattle.shared_store.proofs.Keeping.{seated, stands_less}
+use Rattle.shared_store.proofs.Keeping.{left_longer, passing_still, seated, stands_less}
 use Rattle.shared_store.proofs.keeper.SharedKeeper.meet_pass.Goals as goal
 
 pub invariant_of-self : goal.invariant_of-self
 invariant_of-self g c =
     let i = c.self.inside in let same = c.inform.ensures.keeper in
     let durable : c.inform.new.keeper.durable ≡ i.seat.durable = ap (λ (s : KeeperKnows). s.durable) same in
-    seated g.D.Disk.state g.D.Disk.honest g.B.BoardName.opening g.B.ImageName.image g.B.ImageName.trusted i.seat c.inform.new.keeper i.keeper c.self.invariant c.inform.ensures.seen
-    (let stored = c.self.invariant.seat_durable in omega (arith, durable, stored)) (ap (λ (s : KeeperKnows). s.base) same)
+    passing_still g.D.Disk.state g.D.Disk.honest g.B.BoardName.opening g.B.ImageName.image g.B.ImageName.start g.B.ImageName.trusted i.seat i.keeper c.self.invariant c.inform.new.keeper
+    (seated g.D.Disk.state g.D.Disk.honest g.B.BoardName.opening g.B.ImageName.image g.B.ImageName.trusted i.seat c.inform.new.keeper i.keeper c.self.invariant.stored c.inform.ensures.seen
+    (let stored = c.self.invariant.stored.seat_durable in omega (arith, durable, stored)) (ap (λ (s : KeeperKnows). s.base) same))
+    c.inform.ensures.seen
 
 pub returns-clause-known : goal.returns-clause-known
 returns-clause-known g c =
@@ -26,7 +28,7 @@ pub returns-clause-durable : goal.returns-clause-durable
 returns-clause-durable g c =
     let durable = ap (λ (m : Marks). m.durable) c.tell-told.ensures.told in
     let own = ap (λ (p : PassState). p.durable) c.tell-told.ensures.pass in
-    let stored = c.self.invariant.seat_durable in
+    let stored = c.self.invariant.stored.seat_durable in
     let covered = c.inform.ensures.durable in
     subst (λ (s : SeatedState g.row.D.Denot). c.args.pass.now.durable ≤ s.keeper.count) c.self.view_is (omega (arith, durable, own, stored, covered))
 
@@ -35,7 +37,13 @@ returns-clause-left g c =
     let i = c.self.inside in let pass = c.args.pass.now in
     let durable = ap (λ (m : Marks). m.durable) c.tell-told.ensures.told in
     let own = ap (λ (p : PassState). p.durable) c.tell-told.ensures.pass in
-    let stored = c.self.invariant.seat_durable in
+    let stored = c.self.invariant.stored.seat_durable in
     let covered = c.inform.ensures.durable in
     subst (λ (s : SeatedState g.row.D.Denot). g.B.ImageName.trusted → (content : List ℕ) → MayLeave (g.D.Disk.state s.keeper.disk) content → StandsWithin g.B.BoardName.opening g.B.ImageName.image c.inform.new.keeper.history pass.durable content) c.self.view_is
-    (stands_less g.D.Disk.state g.D.Disk.honest g.B.BoardName.opening g.B.ImageName.image g.B.ImageName.trusted i.seat i.keeper c.self.invariant c.inform.new.keeper pass.durable c.inform.ensures.seen (omega (arith, durable, own, stored, covered)))
+    (stands_less g.D.Disk.state g.D.Disk.honest g.B.BoardName.opening g.B.ImageName.image g.B.ImageName.trusted i.seat i.keeper c.self.invariant.stored c.inform.new.keeper pass.durable c.inform.ensures.seen (omega (arith, durable, own, stored, covered)))
+
+pub returns-clause-passed : goal.returns-clause-passed
+returns-clause-passed g c =
+    let i = c.self.inside in
+    subst (λ (s : SeatedState g.row.D.Denot). g.B.ImageName.trusted → HasLeft g.B.ImageName.start (g.D.Disk.state s.keeper.disk) g.B.BoardName.opening g.B.ImageName.image c.inform.new.keeper.history) c.self.view_is
+    (λ sure. left_longer g.B.BoardName.opening g.B.ImageName.image g.B.ImageName.start (g.D.Disk.state i.keeper.disk) i.seat.history c.inform.new.keeper.history c.inform.ensures.seen (c.self.invariant.passed sure))
