@@ -63,7 +63,7 @@ where
         prepared,
     } = what;
     let passes = threads as usize + 1;
-    let Ok((export, passes)) = Export::<B, D, ()>::open(
+    let Ok((export, passes, mut last)) = Export::<B, D, ()>::open(
         alloc,
         device,
         frames,
@@ -77,7 +77,7 @@ where
     let Some(nanos) = jobs.outcome() else {
         return Err(anyhow!("a thread failed"));
     };
-    match Keeper::open(alloc, export.into_disk()) {
+    match Keeper::open(alloc, export.close(&mut last).0) {
         Ok(keeper) => Ok(Measured {
             nanos,
             number: keeper.count(),

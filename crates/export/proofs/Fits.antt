@@ -1,5 +1,5 @@
 -- what a request is answered is of its type
-use Rattle.std.specs.Prelude.{IfOk, ◌&&◌, bit_and, not}
+use Rattle.std.specs.Prelude.{◌&&◌, bit_and, not}
 use Rattle.std.proofs.Common.{◌≡◌, ◌≢◌, ◌⊎◌, ◌∙◌, ◌+◌, ◌==◌, inl, inr, ℕ, Bool, false, true, if◌then◌else◌, List, [], ◌∷◌, Result, Ok, Err, ap, refl, sym, subst, arith}
 use Rattle.std.proofs.lemmas.Bool.Decides.{nat_tests}
 use Rattle.alloc_map.specs.Codes.{state_at}
@@ -189,21 +189,9 @@ module _ (request : Message) (geometry : Geometry) (flags : SessionFlags) where
     with_fits state faults honest keeper left (Ok Serve) is (inr (inr (works, write, inr edit))) = failed is request.head.cookie result edit.unread.answer
     with_fits state faults honest keeper left (Err errno) is by = refused request.head.cookie errno result (subst (λ (given : Result Action Errno). IsJudged given request (Refused errno)) (sym is) refl) by.2
 
--- the same of a request that may need the keeper
-pub if_fits : {E : Type 0} (request : Message) (geometry : Geometry) (flags : SessionFlags) (kept : Mode) (old new : OrderState) (result : Result Served E)
-    → IfOk result (λ s. IsServedHere (verdict request.head geometry flags) request geometry kept old new s) → IfOk result (λ s. FitsServed geometry flags request s)
-if_fits request geometry flags kept old new (Ok s) here = here_fits request geometry flags kept old new s (verdict request.head geometry flags) refl here
-if_fits request geometry flags kept old new (Err back) here = tt
-
 -- the same of a READ that was served with bytes read before
-over_fits : (request : Message) (geometry : Geometry) (flags : SessionFlags) (span : Span) (bytes : List ℕ) (old new : OrderState) (result : Served)
+pub over_fits : (request : Message) (geometry : Geometry) (flags : SessionFlags) (span : Span) (bytes : List ℕ) (old new : OrderState) (result : Served)
     → verdict request.head geometry flags ≡ Ok Serve → request.head.kind ≡ 0 → IsReadOverServed request.head span bytes old new result → FitsServed geometry flags request result
 over_fits request geometry flags span bytes old new result passes kind (inl none) =
     lacked request geometry flags passes request.head.cookie result (shows_three request.head.kind (inl kind)) none.1
 over_fits request geometry flags span bytes old new result passes kind (inr read) = shown request geometry flags passes read.image request.head.cookie result (inl kind) read.answer
-
-pub if_over_fits : {E : Type 0} (request : Message) (geometry : Geometry) (flags : SessionFlags) (span : Span) (bytes : List ℕ) (old new : OrderState) (result : Result Served E)
-    → verdict request.head geometry flags ≡ Ok Serve → request.head.kind ≡ 0
-    → IfOk result (λ s. IsReadOverServed request.head span bytes old new s) → IfOk result (λ s. FitsServed geometry flags request s)
-if_over_fits request geometry flags span bytes old new (Ok s) passes kind over = over_fits request geometry flags span bytes old new s passes kind over
-if_over_fits request geometry flags span bytes old new (Err back) passes kind over = tt

@@ -1,4 +1,6 @@
+mod Begun
 mod Fits
 mod Found
 mod Opened
 mod Submits
+mod Told

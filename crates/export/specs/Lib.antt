@@ -1,3 +1,4 @@
+pub mod Left
 pub mod Opened
 pub mod Submits
 pub mod Trusted

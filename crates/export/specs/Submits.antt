@@ -3,7 +3,7 @@ use Rattle.std.specs.Prelude.{ℕ, ◌≡◌, ◌≢◌, ◌+◌, ◌<◌, ◌�
 use mathlib.Core.List.{IsPrefix}
 use Rattle.image_model.specs.Change.{Change}
 use Rattle.image_model.specs.Edit.{becomes}
-use Rattle.image_model.specs.Image.{Image}
+use Rattle.image_model.specs.Image.{Image, apply_all}
 use Rattle.marks.specs.Known.{PassState, known}
 use Rattle.nbd_wire.specs.Request.{Message}
 use Rattle.nbd_wire.specs.declared.error.Errno.{Errno}
@@ -12,14 +12,14 @@ use Rattle.nbd_wire.specs.declared.message.Answer.{Answer}
 use Rattle.nbd_wire.specs.declared.message.Answer.TheVariants.{Done, Refused}
 use Rattle.export_model.specs.Log.{edit_asked, is_flush, is_write, waits_for_store}
 use Rattle.export_model.specs.Shown.{shown_by}
-use Rattle.export_model.specs.Verdict.{verdict}
 use Rattle.export_model.specs.declared.action.Action.{Action}
 use Rattle.export_model.specs.declared.action.Action.TheVariants.{End, Serve}
 use Rattle.export_model.specs.declared.step.Mode.{Mode}
 
 -- The pass's own command is what the request's edit becomes over an image, under a number above all that it knew before. In the
--- history that it then knows that stands at its number, behind all that it knew before and commands of others.
-pub record IsAccepted (opening : ℕ) (request : Message) (number : ℕ) (old new : PassState) : Type 0 where
+-- history that it then knows that stands at its number, behind all that it knew before and commands of others; where the device is
+-- trusted it is what the edit becomes over the image of the opening after just these.
+pub record IsAccepted (opening : ℕ) (first : Image) (trusted : Type 0) (request : Message) (number : ℕ) (old new : PassState) : Type 0 where
   pub above : known old < number
   pub image : Image
   pub own : new.own ≡ Some (record { number = number; change = becomes (edit_asked request) image })
@@ -27,6 +27,7 @@ pub record IsAccepted (opening : ℕ) (request : Message) (number : ℕ) (old ne
   pub knew : IsPrefix old.history earlier
   pub place : number ≡ opening + length earlier + 1
   pub within : IsPrefix (earlier ++ becomes (edit_asked request) image ∷ []) new.history
+  pub over : trusted → becomes (edit_asked request) image ≡ becomes (edit_asked request) (apply_all earlier first)
 
 -- All of the history that a pass knew is durable, as it then knows.
 pub record IsCovered (opening : ℕ) (old new : PassState) : Type 0 where
@@ -39,13 +40,13 @@ pub record IsCovered (opening : ℕ) (old new : PassState) : Type 0 where
 -- A FLUSH that is answered Ok: all that its pass knew before is durable, whichever connection's it was. An error other than EIO
 -- leaves the pass as it was. Whatever the answer is, the last command of the pass is the one that it was, or the request's, and the
 -- history that it knows then begins with the one that it knew.
-pub record IsSubmitted (opening : ℕ) (request : Message) (kept : Mode) (old new : PassState) (answer : Answer) : Type 0 where
+pub record IsSubmitted (opening : ℕ) (first : Image) (trusted : Type 0) (request : Message) (kept : Mode) (old new : PassState) (answer : Answer) : Type 0 where
   pub knew : IsPrefix old.history new.history
-  pub written : answer ≡ Done → is_write request ≡ true → (number : ℕ) × IsAccepted opening request number old new × (waits_for_store kept request ≡ true → number ≤ new.durable)
+  pub written : answer ≡ Done → is_write request ≡ true → (number : ℕ) × IsAccepted opening first trusted request number old new × (waits_for_store kept request ≡ true → number ≤ new.durable)
   pub flushed : answer ≡ Done → is_flush request ≡ true → known old ≤ new.durable
   pub covered : answer ≡ Done → is_flush request ≡ true → IsCovered opening old new
   pub refused : (errno : Errno) → answer ≡ Refused errno → errno ≢ Io → new ≡ old
-  pub own : (new.own ≡ old.own) ⊎ ((is_write request ≡ true) × (number : ℕ) × IsAccepted opening request number old new)
+  pub own : (new.own ≡ old.own) ⊎ ((is_write request ≡ true) × (number : ℕ) × IsAccepted opening first trusted request number old new)
 
 -- The answers to a request on which this is the verdict: its error; else EIO, an error of want that its type may meet, Done to a
 -- FLUSH or a write command, and to a READ or a BLOCK_STATUS what some image shows in the range that was asked for.

@@ -1,9 +1,11 @@
 //! Reads of a device beside the locks.
-ghost use Rattle.std.specs.Prelude.{ℕ, List, IsTrue, OnOk};
+ghost use Rattle.std.specs.Prelude.{ℕ, ◌*◌, ◌-◌, List, IsTrue, OnOk, slice_range};
 ghost use Rattle.order_book.specs.Order.{OrderState};
 ghost use Rattle.order_book.specs.declared.span.Span.{Span as Blocks};
+ghost use Rattle.regions.specs.Layout.{block_at};
 
 use disk_model::DeviceFault;
+use image_model::Geometry;
 use marks::BoardName;
 use order_book::{Order, Span};
 
@@ -23,13 +25,22 @@ pub trait ReadBeside: Drop {
 
     /// Whether it vouches for bytes of blocks from the first one on, of which it gave those in a span, that are about to be served over
     /// an order: since they were asked for no frame was let go. Without that they aren't served.
-    fn vouch<B: BoardName>(&self, first: u64, span: Span, bytes: &[u8], order: &Order<B>) -> bool
+    fn vouch<B: BoardName>(
+        &self,
+        geometry: &Geometry,
+        first: u64,
+        span: Span,
+        bytes: &[u8],
+        order: &Order<B>,
+    ) -> bool
+        requires given { gives self.now (block_at geometry.now span.first) (slice_range bytes.now (4096 * (span.first - first)) (4096 * (span.end - first))) }
         ensures { IsTrue result → vouches self.now first span bytes.now order.now };
 }
 
 /// Reads nothing: for a device that has no second handle.
 impl ReadBeside for () {
-    ghost gives = { λ handle offset bytes. ⊥ };
+    // It never reads, so this is said of nothing.
+    ghost gives = { λ handle offset bytes. Unit {0} };
 
     ghost vouches = { λ handle first span bytes order. ⊥ };
 
@@ -39,6 +50,7 @@ impl ReadBeside for () {
 
     fn vouch<B: BoardName>(
         &self,
+        _geometry: &Geometry,
         _first: u64,
         _span: Span,
         _bytes: &[u8],

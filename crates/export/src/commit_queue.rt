@@ -1,13 +1,16 @@
 //! What lies under the order's lock.
-ghost use Rattle.std.specs.Prelude.{ℕ, List, ◌≡◌, ◌≢◌, ◌*◌, IfErr, IfOk, IfSome, IsErr, OnErr, length, max, vec_len};
+ghost use Rattle.std.specs.Prelude.{ℕ, List, ◌≡◌, ◌≢◌, ◌+◌, ◌-◌, ◌*◌, ◌/◌, IfErr, IfOk, IfSome, IsErr, OnErr, length, max, slice_range, vec_len};
 ghost use mathlib.Core.List.{IsPrefix};
 ghost use Rattle.disk_model.specs.Disk.{MayLeave};
-ghost use Rattle.export.specs.inner.Submits.{FitsServed, IsServedFor};
+ghost use Rattle.export.specs.inner.Submits.{FitsServed, IsServedFor, IsShownFor, serves_image};
 ghost use Rattle.image_model.specs.Edit.{blocks_met};
-ghost use Rattle.marks.specs.Known.{PassState};
+ghost use Rattle.image_model.specs.Image.{apply_all};
 ghost use Rattle.order_book.specs.Order.{with_clean};
 ghost use Rattle.request_core.specs.Reading.{IsPlanned, IsReadOverServed};
 ghost use Rattle.export.specs.Trusted.{VouchesTruly};
+ghost use Rattle.regions.specs.Layout.{block_at};
+ghost use Rattle.shared_store.specs.Keepers.{HasLeft};
+ghost use Rattle.shared_store.specs.Answers.{ServesImage};
 ghost use Rattle.shared_store.specs.Parts.{StandsWithin};
 
 use crate::beside::ReadBeside;
@@ -17,7 +20,7 @@ use crate::settling::FlushInterval;
 use crate::storage_engine::StorageEngine;
 use disk_model::Disk;
 use marks::{Board, Pass};
-use nbd_wire::Request;
+use nbd_wire::{Answer, Request};
 use order_book::{OrderFault, Span};
 use request_core::{Blocks, NeedsKeeper, Served, Terms, plan_read};
 use shared_store::{SealedGroup, SharedKeeper, SharedOrder};
@@ -78,6 +81,34 @@ impl<B: ExportName> Drop for CommitQueue<B> {
     }
 }
 
+// Whether bytes or states of the image were served.
+fn serves_image(served: &Served) -> bool
+    ensures { result ≡ serves_image served.now }
+{
+    match served {
+        Served::Ready(reply) => match &reply.answer {
+            Answer::Bytes(_) | Answer::States(_) => true,
+            Answer::Done | Answer::Refused(_) => false,
+        },
+        Served::Wait(_) | Served::NoRoom(_) => false,
+    }
+}
+
+// Shows the history to a pass for which bytes or states were served: they are those of the image after it.
+fn show<B: ExportName>(
+    order: &mut SharedOrder<B>,
+    board: &Board<B>,
+    pass: &mut Pass<B>,
+    served: &Served,
+)
+    ensures order { order.new ≡ order.old }
+    ensures pass { IsShownFor order.old.history order.old.mark served.now pass.old pass.new }
+{
+    if serves_image(served) {
+        order.show(board, pass);
+    }
+}
+
 impl<B: ExportName> CommitQueue<B> {
     pub(crate) fn new(
         order: SharedOrder<B>,
@@ -115,13 +146,16 @@ impl<B: ExportName> CommitQueue<B> {
     ) -> Result<Served, NeedsKeeper>
         requires kind { request.head.kind ≢ 2 }
         requires geometry { terms.geometry ≡ B.geometry }
-        ensures served { IfOk result (λ served. IsServedFor B.opening request terms.mode pass.old pass.new served) }
+        ensures served { IfOk result (λ served. IsServedFor B.opening B.image (B.trusted × B.shown) request terms.mode pass.old pass.new served) }
         ensures fits { IfOk result (λ served. FitsServed terms.geometry terms.flags request served) }
         ensures handed_back { IfErr result (λ back. back.0 ≡ request) }
         ensures unchanged { OnErr result (pass.new ≡ pass.old) }
         ensures settled { self.new.settled ≡ self.old.settled }
+        ensures tells { IfOk result (λ served. B.trusted → B.shown → ServesImage (apply_all pass.new.history B.image) request.head served) }
     {
-        self.order.serve(alloc, request, board, pass, terms)
+        let served = self.order.serve(alloc, request, board, pass, terms)?;
+        show(&mut self.order, board, pass, &served);
+        Ok(served)
     }
 
     /// What of the device is to be read for a READ before it is served; None for another request.
@@ -151,13 +185,18 @@ impl<B: ExportName> CommitQueue<B> {
         request: &Request,
         planned: Planned,
         bytes: Vec<u8>,
+        board: &Board<B>,
+        pass: &mut Pass<B>,
         terms: &Terms,
     ) -> Result<Served, Vec<u8>>
         requires planned { IsPlanned request.now.head terms.now.geometry terms.now.flags planned.span }
         requires geometry { terms.now.geometry ≡ B.geometry }
         requires vouched { B.shown → VouchesTruly (H.vouches handle.now) B.image }
+        requires given { H.gives handle.now (block_at terms.now.geometry planned.span.first)
+            (slice_range bytes.items (4096 * (planned.span.first - request.now.head.offset / 4096)) (4096 * (planned.span.end - request.now.head.offset / 4096))) }
         requires size { vec_len bytes ≡ 4096 * blocks_met request.now.head.offset request.now.head.length }
-        ensures served { (pass : PassState) → IfOk result (λ served. IsServedFor B.opening request.now terms.now.mode pass pass served) }
+        ensures served { IfOk result (λ served. IsServedFor B.opening B.image (B.trusted × B.shown) request.now terms.now.mode pass.old pass.new served) }
+        ensures tells { IfOk result (λ served. B.trusted → B.shown → ServesImage (apply_all pass.new.history B.image) request.now.head served) }
         ensures fits { IfOk result (λ served. FitsServed terms.now.geometry terms.now.flags request.now served) }
         ensures size { IfErr result (λ back. vec_len back ≡ 4096 * blocks_met request.now.head.offset request.now.head.length) }
         ensures settled { self.new.settled ≡ self.old.settled }
@@ -166,8 +205,8 @@ impl<B: ExportName> CommitQueue<B> {
         // Nothing is served of bytes that were read before frames were let go.
         ensures let_go { planned.settled ≢ self.old.settled → IsErr result }
 
-        // Where the bytes come back the order is as it was, and the rest of the queue is always.
-        ensures unchanged { OnErr result (self.new.order ≡ self.old.order) }
+        // Where the bytes come back order and pass are as they were, and the rest of the queue is always.
+        ensures unchanged { OnErr result ((self.new.order ≡ self.old.order) × (pass.new ≡ pass.old)) }
         ensures rest { (self.new.frames ≡ self.old.frames) × (self.new.passes ≡ self.old.passes) × (self.new.wanted ≡ self.old.wanted)
             × (self.new.waiters ≡ self.old.waiters) × (self.new.is_full ≡ self.old.is_full) × (self.new.lacks_room ≡ self.old.lacks_room)
             × (self.new.wish ≡ self.old.wish) × (self.new.is_flushed ≡ self.old.is_flushed) × (self.new.interval ≡ self.old.interval) }
@@ -177,6 +216,7 @@ impl<B: ExportName> CommitQueue<B> {
         }
         let head = request.head();
         let is_vouched = handle.vouch(
+            &terms.geometry,
             Blocks::of(&head).first,
             planned.span,
             &bytes,
@@ -185,8 +225,11 @@ impl<B: ExportName> CommitQueue<B> {
         if !is_vouched {
             return Err(bytes);
         }
-        self.order
-            .serve_over(alloc, &head, planned.span, bytes, terms)
+        let served = self
+            .order
+            .serve_over(alloc, &head, planned.span, bytes, terms)?;
+        show(&mut self.order, board, pass, &served);
+        Ok(served)
     }
 
     /// Serves a request that isn't a DISC, with the keeper.
@@ -202,14 +245,18 @@ impl<B: ExportName> CommitQueue<B> {
         requires kind { request.head.kind ≢ 2 }
         requires geometry { terms.geometry ≡ B.geometry }
         requires device { keeper.old.keeper.geometry ≡ B.geometry }
-        ensures served { IsServedFor B.opening request terms.mode pass.old pass.new result }
+        ensures served { IsServedFor B.opening B.image (B.trusted × B.shown) request terms.mode pass.old pass.new result }
         ensures fits { FitsServed terms.geometry terms.flags request result }
         ensures geometry { keeper.new.keeper.geometry ≡ keeper.old.keeper.geometry }
         ensures count { keeper.new.keeper.count ≡ keeper.old.keeper.count }
         ensures settled { self.new.settled ≡ self.old.settled }
+        ensures tells { B.trusted → B.shown → ServesImage (apply_all pass.new.history B.image) request.head result }
     {
-        self.order
-            .serve_with(alloc, request, keeper, board, pass, terms)
+        let served = self
+            .order
+            .serve_with(alloc, request, keeper, board, pass, terms);
+        show(&mut self.order, board, pass, &served);
+        served
     }
 
     /// Whether a call of the device has failed.
@@ -410,19 +457,22 @@ impl<B: ExportName> CommitQueue<B> {
         self.waiters.publish();
     }
 
-    /// Keeper and pass meet the order.
+    /// Keeper and pass meet the order, and gives the number of the last command that was accepted.
     pub(crate) fn meet_all<D: Disk>(
         &mut self,
         board: &Board<B>,
         keeper: &mut SharedKeeper<B, D>,
         pass: &mut Pass<B>,
-    )
+    ) -> u64
+        ensures mark { result ≡ B.opening + length pass.new.history }
         ensures keeper { keeper.new.keeper ≡ keeper.old.keeper }
+        ensures durable { pass.new.durable ≡ pass.old.durable }
         ensures knew { IsPrefix pass.old.history pass.new.history }
         ensures left { B.trusted → (content : List ℕ) → MayLeave (D.state keeper.old.keeper.disk) content
             → StandsWithin B.opening B.image pass.new.history pass.old.durable content }
+        ensures passed { B.trusted → HasLeft B.start (D.state keeper.old.keeper.disk) B.opening B.image pass.new.history }
     {
-        self.order.meet_all(board, keeper, pass);
+        self.order.meet_all(board, keeper, pass)
     }
 
     /// Lets the frames go whose blocks the image holds. A checkpoint that was wanted is done, and is wanted again where the area

@@ -1,21 +1,22 @@
-ghost use Rattle.std.specs.Prelude.{◌≡◌, ◌≤◌, ◌↔◌, ℕ, [], IfErr, IfOk, List, Some, length, replicate, vec_len};
+ghost use Rattle.std.specs.Prelude.{◌≡◌, ◌+◌, ◌≤◌, ◌↔◌, ℕ, [], IfErr, IfOk, IsTrue, List, Some, length, replicate, vec_len};
 ghost use mathlib.Core.List.{IsPrefix};
 ghost use Rattle.checkpoint.specs.Opening.{IsAtRest, IsOpening, IsPassing, disk_after, faults_after_opening};
 ghost use Rattle.checkpoint.specs.Recovery.{IsRecovered};
 ghost use Rattle.device_image.specs.Holds.{Holds};
 ghost use Rattle.device_image.specs.Keeps.{Keeps};
 ghost use Rattle.device_image.specs.Stands.{StandsFor};
-ghost use Rattle.disk_model.specs.Disk.{IsAllSynced, LeavesOnly, MayLeave};
+ghost use Rattle.disk_model.specs.Disk.{IsAllSynced, LeavesOnly};
+ghost use Rattle.export.specs.Left.{LeavesHistory};
 ghost use Rattle.export.specs.Opened.{keeper_part};
 ghost use Rattle.export.specs.Trusted.{IsTrusted, VouchesTruly, image_found};
 ghost use Rattle.image_model.specs.Image.{Image};
 ghost use Rattle.marks.specs.Known.{new_pass};
-ghost use Rattle.shared_store.specs.Parts.{StandsWithin};
 
 use crate::beside::ReadBeside;
 use crate::buffer_pool::BufferPool;
 use crate::commit_queue::CommitQueue;
 use crate::name::ExportName;
+use crate::retired::RetiredPass;
 use crate::storage_engine::StorageEngine;
 use checkpoint::{Keeper, KeeperFault};
 use device_image::keeper_laws;
@@ -132,24 +133,26 @@ impl<B: ExportName, D: Disk + Drop, H: ReadBeside> Drop for Export<B, D, H> {
 
 impl<B: ExportName, D: Disk, H: ReadBeside> Export<B, D, H> {
     /// An export over a device that was opened, under its name, which is picked where this is called, with so many frames for
-    /// blocks, and a pass for each of so many workers. A refusal for memory hands the device back.
+    /// blocks, a pass for each of so many workers, and one for its end. A refusal for memory hands the device back.
     pub fn open(
         alloc: Global,
         device: OpenDevice<D, H>,
         frames: u32,
         mode: Mode,
         workers: usize,
-    ) -> Result<(Export<B, D, H>, Vec<Pass<B>>), D>
+    ) -> Result<(Export<B, D, H>, Vec<Pass<B>>, RetiredPass<B>), D>
         requires board { device.blank.board ≡ B.board }
         requires named { device.blank.opening ≡ B.opening }
         requires geometry { device.keeper.geometry ≡ B.geometry }
         requires image { device.keeper.geometry.blocks ≡ B.image.blocks }
         requires trusted { B.trusted → IsTrusted D.state D.honest device.keeper B.image }
+        requires start { B.trusted → LeavesOnly B.start (D.state device.keeper.disk) (λ content. StandsFor content B.image B.opening) }
         requires shown { B.shown → (handle : H) → device.beside ≡ Some handle → VouchesTruly (H.vouches handle) B.image }
         requires frames { frames ≤ 65536 }
         ensures mode { IfOk result (λ made. made.0.mode ≡ mode) }
         ensures passes { IfOk result (λ made. vec_len made.1 ≡ workers) }
         ensures known { IfOk result (λ made. made.1.items ≡ replicate workers (new_pass device.keeper.count)) }
+        ensures last { IfOk result (λ made. made.2 ≡ new_pass device.keeper.count) }
         ensures back { IfErr result (λ disk. disk ≡ device.keeper.disk) }
     {
         let OpenDevice {
@@ -158,7 +161,7 @@ impl<B: ExportName, D: Disk, H: ReadBeside> Export<B, D, H> {
             beside,
         } = device;
         match open_parts::<B, D>(alloc, blank, &keeper, frames, workers) {
-            Ok((board, seat, order, passes)) => {
+            Ok((board, seat, order, passes, last)) => {
                 let settled = keeper.base();
                 let made = Export {
                     alloc,
@@ -173,7 +176,7 @@ impl<B: ExportName, D: Disk, H: ReadBeside> Export<B, D, H> {
                     work: Condvar::new(),
                     checkpoint_due: Condvar::new(),
                 };
-                Ok((made, passes))
+                Ok((made, passes, last))
             }
             Err(_) => Err(keeper.into_disk()),
         }
@@ -184,14 +187,16 @@ impl<B: ExportName, D: Disk, H: ReadBeside> Export<B, D, H> {
         self.queue.lock(rt).stopped()
     }
 
-    /// The device, as it is. What is pending is lost.
+    /// The device, as it is, and whether all is stored that was accepted. What is pending is lost.
     ///
     /// The pass then knows the one history of all that was accepted, which begins with what it knew. Whatever a crash may leave of the
     /// device stands for the image as the opening found it after a beginning of that history, with all that the pass knows to be
-    /// durable.
-    pub fn close(self, pass: &mut Pass<B>) -> D
+    /// durable; and so did whatever one may have left since.
+    pub fn close(self, pass: &mut RetiredPass<B>) -> (D, bool)
         ensures knew { IsPrefix pass.old.history pass.new.history }
-        ensures left { B.trusted → (content : List ℕ) → MayLeave (D.state result) content → StandsWithin B.opening B.image pass.new.history pass.old.durable content }
+        ensures durable { pass.old.durable ≤ pass.new.durable }
+        ensures left { B.trusted → LeavesHistory B.start (D.state result.0) B.opening B.image pass.new.history pass.new.durable }
+        ensures stored { IsTrue result.1 ↔ (B.opening + length pass.new.history ≤ pass.new.durable) }
     {
         let Export {
             alloc: _,
@@ -208,37 +213,29 @@ impl<B: ExportName, D: Disk, H: ReadBeside> Export<B, D, H> {
         } = self;
         let mut engine = store.into_inner();
         let mut queue = queue.into_inner();
-        engine.meet_all(&mut queue, &board, pass);
-        engine.into_keeper().into_disk()
-    }
-
-    /// The device, as it is. What is pending is lost.
-    pub fn into_disk(self) -> D {
-        let Export {
-            alloc: _,
-            board: _,
-            geometry: _,
-            mode: _,
-            store,
-            queue: _,
-            beside: _,
-            buffers: _,
-            settled: _,
-            work: _,
-            checkpoint_due: _,
-        } = self;
-        store.into_inner().into_keeper().into_disk()
+        let durable = board.look_durable(&mut pass.pass);
+        let mark = engine.meet_all(&mut queue, &board, &mut pass.pass);
+        (engine.into_keeper().into_disk(), mark <= durable)
     }
 }
 
-// The board under its name with the keeper's seat and the passes, and an order over what the opening left.
+// The board under its name with the keeper's seat and the passes, an order over what the opening left, and a pass for the end.
 fn open_parts<B: ExportName, D: Disk>(
     alloc: Global,
     blank: BlankBoard,
     keeper: &Keeper<D>,
     frames: u32,
     workers: usize,
-) -> Result<(Board<B>, KeeperSeat<B>, SharedOrder<B>, Vec<Pass<B>>), AllocError>
+) -> Result<
+    (
+        Board<B>,
+        KeeperSeat<B>,
+        SharedOrder<B>,
+        Vec<Pass<B>>,
+        RetiredPass<B>,
+    ),
+    AllocError,
+>
     requires board { blank.board ≡ B.board }
     requires named { blank.opening ≡ B.opening }
     requires opening { blank.opening ≡ keeper.now.count }
@@ -249,13 +246,26 @@ fn open_parts<B: ExportName, D: Disk>(
     ensures blocks { IfOk result (λ parts. length parts.2.cache.states ≡ keeper.now.geometry.blocks) }
     ensures passes { IfOk result (λ parts. vec_len parts.3 ≡ workers) }
     ensures known { IfOk result (λ parts. parts.3.items ≡ replicate workers (new_pass keeper.now.count)) }
+    ensures last { IfOk result (λ parts. parts.4 ≡ new_pass keeper.now.count) }
 {
+    let Some(count) = workers.checked_add(1) else {
+        return Err(AllocError);
+    };
     let Opened {
         board,
         order: line,
         keeper: seat,
-        passes,
-    } = blank.open::<B>(alloc, workers)?;
+        mut passes,
+    } = blank.open::<B>(alloc, count)?;
+    let Some(last) = passes.pop() else {
+        return Err(AllocError);
+    };
     let order = fresh_order(alloc, keeper, frames, line)?;
-    Ok((board, seat, SharedOrder::new(order), passes))
+    Ok((
+        board,
+        seat,
+        SharedOrder::new(order),
+        passes,
+        RetiredPass { pass: last },
+    ))
 }

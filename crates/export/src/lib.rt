@@ -9,7 +9,9 @@ mod commit_queue;
 mod export;
 mod flushing;
 mod gathering;
+mod laws;
 mod name;
+mod retired;
 mod settling;
 mod storage_engine;
 mod submitting;
@@ -17,5 +19,7 @@ mod sync_points;
 
 pub use beside::ReadBeside;
 pub use export::{Export, OpenDevice};
+pub use laws::opened_device_law;
 pub use name::ExportName;
+pub use retired::RetiredPass;
 pub use sync_points::{Point, SyncPoints};

@@ -1,9 +1,12 @@
 //! What lies under the keeper's lock.
-ghost use Rattle.std.specs.Prelude.{◌≡◌, ◌≢◌, ◌≤◌, ◌<◌, ◌^◌, ℕ, List};
+ghost use Rattle.std.specs.Prelude.{◌≡◌, ◌≢◌, ◌+◌, ◌≤◌, ◌<◌, ◌^◌, ℕ, List, length};
 ghost use mathlib.Core.List.{IsPrefix};
 ghost use Rattle.disk_model.specs.Disk.{MayLeave};
 ghost use Rattle.export.specs.inner.Submits.{FitsServed, IsServedFor};
+ghost use Rattle.image_model.specs.Image.{apply_all};
 ghost use Rattle.order_book.specs.Order.{with_durable};
+ghost use Rattle.shared_store.specs.Keepers.{HasLeft};
+ghost use Rattle.shared_store.specs.Answers.{ServesImage};
 ghost use Rattle.shared_store.specs.Parts.{StandsWithin};
 
 use crate::commit_queue::CommitQueue;
@@ -153,8 +156,9 @@ impl<B: ExportName, D: Disk> StorageEngine<B, D> {
     ) -> Served
         requires kind { request.head.kind ≢ 2 }
         requires geometry { terms.geometry ≡ B.geometry }
-        ensures served { IsServedFor B.opening request terms.mode pass.old pass.new result }
+        ensures served { IsServedFor B.opening B.image (B.trusted × B.shown) request terms.mode pass.old pass.new result }
         ensures fits { FitsServed terms.geometry terms.flags request result }
+        ensures tells { B.trusted → B.shown → ServesImage (apply_all pass.new.history B.image) request.head result }
     {
         queue.serve_with(alloc, request, &mut self.shared, board, pass, terms)
     }
@@ -166,19 +170,23 @@ impl<B: ExportName, D: Disk> StorageEngine<B, D> {
         queue.clean(board, &mut self.shared);
     }
 
-    /// Keeper and pass meet the order: the pass knows all of the history then, and what it knows to be durable is stored.
+    /// Keeper and pass meet the order: the pass knows all of the history then, and what it knows to be durable is stored. It gives the
+    /// number of the last command that was accepted.
     pub(crate) fn meet_all(
         &mut self,
         queue: &mut CommitQueue<B>,
         board: &Board<B>,
         pass: &mut Pass<B>,
-    )
+    ) -> u64
+        ensures mark { result ≡ B.opening + length pass.new.history }
         ensures same { self.new.shared.keeper ≡ self.old.shared.keeper }
+        ensures durable { pass.new.durable ≡ pass.old.durable }
         ensures knew { IsPrefix pass.old.history pass.new.history }
         ensures left { B.trusted → (content : List ℕ) → MayLeave (D.state self.old.shared.keeper.disk) content
             → StandsWithin B.opening B.image pass.new.history pass.old.durable content }
+        ensures passed { B.trusted → HasLeft B.start (D.state self.old.shared.keeper.disk) B.opening B.image pass.new.history }
     {
-        queue.meet_all(board, &mut self.shared, pass);
+        queue.meet_all(board, &mut self.shared, pass)
     }
 
     /// Makes durable in the order what is stored.

@@ -2,12 +2,14 @@ ghost use Rattle.std.specs.Prelude.{◌≡◌, ◌≢◌, ◌≤◌, ◌<◌, �
 ghost use mathlib.Core.List.{IsPrefix};
 ghost use Rattle.export.specs.Submits.{IsCovered, IsJudged, IsSubmitted};
 ghost use Rattle.export.specs.inner.Submits.{FitsServed, IsServedFor, IsWaitedFor};
-ghost use Rattle.export.specs.inner.Outcomes.{FitsOutcome, IsOutcomeFor};
-ghost use Rattle.marks.specs.Known.{PassState, known};
+ghost use Rattle.export.specs.inner.Outcomes.{ComesToImage, FitsOutcome, IsOutcomeFor};
+ghost use Rattle.image_model.specs.Image.{apply_all};
+ghost use Rattle.marks.specs.Known.{known};
 ghost use Rattle.nbd_reply.specs.Reply.{IsAnswerTo};
 ghost use Rattle.nbd_wire.specs.declared.message.Answer.TheVariants as Answer;
 ghost use Rattle.regions.specs.Layout.{block_at};
 ghost use Rattle.request_core.specs.Reading.{IsPlanned};
+ghost use Rattle.shared_store.specs.Answers.{ServesImage, TellsImage};
 ghost use Rattle.export_model.specs.Verdict.{verdict};
 
 use crate::beside::ReadBeside;
@@ -15,6 +17,7 @@ use crate::buffer_pool::LEAST_KEPT;
 use crate::commit_queue::Planned;
 use crate::export::Export;
 use crate::name::ExportName;
+use crate::retired::RetiredPass;
 use disk_model::{DeviceFault, Disk};
 use image_model::BLOCK_BYTES;
 use marks::{Pass, Told};
@@ -79,9 +82,12 @@ impl<B: ExportName, D: Disk, H: ReadBeside> Export<B, D, H> {
     ) -> Reply
         requires { request.head.kind ≢ 2 }
         ensures cookie { result.cookie ≡ request.head.cookie }
-        ensures submitted { IsSubmitted B.opening request self.now.mode pass.old pass.new result.answer }
+        ensures submitted { IsSubmitted B.opening B.image (B.trusted × B.shown) request self.now.mode pass.old pass.new result.answer }
         ensures kind { IsAnswerTo flags.now request.head.kind result.answer }
         ensures judged { IsJudged (verdict request.head self.now.geometry flags.now) request result.answer }
+
+        // A READ and a BLOCK_STATUS show what the image of the opening is after the history that the pass then knows.
+        ensures tells { B.trusted → B.shown → TellsImage (apply_all pass.new.history B.image) request.head result.answer }
     {
         let cookie = request.head().cookie;
         let terms = Terms {
@@ -117,8 +123,9 @@ impl<B: ExportName, D: Disk, H: ReadBeside> Export<B, D, H> {
     fn serve<R: Wait>(&self, rt: &R, pass: &mut Pass<B>, request: Request, terms: Terms) -> Outcome
         requires kind { request.head.kind ≢ 2 }
         requires geometry { terms.geometry ≡ B.geometry }
-        ensures outcome { IsOutcomeFor B.opening request terms.mode pass.old pass.new result }
+        ensures outcome { IsOutcomeFor B.opening B.image (B.trusted × B.shown) request terms.mode pass.old pass.new result }
         ensures fits { FitsOutcome terms.geometry terms.flags request result }
+        ensures tells { B.trusted → B.shown → ComesToImage (apply_all pass.new.history B.image) request.head result }
     {
         let mut request = request;
         for _ in rt.forever() {
@@ -182,13 +189,14 @@ impl<B: ExportName, D: Disk, H: ReadBeside> Export<B, D, H> {
         requires kind { request.head.kind ≢ 2 }
         requires geometry { terms.geometry ≡ B.geometry }
         requires planned { IfSome planned (λ planned. IsPlanned request.head terms.geometry terms.flags planned.span) }
-        ensures served { IsServedFor B.opening request terms.mode pass.old pass.new result }
+        ensures served { IsServedFor B.opening B.image (B.trusted × B.shown) request terms.mode pass.old pass.new result }
         ensures fits { FitsServed terms.geometry terms.flags request result }
+        ensures tells { B.trusted → B.shown → ServesImage (apply_all pass.new.history B.image) request.head result }
     {
         let Some(planned) = planned else {
             return self.serve_locked(rt, pass, request, terms);
         };
-        match self.serve_beside(rt, &request, planned, &terms) {
+        match self.serve_beside(rt, pass, &request, planned, &terms) {
             Some(served) => served,
             None => self.serve_locked(rt, pass, request, terms),
         }
@@ -199,14 +207,17 @@ impl<B: ExportName, D: Disk, H: ReadBeside> Export<B, D, H> {
     fn serve_beside<R: Wait>(
         &self,
         rt: &R,
+        pass: &mut Pass<B>,
         request: &Request,
         planned: Planned,
         terms: &Terms,
     ) -> Option<Served>
         requires geometry { terms.now.geometry ≡ B.geometry }
         requires planned { IsPlanned request.now.head terms.now.geometry terms.now.flags planned.span }
-        ensures served { (pass : PassState) → IfSome result (λ served. IsServedFor B.opening request.now terms.now.mode pass pass served) }
+        ensures served { IfSome result (λ served. IsServedFor B.opening B.image (B.trusted × B.shown) request.now terms.now.mode pass.old pass.new served) }
         ensures fits { IfSome result (λ served. FitsServed terms.now.geometry terms.now.flags request.now served) }
+        ensures tells { IfSome result (λ served. B.trusted → B.shown → ServesImage (apply_all pass.new.history B.image) request.now.head served) }
+        ensures unchanged { IfNone result (pass.new ≡ pass.old) }
     {
         let handle = self.beside.as_ref()?;
         let head = request.head();
@@ -217,7 +228,17 @@ impl<B: ExportName, D: Disk, H: ReadBeside> Export<B, D, H> {
             self.read_span(handle, blocks.first, planned.span, &mut bytes)
                 .ok()?;
             let mut queue = self.queue.lock(rt);
-            match queue.serve_over(self.alloc, handle, request, planned, bytes, terms) {
+            let served = queue.serve_over(
+                self.alloc,
+                handle,
+                request,
+                planned,
+                bytes,
+                &self.board,
+                pass,
+                terms,
+            );
+            match served {
                 Ok(served) => return Some(served),
                 Err(back) => bytes = back,
             }
@@ -272,8 +293,9 @@ impl<B: ExportName, D: Disk, H: ReadBeside> Export<B, D, H> {
     ) -> Served
         requires kind { request.head.kind ≢ 2 }
         requires geometry { terms.geometry ≡ B.geometry }
-        ensures served { IsServedFor B.opening request terms.mode pass.old pass.new result }
+        ensures served { IsServedFor B.opening B.image (B.trusted × B.shown) request terms.mode pass.old pass.new result }
         ensures fits { FitsServed terms.geometry terms.flags request result }
+        ensures tells { B.trusted → B.shown → ServesImage (apply_all pass.new.history B.image) request.head result }
     {
         let mut store = self.store.lock(rt);
         let mut queue = self.queue.lock(rt);
@@ -316,10 +338,12 @@ impl<B: ExportName, D: Disk, H: ReadBeside> Export<B, D, H> {
     }
 
     /// Takes a pass for good: no request is submitted for it any more.
-    pub fn leave<R: Wait>(&self, rt: &R, pass: Pass<B>) {
-        drop(pass);
+    pub fn leave<R: Wait>(&self, rt: &R, pass: Pass<B>) -> RetiredPass<B>
+        ensures { result ≡ pass }
+    {
         self.queue.lock(rt).leave();
         self.work.notify_one();
+        RetiredPass { pass }
     }
 }
 

@@ -187,7 +187,13 @@ fn run_over<
     requires shown { B.shown → ⊥ }
     requires geometry { device.keeper.geometry ≡ B.geometry }
 {
-    let (export, passes) = Export::<B, D, H>::open(alloc, device, 512, Mode::Writeback, 2).ok()?;
+    let (export, passes, _last) = Export::<B, D, H>::open(
+        alloc,
+        device,
+        512,
+        Mode::Writeback,
+        2,
+    ).ok()?;
     let turns = Turns {
         asked: AtomicU64::new(0),
         answered: AtomicU64::new(0),

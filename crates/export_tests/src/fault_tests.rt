@@ -110,7 +110,7 @@ fn run<B: ExportName + Send + Sync, R: Threads + Wait + Clock + Sync>(
     requires shown { B.shown → ⊥ }
     requires geometry { device.keeper.geometry ≡ B.geometry }
 {
-    let (export, passes) = Export::<B, SimDisk, ()>::open(
+    let (export, passes, mut last) = Export::<B, SimDisk, ()>::open(
         alloc,
         device,
         512,
@@ -118,7 +118,7 @@ fn run<B: ExportName + Send + Sync, R: Threads + Wait + Clock + Sync>(
         8,
     ).ok()?;
     let rounds = serve_eight(rt, alloc, &export, passes)?;
-    let mut disk = export.into_disk();
+    let mut disk = export.close(&mut last).0;
     let stopped = disk.stopped();
     disk.crash(choice);
     let mut keeper = Keeper::open(alloc, disk).ok()?;

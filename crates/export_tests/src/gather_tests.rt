@@ -121,7 +121,7 @@ fn run<B: ExportName + Send + Sync, R: Threads + Wait + Clock + Sync>(
     requires shown { B.shown → ⊥ }
     requires geometry { device.keeper.geometry ≡ B.geometry }
 {
-    let (export, passes) = Export::<B, SimDisk, ()>::open(
+    let (export, passes, _last) = Export::<B, SimDisk, ()>::open(
         alloc,
         device,
         512,

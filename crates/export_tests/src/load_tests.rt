@@ -119,7 +119,7 @@ fn run<B: ExportName + Send + Sync, R: Threads + Wait + Clock + Sync>(
     requires shown { B.shown → ⊥ }
     requires geometry { device.keeper.geometry ≡ B.geometry }
 {
-    let (export, passes) = Export::<B, SimDisk, ()>::open(
+    let (export, passes, mut last) = Export::<B, SimDisk, ()>::open(
         alloc,
         device,
         512,
@@ -127,7 +127,7 @@ fn run<B: ExportName + Send + Sync, R: Threads + Wait + Clock + Sync>(
         8,
     ).ok()?;
     let good = serve_eight(rt, alloc, &export, passes)?;
-    let keeper = Keeper::open(alloc, export.into_disk()).ok()?;
+    let keeper = Keeper::open(alloc, export.close(&mut last).0).ok()?;
     Some(Ran {
         good,
         number: keeper.count(),
@@ -252,7 +252,7 @@ fn run_held<B: ExportName + Send + Sync, R: Threads + Wait + Clock + Sync>(
     requires shown { B.shown → ⊥ }
     requires geometry { device.keeper.geometry ≡ B.geometry }
 {
-    let (export, mut passes) = Export::<B, SimDisk, ()>::open(
+    let (export, mut passes, mut last) = Export::<B, SimDisk, ()>::open(
         alloc,
         device,
         512,
@@ -263,7 +263,7 @@ fn run_held<B: ExportName + Send + Sync, R: Threads + Wait + Clock + Sync>(
     let held = AtomicBool::new(false);
     let answered = AtomicBool::new(false);
     let good = hold_steps(rt, alloc, &export, pass, &held, &answered)?;
-    let keeper = Keeper::open(alloc, export.into_disk()).ok()?;
+    let keeper = Keeper::open(alloc, export.close(&mut last).0).ok()?;
     Some(Ran {
         good,
         number: keeper.count(),

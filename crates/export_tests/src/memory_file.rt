@@ -1,6 +1,7 @@
 //! A file in memory, which several handles share, and a handle whose reads are held.
 use disk_model::DeviceFault;
 use export::ReadBeside;
+use image_model::Geometry;
 use marks::BoardName;
 use order_book::{Order, Span};
 use std::fs::{Metadata, OpenFile};
@@ -138,6 +139,7 @@ impl<'a, R: Wait + Clock> ReadBeside for HeldHandle<'a, R> {
 
     fn vouch<B: BoardName>(
         &self,
+        _geometry: &Geometry,
         _first: u64,
         _span: Span,
         _bytes: &[u8],

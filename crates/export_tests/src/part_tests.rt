@@ -100,7 +100,7 @@ fn run<B: ExportName + Send + Sync, R: Threads + Wait + Clock + Sync>(
     requires shown { B.shown → ⊥ }
     requires geometry { device.keeper.geometry ≡ B.geometry }
 {
-    let (export, mut passes) = Export::<B, SimDisk, ()>::open(
+    let (export, mut passes, mut last) = Export::<B, SimDisk, ()>::open(
         alloc,
         device,
         512,
@@ -109,7 +109,7 @@ fn run<B: ExportName + Send + Sync, R: Threads + Wait + Clock + Sync>(
     ).ok()?;
     let pass = passes.pop()?;
     let mut good = with_threads(rt, alloc, &export, pass)?;
-    let mut keeper = Keeper::open(alloc, export.into_disk()).ok()?;
+    let mut keeper = Keeper::open(alloc, export.close(&mut last).0).ok()?;
     for block in 0..CHANGED {
         good &= has_changed_block(&mut keeper, block, place_of(block));
     }

@@ -145,7 +145,7 @@ fn run<B: ExportName + Send + Sync, R: Threads + Wait + Clock + Sync>(
     requires shown { B.shown → ⊥ }
     requires geometry { device.keeper.geometry ≡ B.geometry }
 {
-    let (export, passes) = Export::<B, SimDisk, ()>::open(
+    let (export, passes, mut last) = Export::<B, SimDisk, ()>::open(
         alloc,
         device,
         512,
@@ -153,7 +153,7 @@ fn run<B: ExportName + Send + Sync, R: Threads + Wait + Clock + Sync>(
         8,
     ).ok()?;
     let images = serve_eight(rt, alloc, &export, passes)?;
-    Some((images, export.into_disk()))
+    Some((images, export.close(&mut last).0))
 }
 
 // Whether a device that was opened again reads as the plain images do.
@@ -170,7 +170,7 @@ fn reads_as<B: ExportName, R: Wait>(
     requires shown { B.shown → ⊥ }
     requires geometry { device.keeper.geometry ≡ B.geometry }
 {
-    let (export, mut passes) = Export::<B, SimDisk, ()>::open(
+    let (export, mut passes, _last) = Export::<B, SimDisk, ()>::open(
         alloc,
         device,
         512,

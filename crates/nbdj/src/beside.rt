@@ -1,5 +1,6 @@
 use disk_model::DeviceFault;
 use export::ReadBeside;
+use image_model::Geometry;
 use marks::BoardName;
 use order_book::{Order, Span};
 use std::fs::File;
@@ -31,6 +32,7 @@ impl ReadBeside for SecondHandle {
 
     fn vouch<B: BoardName>(
         &self,
+        _geometry: &Geometry,
         _first: u64,
         _span: Span,
         _bytes: &[u8],

@@ -1,13 +1,15 @@
 -- What functions of this crate hand to one another, beside `Submits`.
-use Rattle.std.specs.Prelude.{ℕ, ◌≡◌, ◌≢◌, ◌+◌, ◌≤◌, ◌⊎◌, true, false, length, Ok}
+use Rattle.std.specs.Prelude.{ℕ, ◌≡◌, ◌≢◌, ◌+◌, ◌≤◌, ◌⊎◌, Bool, true, false, List, length, Ok}
 use mathlib.Core.List.{IsPrefix}
+use Rattle.image_model.specs.Change.{Change}
+use Rattle.image_model.specs.Image.{Image}
 use Rattle.image_model.specs.declared.geometry.Geometry.{Geometry}
 use Rattle.marks.specs.Known.{PassState, known}
 use Rattle.nbd_reply.specs.Reply.{IsAnswerTo}
 use Rattle.nbd_wire.specs.Request.{Message}
 use Rattle.nbd_wire.specs.declared.error.Errno.TheVariants.{Io}
 use Rattle.nbd_wire.specs.declared.message.Answer.{Answer}
-use Rattle.nbd_wire.specs.declared.message.Answer.TheVariants.{Done, Refused}
+use Rattle.nbd_wire.specs.declared.message.Answer.TheVariants.{Bytes, Done, Refused, States}
 use Rattle.nbd_wire.specs.declared.message.SessionFlags.{SessionFlags}
 use Rattle.request_core.specs.declared.serving.Served.{Served}
 use Rattle.request_core.specs.declared.serving.Served.TheVariants as served
@@ -18,12 +20,31 @@ use Rattle.export_model.specs.declared.step.Mode.{Mode}
 use Rattle.export.specs.Submits.{IsAccepted, IsSubmitted, IsJudged}
 
 -- What a request comes to when it is served: it is answered, or waits for a number, or has no room and comes back.
-abbrev pub IsServedFor : ℕ → Message → Mode → PassState → PassState → Served → Type 0
-IsServedFor opening request kept old new (served.Ready reply) = IsSubmitted opening request kept old new reply.answer
-IsServedFor opening request kept old new (served.Wait number) =
+abbrev pub IsServedFor : ℕ → Image → Type 0 → Message → Mode → PassState → PassState → Served → Type 0
+IsServedFor opening first trusted request kept old new (served.Ready reply) = IsSubmitted opening first trusted request kept old new reply.answer
+IsServedFor opening first trusted request kept old new (served.Wait number) =
     (is_flush request ≡ true → (known old ≤ number) × (new.own ≡ old.own) × IsPrefix old.history new.history × (number ≡ opening + length new.history))
-    × (is_flush request ≡ false → (is_write request ≡ true) × IsAccepted opening request number old new)
-IsServedFor opening request kept old new (served.NoRoom back) = (new ≡ old) × (back ≡ request)
+    × (is_flush request ≡ false → (is_write request ≡ true) × IsAccepted opening first trusted request number old new)
+IsServedFor opening first trusted request kept old new (served.NoRoom back) = (new ≡ old) × (back ≡ request)
+
+-- whether bytes or states were answered, which are an image's
+abbrev pub is_of_image : Answer → Bool
+is_of_image Done = false
+is_of_image (Refused errno) = false
+is_of_image (Bytes read) = true
+is_of_image (States runs) = true
+
+abbrev pub serves_image : Served → Bool
+serves_image (served.Ready reply) = is_of_image reply.answer
+serves_image (served.Wait number) = false
+serves_image (served.NoRoom back) = false
+
+-- Where these were served all of a history, whose last number is the mark, is shown to their pass: what it knew begins that.
+-- Otherwise the pass is as it was.
+pub record IsShownFor (history : List Change) (mark : ℕ) (served : Served) (old new : PassState) : Type 0 where
+  pub knew : IsPrefix old.history new.history
+  pub shown : serves_image served ≡ true → new ≡ record old { history = history; accepted = mark }
+  pub kept : serves_image served ≡ false → new ≡ old
 
 -- What waits for a number passed judgement, and is a FLUSH or a write command.
 pub record IsWaiting (geometry : Geometry) (flags : SessionFlags) (request : Message) : Type 0 where

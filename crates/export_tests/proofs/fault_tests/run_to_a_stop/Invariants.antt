@@ -1,4 +1,5 @@
 use Rattle.device_image.specs.Stands.{holes}
+use Rattle.shared_store.specs.Keepers.{empty_device}
 use Rattle.export_tests.proofs.fault_tests.run_to_a_stop.Given as goal
 
 -- the board that was just made
@@ -11,4 +12,4 @@ ghosts-run-B-ExportName g a = record { geometry = a.device.keeper.geometry }
 
 -- an image of as many blocks, and nothing that is trusted
 abbrev pub ghosts-run-B-ImageName : goal.ghosts-run-B-ImageName
-ghosts-run-B-ImageName g a = record { image = holes a.device.keeper.geometry.blocks; trusted = ⊥; shown = ⊥ }
+ghosts-run-B-ImageName g a = record { image = holes a.device.keeper.geometry.blocks; start = empty_device; trusted = ⊥; shown = ⊥ }

@@ -1,4 +1,5 @@
 use Rattle.device_image.specs.Stands.{holes}
+use Rattle.shared_store.specs.Keepers.{empty_device}
 use Rattle.export_tests.proofs.pass_tests.flush_now_is_ok_after_publish.Given as goal
 
 -- the board that was just made
@@ -11,4 +12,4 @@ ghosts-ask_beside_a_flusher-B-ExportName g a = record { geometry = a.device.keep
 
 -- an image of as many blocks, and nothing that is trusted
 abbrev pub ghosts-ask_beside_a_flusher-B-ImageName : goal.ghosts-ask_beside_a_flusher-B-ImageName
-ghosts-ask_beside_a_flusher-B-ImageName g a = record { image = holes a.device.keeper.geometry.blocks; trusted = ⊥; shown = ⊥ }
+ghosts-ask_beside_a_flusher-B-ImageName g a = record { image = holes a.device.keeper.geometry.blocks; start = empty_device; trusted = ⊥; shown = ⊥ }

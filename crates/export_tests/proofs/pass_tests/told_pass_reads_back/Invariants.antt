@@ -1,4 +1,5 @@
 use Rattle.device_image.specs.Stands.{holes}
+use Rattle.shared_store.specs.Keepers.{empty_device}
 use Rattle.export_tests.proofs.pass_tests.told_pass_reads_back.Given as goal
 
 -- the board that was just made
@@ -11,4 +12,4 @@ ghosts-tell_and_read-B-ExportName g a = record { geometry = a.device.keeper.geom
 
 -- an image of as many blocks, and nothing that is trusted
 abbrev pub ghosts-tell_and_read-B-ImageName : goal.ghosts-tell_and_read-B-ImageName
-ghosts-tell_and_read-B-ImageName g a = record { image = holes a.device.keeper.geometry.blocks; trusted = ⊥; shown = ⊥ }
+ghosts-tell_and_read-B-ImageName g a = record { image = holes a.device.keeper.geometry.blocks; start = empty_device; trusted = ⊥; shown = ⊥ }

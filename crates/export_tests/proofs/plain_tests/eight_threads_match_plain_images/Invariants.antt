@@ -1,4 +1,5 @@
 use Rattle.device_image.specs.Stands.{holes}
+use Rattle.shared_store.specs.Keepers.{empty_device}
 use Rattle.export_tests.proofs.plain_tests.eight_threads_match_plain_images.Given as goal
 
 -- the board that was just made
@@ -18,7 +19,7 @@ ghosts-reads_as-B-ExportName g a = record { geometry = a.device.keeper.geometry 
 
 -- an image of as many blocks, and nothing that is trusted
 abbrev pub ghosts-run-B-ImageName : goal.ghosts-run-B-ImageName
-ghosts-run-B-ImageName g a = record { image = holes a.device.keeper.geometry.blocks; trusted = ⊥; shown = ⊥ }
+ghosts-run-B-ImageName g a = record { image = holes a.device.keeper.geometry.blocks; start = empty_device; trusted = ⊥; shown = ⊥ }
 
 abbrev pub ghosts-reads_as-B-ImageName : goal.ghosts-reads_as-B-ImageName
-ghosts-reads_as-B-ImageName g a = record { image = holes a.device.keeper.geometry.blocks; trusted = ⊥; shown = ⊥ }
+ghosts-reads_as-B-ImageName g a = record { image = holes a.device.keeper.geometry.blocks; start = empty_device; trusted = ⊥; shown = ⊥ }

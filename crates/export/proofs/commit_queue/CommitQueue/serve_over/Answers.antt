@@ -1,31 +1,41 @@
-use Rattle.std.specs.Prelude.{IfOk}
-use Rattle.std.proofs.Common.{ℕ, List, subst}
+use Rattle.std.proofs.Common.{ℕ, List, subst, sym}
 use Rattle.image_model.specs.Image.{apply_all}
 use Rattle.nbd_wire.specs.declared.head.RequestHead.{RequestHead}
 use Rattle.order_book.specs.Order.{OrderState}
 use Rattle.request_core.specs.Reading.{IsReadOverServed}
+use Rattle.shared_store.specs.Answers.{ServesImage}
 use Rattle.shared_store.specs.Orders.{GivesImage}
-use Rattle.export.proofs.Fits.{if_over_fits}
-use Rattle.export.proofs.Submits.{if_over_served_for}
+use Rattle.export.proofs.Fits.{over_fits}
+use Rattle.export.proofs.Submits.{over_served_for}
+use Rattle.export.proofs.Told.{shown_for, told}
 use Rattle.export.proofs.commit_queue.CommitQueue.serve_over.Goals as goal
 
 pub returns-clause-served : goal.returns-clause-served
-returns-clause-served g c pass =
-    if_over_served_for g.B.BoardName.opening c.args.request.now c.args.terms.now.mode pass c.args.planned.span c.args.bytes.items c.args.self.now.order c.serve_over.new.self c.serve_over.result
-    (subst (λ (head : RequestHead). IfOk c.serve_over.result (λ served. IsReadOverServed head c.args.planned.span c.args.bytes.items c.args.self.now.order c.serve_over.new.self served))
-    c.head-head.ensures c.serve_over.ensures.read)
+returns-clause-served g c =
+    let request = c.args.request.now in let opening = g.B.BoardName.opening in let image = g.B.ImageName.image in
+    let served = c.in_ok-served.served in let order = c.serve_over.new.self in let pass = c.args.pass.now in
+    shown_for opening image (g.B.ImageName.trusted × g.B.ImageName.shown) request c.args.terms.now.mode pass pass c.show.new.pass order.history order.mark served
+    (over_served_for opening image (g.B.ImageName.trusted × g.B.ImageName.shown) request c.args.terms.now.mode pass c.args.planned.span c.args.bytes.items c.args.self.now.order order served
+    (subst (λ (head : RequestHead). IsReadOverServed head c.args.planned.span c.args.bytes.items c.args.self.now.order order served) c.head-head.ensures c.in_ok-served.ensures.read)) c.show.ensures.pass
+
+pub returns-clause-tells : goal.returns-clause-tells
+returns-clause-tells g c = λ sure so.
+    let order = c.serve_over.new.self in let served = c.in_ok-served.served in let image = g.B.ImageName.image in
+    told image c.args.request.now.head order.history order.mark c.args.pass.now c.show.new.pass served c.show.ensures.pass
+    (subst (λ (head : RequestHead). ServesImage (apply_all order.history image) head served) c.head-head.ensures (c.in_ok-served.ensures.tells sure so))
 
 pub returns-clause-fits : goal.returns-clause-fits
 returns-clause-fits g c =
-    if_over_fits c.args.request.now c.args.terms.now.geometry c.args.terms.now.flags c.args.planned.span c.args.bytes.items c.args.self.now.order c.serve_over.new.self c.serve_over.result
+    let order = c.serve_over.new.self in let served = c.in_ok-served.served in
+    over_fits c.args.request.now c.args.terms.now.geometry c.args.terms.now.flags c.args.planned.span c.args.bytes.items c.args.self.now.order order served
     c.requires.planned.passes c.requires.planned.reads
-    (subst (λ (head : RequestHead). IfOk c.serve_over.result (λ served. IsReadOverServed head c.args.planned.span c.args.bytes.items c.args.self.now.order c.serve_over.new.self served))
-    c.head-head.ensures c.serve_over.ensures.read)
+    (subst (λ (head : RequestHead). IsReadOverServed head c.args.planned.span c.args.bytes.items c.args.self.now.order order served) c.head-head.ensures c.in_ok-served.ensures.read)
 
 pub returns-clause-over : goal.returns-clause-over
 returns-clause-over g c =
-    subst (λ (head : RequestHead). IfOk c.serve_over.result (λ served. IsReadOverServed head c.args.planned.span c.args.bytes.items c.args.self.now.order c.serve_over.new.self served))
-    c.head-head.ensures c.serve_over.ensures.read
+    let order = c.serve_over.new.self in let served = c.in_ok-served.served in
+    subst (λ (o : OrderState). IsReadOverServed c.args.request.now.head c.args.planned.span c.args.bytes.items c.args.self.now.order o served) (sym c.show.ensures.order)
+    (subst (λ (head : RequestHead). IsReadOverServed head c.args.planned.span c.args.bytes.items c.args.self.now.order order served) c.head-head.ensures c.in_ok-served.ensures.read)
 
 pub serve_over-requires-clause-given : goal.serve_over-requires-clause-given
 serve_over-requires-clause-given g c = λ sure shown.

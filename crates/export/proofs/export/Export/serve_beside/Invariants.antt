@@ -6,5 +6,6 @@ use Rattle.export.proofs.export.Export.serve_beside.Given as goal
 abbrev pub invariant-loop : goal.invariant-loop
 invariant-loop g l = record {
   size : vec_len l.bytes ≡ 4096 * blocks_met l.request.head.offset l.request.head.length;
+  pass : l.pass ≡ l.fn.pass;
   planned : IsPlanned l.request.head l.terms.geometry l.terms.flags l.planned.span;
 }
