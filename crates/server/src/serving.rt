@@ -1,5 +1,10 @@
-ghost use Rattle.std.specs.Prelude.{◌≡◌, IfOk, vec_len, Some};
-ghost use Rattle.export.specs.Trusted.{IsTrusted, VouchesTruly};
+ghost use Rattle.std.specs.Prelude.{◌≡◌, ◌+◌, IfErr, IfOk, IsTrue, List, OnOk, Some, length, vec_len};
+ghost use Rattle.device_image.specs.Stands.{StandsFor};
+ghost use Rattle.disk_model.specs.Disk.{LeavesOnly};
+ghost use Rattle.export.specs.Left.{LeavesHistory};
+ghost use Rattle.export.specs.Trusted.{IsTrusted, VouchesTruly, image_found};
+ghost use Rattle.image_model.specs.Change.{Change};
+ghost use Rattle.marks.specs.Known.{new_pass};
 
 use crate::client_registry::ClientRegistry;
 use crate::listener::Listener;
@@ -7,7 +12,9 @@ use crate::log::Log;
 use crate::options::{OnFault, ServeOptions};
 use crate::worker::{WorkerPool, worker};
 use disk_model::Disk;
-use export::{Export, ExportName, OpenDevice, ReadBeside, SyncPoints};
+use export::{
+    Export, ExportName, OpenDevice, ReadBeside, RetiredPass, SyncPoints, opened_device_law,
+};
 use front_end::Refusal;
 use marks::Pass;
 use std::alloc::Global;
@@ -19,7 +26,11 @@ use std::thread::{self, Scope, Threads};
 
 /// Serves the clients that arrive at a socket from a device that was opened, and gives the device back once the server has come
 /// to its end and all is stored: as many sessions have ended as the options say, `input` has ended where they say so, or a call
-/// of the device has failed. `watch` is told what happens, and may hold the threads. Refusals 0 (no memory, and nobody was served), 1 (device fault) and 21 (the socket).
+/// of the device has failed. `watch` is told what happens, and may hold the threads. Refusals 0 (no memory, and nobody was served),
+/// 1 (device fault, or not all is stored) and 21 (the socket).
+///
+/// Where the device is trusted, whatever a crash at some moment of it may have left stands for the image that was found after a
+/// beginning of one history of write commands; and at Ok whatever one may leave then stands for the image after all of that.
 pub fn serve<D, H, R, I, G>(
     rt: &R,
     alloc: Global,
@@ -35,7 +46,12 @@ where
     R: Threads + Wait + Clock + Copy + Send + Sync + Drop + 'static,
     I: Read + Send + Drop + 'static,
     G: SyncPoints + Log + Copy + Send + Sync,
+    ensures left { IsTrusted D.state D.honest device.keeper (image_found D.state device.keeper) → (history : List Change)
+        × LeavesHistory (D.state device.keeper.disk) (D.state result.1) device.keeper.count (image_found D.state device.keeper) history device.keeper.count }
+    ensures stored { OnOk result.0 (IsTrusted D.state D.honest device.keeper (image_found D.state device.keeper) → (history : List Change)
+        × LeavesHistory (D.state device.keeper.disk) (D.state result.1) device.keeper.count (image_found D.state device.keeper) history (device.keeper.count + length history)) }
 {
+    opened_device_law::<D>();
     let registry = match open_registry(alloc, listener, options.workers) {
         Ok(registry) => registry,
         Err(refusal) => return (Err(refusal), device.keeper.into_disk()),
@@ -104,35 +120,49 @@ where
     requires named { device.blank.opening ≡ B.opening }
     requires image { device.keeper.geometry.blocks ≡ B.image.blocks }
     requires trusted { B.trusted → IsTrusted D.state D.honest device.keeper B.image }
+    requires start { B.trusted → LeavesOnly B.start (D.state device.keeper.disk) (λ content. StandsFor content B.image B.opening) }
     requires shown { B.shown → (handle : H) → device.beside ≡ Some handle → VouchesTruly (H.vouches handle) B.image }
     requires geometry { device.keeper.geometry ≡ B.geometry }
+    ensures left { B.trusted → (history : List Change) × LeavesHistory B.start (D.state result.1) B.opening B.image history B.opening }
+    ensures stored { OnOk result.0 (B.trusted → (history : List Change) × LeavesHistory B.start (D.state result.1) B.opening B.image history (B.opening + length history)) }
 {
+    opened_device_law::<D>();
     match open_export::<B, D, H>(alloc, device, &options) {
-        Ok((export, passes)) => {
+        Ok((export, passes, last)) => {
             if let Some(limit) = options.limits.pending() {
                 export.store_within(rt, limit);
             }
             let pool = WorkerPool::new(alloc, registry, passes, &options);
-            let outcome = if !run_threads(rt, &pool, &export, options, watch) {
-                Err(Refusal::NoMemory)
-            } else if export.stopped(rt) {
-                Err(Refusal::DeviceFault)
-            } else {
-                Ok(())
-            };
+            let has_served = run_threads(rt, &pool, &export, options, watch);
+            let has_failed = export.stopped(rt);
             drop(pool);
-            (outcome, export.into_disk())
+            let mut last = last;
+            let (disk, is_stored) = export.close(&mut last);
+            (end_of(has_served, has_failed, is_stored), disk)
         }
         Err(disk) => (Err(Refusal::NoMemory), disk),
     }
 }
 
-// The export that the options ask for, and a pass for each worker.
+// What a server has come to: whether there was a worker, whether a call of the device has failed, and whether all is stored.
+fn end_of(has_served: bool, has_failed: bool, is_stored: bool) -> Result<(), Refusal>
+    ensures { OnOk result (IsTrue is_stored) }
+{
+    if !has_served {
+        return Err(Refusal::NoMemory);
+    }
+    if has_failed || !is_stored {
+        return Err(Refusal::DeviceFault);
+    }
+    Ok(())
+}
+
+// The export that the options ask for, a pass for each worker, and one for the end.
 fn open_export<B, D, H>(
     alloc: Global,
     device: OpenDevice<D, H>,
     options: &ServeOptions,
-) -> Result<(Export<B, D, H>, Vec<Pass<B>>), D>
+) -> Result<(Export<B, D, H>, Vec<Pass<B>>, RetiredPass<B>), D>
 where
     B: ExportName,
     D: Disk,
@@ -141,10 +171,13 @@ where
     requires named { device.blank.opening ≡ B.opening }
     requires image { device.keeper.geometry.blocks ≡ B.image.blocks }
     requires trusted { B.trusted → IsTrusted D.state D.honest device.keeper B.image }
+    requires start { B.trusted → LeavesOnly B.start (D.state device.keeper.disk) (λ content. StandsFor content B.image B.opening) }
     requires shown { B.shown → (handle : H) → device.beside ≡ Some handle → VouchesTruly (H.vouches handle) B.image }
     requires geometry { device.keeper.geometry ≡ B.geometry }
     ensures mode { IfOk result (λ made. made.0.mode ≡ options.now.mode) }
     ensures passes { IfOk result (λ made. vec_len made.1 ≡ options.now.workers) }
+    ensures last { IfOk result (λ made. made.2 ≡ new_pass device.keeper.count) }
+    ensures back { IfErr result (λ disk. disk ≡ device.keeper.disk) }
 {
     Export::<B, D, H>::open(
         alloc,

@@ -14,6 +14,7 @@ ghosts-serve_over-B-ExportName g a = record { geometry = a.device.keeper.geometr
 abbrev pub ghosts-serve_over-B-ImageName : goal.ghosts-serve_over-B-ImageName
 ghosts-serve_over-B-ImageName g a = record {
   image = image_found g.D.Disk.state a.device.keeper;
+  start = g.D.Disk.state a.device.keeper.disk;
   trusted = IsTrusted g.D.Disk.state g.D.Disk.honest a.device.keeper (image_found g.D.Disk.state a.device.keeper);
   shown = (handle : g.row.H.Denot) → a.device.beside ≡ Some handle → VouchesTruly (g.H.ReadBeside.vouches handle) (image_found g.D.Disk.state a.device.keeper);
 }
