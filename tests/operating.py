@@ -206,7 +206,7 @@ def beside(folder):
     with Server(folder, "beside", 2, "--flush-interval", "0", **slow(folder)) as server, server.shaken(60) as one, server.shaken(60) as other:
         one.sendall(request(WRITE, 1, MIB, BLOCK, FUA) + bytes([1]) * BLOCK)
         time.sleep(0.5)
-        check("beside a write that waits: another one", True, write(other, 2, BLOCK))
+        check("a write is answered while a sync is held", True, write(other, 2, BLOCK))
         check("beside a write that waits: it waits", True, is_silent(one))
         check("beside a write that waits: it is done", reply(1), take(one, 16))
         other.sendall(request(TRIM, 3, 0, BLOCK) + request(FLUSH, 4, 0, 0))
