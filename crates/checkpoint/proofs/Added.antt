@@ -1,10 +1,7 @@
 -- What a keeper keeps while a group is added, and then.
-use Rattle.std.proofs.Common.{◌≡◌, inl, inr, ℕ, ◌+◌, ◌%◌, ◌<◌, ◌≤◌, ◌⊎◌, ⊎_elim, Option, Some, None, List, [], ◌∷◌, ◌++◌, length, slice_index, refl, sym, ◌∙◌, ap, subst, arith}
+use Rattle.std.proofs.Common.{◌≡◌, inl, inr, ℕ, ◌+◌, ◌%◌, ◌<◌, ◌≤◌, ◌⊎◌, ⊎_elim, List, [], ◌∷◌, ◌++◌, length, slice_index, refl, sym, ◌∙◌, ap, subst, arith}
 use Rattle.std.proofs.lemmas.Bool.{cases_eq, cases_lt}
 use Rattle.disk_model.specs.Disk.{State, InRange, IsAllSynced, IsSound, MayLeaveTorn}
-use Rattle.header_slots.specs.Header.{mode_of}
-use Rattle.header_slots.specs.declared.header.Areas.{Areas}
-use Rattle.image_model.specs.Side.{other_of}
 use Rattle.image_model.specs.Image.{Image, apply_all}
 use Rattle.checkpoint.specs.declared.fault.KeeperFault.TheVariants.{OutOfOrder}
 use Rattle.journal_format.specs.declared.fault.JournalFault.{JournalFault}
@@ -13,17 +10,19 @@ use Rattle.journal_format.specs.Area.{AreaState}
 use Rattle.journal_format.specs.GroupList.{IsListStored, LeavesEither, size_of}
 use Rattle.journal_format.specs.Spelling.{StoredGroup}
 use Rattle.journal_format.specs.laws.Spelled.{sizes-push}
-use Rattle.regions.specs.Layout.{block_at, area_at, behind}
+use Rattle.regions.specs.Layout.{areas_in, behind, block_at}
+use Rattle.regions.specs.laws.Ring.{apart, behind_apart}
 use Rattle.checkpoint.specs.Faults.{of_journal}
 use Rattle.device_image.specs.Keeper.{KeeperState, PlanState, earlier_of, phase_of}
 use Rattle.device_image.specs.Keeps.{AreHeld, IsCopyPlace, IsInPhase, Keeps}
-use Rattle.device_image.specs.Stands.{StandsFor, next_number}
+use Rattle.device_image.specs.Stands.{StandsFor, last_area, next_number}
+use Rattle.device_image.specs.laws.CheckpointBounds.{fronts_many}
 use Rattle.device_image.specs.laws.Copied.{phase_on}
-use Rattle.device_image.specs.laws.Frame.{apart, area_high, fronts_of, held_kept, last_of, moved_list, others_in_use}
+use Rattle.device_image.specs.laws.Frame.{fronts_of, held_kept, last_high, last_of, moved_list, others_in_use}
 use Rattle.device_image.specs.laws.Kept.{first, in_area, stands_more, stands_same}
 use Rattle.device_image.specs.laws.Lists.{KeepsLists}
 use Rattle.image_model.specs.Change.{Change}
-use Rattle.device_image.specs.Holds.{Holds}
+use Rattle.device_image.specs.Holds.{Holds, joined}
 use Rattle.device_image.specs.laws.AfterCall.{holds_more}
 
 module _ {D : Type 0} (keeper : KeeperState D) (state : State) (image : Image) (number : ℕ) (keeps : Keeps keeper state image number) where
@@ -33,16 +32,18 @@ module _ {D : Type 0} (keeper : KeeperState D) (state : State) (image : Image) (
 
   -- the phase stays where all but the last area stays
   phase_more : (after : State) → ((place : ℕ) → (InRange keeper.memory.area.from keeper.memory.area.bytes place → ⊥) → slice_index after.seen place ≡ slice_index state.seen place) → IsAllSynced after
-      → (plan : Option PlanState) → IsInPhase plan state keeps.stands.header keeps.stands.states keeps.areas.front → IsInPhase plan after keeps.stands.header keeps.stands.states keeps.areas.front
-  phase_more after same synced None phased = phased
-  phase_more after same synced (Some plan) phased =
+      → (plans : List PlanState) → keeper.memory.plans ≡ plans → IsInPhase plans state keeps.stands.header keeps.stands.states keeps.areas.front → IsInPhase plans after keeps.stands.header keeps.stands.states keeps.areas.front
+  phase_more after same synced [] is phased = tt
+  phase_more after same synced (plan ∷ plans) is phased =
       let header = keeps.stands.header in
-      let in_other : (place : ℕ) → InRange keeper.memory.area.from keeper.memory.area.bytes place → InRange (area_at header.geometry (other_of header.first_area)) header.geometry.area place =
-      λ place within. subst (λ (areas : Areas). InRange (area_at header.geometry (behind (mode_of areas) header.first_area)) header.geometry.area place) phased.areas (in_area keeper state image number keeps place within) in
+      let many = fronts_many (areas_in header.geometry) header.in_front header.first_area header.geometry (next_number header.base) keeps.areas.front keeper.memory.plans state keeps.areas.earlier_held in
+      let some : 0 < header.in_front = omega (arith, many, ap (λ (p : List PlanState). length p) is) in
+      let other = behind_apart (areas_in header.geometry) 0 header.in_front header.first_area header.first_inside some header.few_areas in
+      let in_last = in_area keeper state image number keeps in
       phase_on keeper state image number keeps after
-      (λ place here. same place (λ within. apart header.geometry header.first_area place here (in_other place within)))
-      (λ place above. same place (λ within. let there = in_other place within in omega (arith, above, there.1, area_high header.geometry (other_of header.first_area))))
-      (λ all. synced) (Some plan) phased
+      (λ place here. same place (λ within. apart header.geometry header.first_area (last_area header) place other here (in_last place within)))
+      (λ place above. same place (λ within. let there = in_last place within in omega (arith, above, there.1, last_high header)))
+      (λ all. synced) (plan ∷ plans) phased
 
   module _ (group : StoredGroup) where
     -- a crash while the group is added leaves the image without or with its commands
@@ -58,7 +59,7 @@ module _ {D : Type 0} (keeper : KeeperState D) (state : State) (image : Image) (
     pub keeps_more : {extent : ℕ} (after : State) (now : KeeperState D) (count : ℕ) → IsSound extent after → count ≡ number + length group.changes
         → IsListStored now.memory.area (first keeper state image number keeps) (keeps.areas.groups ++ group ∷ []) state after
         → now.memory.area.from ≡ keeper.memory.area.from → now.memory.area.bytes ≡ keeper.memory.area.bytes → now.memory.area.blocks ≡ keeper.memory.area.blocks
-        → now.geometry ≡ keeper.geometry → now.generation ≡ keeper.generation → now.base ≡ keeper.base → now.phase ≡ keeper.phase → now.memory.header ≡ keeper.memory.header → now.memory.slot ≡ keeper.memory.slot → now.memory.map ≡ keeper.memory.map → now.memory.plan ≡ keeper.memory.plan
+        → now.geometry ≡ keeper.geometry → now.generation ≡ keeper.generation → now.base ≡ keeper.base → now.phase ≡ keeper.phase → now.memory.header ≡ keeper.memory.header → now.memory.slot ≡ keeper.memory.slot → now.memory.map ≡ keeper.memory.map → now.memory.plans ≡ keeper.memory.plans
         → now.count ≡ count → now.used ≡ keeper.used + size_of group → now.failed ≡ keeper.failed
         → KeepsLists now after (apply_all group.changes image) count keeps.areas.front (keeps.areas.groups ++ group ∷ [])
     keeps_more after now count sound count_is stored from bytes blocks geometry generation base phase header slot map plan counted used failed =
@@ -86,8 +87,8 @@ module _ {D : Type 0} (keeper : KeeperState D) (state : State) (image : Image) (
               groups = keeps.areas.groups ++ group ∷ [];
               are = refl;
               earlier_held = subst (λ (areas : List AreaState). AreHeld (fronts_of keeps.stands) keeps.stands.header.geometry (next_number keeps.stands.header.base) keeps.areas.front areas after) (ap earlier_of (sym plan))
-                  (held_kept (fronts_of keeps.stands) (behind (mode_of keeps.stands.header.areas) keeps.stands.header.first_area) keeps.stands.header.geometry (next_number keeps.stands.header.base) keeps.areas.front
-                  (earlier_of keeper.memory.plan) state after (others_in_use keeps.stands.header.areas keeps.stands.header.first_area)
+                  (held_kept (fronts_of keeps.stands) (last_area keeps.stands.header) keeps.stands.header.geometry (next_number keeps.stands.header.base) keeps.areas.front
+                  (earlier_of keeper.memory.plans) state after (others_in_use keeps.stands.header)
                   (λ place below outside. torn_same after.seen others place outside (λ copy. omega (arith, below, copy.inside.0)))
                   (λ place below unsynced. stored.synced place unsynced) keeps.areas.earlier_held);
               placed = record { from = from ∙ placed.from; bytes = bytes ∙ placed.bytes; blocks = blocks ∙ placed.blocks };
@@ -95,10 +96,10 @@ module _ {D : Type 0} (keeper : KeeperState D) (state : State) (image : Image) (
             };
             taken = omega (arith, used, keeps.taken, sizes-push keeps.areas.groups group);
             phase = phase ∙ keeps.phase ∙ ap phase_of (sym plan);
-            phased = subst (λ (p : Option PlanState). IsInPhase p after keeps.stands.header keeps.stands.states keeps.areas.front) (sym plan)
+            phased = subst (λ (p : List PlanState). IsInPhase p after keeps.stands.header keeps.stands.states keeps.areas.front) (sym plan)
                 (phase_more after
                 (λ place outside. stored.same place (λ within. outside (omega (arith, within.0, from), omega (arith, within.1, from, bytes))) (keeps.steady place))
-                stored.synced keeper.memory.plan keeps.phased);
+                stored.synced keeper.memory.plans refl keeps.phased);
             unsynced = λ place unsynced. absurd (stored.synced place unsynced);
           };
           front_is = refl;
@@ -112,19 +113,19 @@ module _ {D : Type 0} (keeper : KeeperState D) (state : State) (image : Image) (
     more_stay after now stored from bytes place above =
         stored.same place (λ within.
         let there = in_area keeper state image number keeps place (omega (arith, within.0, from), omega (arith, within.1, from, bytes)) in
-        omega (arith, there.1, above, area_high keeps.stands.header.geometry (behind (mode_of keeps.stands.header.areas) keeps.stands.header.first_area)))
+        omega (arith, there.1, above, last_high keeps.stands.header))
         (keeps.steady place)
 
 -- and what the keeper then holds
-pub more_held : {D : Type 0} (keeper : KeeperState D) (state : State) (base : Image) (front last : List Change) (holds : Holds keeper state base front last) (group : StoredGroup) {extent : ℕ} (after : State) (now : KeeperState D) (count : ℕ)
-    → IsSound extent after → count ≡ keeper.base + length front + length last + length group.changes
+pub more_held : {D : Type 0} (keeper : KeeperState D) (state : State) (base : Image) (fronts : List (List Change)) (last : List Change) (holds : Holds keeper state base fronts last) (group : StoredGroup) {extent : ℕ} (after : State) (now : KeeperState D) (count : ℕ)
+    → IsSound extent after → count ≡ keeper.base + length (joined fronts) + length last + length group.changes
     → IsListStored now.memory.area (first keeper state _ _ holds.keeps) (holds.keeps.areas.groups ++ group ∷ []) state after
     → now.memory.area.from ≡ keeper.memory.area.from → now.memory.area.bytes ≡ keeper.memory.area.bytes → now.memory.area.blocks ≡ keeper.memory.area.blocks
-    → now.geometry ≡ keeper.geometry → now.generation ≡ keeper.generation → now.base ≡ keeper.base → now.phase ≡ keeper.phase → now.memory.header ≡ keeper.memory.header → now.memory.slot ≡ keeper.memory.slot → now.memory.map ≡ keeper.memory.map → now.memory.plan ≡ keeper.memory.plan
+    → now.geometry ≡ keeper.geometry → now.generation ≡ keeper.generation → now.base ≡ keeper.base → now.phase ≡ keeper.phase → now.memory.header ≡ keeper.memory.header → now.memory.slot ≡ keeper.memory.slot → now.memory.map ≡ keeper.memory.map → now.memory.plans ≡ keeper.memory.plans
     → now.count ≡ count → now.used ≡ keeper.used + size_of group → now.failed ≡ keeper.failed
-    → Holds now after base front (last ++ group.changes)
-more_held keeper state base front last holds group after now count sound count_is stored from bytes blocks geometry generation base_is phase header slot map plan counted used failed =
-    holds_more keeper state base front last holds now after group count
+    → Holds now after base fronts (last ++ group.changes)
+more_held keeper state base fronts last holds group after now count sound count_is stored from bytes blocks geometry generation base_is phase header slot map plan counted used failed =
+    holds_more keeper state base fronts last holds now after group count
     (keeps_more keeper state _ _ holds.keeps group after now count sound count_is stored from bytes blocks geometry generation base_is phase header slot map plan counted used failed)
     count_is base_is geometry map
     (λ block offset small none. more_stay keeper state _ _ holds.keeps group after now stored from bytes (block_at holds.keeps.stands.header.geometry block + offset) (omega arith))

@@ -2,20 +2,19 @@
 use Rattle.std.proofs.Common.{◌≡◌, ℕ, ◌+◌, ◌*◌, ◌/◌, ◌%◌, ◌<◌, false, if◌then◌else◌, List, length, slice_index, refl, sym, ◌∙◌, ap, subst, arith}
 use Rattle.alloc_map.specs.Codes.{state_at}
 use Rattle.disk_model.specs.Disk.{State}
-use Rattle.header_slots.specs.Header.{mode_of}
 use Rattle.header_slots.specs.Slots.{HoldsHeader}
 use Rattle.image_model.specs.Change.{Change}
 use Rattle.image_model.specs.Image.{Image, apply_all}
 use Rattle.image_model.specs.declared.command.Kind.TheVariants.{Data}
 use Rattle.journal_format.specs.Reading.{IsOnlyRead}
-use Rattle.regions.specs.Layout.{behind, block_at, map_at}
+use Rattle.regions.specs.Layout.{block_at, map_at}
 use Rattle.regions.specs.Map.{HoldsMap}
-use Rattle.device_image.specs.Holds.{Holds, IsBase, is_written}
+use Rattle.device_image.specs.Holds.{Holds, IsBase, is_written, joined}
 use Rattle.device_image.specs.Keeper.{KeeperState, earlier_of}
 use Rattle.device_image.specs.Keeps.{Keeps}
-use Rattle.device_image.specs.Stands.{StandsFor, HoldLists, all_changes, in_use, is_data, next_number, stored_image}
+use Rattle.device_image.specs.Stands.{StandsFor, HoldLists, all_changes, in_use, is_data, last_area, next_number, stored_image}
 use Rattle.device_image.specs.laws.Copied.{phase_on}
-use Rattle.device_image.specs.laws.Frame.{area_high, held_kept, one_kept, others_in_use}
+use Rattle.device_image.specs.laws.Frame.{held_kept, last_high, one_kept, others_in_use}
 use Rattle.device_image.specs.laws.AfterWrite.{holds_lists}
 use Rattle.device_image.specs.laws.Kept.{low_synced}
 use Rattle.device_image.specs.laws.Lists.{KeepsLists}
@@ -41,7 +40,7 @@ keeps_reading : {D : Type 0} (keeper : KeeperState D) (disk : D) (state after : 
 keeps_reading keeper disk state after image number read keeps =
     let same = seen_steady keeps.steady read in
     let header = keeps.stands.header in
-    let last = behind (mode_of header.areas) header.first_area in
+    let last = last_area header in
     record {
       keeps = record {
         works = keeps.works;
@@ -58,34 +57,34 @@ keeps_reading keeper disk state after image number read keeps =
           front = keeps.areas.front;
           groups = keeps.areas.groups;
           are = keeps.areas.are;
-          earlier_held = held_kept _ last header.geometry _ keeps.areas.front (earlier_of keeper.memory.plan) state after (others_in_use header.areas header.first_area)
+          earlier_held = held_kept _ last header.geometry _ keeps.areas.front (earlier_of keeper.memory.plans) state after (others_in_use header)
               (λ place below outside. read.kept.seen.same place (keeps.steady place))
               (λ place below unsynced. low_synced keeper state image number keeps place below (read.kept.unsynced place unsynced)) keeps.areas.earlier_held;
           placed = keeps.areas.placed;
           held = one_kept keeper.memory.area header.geometry last _ keeps.areas.groups state after keeps.areas.placed
               (λ place within. read.kept.seen.same place (keeps.steady place))
-              (λ place within unsynced. low_synced keeper state image number keeps place (omega (arith, area_high header.geometry last, within.1)) (read.kept.unsynced place unsynced)) keeps.areas.held;
+              (λ place within unsynced. low_synced keeper state image number keeps place (omega (arith, last_high header, within.1)) (read.kept.unsynced place unsynced)) keeps.areas.held;
         };
         taken = keeps.taken;
         phase = keeps.phase;
         phased = phase_on keeper state image number keeps after (λ place here. read.kept.seen.same place (keeps.steady place)) (λ place above. read.kept.seen.same place (keeps.steady place))
-            (λ synced place unsynced. synced place (read.kept.unsynced place unsynced)) keeper.memory.plan keeps.phased;
+            (λ synced place unsynced. synced place (read.kept.unsynced place unsynced)) keeper.memory.plans keeps.phased;
         unsynced = λ place unsynced. keeps.unsynced place (read.kept.unsynced place unsynced);
       };
       front_is = refl;
       groups_are = refl;
     }
 
-module _ {D : Type 0} (keeper : KeeperState D) (state : State) (base : Image) (front last : List Change) (holds : Holds keeper state base front last) where
+module _ {D : Type 0} (keeper : KeeperState D) (state : State) (base : Image) (fronts : List (List Change)) (last : List Change) (holds : Holds keeper state base fronts last) where
   -- nor of what it holds
-  pub holds_reading : (disk : D) (after : State) → IsOnlyRead state after → Holds (record keeper { disk = disk }) after base front last
+  pub holds_reading : (disk : D) (after : State) → IsOnlyRead state after → Holds (record keeper { disk = disk }) after base fronts last
   holds_reading disk after read =
-      holds_lists (record keeper { disk = disk }) after (apply_all last (apply_all front base)) (keeper.base + length front + length last) holds.keeps.areas.front holds.keeps.areas.groups
-      (keeps_reading keeper disk state after (apply_all last (apply_all front base)) (keeper.base + length front + length last) read holds.keeps) base front last refl refl holds.in_front holds.in_last
-      (subst (λ (content : List ℕ). IsBase base content keeper.geometry keeper.memory.map front) (seen_steady holds.keeps.steady read) holds.is_base)
+      holds_lists (record keeper { disk = disk }) after (apply_all last (apply_all (joined fronts) base)) (keeper.base + length (joined fronts) + length last) holds.keeps.areas.front holds.keeps.areas.groups
+      (keeps_reading keeper disk state after (apply_all last (apply_all (joined fronts) base)) (keeper.base + length (joined fronts) + length last) read holds.keeps) base fronts last refl refl holds.in_front holds.in_last
+      (subst (λ (content : List ℕ). IsBase base content keeper.geometry keeper.memory.map (joined fronts)) (seen_steady holds.keeps.steady read) holds.is_base)
 
   -- the data region has the bytes of blocks that are data at the base
-  pub base_byte : (first k : ℕ) → base.kind (first + k / 4096) ≡ Data → is_written (first + k / 4096) front ≡ false → slice_index state.seen (block_at keeper.geometry first + k) ≡ base.byte (4096 * first + k)
+  pub base_byte : (first k : ℕ) → base.kind (first + k / 4096) ≡ Data → is_written (first + k / 4096) (joined fronts) ≡ false → slice_index state.seen (block_at keeper.geometry first + k) ≡ base.byte (4096 * first + k)
   base_byte first k kind none =
       let block = first + k / 4096 in
       let offset = k % 4096 in

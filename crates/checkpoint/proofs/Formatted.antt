@@ -10,6 +10,7 @@ use Rattle.header_slots.specs.Slots.{HoldsHeader, HoldsNone, IsBodyWritten, IsOp
 use Rattle.image_model.specs.declared.side.Side.{Side}
 use Rattle.image_model.specs.declared.side.Side.TheVariants.{Zero, One}
 use Rattle.header_slots.specs.laws.Frame.{moved_spelling}
+use Rattle.image_model.specs.laws.Layouts.{size_least}
 use Rattle.image_model.specs.Geometry.{device_bytes_of, map_bytes_of}
 use Rattle.image_model.specs.declared.command.Kind.TheVariants.{Hole}
 use Rattle.image_model.specs.declared.geometry.Geometry.{Geometry}
@@ -62,7 +63,7 @@ fresh_stands content geometry size zero_open one_closed fresh =
         count = length-replicate geometry.blocks Hole;
         map = own_states geometry.blocks zeroes (replicate geometry.blocks Hole) (map_of_zeroes geometry.blocks geometry.not_too_many) (states_of-zeroes geometry.blocks (map_bytes_of geometry.blocks) zeroes refl);
       };
-      held = (record { stand = λ is_open. absurd (omega (arith, fresh.gate, is_open)); inside = omega (arith, geometry.area_not_too_small) }, tt);
+      held = (record { stand = λ is_open. absurd (omega (arith, fresh.gate, is_open)); inside = omega (arith, size_least geometry.layout geometry.area geometry.area_not_too_small) }, tt);
       count = refl;
       shows = holes_stored content geometry;
     }
@@ -137,7 +138,7 @@ module _ (extent : ℕ) (before mid : State) (sound : IsSound extent before) (so
 
 -- the parts of a fresh device that were written one after another
 module _ (geometry : Geometry) (before one two three : State) (steady : IsSteady before) (zeroes : List ℕ) (zeroes_are : zeroes ≡ replicate (map_bytes_of geometry.blocks) 0)
-    (gate : IsWritten before (area_at geometry Zero) (0 ∷ []) one) (map : IsWritten one (map_at geometry Zero) zeroes two) (body : IsBodyWritten two Zero (first_header geometry) three) where
+    (gate : IsWritten before (area_at geometry 0) (0 ∷ []) one) (map : IsWritten one (map_at geometry Zero) zeroes two) (body : IsBodyWritten two Zero (first_header geometry) three) where
   one_steady : IsSteady one
   one_steady place loose = steady place (gate.loose place loose)
 
@@ -160,24 +161,24 @@ module _ (geometry : Geometry) (before one two three : State) (steady : IsSteady
         let at : place ≡ 0 + 1 + (place - 1) = omega (arith, from) in
         ap (slice_index three.seen) at ∙ body.written.written (place - 1) (omega (arith, from, below, body.body.size)) (two_steady (0 + 1 + (place - 1)))
         ∙ body.body.rest (place - 1) (omega (arith, from));
-    gate = behind_body (area_at geometry Zero) (omega arith)
-        ∙ map.others (area_at geometry Zero) (λ within. omega (arith, within.0, geometry.area_not_too_small)) (one_steady (area_at geometry Zero))
+    gate = behind_body (area_at geometry 0) (omega arith)
+        ∙ map.others (area_at geometry 0) (λ within. omega (arith, within.0, geometry.area_not_too_small)) (one_steady (area_at geometry 0))
         ∙ first_of (gate.written 0 (omega arith));
     map = λ k below. behind_body (map_at geometry Zero + k) (omega arith)
         ∙ map.written k (omega (arith, below, long)) (one_steady (map_at geometry Zero + k))
         ∙ ap (λ (list : List ℕ). slice_index list k) zeroes_are ∙ byte_of_zeroes (map_bytes_of geometry.blocks) k;
   }
     where
-      first_of : ((before.loose (area_at geometry Zero + 0) → ⊥) → slice_index one.seen (area_at geometry Zero + 0) ≡ 0) → slice_index one.seen (area_at geometry Zero) ≡ 0
-      first_of read = let at : area_at geometry Zero + 0 ≡ area_at geometry Zero = omega arith in
-          ap (slice_index one.seen) (sym at) ∙ read (steady (area_at geometry Zero + 0))
+      first_of : ((before.loose (area_at geometry 0 + 0) → ⊥) → slice_index one.seen (area_at geometry 0 + 0) ≡ 0) → slice_index one.seen (area_at geometry 0) ≡ 0
+      first_of read = let at : area_at geometry 0 + 0 ≡ area_at geometry 0 = omega arith in
+          ap (slice_index one.seen) (sym at) ∙ read (steady (area_at geometry 0 + 0))
 
 -- a fresh device whose first gate alone has changed
 pub fresh_kept : (old content : List ℕ) (geometry : Geometry) → ((place : ℕ) → 1 ≤ place → slice_index content place ≡ slice_index old place) → IsFresh old geometry → IsFresh content geometry
 fresh_kept old content geometry same fresh = record {
   spelled = moved_spelling old content 1 1 (λ k below. sym (same (1 + k) (omega arith))) (first_header geometry) fresh.spelled;
   rest = λ place from below. same place (omega (arith, from)) ∙ fresh.rest place from below;
-  gate = same (area_at geometry Zero) (omega arith) ∙ fresh.gate;
+  gate = same (area_at geometry 0) (omega arith) ∙ fresh.gate;
   map = λ k below. same (map_at geometry Zero + k) (omega arith) ∙ fresh.map k below;
 }
 

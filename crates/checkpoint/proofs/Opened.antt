@@ -1,10 +1,8 @@
 -- What is read of a good device, as what a keeper keeps.
-use Rattle.std.proofs.Common.{◌≡◌, ℕ, ◌+◌, ◌%◌, ◌<◌, Option, Some, None, List, [], ◌∷◌, ◌++◌, length, false, refl, sym, ◌∙◌, ap, subst, arith, length-append}
+use Rattle.std.proofs.Common.{◌≡◌, ℕ, ◌+◌, ◌%◌, ◌<◌, Option, List, [], ◌∷◌, ◌++◌, length, false, refl, sym, ◌∙◌, ap, subst, arith, length-append}
 use Rattle.std.proofs.lemmas.List.{append-nil}
 use Rattle.disk_model.specs.Disk.{State, IsAllSynced, IsSound, MayLeave}
 use Rattle.disk_model.specs.laws.Contents.{leaves_seen}
-use Rattle.header_slots.specs.Header.{mode_of}
-use Rattle.header_slots.specs.declared.header.Areas.{Areas}
 use Rattle.header_slots.specs.declared.header.Header.{Header}
 use Rattle.image_model.specs.Change.{Change}
 use Rattle.image_model.specs.declared.geometry.Geometry.{Geometry}
@@ -14,19 +12,19 @@ use Rattle.image_model.specs.declared.command.Kind.{Kind}
 use Rattle.journal_format.specs.Area.{AreaState}
 use Rattle.journal_format.specs.GroupList.{IsHeld, next_behind, changes_of}
 use Rattle.journal_format.specs.Spelling.{StoredGroup}
-use Rattle.journal_format.specs.Touches.{touched_by_groups}
-use Rattle.regions.specs.Layout.{area_at, behind, ring}
-use Rattle.device_image.specs.Keeper.{KeeperState, PlanState, count_puts, earlier_of, phase_in, phase_of}
-use Rattle.device_image.specs.Keeps.{AreHeld, IsCopying, IsInPhase, IsMapWritten, IsPlaced, Keeps, behind_lists}
-use Rattle.checkpoint.specs.Opening.{IsOpened, IsPassing, IsRefused, IsUncopied}
+use Rattle.regions.specs.Layout.{area_at, areas_in}
+use Rattle.regions.specs.laws.Ring.{ring-last}
+use Rattle.device_image.specs.Keeper.{AreUncopied, KeeperState, PlanState, earlier_of, phase_in, phase_of}
+use Rattle.device_image.specs.Keeps.{AreHeld, IsInPhase, IsPlaced, Keeps, behind_lists}
+use Rattle.checkpoint.specs.Opening.{IsOpened, IsPassing, IsRefused}
 use Rattle.checkpoint.specs.Recovery.{IsBegun}
-use Rattle.device_image.specs.Stands.{StandsFor, HoldLists, all_changes, area_of, in_use, next_number, stored_image}
+use Rattle.device_image.specs.Stands.{StandsFor, HoldLists, all_changes, area_of, areas_in_front, in_use, last_area, next_number, stored_image}
 use Rattle.checkpoint.specs.declared.fault.KeeperFault.{KeeperFault}
 use Rattle.checkpoint.specs.declared.fault.KeeperFault.TheVariants.{NoMemory, DeviceFault, BadMap, NoHeader, BadHeader, NumbersFull, AreaFull, OutOfOrder, DamagedGroup, NotNow, Failed}
-use Rattle.device_image.specs.laws.Frame.{all_changes-append, held_lists, moved_list, ring-last, with_last}
+use Rattle.device_image.specs.laws.CheckpointBounds.{uncopied_phase}
+use Rattle.device_image.specs.laws.Frame.{all_changes-append, held_lists, moved_list, with_last}
 use Rattle.device_image.specs.laws.Sole.{one_image, one_number}
 use Rattle.device_image.specs.laws.HeaderReplaced.{follows}
-use Rattle.device_image.specs.laws.Puts.{count_zero}
 use Rattle.checkpoint.proofs.Refused.{never_refused}
 
 -- and the same behind lists of such groups
@@ -34,7 +32,7 @@ pub record FollowsLists (last next : ℕ) (lists : List (List StoredGroup)) : Ty
   pub following : behind_lists next lists ≡ next_number (last + length (all_changes lists))
   pub fits : last + length (all_changes lists) < 18446744073709551616
 
-follows_lists : (areas : List Side) (content : List ℕ) (geometry : Geometry) (next last : ℕ) (lists : List (List StoredGroup)) → last < 18446744073709551616 → next ≡ next_number last
+follows_lists : (areas : List ℕ) (content : List ℕ) (geometry : Geometry) (next last : ℕ) (lists : List (List StoredGroup)) → last < 18446744073709551616 → next ≡ next_number last
     → HoldLists areas content geometry next lists → FollowsLists last next lists
 follows_lists [] content geometry next last [] fits is holds = record { following = omega (arith, is); fits = omega (arith, fits) }
 follows_lists [] content geometry next last (groups ∷ lists) fits is holds = absurd holds
@@ -50,38 +48,13 @@ follows_lists (area ∷ areas) content geometry next last (groups ∷ lists) fit
     }
 
 -- a checkpoint of which nothing was copied has begun
-pub uncopied_begun : (areas : Areas) (plan : Option PlanState) → IsUncopied areas plan → IsBegun (phase_of plan)
-uncopied_begun areas None uncopied = tt
-uncopied_begun areas (Some plan) uncopied = subst (λ (mapped : Option (List Kind)). IsBegun (phase_in plan.left mapped)) (sym (ap (λ (p : PlanState). p.mapped) uncopied.1)) tt
+pub uncopied_begun : (plans : List PlanState) → AreUncopied plans → IsBegun (phase_of plans)
+uncopied_begun [] uncopied = tt
+uncopied_begun (plan ∷ plans) uncopied = subst (λ (mapped : Option (List Kind)). IsBegun (phase_in plan.left mapped)) (sym (ap (λ (p : PlanState). p.mapped) uncopied.0)) tt
 
--- nothing was copied yet
-phase_sound : (header : Header) (plan : Option PlanState) (next : ℕ) (front : List (List StoredGroup)) (state : State) (states : List Kind)
-    → AreHeld (ring (mode_of header.areas) header.first_area) header.geometry next front (earlier_of plan) state → IsUncopied header.areas plan → IsInPhase plan state header states front
-phase_sound header None next front state states held uncopied = uncopied
-phase_sound header (Some plan) next front state states held uncopied =
-    copying front (subst (λ (areas : Areas). AreHeld (ring (mode_of areas) header.first_area) header.geometry next front (plan.first ∷ []) state) uncopied.0 held)
-  where
-    copying : (front : List (List StoredGroup)) → AreHeld (header.first_area ∷ []) header.geometry next front (plan.first ∷ []) state → IsCopying plan state header states front
-    copying [] held = absurd held
-    copying (groups ∷ front) held =
-        let touched : plan.first.touched ≡ touched_by_groups (area_at header.geometry header.first_area) groups = held.1.touched ∙ ap (λ (place : ℕ). touched_by_groups place groups) held.0.from in
-        let puts : count_puts plan.first.blocks plan.first.touched ≡ count_puts header.geometry.blocks (touched_by_groups (area_at header.geometry header.first_area) groups) =
-        ap (λ (blocks : ℕ). count_puts blocks plan.first.touched) held.0.blocks ∙ ap (count_puts header.geometry.blocks) touched in
-        let none : plan.copied ≡ 0 = ap (λ (p : PlanState). p.copied) uncopied.1 in
-        let left = ap (λ (p : PlanState). p.left) uncopied.1 in
-        let zero : count_puts plan.copied (touched_by_groups (area_at header.geometry header.first_area) groups) ≡ 0 =
-        ap (λ (block : ℕ). count_puts block (touched_by_groups (area_at header.geometry header.first_area) groups)) none ∙ count_zero (touched_by_groups (area_at header.geometry header.first_area) groups) in
-        record {
-          areas = uncopied.0;
-          within = omega (arith, none);
-          counted = omega (arith, left, puts, zero);
-          are_copied = λ block from below. absurd (omega (arith, none, below));
-          map_written = subst (λ (mapped : Option (List Kind)). IsMapWritten mapped state header states (groups ∷ front) plan.left) (sym (ap (λ (p : PlanState). p.mapped) uncopied.1)) tt;
-        }
-
-module _ (state : State) (header : Header) (slot : Side) (states : List Kind) (plan : Option PlanState) (area : AreaState) (opened : IsOpened state header slot states plan area) (fits : header.base < 18446744073709551616) where
-  pub held : HoldLists (ring (mode_of header.areas) header.first_area) state.seen header.geometry (next_number header.base) opened.areas.front
-  held = held_lists _ _ _ _ (earlier_of plan) state opened.areas.earlier_held
+module _ (state : State) (header : Header) (slot : Side) (states : List Kind) (plans : List PlanState) (area : AreaState) (opened : IsOpened state header slot states plans area) (fits : header.base < 18446744073709551616) where
+  pub held : HoldLists (areas_in_front header) state.seen header.geometry (next_number header.base) opened.areas.front
+  held = held_lists _ _ _ _ (earlier_of plans) state opened.areas.earlier_held
 
   -- the number in front of the area's next is that of the last command
   pub last_number : (count : ℕ) → count ≡ (area.next + 18446744073709551615) % 18446744073709551616 → count ≡ header.base + length (all_changes opened.lists)
@@ -105,15 +78,15 @@ module _ (state : State) (header : Header) (slot : Side) (states : List Kind) (p
     in_force = opened.in_force;
     map = opened.map;
     held = subst (λ (lists : List (List StoredGroup)). HoldLists (in_use header) state.seen header.geometry (next_number header.base) lists) (sym opened.areas.are)
-        (subst (λ (areas : List Side). HoldLists areas state.seen header.geometry (next_number header.base) (opened.areas.front ++ opened.areas.groups ∷ [])) (sym (ring-last (mode_of header.areas) header.first_area))
-        (with_last _ (behind (mode_of header.areas) header.first_area) state.seen header.geometry (next_number header.base) opened.areas.front opened.areas.groups held
-        (moved_list area (area_of header.geometry (behind (mode_of header.areas) header.first_area)) _ _ state.seen opened.areas.placed.from opened.areas.placed.bytes opened.areas.placed.blocks opened.areas.held.list)));
+        (subst (λ (areas : List ℕ). HoldLists areas state.seen header.geometry (next_number header.base) (opened.areas.front ++ opened.areas.groups ∷ [])) (sym (ring-last (areas_in header.geometry) header.in_front header.first_area))
+        (with_last _ (last_area header) state.seen header.geometry (next_number header.base) opened.areas.front opened.areas.groups held
+        (moved_list area (area_of header.geometry (last_area header)) _ _ state.seen opened.areas.placed.from opened.areas.placed.bytes opened.areas.placed.blocks opened.areas.held.list)));
     count = is;
     shows = refl;
   }
 
   pub opened_keeps : {D : Type 0} (keeper : KeeperState D) {extent : ℕ} → IsSound extent state → keeper.failed ≡ false → keeper.geometry ≡ header.geometry → keeper.generation ≡ header.generation → keeper.base ≡ header.base
-      → keeper.phase ≡ phase_of keeper.memory.plan → keeper.memory.header ≡ header → keeper.memory.slot ≡ slot → keeper.memory.map ≡ states → keeper.memory.plan ≡ plan → keeper.memory.area ≡ area → keeper.used ≡ area.gate
+      → keeper.phase ≡ phase_of keeper.memory.plans → keeper.memory.header ≡ header → keeper.memory.slot ≡ slot → keeper.memory.map ≡ states → keeper.memory.plans ≡ plans → keeper.memory.area ≡ area → keeper.used ≡ area.gate
       → keeper.count ≡ (area.next + 18446744073709551615) % 18446744073709551616 → Keeps keeper state opened_image keeper.count
   opened_keeps keeper sound works sizes generation base phase header_is slot_is map plan_is area_is used counted = record {
     works = works;
@@ -130,14 +103,14 @@ module _ (state : State) (header : Header) (slot : Side) (states : List Kind) (p
       front = opened.areas.front;
       groups = opened.areas.groups;
       are = opened.areas.are;
-      earlier_held = subst (λ (list : List AreaState). AreHeld (ring (mode_of header.areas) header.first_area) header.geometry (next_number header.base) opened.areas.front list state) (ap earlier_of (sym plan_is)) opened.areas.earlier_held;
-      placed = subst (λ (a : AreaState). IsPlaced a header.geometry (behind (mode_of header.areas) header.first_area)) (sym area_is) opened.areas.placed;
+      earlier_held = subst (λ (list : List AreaState). AreHeld (areas_in_front header) header.geometry (next_number header.base) opened.areas.front list state) (ap earlier_of (sym plan_is)) opened.areas.earlier_held;
+      placed = subst (λ (a : AreaState). IsPlaced a header.geometry (last_area header)) (sym area_is) opened.areas.placed;
       held = subst (λ (a : AreaState). IsHeld a (behind_lists (next_number header.base) opened.areas.front) opened.areas.groups state) (sym area_is) opened.areas.held;
     };
     taken = used ∙ opened.areas.held.gate;
     phase = phase;
-    phased = subst (λ (p : Option PlanState). IsInPhase p state header states opened.areas.front) (sym plan_is)
-        (phase_sound header plan (next_number header.base) opened.areas.front state states opened.areas.earlier_held opened.uncopied);
+    phased = subst (λ (p : List PlanState). IsInPhase p state header states opened.areas.front) (sym plan_is)
+        (uncopied_phase (areas_in header.geometry) header.in_front header plans (next_number header.base) opened.areas.front state states opened.areas.earlier_held opened.uncopied);
     unsynced = λ place unsynced. absurd (opened.synced place unsynced);
   }
 

@@ -1,37 +1,83 @@
 -- A keeper while an opening recovers it.
-use Rattle.std.proofs.Common.{◌≡◌, ◌≢◌, ℕ, ◌-◌, Result, Ok, Err, IfErr, OnOk, List, [], refl, sym, ◌∙◌, ap, subst, arith, false}
+use Rattle.std.proofs.Common.{◌≡◌, ◌≢◌, ℕ, ◌+◌, ◌-◌, ◌≤◌, Result, Ok, Err, IfErr, OnOk, List, [], ◌∷◌, ◌++◌, ◌<◌, length, refl, sym, ◌∙◌, ap, subst, arith, false}
 use Rattle.disk_model.specs.Disk.{State}
-use Rattle.device_image.specs.Keeper.{KeeperState, Memory, Phase, Copying, One}
+use Rattle.device_image.specs.Keeper.{KeeperState, Memory, Phase, Copying, Mapped, One}
 use Rattle.device_image.specs.Keeps.{Keeps}
 use Rattle.image_model.specs.Image.{Image, apply_all}
 use Rattle.checkpoint.specs.Keeper.{refused_by}
-use Rattle.checkpoint.specs.Steps.{copied_by, finished_by, left_in}
-use Rattle.device_image.specs.Holds.{Holds}
-use Rattle.device_image.specs.laws.AfterCall.{held_as, keeps_again}
+use Rattle.checkpoint.specs.Steps.{behind_first, copied_by, fewer, finished_by, first_turned, left_in, mapped_by, phase_left}
+use Rattle.device_image.specs.Holds.{Holds, joined}
+use Rattle.device_image.specs.laws.AfterCall.{held_as, joined-push, keeps_again}
+use Rattle.device_image.specs.laws.Frame.{apply_all-append}
 use Rattle.image_model.specs.Change.{Change}
 use Rattle.checkpoint.specs.declared.fault.KeeperFault.{KeeperFault}
 use Rattle.checkpoint.specs.declared.fault.KeeperFault.TheVariants.{NoMemory, DeviceFault, BadMap, NoHeader, BadHeader, NumbersFull, AreaFull, OutOfOrder, DamagedGroup, NotNow, Failed}
 use Rattle.device_image.specs.Remembers.{Remembers}
-use Rattle.checkpoint.specs.Recovery.{IsRecovered}
+use Rattle.checkpoint.specs.Recovery.{IsBegun, IsRecovered}
 
 -- a keeper of which some blocks more were copied
-abbrev pub copied_to : {D : Type 0} → KeeperState D → D → ℕ → Memory → KeeperState D
-copied_to keeper disk left memory = record keeper { disk = disk; phase = Copying left; memory = memory }
+abbrev pub copied_to : {D : Type 0} → KeeperState D → D → ℕ → List ℕ → Memory → KeeperState D
+copied_to keeper disk left lefts memory = record keeper { disk = disk; lefts = lefts; phase = Copying left; memory = memory }
+
+fewer_again : (lefts : List ℕ) (some more : ℕ) → fewer more (fewer some lefts) ≡ fewer (some + more) lefts
+fewer_again [] some more = refl
+fewer_again (left ∷ lefts) some more = ap (λ (n : ℕ). n ∷ lefts) (let same : left - some - more ≡ left - (some + more) = omega arith in same)
+
+behind_fewer : (lefts : List ℕ) (blocks : ℕ) → behind_first (fewer blocks lefts) ≡ behind_first lefts
+behind_fewer [] blocks = refl
+behind_fewer (left ∷ lefts) blocks = refl
+
+pub fewer_none : (lefts : List ℕ) → lefts ≡ fewer 0 lefts
+fewer_none [] = refl
+fewer_none (left ∷ lefts) = ap (λ (n : ℕ). n ∷ lefts) (let same : left ≡ left - 0 = omega arith in same)
 
 module _ {D : Type 0} where
-  pub copied_first : (keeper : KeeperState D) → keeper.phase ≡ Copying (left_in keeper.phase) → keeper ≡ copied_to keeper keeper.disk (left_in keeper.phase) keeper.memory
-  copied_first keeper is = ap (λ (phase : Phase). let with_phase : KeeperState D = record keeper { phase = phase } in with_phase) is
+  pub copied_first : (keeper : KeeperState D) → keeper.phase ≡ Copying (left_in keeper.phase)
+      → keeper ≡ copied_to keeper keeper.disk (left_in keeper.phase) (fewer (left_in keeper.phase - left_in keeper.phase) keeper.lefts) keeper.memory
+  copied_first keeper is =
+      let none : 0 ≡ left_in keeper.phase - left_in keeper.phase = omega arith in
+      ap (λ (phase : Phase). let with_phase : KeeperState D = record keeper { phase = phase } in with_phase) is
+      ∙ ap (λ (lefts : List ℕ). copied_to keeper keeper.disk (left_in keeper.phase) lefts keeper.memory) (fewer_none keeper.lefts ∙ ap (λ (n : ℕ). fewer n keeper.lefts) none)
 
-  pub copied_next : (old mid new : KeeperState D) (blocks : ℕ) → mid ≡ copied_to old mid.disk (left_in mid.phase) mid.memory → new ≡ copied_by mid blocks new.disk new.memory
-      → new ≡ copied_to old new.disk (left_in new.phase) new.memory
-  copied_next old mid new blocks so_far is =
-      let left : left_in mid.phase - blocks ≡ left_in new.phase = sym (ap (λ (k : KeeperState D). left_in k.phase) is) in
-      is ∙ ap (λ (k : KeeperState D). copied_by k blocks new.disk new.memory) so_far ∙ ap (λ (n : ℕ). copied_to old new.disk n new.memory) left
+  pub left_next : (mid new : KeeperState D) (blocks : ℕ) → new ≡ copied_by mid blocks new.disk new.memory → left_in new.phase ≡ left_in mid.phase - blocks
+  left_next mid new blocks is = ap (λ (k : KeeperState D). left_in k.phase) is
 
-  pub copied_last : (old new : KeeperState D) → new ≡ copied_to old new.disk (left_in new.phase) new.memory → left_in new.phase ≡ 0 → new ≡ copied_by old (left_in old.phase) new.disk new.memory
+  pub copied_next : (old mid new : KeeperState D) (blocks : ℕ) → left_in mid.phase ≤ left_in old.phase → blocks ≤ left_in mid.phase
+      → mid ≡ copied_to old mid.disk (left_in mid.phase) (fewer (left_in old.phase - left_in mid.phase) old.lefts) mid.memory → new ≡ copied_by mid blocks new.disk new.memory
+      → new ≡ copied_to old new.disk (left_in new.phase) (fewer (left_in old.phase - left_in new.phase) old.lefts) new.memory
+  copied_next old mid new blocks below some so_far is =
+      let left : left_in mid.phase - blocks ≡ left_in new.phase = sym (left_next mid new blocks is) in
+      let all : left_in old.phase - left_in mid.phase + blocks ≡ left_in old.phase - left_in new.phase = omega (arith, left, below, some) in
+      is ∙ ap (λ (k : KeeperState D). copied_by k blocks new.disk new.memory) so_far
+      ∙ ap (λ (n : ℕ). copied_to old new.disk n (fewer blocks (fewer (left_in old.phase - left_in mid.phase) old.lefts)) new.memory) left
+      ∙ ap (λ (lefts : List ℕ). copied_to old new.disk (left_in new.phase) lefts new.memory)
+      (fewer_again old.lefts (left_in old.phase - left_in mid.phase) blocks ∙ ap (λ (n : ℕ). fewer n old.lefts) all)
+
+  pub copied_last : (old new : KeeperState D) → new ≡ copied_to old new.disk (left_in new.phase) (fewer (left_in old.phase - left_in new.phase) old.lefts) new.memory → left_in new.phase ≡ 0
+      → new ≡ copied_by old (left_in old.phase) new.disk new.memory
   copied_last old new so_far none =
       let left : left_in new.phase ≡ left_in old.phase - left_in old.phase = omega (arith, none) in
-      so_far ∙ ap (λ (n : ℕ). copied_to old new.disk n new.memory) left
+      let all : left_in old.phase - left_in new.phase ≡ left_in old.phase = omega (arith, none) in
+      so_far ∙ ap (λ (n : ℕ). copied_to old new.disk n (fewer (left_in old.phase - left_in new.phase) old.lefts) new.memory) left
+      ∙ ap (λ (n : ℕ). copied_to old new.disk (left_in old.phase - left_in old.phase) (fewer n old.lefts) new.memory) all
+
+  pub never_one : (keeper : KeeperState D) → keeper.phase ≡ Mapped → keeper.phase ≡ One → ⊥
+  never_one keeper is one = cc
+
+  -- a checkpoint that is carried to its end, in three steps
+  pub finished_last : (old copied mapped new : KeeperState D) (blocks : ℕ) → copied ≡ copied_by old blocks copied.disk copied.memory → mapped ≡ mapped_by copied mapped.disk mapped.memory
+      → new ≡ finished_by mapped new.disk new.memory → new ≡ finished_by old new.disk new.memory
+  finished_last old copied mapped new blocks first second third =
+      third ∙ ap (λ (k : KeeperState D). finished_by k new.disk new.memory) second ∙ ap (λ (k : KeeperState D). finished_by (mapped_by k mapped.disk mapped.memory) new.disk new.memory) first
+      ∙ ap (λ (lefts : List ℕ). let made : KeeperState D = record old {
+        disk = new.disk;
+        generation = old.generation + 1;
+        base = first_turned old.base old.turned;
+        turned = behind_first old.turned;
+        lefts = lefts;
+        phase = phase_left lefts;
+        memory = new.memory;
+      } in made) (behind_fewer old.lefts blocks)
 
   -- a refusal that isn't a fault of the device leaves the keeper as it was
   pub still_kept : {T : Type 0} (state : D → State) (result : Result T KeeperFault) (old new : KeeperState D) (image : Image) (number : ℕ) → IfErr result (λ fault. new ≡ refused_by fault old new.disk)
@@ -51,41 +97,59 @@ module _ {D : Type 0} where
 
   -- what holds the same as a keeper that keeps an image keeps it
   pub keeps_by : (old new : KeeperState D) (before after : State) (image : Image) (number : ℕ) → Keeps old before image number → new.count ≡ old.count
-      → ((base : Image) (first last : List Change) → Holds old before base first last → Holds new after base first last) → Keeps new after image number
+      → ((base : Image) (fronts : List (List Change)) (last : List Change) → Holds old before base fronts last → Holds new after base fronts last) → Keeps new after image number
   keeps_by old new before after image number keeps count held =
       let what = held_as old before image number keeps in
-      keeps_again old before image number keeps new after what.base what.first what.last (held what.base what.first what.last what.holds) what.image_is count
+      keeps_again old before image number keeps new after what.base what.fronts what.last (held what.base what.fronts what.last what.holds) what.image_is count
 
-  -- the same where one area is in use, whose commands come to stand in front
-  pub keeps_begun : (old new : KeeperState D) (before after : State) (image : Image) (number : ℕ) → Keeps old before image number → old.phase ≡ One → new.count ≡ old.count
-      → ((base : Image) (last : List Change) → Holds old before base [] last → Holds new after base last []) → Keeps new after image number
-  keeps_begun old new before after image number keeps one count held =
+  -- the same where the commands of the last area come to stand in front
+  pub keeps_begun : (old new : KeeperState D) (before after : State) (image : Image) (number : ℕ) → Keeps old before image number → new.count ≡ old.count
+      → ((base : Image) (fronts : List (List Change)) (last : List Change) → Holds old before base fronts last → Holds new after base (fronts ++ last ∷ []) []) → Keeps new after image number
+  keeps_begun old new before after image number keeps count held =
       let what = held_as old before image number keeps in
-      let none = what.one one in
-      keeps_again old before image number keeps new after what.base what.last [] (held what.base what.last (subst (λ (f : List Change). Holds old before what.base f what.last) none what.holds))
-      (what.image_is ∙ ap (λ (f : List Change). apply_all what.last (apply_all f what.base)) none) count
+      keeps_again old before image number keeps new after what.base (what.fronts ++ what.last ∷ []) [] (held what.base what.fronts what.last what.holds)
+      (what.image_is ∙ sym (apply_all-append (joined what.fronts) what.last what.base) ∙ ap (λ (changes : List Change). apply_all changes what.base) (sym (joined-push what.fronts what.last))) count
 
-  -- and where the commands in front are carried into map and data, unless that is refused
-  pub keeps_ended : {T : Type 0} (result : Result T KeeperFault) (old new : KeeperState D) (before after : State) (image : Image) (number : ℕ) → Keeps old before image number → OnOk result (new.count ≡ old.count)
-      → ((base : Image) (first last : List Change) → Holds old before base first last → OnOk result (Holds new after (apply_all first base) [] last)) → OnOk result (Keeps new after image number)
-  keeps_ended (Err fault) old new before after image number keeps count held = tt
-  keeps_ended (Ok done) old new before after image number keeps count held =
+  ended_by : (old new : KeeperState D) (before after : State) (image : Image) (number : ℕ) (keeps : Keeps old before image number) (base : Image) (fronts : List (List Change)) (last : List Change) → (fronts ≡ [] → ⊥) → new.count ≡ old.count
+      → Holds old before base fronts last → image ≡ apply_all last (apply_all (joined fronts) base)
+      → ((base : Image) (first : List Change) (others : List (List Change)) (last : List Change) → Holds old before base (first ∷ others) last → Holds new after (apply_all first base) others last) → Keeps new after image number
+  ended_by old new before after image number keeps base [] last some count holds image_is held = absurd (some refl)
+  ended_by old new before after image number keeps base (first ∷ others) last some count holds image_is held =
+      keeps_again old before image number keeps new after (apply_all first base) others last (held base first others last holds)
+      (image_is ∙ ap (apply_all last) (apply_all-append first (joined others) base)) count
+
+  -- and where the commands of the first area are carried into map and data, unless that is refused
+  pub keeps_ended : {T : Type 0} (result : Result T KeeperFault) (old new : KeeperState D) (before after : State) (image : Image) (number : ℕ) → Keeps old before image number → (old.phase ≡ One → ⊥) → OnOk result (new.count ≡ old.count)
+      → ((base : Image) (first : List Change) (others : List (List Change)) (last : List Change) → Holds old before base (first ∷ others) last → OnOk result (Holds new after (apply_all first base) others last)) → OnOk result (Keeps new after image number)
+  keeps_ended (Err fault) old new before after image number keeps several count held = tt
+  keeps_ended (Ok done) old new before after image number keeps several count held =
       let what = held_as old before image number keeps in
-      keeps_again old before image number keeps new after (apply_all what.first what.base) [] what.last (held what.base what.first what.last what.holds) what.image_is count
+      ended_by old new before after image number keeps what.base what.fronts what.last (λ none. several (what.several none)) count what.holds what.image_is held
 
   pub count_ended : {T : Type 0} (result : Result T KeeperFault) (old new : KeeperState D) → OnOk result (new ≡ finished_by old new.disk new.memory) → OnOk result (new.count ≡ old.count)
   count_ended (Err fault) old new is = tt
   count_ended (Ok done) old new is = ap (λ (k : KeeperState D). k.count) is
 
-  -- what an opening leaves once a checkpoint has ended
-  pub recovered_by : {T : Type 0} (result : Result T KeeperFault) (old new : KeeperState D) → OnOk result (new ≡ finished_by old new.disk new.memory) → old.failed ≡ false → old.used ≡ 0 → old.turned ≡ old.count
+  -- what an opening leaves once a checkpoint of the one area that was in use has ended
+  pub recovered_by : {T : Type 0} (result : Result T KeeperFault) (old new : KeeperState D) (left : ℕ) → OnOk result (new ≡ finished_by old new.disk new.memory) → old.failed ≡ false → old.used ≡ 0 → old.turned ≡ old.count ∷ [] → old.lefts ≡ left ∷ []
       → OnOk result (Remembers new []) → OnOk result (IsRecovered new)
-  recovered_by (Err fault) old new is works used counted remembers = tt
-  recovered_by (Ok done) old new is works used counted remembers = record {
+  recovered_by (Err fault) old new left is works used turned lefts remembers = tt
+  recovered_by (Ok done) old new left is works used turned lefts remembers = record {
     works = ap (λ (k : KeeperState D). k.failed) is ∙ works;
-    phase = ap (λ (k : KeeperState D). k.phase) is;
+    phase = ap (λ (k : KeeperState D). k.phase) is ∙ ap (λ (l : List ℕ). phase_left (behind_first l)) lefts;
     used = ap (λ (k : KeeperState D). k.used) is ∙ used;
-    turned = ap (λ (k : KeeperState D). k.turned) is ∙ sym (ap (λ (k : KeeperState D). k.base) is);
-    base = ap (λ (k : KeeperState D). k.base) is ∙ counted ∙ sym (ap (λ (k : KeeperState D). k.count) is);
+    turned = ap (λ (k : KeeperState D). k.turned) is ∙ ap behind_first turned;
+    lefts = ap (λ (k : KeeperState D). k.lefts) is ∙ ap behind_first lefts;
+    base = ap (λ (k : KeeperState D). k.base) is ∙ ap (first_turned old.base) turned ∙ sym (ap (λ (k : KeeperState D). k.count) is);
     remembers = remembers;
   }
+
+-- the next checkpoint begins where the first has ended
+pub begun_left : (lefts : List ℕ) → IsBegun (phase_left (behind_first lefts))
+begun_left [] = tt
+begun_left (left ∷ []) = tt
+begun_left (left ∷ next ∷ lefts) = tt
+
+pub shorter_behind : (turned : List ℕ) → 0 < length turned → length (behind_first turned) < length turned
+shorter_behind [] some = some
+shorter_behind (first ∷ rest) some = omega arith

@@ -4,28 +4,26 @@ use Rattle.std.proofs.lemmas.List.Sums.{sum_by-cons}
 use Rattle.disk_model.specs.Disk.{State, IsAllSynced, LeavesOnly, MayLeave}
 use Rattle.disk_model.specs.laws.Contents.{leaves_seen}
 use Rattle.disk_model.specs.laws.Moments.{goes_on, weakens}
-use Rattle.header_slots.specs.Header.{mode_of}
-use Rattle.header_slots.specs.declared.header.Areas.{Areas}
 use Rattle.header_slots.specs.declared.header.Header.{Header}
 use Rattle.image_model.specs.Image.{Image}
 use Rattle.image_model.specs.declared.command.Kind.{Kind}
 use Rattle.image_model.specs.declared.geometry.Geometry.{Geometry}
-use Rattle.image_model.specs.declared.side.Side.{Side}
 use Rattle.journal_format.specs.Area.{AreaState}
 use Rattle.journal_format.specs.GroupList.{Stand, size_of, sizes_of}
 use Rattle.journal_format.specs.Spelling.{StoredGroup}
 use Rattle.journal_format.specs.laws.OneList.{one_list}
-use Rattle.regions.specs.Layout.{area_at, behind, ring}
+use Rattle.regions.specs.Layout.{area_at, areas_in, behind}
 use Rattle.device_image.specs.Keeper.{KeeperState, One, PlanState, earlier_of, phase_in, phase_of}
-use Rattle.device_image.specs.Keeps.{AreHeld, IsInPhase, Keeps, behind_lists}
-use Rattle.device_image.specs.Stands.{StandsFor, all_changes, next_number}
+use Rattle.device_image.specs.Keeps.{AreHeld, Keeps, behind_lists}
+use Rattle.device_image.specs.Stands.{StandsFor, all_changes, areas_in_front, next_number}
+use Rattle.device_image.specs.laws.CheckpointBounds.{fronts_many}
 use Rattle.device_image.specs.laws.Sole.{same_header}
 use Rattle.checkpoint.specs.Opening.{HasLastGeneration, IsAtRest, IsOpeningRefused, IsRefused, StandsAs}
 use Rattle.checkpoint.specs.inner.Recovery.{IsRecoveryFault}
 use Rattle.checkpoint.specs.declared.fault.KeeperFault.{KeeperFault}
 use Rattle.checkpoint.specs.declared.fault.KeeperFault.TheVariants.{NoMemory, DeviceFault, BadMap, NoHeader, BadHeader, NumbersFull, AreaFull, OutOfOrder, DamagedGroup, NotNow, Failed}
 
-no_front : (sides : List Side) (geometry : Geometry) (next : ℕ) (front : List (List StoredGroup)) (state : State) → AreHeld sides geometry next front [] state → front ≡ []
+no_front : (sides : List ℕ) (geometry : Geometry) (next : ℕ) (front : List (List StoredGroup)) (state : State) → AreHeld sides geometry next front [] state → front ≡ []
 no_front [] geometry next [] state held = refl
 no_front [] geometry next (groups ∷ front) state held = absurd held
 no_front (side ∷ sides) geometry next [] state held = absurd held
@@ -35,32 +33,29 @@ no_groups : (groups : List StoredGroup) → sizes_of groups ≡ 0 → groups ≡
 no_groups [] none = refl
 no_groups (group ∷ groups) none = absurd (omega (arith, none, sum_by-cons size_of group groups))
 
-no_plan : (plan : Option PlanState) → phase_of plan ≡ One → plan ≡ None
-no_plan None is = refl
-no_plan (Some plan) is = absurd (never plan.mapped is)
+no_plan : (plans : List PlanState) → phase_of plans ≡ One → plans ≡ []
+no_plan [] is = refl
+no_plan (plan ∷ plans) is = absurd (never plan.mapped is)
   where
     never : (mapped : Option (List Kind)) → phase_in plan.left mapped ≡ One → ⊥
     never None is = cc
     never (Some map) is = cc
 
-alone : (plan : Option PlanState) (state : State) (header : Header) (states : List Kind) (front : List (List StoredGroup)) → IsInPhase plan state header states front → header.areas ≡ Areas.One → plan ≡ None
-alone None state header states front phased one = refl
-alone (Some plan) state header states front phased one = absurd (never (sym phased.areas ∙ one))
-  where
-    never : Areas.Two ≡ Areas.One → ⊥
-    never is = cc
+alone : (plans : List PlanState) (n : ℕ) → n ≡ length plans → n ≡ 0 → plans ≡ []
+alone [] n many one = refl
+alone (plan ∷ plans) n many one = absurd (omega (arith, many, one))
 
 module _ {D : Type 0} (keeper : KeeperState D) (state : State) (image : Image) (number : ℕ) (keeps : Keeps keeper state image number) where
-  front_empty : keeper.memory.plan ≡ None → keeps.areas.front ≡ []
+  front_empty : keeper.memory.plans ≡ [] → keeps.areas.front ≡ []
   front_empty none =
       let header = keeps.stands.header in
-      no_front (ring (mode_of header.areas) header.first_area) header.geometry (next_number header.base) keeps.areas.front state
-      (subst (λ (list : List AreaState). AreHeld (ring (mode_of header.areas) header.first_area) header.geometry (next_number header.base) keeps.areas.front list state) (ap earlier_of none) keeps.areas.earlier_held)
+      no_front (areas_in_front header) header.geometry (next_number header.base) keeps.areas.front state
+      (subst (λ (list : List AreaState). AreHeld (areas_in_front header) header.geometry (next_number header.base) keeps.areas.front list state) (ap earlier_of none) keeps.areas.earlier_held)
 
   -- where the journal is empty all is at the base
   pub empty_base : keeper.phase ≡ One → keeper.used ≡ 0 → keeper.base ≡ number
   empty_base one none =
-      let front = front_empty (no_plan keeper.memory.plan (sym keeps.phase ∙ one)) in
+      let front = front_empty (no_plan keeper.memory.plans (sym keeps.phase ∙ one)) in
       let groups = no_groups keeps.areas.groups (sym keeps.taken ∙ none) in
       let lists : keeps.stands.lists ≡ [] ∷ [] = keeps.areas.are ∙ (λ i. front i ++ groups i ∷ []) in
       let changes : length (all_changes keeps.stands.lists) ≡ 0 = ap (λ (l : List (List StoredGroup)). length (all_changes l)) lists in
@@ -71,11 +66,12 @@ module _ {D : Type 0} (keeper : KeeperState D) (state : State) (image : Image) (
   rests rest =
       let header = keeps.stands.header in
       let is : rest.header ≡ header = same_header state.seen (length state.seen) rest.header header rest.slot keeps.stands.slot rest.in_force keeps.stands.in_force in
-      let one : header.areas ≡ Areas.One = ap (λ (h : Header). h.areas) (sym is) ∙ rest.one in
-      let none = alone keeper.memory.plan state header keeps.stands.states keeps.areas.front keeps.phased one in
+      let one : header.in_front ≡ 0 = ap (λ (h : Header). h.in_front) (sym is) ∙ rest.one in
+      let many = fronts_many (areas_in header.geometry) header.in_front header.first_area header.geometry (next_number header.base) keeps.areas.front keeper.memory.plans state keeps.areas.earlier_held in
+      let none = alone keeper.memory.plans header.in_front many one in
       let front = front_empty none in
       let area = keeper.memory.area in
-      let from : area.from ≡ area_at header.geometry header.first_area = keeps.areas.placed.from ∙ ap (λ (areas : Areas). area_at header.geometry (behind (mode_of areas) header.first_area)) one in
+      let from : area.from ≡ area_at header.geometry header.first_area = keeps.areas.placed.from ∙ ap (λ (n : ℕ). area_at header.geometry (behind (areas_in header.geometry) n header.first_area)) one in
       let few : header.geometry.blocks < 2 ^ 64 = omega (arith, header.geometry.not_too_many) in
       let rested : Stand header.geometry.blocks state.seen (area_at header.geometry header.first_area) (next_number header.base) [] =
       subst (λ (h : Header). Stand h.geometry.blocks state.seen (area_at h.geometry h.first_area) (next_number h.base) []) is rest.list.stand in

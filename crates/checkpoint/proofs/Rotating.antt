@@ -1,39 +1,63 @@
 -- A keeper while the header changes, in what it remembers.
-use Rattle.std.proofs.Common.{slice_index, ◌≡◌, ℕ, ◌+◌, ◌%◌, ◌≤◌, ◌<◌, Option, Some, None, List, [], length, false, is_some, refl, sym, ◌∙◌, ap, subst, arith, ◌∷◌}
-use Rattle.disk_model.specs.Disk.{State, IsAllSynced, IsSound, IsSyncedIn}
-use Rattle.header_slots.specs.Change.{ComesNext, IsInPlace, LeavesEither}
+use Rattle.std.proofs.Common.{slice_index, ◌≡◌, ℕ, suc, ◌+◌, ◌-◌, ◌*◌, ◌%◌, ◌≤◌, ◌<◌, Option, Some, None, List, [], ◌∷◌, ◌++◌, length, refl, sym, ◌∙◌, ap, subst, arith, length-append}
+use Rattle.std.specs.FinMap.{len}
+use Rattle.std.specs.Prelude.{IfNone, IfSome}
+use Rattle.disk_model.specs.Disk.{State, IsSound, IsSyncedIn}
+use Rattle.header_slots.specs.Change.{ComesNext, IsInPlace, IsRenewed, LeavesEither}
 use Rattle.header_slots.specs.Slots.{HoldsHeader}
-use Rattle.header_slots.specs.declared.header.Areas.{Areas}
 use Rattle.header_slots.specs.declared.header.Header.{Header}
+use Rattle.header_slots.specs.laws.Sole.{same_fields}
+use Rattle.image_model.specs.Change.{Change}
+use Rattle.image_model.specs.Dirty.{dirty_blocks}
+use Rattle.image_model.specs.Geometry.{device_bytes_of}
 use Rattle.image_model.specs.Image.{Image, apply_all}
 use Rattle.image_model.specs.Side.{other_of}
 use Rattle.image_model.specs.declared.command.Kind.{Kind}
 use Rattle.image_model.specs.declared.geometry.Geometry.{Geometry}
 use Rattle.image_model.specs.declared.side.Side.{Side}
 use Rattle.journal_format.specs.Area.{AreaState}
-use Rattle.journal_format.specs.GroupList.{changes_of}
-use Rattle.regions.specs.Layout.{block_at, area_at}
+use Rattle.regions.specs.Layout.{area_at, area_size, areas_in, behind, block_at, next_of}
+use Rattle.regions.specs.laws.Ring.{area_high, area_low, behind_below}
+use Rattle.device_image.specs.CheckpointHeader.{with_next, without_first}
 use Rattle.device_image.specs.Copied.{IsTurnBegun, LeavesTurn}
-use Rattle.checkpoint.specs.Steps.{IsFinishTime, map_after, map_in}
-use Rattle.device_image.specs.Keeper.{KeeperState, PlanState, count_puts, phase_in, phase_of, turned_of, Copying}
-use Rattle.device_image.specs.Keeps.{IsInPhase, Keeps}
-use Rattle.device_image.specs.Stands.{StandsFor}
-use Rattle.device_image.specs.CheckpointHeader.{begun, ended}
-use Rattle.device_image.specs.laws.Frame.{area_high, area_low}
-use Rattle.device_image.specs.laws.CheckpointBounds.{all_synced, base_is, begin_left, end_left, keeps_begun, keeps_ended, two}
-use Rattle.device_image.specs.laws.Puts.{count_zero}
-use Rattle.device_image.specs.laws.Lists.{KeepsLists}
-use Rattle.image_model.specs.Change.{Change}
 use Rattle.device_image.specs.Holds.{Holds}
-use Rattle.device_image.specs.laws.AfterCall.{holds_begun, holds_ended}
+use Rattle.device_image.specs.Keeper.{KeeperState, PlanState, count_puts, last_number, last_turned, lefts_of, phase_in, phase_of, turned_of}
+use Rattle.device_image.specs.Keeps.{Keeps}
 use Rattle.device_image.specs.Remembers.{Remembers}
+use Rattle.device_image.specs.Stands.{StandsFor, next_number}
+use Rattle.device_image.specs.laws.AfterCall.{holds_begun, holds_ended}
+use Rattle.device_image.specs.laws.CheckpointBounds.{base_is, begin_left, end_left, ended_header, keeps_begun, keeps_ended, many, parts}
 use Rattle.device_image.specs.laws.Counted.{left_dirty}
-use Rattle.std.specs.FinMap.{len}
-use Rattle.image_model.specs.Dirty.{dirty_blocks}
+use Rattle.device_image.specs.laws.Headers.{begun}
+use Rattle.device_image.specs.laws.Lists.{KeepsLists}
+use Rattle.checkpoint.specs.Keeper.{AreSized, IsSized, plans_of}
+use Rattle.checkpoint.specs.Steps.{IsFinishTime, first_turned, map_after, map_in, phase_with}
 
-pub none_of : {X : Type 0} (option : Option X) → is_some option ≡ false → option ≡ None
-none_of None is = refl
-none_of (Some x) is = cc
+-- the checkpoints once another one is behind them
+pub added : (old new : Option PlanState) (waiting more : List PlanState) (last : PlanState) → IfNone old ((new ≡ Some last) × (more ≡ []))
+    → IfSome old (λ first. (new ≡ Some first) × (more ≡ waiting ++ last ∷ [])) → plans_of new more ≡ plans_of old waiting ++ last ∷ []
+added None new waiting more last none some = λ i. plans_of (none.0 i) (none.1 i)
+added (Some first) new waiting more last none some = λ i. plans_of (some.0 i) (some.1 i)
+
+pub turned-push : (plans : List PlanState) (plan : PlanState) → turned_of (plans ++ plan ∷ []) ≡ turned_of plans ++ last_number plan.first ∷ []
+turned-push [] plan = refl
+turned-push (first ∷ plans) plan = ap (λ (rest : List ℕ). last_number first.first ∷ rest) (turned-push plans plan)
+
+pub lefts-push : (plans : List PlanState) (plan : PlanState) → lefts_of (plans ++ plan ∷ []) ≡ lefts_of plans ++ plan.left ∷ []
+lefts-push [] plan = refl
+lefts-push (first ∷ plans) plan = ap (λ (rest : List ℕ). first.left ∷ rest) (lefts-push plans plan)
+
+phase_in-with : (left more : ℕ) (mapped : Option (List Kind)) → phase_in left mapped ≡ phase_with (phase_in left mapped) more
+phase_in-with left more None = refl
+phase_in-with left more (Some map) = refl
+
+pub phase-push : (plans : List PlanState) (plan : PlanState) → plan.mapped ≡ None → phase_of (plans ++ plan ∷ []) ≡ phase_with (phase_of plans) plan.left
+phase-push [] plan none = ap (phase_in plan.left) none
+phase-push (first ∷ plans) plan none = phase_in-with first.left plan.left first.mapped
+
+-- the number of the last command in the area that groups go to
+pub last_counted : (area : AreaState) (count : ℕ) → area.next ≡ next_number count → count < 18446744073709551616 → last_number area ≡ count
+last_counted area count next fits = omega (arith, next, fits)
 
 module _ {D : Type 0} (keeper : KeeperState D) (state : State) (image : Image) (number : ℕ) (keeps : Keeps keeper state image number) {extent : ℕ} (sound : IsSound extent state) where
   pub current_held : HoldsHeader state.seen extent keeper.memory.header keeper.memory.slot
@@ -45,32 +69,49 @@ module _ {D : Type 0} (keeper : KeeperState D) (state : State) (image : Image) (
   pub slots_synced : IsSyncedIn state 0 8192
   slots_synced place within unsynced = let copy = keeps.unsynced place unsynced in omega (arith, within.1, copy.inside.0)
 
-  positive : 0 < keeps.stands.header.geometry.area
+  positive : 0 < area_size keeps.stands.header.geometry
   positive = omega (arith, keeps.areas.held.list.inside, keeps.areas.placed.bytes)
 
-  module _ (none : keeper.memory.plan ≡ None) (header : Header) (header_is : header ≡ begun keeper.memory.header) (from : ℕ) (from_is : from ≡ area_at keeper.geometry (other_of keeper.memory.header.first_area)) where
-    one : keeps.stands.header.areas ≡ Areas.One
-    one = subst (λ (p : Option PlanState). IsInPhase p state keeps.stands.header keeps.stands.states keeps.areas.front) none keeps.phased
+  module _ (header : Header) (header_is : IsRenewed keeper.memory.header (with_next keeper.memory.header) header) (room : keeper.memory.header.in_front + 1 < areas_in keeper.memory.header.geometry)
+      (from : ℕ) (from_is : from ≡ area_at keeper.geometry (behind (areas_in keeper.geometry) (suc keeper.memory.header.in_front) keeper.memory.header.first_area)) where
+    room_here : suc keeps.stands.header.in_front < areas_in keeps.stands.header.geometry
+    room_here = subst (λ (h : Header). suc h.in_front < areas_in h.geometry) keeps.headed (omega (arith, room))
 
-    header_begun : header ≡ begun keeps.stands.header
-    header_begun = header_is ∙ ap begun keeps.headed
+    header_begun : header ≡ begun keeps.stands.header room_here
+    header_begun =
+        same_fields header (begun keeps.stands.header room_here)
+        (header_is.generation ∙ ap (λ (h : Header). h.generation + 1) keeps.headed)
+        (header_is.geometry ∙ ap (λ (h : Header). h.geometry) keeps.headed)
+        (omega (arith, header_is.in_front, ap (λ (h : Header). h.in_front) keeps.headed))
+        (header_is.first_area ∙ ap (λ (h : Header). h.first_area) keeps.headed)
+        (header_is.map_slot ∙ ap (λ (h : Header). h.map_slot) keeps.headed)
+        (header_is.base ∙ ap (λ (h : Header). h.base) keeps.headed)
 
-    from_at : from ≡ area_at keeps.stands.header.geometry (other_of keeps.stands.header.first_area)
-    from_at = from_is ∙ ap (λ (geometry : Geometry). area_at geometry (other_of keeper.memory.header.first_area)) keeps.sizes ∙ ap (λ (h : Header). area_at keeps.stands.header.geometry (other_of h.first_area)) keeps.headed
+    from_at : from ≡ area_at keeps.stands.header.geometry (behind (areas_in keeps.stands.header.geometry) (suc keeps.stands.header.in_front) keeps.stands.header.first_area)
+    from_at = from_is
+        ∙ ap (λ (geometry : Geometry). area_at geometry (behind (areas_in geometry) (suc keeper.memory.header.in_front) keeper.memory.header.first_area)) keeps.sizes
+        ∙ ap (λ (h : Header). area_at keeps.stands.header.geometry (behind (areas_in keeps.stands.header.geometry) (suc h.in_front) h.first_area)) keeps.headed
 
     pub from_above : 8192 ≤ from
-    from_above = omega (arith, from_at, area_low keeps.stands.header.geometry (other_of keeps.stands.header.first_area))
+    from_above = omega (arith, from_at, area_low keeps.stands.header.geometry (behind (areas_in keeps.stands.header.geometry) (suc keeps.stands.header.in_front) keeps.stands.header.first_area))
 
-    pub synced_before : IsAllSynced state
-    synced_before = all_synced keeper state image number keeps one
+    from_high : from + area_size keeps.stands.header.geometry ≤ 8192 + 2 * keeps.stands.header.geometry.area
+    from_high =
+        let geometry = keeps.stands.header.geometry in
+        let area = behind (areas_in geometry) (suc keeps.stands.header.in_front) keeps.stands.header.first_area in
+        omega (arith, from_at, area_high geometry area (behind_below (areas_in geometry) (suc keeps.stands.header.in_front) keeps.stands.header.first_area keeps.stands.header.first_inside))
 
     pub comes_next : ComesNext keeper.memory.header header
-    comes_next = subst (λ (h : Header). ComesNext keeper.memory.header h) (sym header_is) (record { generation = refl; geometry = refl })
+    comes_next = record {
+      generation = header_is.generation;
+      blocks = ap (λ (size : Geometry). size.blocks) header_is.geometry;
+      area = ap (λ (size : Geometry). size.area) header_is.geometry;
+    }
 
     pub rotate_left : (content : List ℕ) → LeavesTurn state extent from keeper.memory.header keeper.memory.slot header content → StandsFor content image number
     rotate_left content left =
-        begin_left keeper state image number keeps one extent sound positive content
-        (subst (λ (place : ℕ). LeavesTurn state extent place keeps.stands.header keeps.stands.slot (begun keeps.stands.header) content) from_at
+        begin_left keeper state image number keeps room_here extent sound positive content
+        (subst (λ (place : ℕ). LeavesTurn state extent place keeps.stands.header keeps.stands.slot (begun keeps.stands.header room_here) content) from_at
         (subst (λ (h : Header). LeavesTurn state extent from keeps.stands.header keeps.stands.slot h content) header_begun
         (subst (λ (slot : Side). LeavesTurn state extent from keeps.stands.header slot header content) keeps.slotted
         (subst (λ (h : Header). LeavesTurn state extent from h keeper.memory.slot header content) keeps.headed left))))
@@ -84,10 +125,10 @@ module _ {D : Type 0} (keeper : KeeperState D) (state : State) (image : Image) (
     -- the data stay
     pub data_stay : (after : State) → IsTurnBegun state extent from header (other_of keeper.memory.slot) after → (place : ℕ) → block_at keeps.stands.header.geometry 0 ≤ place → slice_index after.seen place ≡ slice_index state.seen place
     data_stay after turn place above =
-        turn.others place (omega (arith, above)) (λ is. omega (arith, is, above, from_at, area_high keeps.stands.header.geometry (other_of keeps.stands.header.first_area), positive))
+        turn.others place (omega (arith, above)) (λ is. omega (arith, is, above, from_high, positive))
 
     pub rotate_kept : (after : State) → IsSound extent after → (now : KeeperState D) (slot : Side) (next : AreaState) (plan : PlanState) → slot ≡ other_of keeper.memory.slot → IsTurnBegun state extent from header (other_of keeper.memory.slot) after
-        → next ≡ record { from = from; bytes = keeper.geometry.area; blocks = keeper.geometry.blocks; next = keeper.memory.area.next; gate = 0; touched = [] }
+        → next ≡ record { from = from; bytes = area_size keeper.geometry; blocks = keeper.geometry.blocks; next = keeper.memory.area.next; gate = 0; touched = [] }
         → plan ≡ record { first = keeper.memory.area; copied = 0; left = count_puts keeper.memory.area.blocks keeper.memory.area.touched; mapped = None }
         → now ≡ record keeper {
           disk = now.disk;
@@ -95,18 +136,26 @@ module _ {D : Type 0} (keeper : KeeperState D) (state : State) (image : Image) (
           base = header.base;
           used = next.gate;
           turned = now.turned;
-          phase = phase_of (Some plan);
+          lefts = now.lefts;
+          phase = phase_of (keeper.memory.plans ++ plan ∷ []);
           geometry = header.geometry;
-          memory = record keeper.memory { header = header; slot = slot; plan = Some plan; area = next };
-        } → KeepsLists now after image number (keeps.areas.groups ∷ []) []
+          memory = record keeper.memory { header = header; slot = slot; plans = keeper.memory.plans ++ plan ∷ []; area = next };
+        } → KeepsLists now after image number (keeps.areas.front ++ keeps.areas.groups ∷ []) []
     rotate_kept after after_sound now slot next plan slot_is turn next_is plan_is now_is =
-        keeps_begun keeper state image number keeps one extent sound positive after after_sound now next plan
-        (subst (λ (place : ℕ). IsTurnBegun state extent place (begun keeps.stands.header) (other_of keeps.stands.slot) after) from_at
+        keeps_begun keeper state image number keeps room_here extent sound positive after after_sound
+        (subst (λ (place : ℕ). IsTurnBegun state extent place (begun keeps.stands.header room_here) (other_of keeps.stands.slot) after) from_at
         (subst (λ (h : Header). IsTurnBegun state extent from h (other_of keeps.stands.slot) after) header_begun
         (subst (λ (s : Side). IsTurnBegun state extent from header (other_of s) after) keeps.slotted turn)))
-        (next_is ∙ ap (λ (place : ℕ). let area : AreaState = record { from = place; bytes = keeper.geometry.area; blocks = keeper.geometry.blocks; next = keeper.memory.area.next; gate = 0; touched = [] } in area) from_at
-        ∙ ap (λ (geometry : Geometry). let area : AreaState = record { from = area_at keeps.stands.header.geometry (other_of keeps.stands.header.first_area); bytes = geometry.area; blocks = geometry.blocks; next = keeper.memory.area.next; gate = 0; touched = [] } in area) keeps.sizes)
-        plan_is (count_zero _)
+        plan plan_is now next
+        (next_is ∙ ap (λ (place : ℕ). let area : AreaState = record { from = place; bytes = area_size keeper.geometry; blocks = keeper.geometry.blocks; next = keeper.memory.area.next; gate = 0; touched = [] } in area) from_at
+        ∙ ap (λ (geometry : Geometry). let area : AreaState = record {
+          from = area_at keeps.stands.header.geometry (behind (areas_in keeps.stands.header.geometry) (suc keeps.stands.header.in_front) keeps.stands.header.first_area);
+          bytes = area_size geometry;
+          blocks = geometry.blocks;
+          next = keeper.memory.area.next;
+          gate = 0;
+          touched = [];
+        } in area) keeps.sizes)
         (now_is ∙ view_is)
       where
         generation_more : header.generation ≡ keeper.generation + 1
@@ -124,17 +173,19 @@ module _ {D : Type 0} (keeper : KeeperState D) (state : State) (image : Image) (
           base = header.base;
           used = next.gate;
           turned = now.turned;
-          phase = phase_of (Some plan);
+          lefts = now.lefts;
+          phase = phase_of (keeper.memory.plans ++ plan ∷ []);
           geometry = header.geometry;
-          memory = record keeper.memory { header = header; slot = slot; plan = Some plan; area = next };
+          memory = record keeper.memory { header = header; slot = slot; plans = keeper.memory.plans ++ plan ∷ []; area = next };
         }
             ≡ record keeper {
               disk = now.disk;
               generation = keeper.generation + 1;
               used = 0;
               turned = now.turned;
-              phase = phase_of (Some plan);
-              memory = record keeper.memory { header = begun keeps.stands.header; slot = other_of keeps.stands.slot; plan = Some plan; area = next };
+              lefts = now.lefts;
+              phase = phase_of (keeper.memory.plans ++ plan ∷ []);
+              memory = record keeper.memory { header = begun keeps.stands.header room_here; slot = other_of keeps.stands.slot; plans = keeper.memory.plans ++ plan ∷ []; area = next };
             }
         view_is = λ i. record keeper {
           disk = now.disk;
@@ -142,27 +193,39 @@ module _ {D : Type 0} (keeper : KeeperState D) (state : State) (image : Image) (
           base = base_same i;
           used = used_none i;
           turned = now.turned;
-          phase = phase_of (Some plan);
+          lefts = now.lefts;
+          phase = phase_of (keeper.memory.plans ++ plan ∷ []);
           geometry = geometry_same i;
-          memory = record keeper.memory { header = header_begun i; slot = slot_other i; plan = Some plan; area = next };
+          memory = record keeper.memory { header = header_begun i; slot = slot_other i; plans = keeper.memory.plans ++ plan ∷ []; area = next };
         }
 
   -- the map is written
-  module _ (plan : PlanState) (is : keeper.memory.plan ≡ Some plan) (after : List Kind) (mapped : plan.mapped ≡ Some after) (base_fits : keeper.base < 18446744073709551616)
-      (header : Header) (base : ℕ) (base_at : base ≡ (plan.first.next + 18446744073709551615) % 18446744073709551616) (header_is : header ≡ ended keeper.memory.header base) where
+  module _ (plan : PlanState) (rest : List PlanState) (is : keeper.memory.plans ≡ plan ∷ rest) (after : List Kind) (mapped : plan.mapped ≡ Some after) (base_fits : keeper.base < 18446744073709551616)
+      (header : Header) (base : ℕ) (base_at : base ≡ last_number plan.first) (header_is : IsRenewed keeper.memory.header (without_first keeper.memory.header base) header) where
     fits : keeps.stands.header.base < 18446744073709551616
     fits = omega (arith, base_fits, keeps.from_base)
 
-    header_ended : header ≡ ended keeps.stands.header (keeps.stands.header.base + length (changes_of (two keeper state image number keeps plan is after mapped).first))
-    header_ended = header_is ∙ ap (λ (h : Header). ended h base) keeps.headed
-        ∙ ap (ended keeps.stands.header) (base_at ∙ sym (base_is keeper state image number keeps plan is after mapped extent fits))
+    header_ended : header ≡ ended_header keeper state image number keeps plan rest is after mapped
+    header_ended =
+        let several = many keeper state image number keeps plan rest is after mapped in
+        same_fields header (ended_header keeper state image number keeps plan rest is after mapped)
+        (header_is.generation ∙ ap (λ (h : Header). h.generation + 1) keeps.headed)
+        (header_is.geometry ∙ ap (λ (h : Header). h.geometry) keeps.headed)
+        (omega (arith, header_is.in_front, ap (λ (h : Header). h.in_front) keeps.headed, several))
+        (header_is.first_area ∙ ap (λ (h : Header). next_of (areas_in h.geometry) h.first_area) keeps.headed)
+        (header_is.map_slot ∙ ap (λ (h : Header). other_of h.map_slot) keeps.headed)
+        (header_is.base ∙ base_at ∙ sym (base_is keeper state image number keeps plan rest is after mapped extent fits))
 
     pub finish_next : ComesNext keeper.memory.header header
-    finish_next = subst (λ (h : Header). ComesNext keeper.memory.header h) (sym header_is) (record { generation = refl; geometry = refl })
+    finish_next = record {
+      generation = header_is.generation;
+      blocks = ap (λ (size : Geometry). size.blocks) header_is.geometry;
+      area = ap (λ (size : Geometry). size.area) header_is.geometry;
+    }
 
     pub finish_left : (content : List ℕ) → LeavesEither state extent keeper.memory.header keeper.memory.slot header content → StandsFor content image number
     finish_left content left =
-        end_left keeper state image number keeps plan is after mapped extent sound fits content
+        end_left keeper state image number keeps plan rest is after mapped extent sound fits content
         (subst (λ (h : Header). LeavesEither state extent keeps.stands.header keeps.stands.slot h content) header_ended
         (subst (λ (slot : Side). LeavesEither state extent keeps.stands.header slot header content) keeps.slotted
         (subst (λ (h : Header). LeavesEither state extent h keeper.memory.slot header content) keeps.headed left)))
@@ -173,26 +236,29 @@ module _ {D : Type 0} (keeper : KeeperState D) (state : State) (image : Image) (
           generation = header.generation;
           base = header.base;
           turned = now.turned;
-          phase = phase_of None;
-          memory = record keeper.memory { header = header; slot = other_of keeper.memory.slot; map = after; plan = None };
-        } → KeepsLists now later image number [] keeps.areas.groups
+          lefts = now.lefts;
+          phase = phase_of rest;
+          memory = record keeper.memory { header = header; slot = other_of keeper.memory.slot; map = after; plans = rest };
+        } → KeepsLists now later image number (parts keeper state image number keeps plan rest is after mapped).others keeps.areas.groups
     finish_kept later then_sound now placed now_is =
-        keeps_ended keeper state image number keeps plan is after mapped extent sound fits later then_sound now header header_ended
+        keeps_ended keeper state image number keeps plan rest is after mapped extent sound fits later then_sound now header header_ended
         (subst (λ (slot : Side). IsInPlace state extent header (other_of slot) later) keeps.slotted placed)
         (now_is ∙ ap (λ (slot : Side). record keeper {
           disk = now.disk;
           generation = header.generation;
           base = header.base;
           turned = now.turned;
-          phase = phase_of None;
-          memory = record keeper.memory { header = header; slot = other_of slot; map = after; plan = None };
+          lefts = now.lefts;
+          phase = phase_of rest;
+          memory = record keeper.memory { header = header; slot = other_of slot; map = after; plans = rest };
         }) keeps.slotted)
 
--- what the keeper holds, once its area stands in front of another
-pub rotate_held : {D : Type 0} (keeper : KeeperState D) (state : State) (base : Image) (last : List Change) (holds : Holds keeper state base [] last) {extent : ℕ} (sound : IsSound extent state)
-    (none : keeper.memory.plan ≡ None) (header : Header) (header_is : header ≡ begun keeper.memory.header) (from : ℕ) (from_is : from ≡ area_at keeper.geometry (other_of keeper.memory.header.first_area))
+-- what the keeper holds, once its last area stands in front of another
+pub rotate_held : {D : Type 0} (keeper : KeeperState D) (state : State) (base : Image) (fronts : List (List Change)) (last : List Change) (holds : Holds keeper state base fronts last) {extent : ℕ} (sound : IsSound extent state)
+    (header : Header) (header_is : IsRenewed keeper.memory.header (with_next keeper.memory.header) header) (room : keeper.memory.header.in_front + 1 < areas_in keeper.memory.header.geometry)
+    (from : ℕ) (from_is : from ≡ area_at keeper.geometry (behind (areas_in keeper.geometry) (suc keeper.memory.header.in_front) keeper.memory.header.first_area))
     (after : State) → IsSound extent after → (now : KeeperState D) (slot : Side) (next : AreaState) (plan : PlanState) → slot ≡ other_of keeper.memory.slot → IsTurnBegun state extent from header (other_of keeper.memory.slot) after
-    → next ≡ record { from = from; bytes = keeper.geometry.area; blocks = keeper.geometry.blocks; next = keeper.memory.area.next; gate = 0; touched = [] }
+    → next ≡ record { from = from; bytes = area_size keeper.geometry; blocks = keeper.geometry.blocks; next = keeper.memory.area.next; gate = 0; touched = [] }
     → plan ≡ record { first = keeper.memory.area; copied = 0; left = count_puts keeper.memory.area.blocks keeper.memory.area.touched; mapped = None }
     → now ≡ record keeper {
       disk = now.disk;
@@ -200,53 +266,57 @@ pub rotate_held : {D : Type 0} (keeper : KeeperState D) (state : State) (base : 
       base = header.base;
       used = next.gate;
       turned = now.turned;
-      phase = phase_of (Some plan);
+      lefts = now.lefts;
+      phase = phase_of (keeper.memory.plans ++ plan ∷ []);
       geometry = header.geometry;
-      memory = record keeper.memory { header = header; slot = slot; plan = Some plan; area = next };
-    } → Holds now after base last []
-rotate_held {D} keeper state base last holds sound none header header_is from from_is after after_sound now slot next plan slot_is turn next_is plan_is now_is =
-    holds_begun keeper state base last holds now after
-    (rotate_kept keeper state _ _ holds.keeps sound none header header_is from from_is after after_sound now slot next plan slot_is turn next_is plan_is now_is)
-    (ap (λ (k : KeeperState D). k.base) now_is ∙ base_same keeper state _ _ holds.keeps sound none header header_is from from_is)
-    (ap (λ (k : KeeperState D). k.geometry) now_is ∙ geometry_same keeper state _ _ holds.keeps sound none header header_is from from_is)
+      memory = record keeper.memory { header = header; slot = slot; plans = keeper.memory.plans ++ plan ∷ []; area = next };
+    } → Holds now after base (fronts ++ last ∷ []) []
+rotate_held {D} keeper state base fronts last holds sound header header_is room from from_is after after_sound now slot next plan slot_is turn next_is plan_is now_is =
+    holds_begun keeper state base fronts last holds now after
+    (rotate_kept keeper state _ _ holds.keeps sound header header_is room from from_is after after_sound now slot next plan slot_is turn next_is plan_is now_is)
+    (ap (λ (k : KeeperState D). k.base) now_is ∙ base_same keeper state _ _ holds.keeps sound header header_is room from from_is)
+    (ap (λ (k : KeeperState D). k.geometry) now_is ∙ geometry_same keeper state _ _ holds.keeps sound header header_is room from from_is)
     (ap (λ (k : KeeperState D). k.memory.map) now_is)
-    (data_stay keeper state _ _ holds.keeps sound none header header_is from from_is after turn)
+    (λ block offset small none. data_stay keeper state _ _ holds.keeps sound header header_is room from from_is after turn (block_at holds.keeps.stands.header.geometry block + offset) (omega arith))
 
 -- and once the first area was let go
-pub finish_held : {D : Type 0} (keeper : KeeperState D) (state : State) (base : Image) (front last : List Change) (holds : Holds keeper state base front last) {extent : ℕ} (sound : IsSound extent state)
-    (plan : PlanState) (is : keeper.memory.plan ≡ Some plan) (after : List Kind) (mapped : plan.mapped ≡ Some after) (base_fits : keeper.base < 18446744073709551616)
-    (header : Header) (number : ℕ) (number_at : number ≡ (plan.first.next + 18446744073709551615) % 18446744073709551616) (header_is : header ≡ ended keeper.memory.header number)
+pub finish_held : {D : Type 0} (keeper : KeeperState D) (state : State) (base : Image) (first : List Change) (others : List (List Change)) (last : List Change) (holds : Holds keeper state base (first ∷ others) last) {extent : ℕ} (sound : IsSound extent state)
+    (plan : PlanState) (rest : List PlanState) (is : keeper.memory.plans ≡ plan ∷ rest) (after : List Kind) (mapped : plan.mapped ≡ Some after) (base_fits : keeper.base < 18446744073709551616)
+    (header : Header) (number : ℕ) (number_at : number ≡ last_number plan.first) (header_is : IsRenewed keeper.memory.header (without_first keeper.memory.header number) header)
     (later : State) → IsSound extent later → (now : KeeperState D) → IsInPlace state extent header (other_of keeper.memory.slot) later
     → now ≡ record keeper {
       disk = now.disk;
       generation = header.generation;
       base = header.base;
       turned = now.turned;
-      phase = phase_of None;
-      memory = record keeper.memory { header = header; slot = other_of keeper.memory.slot; map = after; plan = None };
-    } → Holds now later (apply_all front base) [] last
-finish_held {D} keeper state base front last holds sound plan is after mapped base_fits header number number_at header_is later later_sound now placed now_is =
-    holds_ended keeper state base front last holds plan is after mapped _ sound (omega (arith, base_fits, holds.keeps.from_base)) now later (later_sound.size ∙ sym sound.size)
+      lefts = now.lefts;
+      phase = phase_of rest;
+      memory = record keeper.memory { header = header; slot = other_of keeper.memory.slot; map = after; plans = rest };
+    } → Holds now later (apply_all first base) others last
+finish_held {D} keeper state base first others last holds sound plan rest is after mapped base_fits header number number_at header_is later later_sound now placed now_is =
+    holds_ended keeper state base first others last holds plan rest is after mapped _ sound (omega (arith, base_fits, holds.keeps.from_base)) now later (later_sound.size ∙ sym sound.size)
     (λ place above. placed.others place above (holds.keeps.steady place))
-    (finish_kept keeper state _ _ holds.keeps sound plan is after mapped base_fits header number number_at header_is later later_sound now placed now_is)
-    (let base_is = ap (λ (h : Header). h.base) (header_ended keeper state _ _ holds.keeps sound plan is after mapped base_fits header number number_at header_is) in
+    (finish_kept keeper state _ _ holds.keeps sound plan rest is after mapped base_fits header number number_at header_is later later_sound now placed now_is)
+    (let base_is = ap (λ (h : Header). h.base) (header_ended keeper state _ _ holds.keeps sound plan rest is after mapped base_fits header number number_at header_is) in
     let now_base = ap (λ (k : KeeperState D). k.base) now_is in
     omega (arith, now_base, base_is, holds.keeps.from_base))
     (ap (λ (k : KeeperState D). k.geometry) now_is) (ap (λ (k : KeeperState D). k.memory.map) now_is)
 
 -- what is known where the map is written
-pub record IsEnding (plan : Option PlanState) (base : ℕ) (map : List Kind) : Type 0 where
-  pub plan_is : PlanState
-  pub is : plan ≡ Some plan_is
+pub record IsEnding (plans : List PlanState) (base : ℕ) (map : List Kind) : Type 0 where
+  pub plan : PlanState
+  pub rest : List PlanState
+  pub is : plans ≡ plan ∷ rest
   pub after : List Kind
-  pub mapped : plan_is.mapped ≡ Some after
-  pub base_at : base ≡ (plan_is.first.next + 18446744073709551615) % 18446744073709551616
-  pub map_is : map_after plan map ≡ after
+  pub mapped : plan.mapped ≡ Some after
+  pub base_at : base ≡ last_number plan.first
+  pub map_is : map_after plans map ≡ after
 
-ending_in : (plan : PlanState) (mapped : Option (List Kind)) (base old : ℕ) (map : List Kind) → plan.mapped ≡ mapped → IsFinishTime (phase_in plan.left mapped) → base ≡ turned_of (Some plan) old → IsEnding (Some plan) base map
-ending_in plan None base old map is time base_is = absurd time
-ending_in plan (Some after) base old map is time base_is = record {
-  plan_is = plan;
+ending_in : (plan : PlanState) (rest : List PlanState) (mapped : Option (List Kind)) (base old : ℕ) (map : List Kind) → plan.mapped ≡ mapped → IsFinishTime (phase_in plan.left mapped) → base ≡ first_turned old (turned_of (plan ∷ rest)) → IsEnding (plan ∷ rest) base map
+ending_in plan rest None base old map is time base_is = absurd time
+ending_in plan rest (Some after) base old map is time base_is = record {
+  plan = plan;
+  rest = rest;
   is = refl;
   after = after;
   mapped = is;
@@ -254,42 +324,141 @@ ending_in plan (Some after) base old map is time base_is = record {
   map_is = ap (λ (m : Option (List Kind)). map_in m map) is;
 }
 
-pub ending : (plan : Option PlanState) (base old : ℕ) (map : List Kind) → IsFinishTime (phase_of plan) → base ≡ turned_of plan old → IsEnding plan base map
-ending None base old map time base_is = absurd time
-ending (Some plan) base old map time base_is = ending_in plan plan.mapped base old map refl time base_is
+pub ending : (plans : List PlanState) (base old : ℕ) (map : List Kind) → IsFinishTime (phase_of plans) → base ≡ first_turned old (turned_of plans) → IsEnding plans base map
+ending [] base old map time base_is = absurd time
+ending (plan ∷ rest) base old map time base_is = ending_in plan rest plan.mapped base old map refl time base_is
 
 -- the keeper as it then is, with the map that was written
-pub in_map : {D : Type 0} (keeper : KeeperState D) (state : State) (image : Image) (number : ℕ) → Keeps keeper state image number → (disk : D) (header : Header) (map after : List Kind) → map ≡ after
+pub in_map : {D : Type 0} (keeper : KeeperState D) (disk : D) (header : Header) (plans rest : List PlanState) (map after : List Kind) → plans ≡ rest → map ≡ after
     → record keeper {
       disk = disk;
       generation = header.generation;
       base = header.base;
-      turned = header.base;
-      phase = phase_of None;
-      memory = record keeper.memory { header = header; slot = other_of keeper.memory.slot; map = map; plan = None };
+      turned = turned_of plans;
+      lefts = lefts_of plans;
+      phase = phase_of plans;
+      memory = record keeper.memory { header = header; slot = other_of keeper.memory.slot; map = map; plans = plans };
     }
     ≡ record keeper {
       disk = disk;
       generation = header.generation;
       base = header.base;
-      turned = header.base;
-      phase = phase_of None;
-      memory = record keeper.memory { header = header; slot = other_of keeper.memory.slot; map = after; plan = None };
+      turned = turned_of plans;
+      lefts = lefts_of plans;
+      phase = phase_of rest;
+      memory = record keeper.memory { header = header; slot = other_of keeper.memory.slot; map = after; plans = rest };
     }
-in_map keeper state image number keeps disk header map after same = λ i. record keeper {
+in_map keeper disk header plans rest map after plans_are same = λ i. record keeper {
   disk = disk;
   generation = header.generation;
   base = header.base;
-  turned = header.base;
-  phase = phase_of None;
-  memory = record keeper.memory { header = header; slot = other_of keeper.memory.slot; map = same i; plan = None };
+  turned = turned_of plans;
+  lefts = lefts_of plans;
+  phase = phase_of (plans_are i);
+  memory = record keeper.memory { header = header; slot = other_of keeper.memory.slot; map = same i; plans = plans_are i };
 }
 
--- how many blocks are then left to copy
+-- the invariant of the checkpoints once another one is behind them
+sized_more : (plans : List PlanState) (plan : PlanState) (geometry : Geometry) (extent : ℕ) → AreSized plans geometry extent → IsSized plan.first geometry extent → AreSized (plans ++ plan ∷ []) geometry extent
+sized_more [] plan geometry extent are is = (is, tt)
+sized_more (first ∷ plans) plan geometry extent are is = (are.0, sized_more plans plan geometry extent are.1 is)
+
+some_or_none : {plan : PlanState} → Some plan ≡ None → ⊥
+some_or_none is = cc
+
+pub record ArePlansSized (plan : Option PlanState) (waiting : List PlanState) (geometry : Geometry) (extent count : ℕ) : Type 0 where
+  pub first : IfSome plan (λ first. IsSized first.first geometry extent)
+  pub behind : AreSized waiting geometry extent
+  pub none : plan ≡ None → waiting ≡ []
+  pub many : count ≡ length (plans_of plan waiting)
+
+pub sized_after : (old new : Option PlanState) (waiting more : List PlanState) (last : PlanState) (geometry : Geometry) (extent count : ℕ) → IfNone old ((new ≡ Some last) × (more ≡ []))
+    → IfSome old (λ first. (new ≡ Some first) × (more ≡ waiting ++ last ∷ [])) → ArePlansSized old waiting geometry extent count → IsSized last.first geometry extent → ArePlansSized new more geometry extent (count + 1)
+sized_after None new waiting more last geometry extent count none some sized is = record {
+  first = subst (λ (plan : Option PlanState). IfSome plan (λ first. IsSized first.first geometry extent)) (sym none.0) is;
+  behind = subst (λ (plans : List PlanState). AreSized plans geometry extent) (sym none.1) tt;
+  none = λ absent. absurd (some_or_none (sym none.0 ∙ absent));
+  many = omega (arith, sized.many, ap (λ (plan : Option PlanState). length (plans_of plan more)) none.0, ap (λ (plans : List PlanState). length plans) none.1);
+}
+sized_after (Some first) new waiting more last geometry extent count none some sized is = record {
+  first = subst (λ (plan : Option PlanState). IfSome plan (λ first. IsSized first.first geometry extent)) (sym some.0) sized.first;
+  behind = subst (λ (plans : List PlanState). AreSized plans geometry extent) (sym some.1) (sized_more waiting last geometry extent sized.behind is);
+  none = λ absent. absurd (some_or_none (sym some.0 ∙ absent));
+  many = omega (arith, sized.many, ap (λ (plan : Option PlanState). length (plans_of plan more)) some.0, ap (λ (plans : List PlanState). length plans) some.1, length-append waiting (last ∷ []));
+}
+
+-- and once the first of them is taken out
+pub sized_behind : (old new : Option PlanState) (waiting more : List PlanState) (geometry : Geometry) (extent count : ℕ) → 0 < count → plans_of new more ≡ waiting → (new ≡ None → more ≡ []) → ArePlansSized old waiting geometry extent count
+    → ArePlansSized new more geometry extent (count - 1)
+sized_behind None new waiting more geometry extent count some are none sized = absurd (omega (arith, some, sized.many))
+sized_behind (Some first) None waiting more geometry extent count some are none sized = record {
+  first = tt;
+  behind = subst (λ (plans : List PlanState). AreSized plans geometry extent) (sym (none refl)) tt;
+  none = none;
+  many = omega (arith, sized.many, ap (λ (plans : List PlanState). length plans) are);
+}
+sized_behind (Some first) (Some second) waiting more geometry extent count some are none sized =
+    let all : AreSized (second ∷ more) geometry extent = subst (λ (plans : List PlanState). AreSized plans geometry extent) (sym are) sized.behind in
+    record {
+      first = all.0;
+      behind = all.1;
+      none = none;
+      many = omega (arith, sized.many, ap (λ (plans : List PlanState). length plans) are);
+    }
+
+-- what was read is what waits, but for the first
+pub sized_read : (new : Option PlanState) (waiting more : List PlanState) (geometry : Geometry) (extent count : ℕ) → plans_of new more ≡ waiting → (new ≡ None → more ≡ []) → AreSized waiting geometry extent → count ≡ length waiting
+    → ArePlansSized new more geometry extent count
+sized_read None waiting more geometry extent count are none sized many = record {
+  first = tt;
+  behind = subst (λ (plans : List PlanState). AreSized plans geometry extent) (sym (none refl)) tt;
+  none = none;
+  many = many ∙ sym (ap (λ (plans : List PlanState). length plans) are);
+}
+sized_read (Some first) waiting more geometry extent count are none sized many =
+    let all : AreSized (first ∷ more) geometry extent = subst (λ (plans : List PlanState). AreSized plans geometry extent) (sym are) sized in
+    record {
+      first = all.0;
+      behind = all.1;
+      none = none;
+      many = many ∙ sym (ap (λ (plans : List PlanState). length plans) are);
+    }
+
+-- the area behind those in use, once its list is empty
+pub next_sized : (area : AreaState) (geometry : Geometry) (n first extent : ℕ) → first < areas_in geometry → area.from ≡ area_at geometry (behind (areas_in geometry) n first) → area.bytes ≡ area_size geometry → area.blocks ≡ geometry.blocks
+    → extent ≡ device_bytes_of geometry.blocks geometry.area → IsSized area geometry extent
+next_sized area geometry n first extent inside from bytes blocks size = record {
+  bytes = bytes;
+  blocks = blocks;
+  inside = omega (arith, from, bytes, size, area_high geometry (behind (areas_in geometry) n first) (behind_below (areas_in geometry) n first inside));
+}
+
+-- how many blocks the last area leaves to copy
 pub rotated_left : {D : Type 0} (keeper : KeeperState D) (plan : PlanState) (commands : List Change) → keeper.memory.area.blocks ≡ keeper.geometry.blocks
     → plan ≡ record { first = keeper.memory.area; copied = 0; left = count_puts keeper.memory.area.blocks keeper.memory.area.touched; mapped = None } → Remembers keeper commands
-    → phase_of (Some plan) ≡ Copying (len (dirty_blocks 0 commands))
+    → plan.left ≡ len (dirty_blocks 0 commands)
 rotated_left keeper plan commands blocks plan_is remembers =
-    ap (λ (p : PlanState). phase_of (Some p)) plan_is
-    ∙ ap (λ (b : ℕ). Copying (count_puts b keeper.memory.area.touched)) blocks
-    ∙ ap (λ (n : ℕ). Copying n) (left_dirty keeper commands remembers)
+    ap (λ (p : PlanState). p.left) plan_is
+    ∙ ap (λ (b : ℕ). count_puts b keeper.memory.area.touched) blocks
+    ∙ left_dirty keeper commands remembers
+
+-- the number of the last command in front of the last area once the first was let go
+pub last_behind : (old new : Option PlanState) (waiting more : List PlanState) (base now : ℕ) → 0 < length (plans_of old waiting) → plans_of new more ≡ waiting → now ≡ first_turned base (turned_of (plans_of old waiting))
+    → last_turned base (turned_of (plans_of old waiting)) ≡ last_turned now (turned_of (plans_of new more))
+last_behind None new waiting more base now some are now_is = absurd (omega (arith, some))
+last_behind (Some first) new waiting more base now some are now_is =
+    ap (λ (n : ℕ). last_turned n (turned_of waiting)) (sym now_is) ∙ ap (λ (plans : List PlanState). last_turned now (turned_of plans)) (sym are)
+
+-- the map of a checkpoint is written where one is under way
+pub time_some : (plans : List PlanState) → IsFinishTime (phase_of plans) → 0 < length plans
+time_some [] time = absurd time
+time_some (plan ∷ plans) time = omega arith
+
+-- these numbers have 64 bits
+pub last_fits : (base : ℕ) (plans : List PlanState) → base < 18446744073709551616 → last_turned base (turned_of plans) < 18446744073709551616
+last_fits base [] fits = fits
+last_fits base (plan ∷ plans) fits = last_fits (last_number plan.first) plans (omega arith)
+
+pub counted_read : (base next count : ℕ) (plans : List PlanState) → base < 18446744073709551616 → next ≡ next_number (last_turned base (turned_of plans)) → count ≡ (next + 18446744073709551615) % 18446744073709551616
+    → count ≡ last_turned base (turned_of plans)
+counted_read base next count plans fits next_is count_is = let all = last_fits base plans fits in omega (arith, all, next_is, count_is)

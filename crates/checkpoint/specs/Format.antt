@@ -2,9 +2,9 @@
 use Rattle.std.specs.Prelude.{ℕ, ◌≡◌, ◌≢◌, ◌<◌, ◌≤◌, ◌⊎◌, List, length, slice_index}
 use Rattle.disk_model.specs.Disk.{State}
 use Rattle.header_slots.specs.Slots.{HoldsHeader, HoldsNone}
-use Rattle.header_slots.specs.declared.header.Areas.{Areas}
 use Rattle.header_slots.specs.declared.header.Header.{Header}
 use Rattle.image_model.specs.declared.side.Side.TheVariants.{Zero}
+use Rattle.image_model.specs.laws.Layouts.{areas_some}
 use Rattle.image_model.specs.declared.geometry.Geometry.{Geometry}
 use Rattle.device_image.specs.Stands.{StandsFor, holes}
 
@@ -16,7 +16,16 @@ pub record LeavesButGates (state : State) (content : List ℕ) : Type 0 where
 
 -- the header of a device that was just formatted
 abbrev pub first_header : Geometry → Header
-first_header geometry = record { generation = 1; geometry = geometry; areas = Areas.One; first_area = Zero; map_slot = Zero; base = 0 }
+first_header geometry = record {
+  generation = 1;
+  geometry = geometry;
+  in_front = 0;
+  first_area = 0;
+  map_slot = Zero;
+  base = 0;
+  few_areas = areas_some geometry.layout;
+  first_inside = areas_some geometry.layout;
+}
 
 -- A device that was just formatted: its header is in force, in slot 0, with zeroes behind it up to the end of the slot, and it
 -- stands for an image of holes of that size.

@@ -1,19 +1,30 @@
 -- what a call makes of a keeper
-use Rattle.std.specs.Prelude.{ℕ, ◌≡◌, ◌+◌, ◌≤◌, true, length}
-use Rattle.device_image.specs.Keeper.{KeeperState, Memory}
+use Rattle.std.specs.Prelude.{ℕ, ◌≡◌, ◌+◌, ◌≤◌, true, length, List, [], ◌∷◌, Option, Some, None}
+use Rattle.device_image.specs.Keeper.{KeeperState, Memory, PlanState}
 use Rattle.disk_model.specs.Faults.{counted}
 use Rattle.image_model.specs.Command.{bodies_of}
 use Rattle.image_model.specs.declared.geometry.Geometry.{Geometry}
 use Rattle.journal_format.specs.Area.{AreaState}
 use Rattle.journal_format.specs.Group.{Numbered}
+use Rattle.regions.specs.Layout.{area_size}
 use Rattle.checkpoint.specs.declared.fault.KeeperFault.{KeeperFault}
 use Rattle.checkpoint.specs.declared.fault.KeeperFault.TheVariants.{NoMemory, DeviceFault, BadMap, NoHeader, BadHeader, NumbersFull, AreaFull, OutOfOrder, DamagedGroup, NotNow, Failed}
 
 -- the area has the size of those of a device with these sizes, and lies in it
 pub record IsSized (area : AreaState) (geometry : Geometry) (extent : ℕ) : Type 0 where
-  pub bytes : area.bytes ≡ geometry.area
+  pub bytes : area.bytes ≡ area_size geometry
   pub blocks : area.blocks ≡ geometry.blocks
   pub inside : area.from + area.bytes ≤ extent
+
+-- and so do the areas of these checkpoints
+abbrev pub AreSized : List PlanState → Geometry → ℕ → Type 0
+AreSized [] geometry extent = Unit {0}
+AreSized (plan ∷ plans) geometry extent = IsSized plan.first geometry extent × AreSized plans geometry extent
+
+-- the checkpoint that is under way, and those behind it
+abbrev pub plans_of : Option PlanState → List PlanState → List PlanState
+plans_of None waiting = []
+plans_of (Some plan) waiting = plan ∷ waiting
 
 -- the bytes of an area that are taken once the group is added and a gate stands behind it
 abbrev pub end_after : {D : Type 0} → KeeperState D → Numbered → ℕ

@@ -1,7 +1,6 @@
 -- what an opening finds, and what it refuses
-use Rattle.std.specs.Prelude.{ℕ, ◌≡◌, ◌≢◌, ◌⊎◌, List, [], length, Option, Some, None, Result, Ok, Err, IfErr}
+use Rattle.std.specs.Prelude.{ℕ, ◌≡◌, ◌≢◌, ◌⊎◌, List, [], length, Result, Ok, Err, IfErr}
 use Rattle.header_slots.specs.Slots.{HoldsHeader, HoldsNone, HoldsBad}
-use Rattle.header_slots.specs.declared.header.Areas.{Areas}
 use Rattle.header_slots.specs.declared.header.Header.{Header}
 use Rattle.image_model.specs.declared.side.Side.{Side}
 use Rattle.image_model.specs.Image.{Image}
@@ -12,7 +11,7 @@ use Rattle.journal_format.specs.GroupList.{IsList}
 use Rattle.journal_format.specs.Spelling.{StoredGroup}
 use Rattle.regions.specs.Layout.{map_at}
 use Rattle.regions.specs.Map.{HoldsMap}
-use Rattle.device_image.specs.Keeper.{KeeperState, PlanState, count_puts, earlier_of}
+use Rattle.device_image.specs.Keeper.{AreUncopied, KeeperState, PlanState, earlier_of}
 use Rattle.checkpoint.specs.Keeper.{faults_by}
 use Rattle.device_image.specs.Keeps.{HoldsAreas, Keeps}
 use Rattle.device_image.specs.Damage.{HasBadMap, HasDamagedGroup}
@@ -34,21 +33,15 @@ IsRefused DamagedGroup content = HasDamagedGroup content
 IsRefused NotNow content = ⊥
 IsRefused Failed content = ⊥
 
--- what is to be copied where so many areas are in use and nothing was copied yet
-abbrev pub IsUncopied : Areas → Option PlanState → Type 0
-IsUncopied areas None = areas ≡ Areas.One
-IsUncopied areas (Some plan) = (areas ≡ Areas.Two)
-    × (plan ≡ record { first = plan.first; copied = 0; left = count_puts plan.first.blocks plan.first.touched; mapped = None })
-
--- A device that is good was read: this is its header and the slot of it, its map, what is to be copied of the area in use
+-- A device that is good was read: this is its header and the slot of it, its map, what is to be copied of each area in use
 -- in front of the last, and the last one.
-pub record IsOpened (state : State) (header : Header) (slot : Side) (states : List Kind) (plan : Option PlanState) (area : AreaState) : Type 0 where
+pub record IsOpened (state : State) (header : Header) (slot : Side) (states : List Kind) (plans : List PlanState) (area : AreaState) : Type 0 where
   pub lists : List (List StoredGroup)
   pub synced : IsAllSynced state
   pub in_force : HoldsHeader state.seen (length state.seen) header slot
   pub map : HoldsMap state.seen (map_at header.geometry header.map_slot) header.geometry.blocks states
-  pub areas : HoldsAreas state header lists (earlier_of plan) area
-  pub uncopied : IsUncopied header.areas plan
+  pub areas : HoldsAreas state header lists (earlier_of plans) area
+  pub uncopied : AreUncopied plans
 
 -- a refusal that comes of a content which stands for an image too
 abbrev pub IsPassing : KeeperFault → Type 0
@@ -90,7 +83,7 @@ pub record IsAtRest (content : List ℕ) : Type 0 where
   pub header : Header
   pub slot : Side
   pub in_force : HoldsHeader content (length content) header slot
-  pub one : header.areas ≡ Areas.One
+  pub one : header.in_front ≡ 0
   pub list : IsList (area_of header.geometry header.first_area) (next_number header.base) [] content
 
 -- What a refusal of an opening says of the content that it found, and of what is read after it: where the numbers are full

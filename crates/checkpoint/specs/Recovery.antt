@@ -14,6 +14,7 @@ pub record IsRecovered {D : Type 0} (keeper : KeeperState D) : Type 0 where
   pub works : keeper.failed ≡ false
   pub phase : keeper.phase ≡ One
   pub used : keeper.used ≡ 0
-  pub turned : keeper.turned ≡ keeper.base
+  pub turned : keeper.turned ≡ []
+  pub lefts : keeper.lefts ≡ []
   pub base : keeper.base ≡ keeper.count
   pub remembers : Remembers keeper []

@@ -1,6 +1,6 @@
 ghost use Rattle.std.specs.Prelude.{◌≡◌, ◌+◌, ◌*◌, ◌%◌, ◌<◌, ◌≤◌, ◌↔◌, ◌∷◌, [], length, OnOk};
 ghost use Rattle.device_image.specs.Copied.{IsCopiedOver, IsMapStored, IsTurnBegun, LeavesTurn};
-ghost use Rattle.disk_model.specs.Disk.{IsAllSynced, IsSteady, IsStored, LeavesOnly, MayLeaveTorn};
+ghost use Rattle.disk_model.specs.Disk.{IsSteady, IsStored, IsSyncedIn, LeavesOnly, MayLeaveTorn};
 ghost use Rattle.disk_model.specs.Faults.{faults_after};
 ghost use Rattle.header_slots.specs.Change.{ComesNext};
 ghost use Rattle.header_slots.specs.Slots.{HoldsHeader};
@@ -80,8 +80,8 @@ pub fn empty_area<D: Disk>(disk: &mut D, area: &mut Area) -> Result<(), DeviceFa
     disk.sync()
 }
 
-// Takes an area into use behind the one whose header is in force in this slot: its list is empty, and then this header is
-// in force.
+// Takes an area into use behind those of the header that is in force in this slot: its list is empty, and then this header
+// is in force.
 pub fn begin_turn<D: Disk>(
     disk: &mut D,
     area: &mut Area,
@@ -95,10 +95,10 @@ pub fn begin_turn<D: Disk>(
     ensures faults { D.faults disk.new ≡ faults_after result (D.faults disk.old) }
     ensures honest { D.honest disk.new ↔ D.honest disk.old }
 
-    ensures begun { D.honest disk.old → IsAllSynced (D.state disk.old) → 8192 ≤ area.old.from → (current : Header)
+    ensures begun { D.honest disk.old → IsSteady (D.state disk.old) → IsSyncedIn (D.state disk.old) 0 8192 → 8192 ≤ area.old.from → (current : Header)
         → HoldsHeader (D.state disk.old).seen (D.extent disk.old) current slot → ComesNext current header.now
         → OnOk result (IsTurnBegun (D.state disk.old) (D.extent disk.old) area.old.from header.now (other_of slot) (D.state disk.new)) }
-    ensures any_moment { D.honest disk.old → IsAllSynced (D.state disk.old) → 8192 ≤ area.old.from → (current : Header)
+    ensures any_moment { D.honest disk.old → IsSteady (D.state disk.old) → IsSyncedIn (D.state disk.old) 0 8192 → 8192 ≤ area.old.from → (current : Header)
         → HoldsHeader (D.state disk.old).seen (D.extent disk.old) current slot → ComesNext current header.now
         → LeavesOnly (D.state disk.old) (D.state disk.new) (LeavesTurn (D.state disk.old) (D.extent disk.old) area.old.from current slot header.now) }
 {

@@ -12,7 +12,7 @@ ghost use Rattle.image_model.specs.declared.geometry.Geometry.{Geometry};
 use crate::fault::KeeperFault;
 use crate::keeper::Keeper;
 use disk_model::{DeviceFault, Disk};
-use header_slots::{Areas, Header, close_gate, fill_slot, open_gate};
+use header_slots::{Header, close_gate, fill_slot, open_gate};
 use image_model::{Geometry, Side};
 use journal::Area;
 use regions::Regions;
@@ -83,6 +83,7 @@ fn close_headers<D: Disk>(disk: &mut D) -> Result<(), DeviceFault>
 }
 
 // Writes the empty journal, the map of holes and the header's body.
+#[tactic(auto, using(image_model::specs::laws::Layouts::areas_some))]
 fn write_parts<D: Disk>(
     alloc: Global,
     disk: &mut D,
@@ -103,8 +104,8 @@ fn write_parts<D: Disk>(
     let regions = Regions::of(&geometry);
     let mut area = Area::new(
         alloc,
-        regions.area_from(Side::Zero),
-        geometry.area,
+        regions.area_from(0),
+        geometry.area_size(),
         geometry.blocks,
         1,
     );
@@ -114,14 +115,15 @@ fn write_parts<D: Disk>(
 }
 
 // The header of a device that was just formatted.
+#[tactic(auto, using(image_model::specs::laws::Layouts::areas_some))]
 fn first_header(geometry: Geometry) -> Header
     ensures { result ≡ first_header geometry }
 {
     Header {
         generation: 1,
         geometry,
-        areas: Areas::One,
-        first_area: Side::Zero,
+        in_front: 0,
+        first_area: 0,
         map_slot: Side::Zero,
         base: 0,
     }

@@ -8,6 +8,7 @@ ghost use Rattle.checkpoint.specs.declared.fault.KeeperFault.TheVariants as Keep
 ghost use Rattle.disk_model.specs.Disk.{IsAllSynced, LeavesOnly, MayLeave};
 ghost use Rattle.image_model.specs.Change.{AreChanges, Change, change_of};
 ghost use Rattle.image_model.specs.Image.{Image, apply_all};
+ghost use Rattle.regions.specs.Layout.{area_size};
 
 use crate::fault::KeeperFault;
 use alloc_map::AllocMap;
@@ -29,8 +30,9 @@ pub struct Keeper<D: Disk> {
     pub(crate) count: u64,
     // The states of the blocks at the base.
     pub(crate) map: AllocMap,
-    // The checkpoint that is under way, where more than one area is in use.
+    // The checkpoint that is under way, where more than one area is in use, and those of the areas behind the first.
     pub(crate) plan: Option<CopyPlan>,
+    pub(crate) waiting: Vec<CopyPlan>,
     // The area that the next group goes to.
     pub(crate) area: Area,
     pub(crate) failed: bool,
@@ -47,6 +49,7 @@ impl<D: Disk + Drop> Drop for Keeper<D> {
             count: _,
             map: _,
             plan: _,
+            waiting: _,
             area: _,
             failed: _,
         } = self;
@@ -54,10 +57,10 @@ impl<D: Disk + Drop> Drop for Keeper<D> {
 }
 
 impl<D: Disk> Model for Keeper<D> {
-    ghost use Rattle.std.specs.Prelude.{◌≡◌, length, IfSome, []};
-    ghost use Rattle.checkpoint.specs.Keeper.{IsSized};
+    ghost use Rattle.std.specs.Prelude.{◌≡◌, length, IfSome, None, []};
+    ghost use Rattle.checkpoint.specs.Keeper.{AreSized, IsSized, plans_of};
     ghost use Rattle.image_model.specs.Geometry.{device_bytes_of};
-    ghost use Rattle.device_image.specs.Keeper.{KeeperState, phase_of, turned_of};
+    ghost use Rattle.device_image.specs.Keeper.{KeeperState, last_turned, lefts_of, phase_of, turned_of};
     ghost use Rattle.device_image.specs.Stands.{next_number};
 
     ghost Value = { KeeperState D };
@@ -68,19 +71,23 @@ impl<D: Disk> Model for Keeper<D> {
       generation = keeper.header.generation;
       count = keeper.count;
       base = keeper.header.base;
-      turned = turned_of keeper.plan keeper.header.base;
+      turned = turned_of (plans_of keeper.plan keeper.waiting.items);
+      lefts = lefts_of (plans_of keeper.plan keeper.waiting.items);
       used = keeper.area.gate;
-      phase = phase_of keeper.plan;
+      phase = phase_of (plans_of keeper.plan keeper.waiting.items);
       failed = keeper.failed;
-      memory = record { header = keeper.header; slot = keeper.slot; map = keeper.map; plan = keeper.plan; area = keeper.area };
+      memory = record { header = keeper.header; slot = keeper.slot; map = keeper.map; plans = plans_of keeper.plan keeper.waiting.items; area = keeper.area };
     } };
 
     ghost invariant = { λ keeper. (D.extent keeper.disk ≡ device_bytes_of keeper.header.geometry.blocks keeper.header.geometry.area)
         × (length keeper.map ≡ keeper.header.geometry.blocks)
         × IfSome keeper.plan (λ plan. IsSized plan.first keeper.header.geometry (D.extent keeper.disk))
+        × AreSized keeper.waiting.items keeper.header.geometry (D.extent keeper.disk)
+        × (keeper.plan ≡ None → keeper.waiting.items ≡ [])
+        × (keeper.header.in_front ≡ length (plans_of keeper.plan keeper.waiting.items))
         × IsSized keeper.area keeper.header.geometry (D.extent keeper.disk)
         × (keeper.area.next ≡ next_number keeper.count)
-        × (keeper.area.gate ≡ 0 → (keeper.area.touched ≡ []) × (keeper.count ≡ turned_of keeper.plan keeper.header.base)) };
+        × (keeper.area.gate ≡ 0 → (keeper.area.touched ≡ []) × (keeper.count ≡ last_turned keeper.header.base (turned_of (plans_of keeper.plan keeper.waiting.items)))) };
 }
 
 impl<D: Disk> Keeper<D> {
@@ -96,6 +103,7 @@ impl<D: Disk> Keeper<D> {
             count: _,
             map: _,
             plan: _,
+            waiting: _,
             area: _,
             failed: _,
         } = self;
@@ -150,18 +158,18 @@ impl<D: Disk> Keeper<D> {
         // When it is refused, and which refusals count as a fault of the device.
         ensures failed { IsErrAnd result (λ refused. refused.0 ≡ KeeperFault.Failed) ↔ IsTrue self.old.failed }
         ensures full { IsErrAnd result (λ refused. refused.0 ≡ KeeperFault.AreaFull)
-            ↔ ((self.old.failed ≡ false) × (self.old.geometry.area < end_after self.old group)) }
+            ↔ ((self.old.failed ≡ false) × (area_size self.old.geometry < end_after self.old group)) }
         ensures out_of_order { IsErrAnd result (λ refused. refused.0 ≡ KeeperFault.OutOfOrder)
-            ↔ ((self.old.failed ≡ false) × (end_after self.old group ≤ self.old.geometry.area) × (group.first ≢ self.old.count + 1)) }
+            ↔ ((self.old.failed ≡ false) × (end_after self.old group ≤ area_size self.old.geometry) × (group.first ≢ self.old.count + 1)) }
         ensures only { IfErr result (λ refused. IsAppendFault refused.0) }
         ensures faults_ok { OnOk result (D.faults self.new.disk ≡ D.faults self.old.disk) }
         ensures faults_err { IfErr result (λ refused. D.faults self.new.disk ≡ faults_by refused.0 (D.faults self.old.disk)) }
 
         // On an honest device, where the image's size takes the group's commands: at `Ok` the keeper holds them behind
         // the others, and where it keeps an image a crash at any moment leaves it without or with them.
-        ensures held { D.honest self.old.disk → (base : Image) (first last : List Change) → Holds self.old (D.state self.old.disk) base first last
+        ensures held { D.honest self.old.disk → (base : Image) (fronts : List (List Change)) (last : List Change) → Holds self.old (D.state self.old.disk) base fronts last
             → AreChanges self.old.geometry.blocks (map change_of group.commands)
-            → OnOk result (Holds self.new (D.state self.new.disk) base first (last ++ map change_of group.commands)) }
+            → OnOk result (Holds self.new (D.state self.new.disk) base fronts (last ++ map change_of group.commands)) }
         ensures any_moment { D.honest self.old.disk → (image : Image) (number : ℕ) → Keeps self.old (D.state self.old.disk) image number
             → AreChanges self.old.geometry.blocks (map change_of group.commands)
             → LeavesOnly (D.state self.old.disk) (D.state self.new.disk) (λ content. StandsFor content image number

@@ -8,6 +8,7 @@ mod format;
 mod keeper;
 mod laws;
 mod opening;
+mod plans;
 mod reading;
 mod recovery;
 mod report;

@@ -2,7 +2,7 @@ ghost use Rattle.std.specs.Prelude.{◌≡◌, ◌⊎◌, ℕ, ◌+◌, ◌*◌,
 ghost use Rattle.alloc_map.specs.Codes.{state_at};
 ghost use Rattle.checkpoint.specs.Keeper.{faults_by, refused_by};
 ghost use Rattle.checkpoint.specs.declared.fault.KeeperFault.TheVariants as KeeperFault;
-ghost use Rattle.device_image.specs.Holds.{Holds, is_written};
+ghost use Rattle.device_image.specs.Holds.{Holds, is_written, joined};
 ghost use Rattle.image_model.specs.Change.{Change};
 ghost use Rattle.image_model.specs.Image.{Image};
 ghost use Rattle.image_model.specs.declared.command.Kind.TheVariants.{Data};
@@ -36,10 +36,10 @@ impl<D: Disk> Keeper<D> {
 
         // On an honest device nothing is written, and the keeper holds what it held.
         ensures only_read { D.honest self.old.disk → IsOnlyRead (D.state self.old.disk) (D.state self.new.disk) }
-        ensures held { D.honest self.old.disk → (base : Image) (front last : List Change) → Holds self.old (D.state self.old.disk) base front last
-            → OnOk result (Holds self.new (D.state self.new.disk) base front last) }
-        ensures bytes { D.honest self.old.disk → (base : Image) (front last : List Change) → Holds self.old (D.state self.old.disk) base front last
-            → OnOk result ((k : ℕ) → k < length into.new → base.kind (first + k / 4096) ≡ Data → is_written (first + k / 4096) front ≡ false
+        ensures held { D.honest self.old.disk → (base : Image) (fronts : List (List Change)) (last : List Change) → Holds self.old (D.state self.old.disk) base fronts last
+            → OnOk result (Holds self.new (D.state self.new.disk) base fronts last) }
+        ensures bytes { D.honest self.old.disk → (base : Image) (fronts : List (List Change)) (last : List Change) → Holds self.old (D.state self.old.disk) base fronts last
+            → OnOk result ((k : ℕ) → k < length into.new → base.kind (first + k / 4096) ≡ Data → is_written (first + k / 4096) (joined fronts) ≡ false
             → slice_index into.new k ≡ base.byte (4096 * first + k)) }
     {
         if self.failed {
@@ -59,7 +59,7 @@ impl<D: Disk> Keeper<D> {
     pub fn map(&self, alloc: Global) -> Result<AllocMap, AllocError>
         ensures blocks { IfOk result (λ map. length map ≡ self.now.geometry.blocks) }
         ensures remembered { IfOk result (λ map. map ≡ self.now.memory.map) }
-        ensures kinds { (base : Image) (front last : List Change) → Holds self.now (D.state self.now.disk) base front last
+        ensures kinds { (base : Image) (fronts : List (List Change)) (last : List Change) → Holds self.now (D.state self.now.disk) base fronts last
             → IfOk result (λ map. (block : ℕ) → state_at map block ≡ base.kind block) }
     {
         self.map.copy(alloc)

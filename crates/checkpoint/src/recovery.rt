@@ -1,4 +1,4 @@
-ghost use Rattle.std.specs.Prelude.{◌≡◌, ◌≢◌, ◌⊎◌, ◌==◌, ℕ, ◌↔◌, List, [], false, IfErr, IfOk, IsTrue, OnOk, Err, Ok};
+ghost use Rattle.std.specs.Prelude.{◌≡◌, ◌≢◌, ◌⊎◌, ◌==◌, ℕ, ◌<◌, ◌↔◌, List, [], length, false, IfErr, IfOk, IsTrue, OnOk, Err, Ok};
 ghost use Rattle.checkpoint.specs.Keeper.{faults_by};
 ghost use Rattle.checkpoint.specs.Opening.{IsAtRest, IsOpening, IsPassing, disk_after, faults_after_opening};
 ghost use Rattle.checkpoint.specs.Recovery.{IsBegun, IsRecovered};
@@ -8,7 +8,7 @@ ghost use Rattle.checkpoint.specs.declared.fault.KeeperFault.TheVariants as Keep
 ghost use Rattle.device_image.specs.Keeps.{Keeps};
 ghost use Rattle.device_image.specs.Remembers.{Remembers};
 ghost use Rattle.image_model.specs.Change.{Change};
-ghost use Rattle.device_image.specs.Keeper.{Copying, One};
+ghost use Rattle.device_image.specs.Keeper.{Copying, One, last_turned};
 ghost use Rattle.device_image.specs.Stands.{StandsFor};
 ghost use Rattle.disk_model.specs.Disk.{IsAllSynced, LeavesOnly, MayLeave};
 ghost use Rattle.image_model.specs.Image.{Image};
@@ -23,8 +23,8 @@ use std::alloc::Global;
 const MOST_COPIED: u32 = 256;
 
 impl<D: Disk> Keeper<D> {
-    /// Opens the device, and recovers it: a checkpoint that had begun is ended, and where groups are left in the journal
-    /// another one empties it.
+    /// Opens the device, and recovers it: the checkpoints of areas in front of the last are ended one after another, and where
+    /// groups are left in the journal another one empties it.
     ///
     /// The device is synced first. Where one area is in use and its list is empty nothing is written; else the blocks are
     /// copied up to 256 at a time, in one read and one write. It takes memory for two maps, as each new one is made beside
@@ -69,7 +69,7 @@ impl<D: Disk> Keeper<D> {
 }
 
 impl<D: Disk> Keeper<D> {
-    // Ends a checkpoint that is under way, and empties the journal by another one where groups are left.
+    // Ends the checkpoints that are under way, and empties the journal by another one where groups are left.
     pub(crate) fn recover(&mut self) -> Result<(), KeeperFault>
         requires works { self.old.failed ≡ false }
         requires begun { IsBegun self.old.phase }
@@ -98,11 +98,11 @@ impl<D: Disk> Keeper<D> {
         self.end_checkpoint()
     }
 
-    // Ends a checkpoint that is under way.
+    // Ends the checkpoints that are under way, one after another.
     fn end_begun(&mut self) -> Result<(), KeeperFault>
         requires works { self.old.failed ≡ false }
         requires begun { IsBegun self.old.phase }
-        ensures ok { OnOk result ((self.new.failed ≡ false) × (self.new.phase ≡ One) × (self.new.turned ≡ self.new.base)) }
+        ensures ok { OnOk result ((self.new.failed ≡ false) × (self.new.phase ≡ One) × (self.new.turned ≡ []) × (self.new.lefts ≡ [])) }
         ensures idle { self.old.phase ≡ One → (self.new ≡ self.old) × (result ≡ Ok tt) }
         ensures only { IfErr result IsRecoveryFault }
         ensures full { result ≡ Err KeeperFault.NumbersFull → self.new.generation ≡ 18446744073709551615 }
@@ -119,13 +119,13 @@ impl<D: Disk> Keeper<D> {
         ensures any_moment { D.honest self.old.disk → (image : Image) (number : ℕ) → Keeps self.old (D.state self.old.disk) image number
             → LeavesOnly (D.state self.old.disk) (D.state self.new.disk) (λ content. StandsFor content image number) }
     {
-        if !self.is_turning() {
-            return Ok(());
+        while self.is_turning() {
+            self.end_checkpoint()?;
         }
-        self.end_checkpoint()
+        Ok(())
     }
 
-    // Carries a checkpoint to its end.
+    // Carries the checkpoint of the first area to its end.
     fn end_checkpoint(&mut self) -> Result<(), KeeperFault>
         requires works { self.old.failed ≡ false }
         requires begun { self.old.phase ≡ Copying (left_in self.old.phase) }
@@ -179,8 +179,8 @@ impl<D: Disk> Keeper<D> {
 
     // Whether a checkpoint is under way.
     fn is_turning(&self) -> bool
-        ensures turning { (IsTrue result → (self.now.phase ≡ One → ⊥)) × ((result ≡ false) → self.now.phase ≡ One) }
-        ensures turned { (result ≡ false) → self.now.turned ≡ self.now.base }
+        ensures turning { IsTrue result → (self.now.phase ≡ One → ⊥) × (0 < length self.now.turned) }
+        ensures resting { result ≡ false → (self.now.phase ≡ One) × (self.now.turned ≡ []) × (self.now.lefts ≡ []) }
     {
         self.plan.is_some()
     }
@@ -199,7 +199,7 @@ impl<D: Disk> Keeper<D> {
     fn is_empty(&self) -> bool
         ensures empty { result ≡ (self.now.used == 0) }
         ensures untouched { self.now.used ≡ 0 → self.now.memory.area.touched ≡ [] }
-        ensures counted { self.now.used ≡ 0 → self.now.count ≡ self.now.turned }
+        ensures counted { self.now.used ≡ 0 → self.now.count ≡ last_turned self.now.base self.now.turned }
     {
         self.area.is_empty()
     }

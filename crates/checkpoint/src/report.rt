@@ -1,8 +1,8 @@
-ghost use Rattle.std.specs.Prelude.{◌≡◌, ◌↔◌, length, IfErr, IfOk, IfSome, MatchResult, OnOk};
+ghost use Rattle.std.specs.Prelude.{◌≡◌, ◌≤◌, ◌↔◌, length, IfErr, IfOk, MatchResult, OnOk};
 ghost use Rattle.checkpoint.specs.Keeper.{faults_by};
 ghost use Rattle.checkpoint.specs.Opening.{IsRefused};
 ghost use Rattle.checkpoint.specs.Report.{IsReport};
-ghost use Rattle.checkpoint.specs.inner.Report.{AreStatesBehind};
+ghost use Rattle.checkpoint.specs.inner.Report.{AreOf, AreStatesBehind};
 ghost use Rattle.disk_model.specs.Disk.{IsAllSynced};
 ghost use Rattle.journal_format.specs.Reading.{IsOnlyRead};
 
@@ -10,10 +10,10 @@ use crate::fault::KeeperFault;
 use crate::keeper::Keeper;
 use crate::opening::{Opened, read_parts};
 use alloc_map::AllocMap;
-use copy_plan::map_behind;
+use copy_plan::{CopyPlan, map_behind};
 use disk_model::Disk;
-use header_slots::Areas;
 use image_model::Kind;
+use journal::Area;
 use std::alloc::{AllocError, Global};
 
 /// What a device holds.
@@ -21,8 +21,8 @@ use std::alloc::{AllocError, Global};
 pub struct Report {
     /// How many blocks its image has.
     pub blocks: u64,
-    /// The areas in use.
-    pub areas: Areas,
+    /// How many areas are in use in front of the last.
+    pub in_front: u8,
     /// The number of the last command that map and data hold.
     pub base: u64,
     /// The number of the last command stored.
@@ -38,7 +38,7 @@ pub struct Report {
 impl<D: Disk> Keeper<D> {
     /// What the device holds, which is read alone: it isn't even synced, and no checkpoint that is under way goes on.
     ///
-    /// It takes memory for two maps, or three where two areas are in use, for what each command of the journal touched and
+    /// It takes memory for two maps, for what each command of the journal touched and
     /// the last touches of the blocks, and for 1 MiB while an area is scanned. Refusals 7 (no header), 8 (bad header), 6
     /// (bad map) and 12 (damaged group), the first of these that applies, 0 (no memory) and 1 (device fault).
     pub fn inspect(alloc: Global, disk: &mut D) -> Result<Report, KeeperFault>
@@ -54,13 +54,19 @@ impl<D: Disk> Keeper<D> {
             (λ report. IsReport report (D.state disk.new).seen)
             (λ fault. IsRefused fault (D.state disk.new).seen) }
     {
-        let opened = read_parts(alloc, disk)?;
-        let map = states_behind(alloc, &opened)?;
+        let Opened {
+            header,
+            slot: _,
+            map,
+            plans,
+            area,
+        } = read_parts(alloc, disk)?;
+        let map = states_behind(alloc, map, &plans, &area)?;
         Ok(Report {
-            blocks: opened.header.geometry.blocks,
-            areas: opened.header.areas,
-            base: opened.header.base,
-            commands: opened.area.next().wrapping_sub(1),
+            blocks: header.geometry.blocks,
+            in_front: header.in_front,
+            base: header.base,
+            commands: area.next().wrapping_sub(1),
             data_blocks: map.count(Kind::Data),
             zero_blocks: map.count(Kind::Zero),
             hole_blocks: map.count(Kind::Hole),
@@ -68,19 +74,23 @@ impl<D: Disk> Keeper<D> {
     }
 }
 
-// The states of the blocks behind all areas in use.
-fn states_behind(alloc: Global, opened: &Opened) -> Result<AllocMap, AllocError>
-    requires blocks { length opened.now.map ≡ opened.now.header.geometry.blocks }
-    requires area { (opened.now.area.bytes ≡ opened.now.header.geometry.area) × (opened.now.area.blocks ≡ opened.now.header.geometry.blocks) }
-    requires first { IfSome opened.now.plan (λ plan. plan.first.blocks ≡ opened.now.header.geometry.blocks) }
-    ensures { IfOk result (AreStatesBehind opened.now.plan opened.now.area opened.now.map) }
+// The states of the blocks behind all areas in use, where this is the map in front of them.
+fn states_behind(
+    alloc: Global,
+    map: AllocMap,
+    plans: &Vec<CopyPlan>,
+    area: &Area,
+) -> Result<AllocMap, AllocError>
+    requires bytes { area.now.bytes ≤ 1073741824 }
+    requires blocks { area.now.blocks ≤ 16777216 }
+    requires count { length map ≡ area.now.blocks }
+    requires plans { AreOf area.now.blocks plans.now.items }
+    ensures { IfOk result (AreStatesBehind plans.now.items area.now map) }
 {
-    let blocks = opened.header.geometry.blocks as u32;
-    match &opened.plan {
-        None => map_behind(alloc, &opened.area, blocks, &opened.map),
-        Some(plan) => {
-            let turned = plan.map_after(alloc, &opened.map)?;
-            map_behind(alloc, &opened.area, blocks, &turned)
-        }
+    let blocks = map.blocks() as u32;
+    let mut turned = map;
+    for plan in plans {
+        turned = plan.map_after(alloc, &turned)?;
     }
+    map_behind(alloc, area, blocks, &turned)
 }

@@ -1,27 +1,28 @@
-ghost use Rattle.std.specs.Prelude.{◌≡◌, ◌≢◌, ◌⊎◌, ℕ, ◌≤◌, ◌↔◌, List, [], false, IfErr, IfNone, IfOk, IfSome, IsTrue, Err, None, OnOk};
+ghost use Rattle.std.specs.Prelude.{◌≡◌, ◌≢◌, ◌⊎◌, ℕ, suc, ◌+◌, ◌-◌, ◌<◌, ◌≤◌, ◌↔◌, List, [], ◌∷◌, ◌++◌, length, false, IfErr, IfNone, IfOk, IfSome, IsTrue, Err, OnOk};
 ghost use Rattle.checkpoint.specs.Keeper.{faults_by, refused_by};
-ghost use Rattle.checkpoint.specs.Steps.{IsCopyTime, IsFinishTime, IsMapTime, IsRotateTime, IsStepFault, copied_by, finished_by, left_in, map_after, mapped_by, rotated_by};
+ghost use Rattle.checkpoint.specs.Steps.{IsCopyTime, IsFinishTime, IsMapTime, IsRotateTime, IsStepFault, copied_by, finished_by, first_turned, left_in, map_after, mapped_by, phase_with, plans_behind, rotated_by};
 ghost use Rattle.checkpoint.specs.declared.fault.KeeperFault.TheVariants as KeeperFault;
 ghost use Rattle.device_image.specs.Holds.{Holds};
 ghost use Rattle.device_image.specs.Keeps.{Keeps};
-ghost use Rattle.device_image.specs.Keeper.{Copying, One};
+ghost use Rattle.device_image.specs.Keeper.{lefts_of, phase_of, turned_of};
 ghost use Rattle.device_image.specs.Remembers.{Remembers};
 ghost use Rattle.image_model.specs.Dirty.{dirty_blocks};
 ghost use Rattle.std.specs.FinMap.{len};
 ghost use Rattle.device_image.specs.Stands.{StandsFor};
-ghost use Rattle.device_image.specs.CheckpointHeader.{with_both, with_second};
+ghost use Rattle.device_image.specs.CheckpointHeader.{with_next, without_first};
 ghost use Rattle.disk_model.specs.Disk.{LeavesOnly};
 ghost use Rattle.image_model.specs.Change.{Change};
 ghost use Rattle.image_model.specs.Image.{Image, apply_all};
 ghost use Rattle.image_model.specs.Side.{other_of};
-ghost use Rattle.regions.specs.Layout.{area_at};
+ghost use Rattle.regions.specs.Layout.{area_at, area_size, areas_in, behind};
 
 use crate::device_steps::{begin_turn, copy_over, store_map};
 use crate::fault::KeeperFault;
 use crate::keeper::Keeper;
+use crate::plans::{add_plan, take_first};
 use copy_plan::{CopyPlan, latest_writes};
 use disk_model::Disk;
-use header_slots::{Areas, Header, HeaderChange, change_header};
+use header_slots::{Header, HeaderChange, change_header};
 use image_model::BLOCK_BYTES;
 use journal::Area;
 use regions::Regions;
@@ -29,7 +30,8 @@ use std::mem;
 
 impl<D: Disk> Keeper<D> {
     /// Copies the next blocks, at most `most`, that follow one another in the image and in the area, in one read and one
-    /// write of the device, and answers how many. Its time is where two areas are in use and a block is left to copy.
+    /// write of the device, and answers how many. Its time is where several areas are in use and a block of
+    /// the first is left to copy.
     ///
     /// Of the blocks whose last touch in the first area is a put, in ascending order, their bytes go from there to the
     /// data region. It takes memory for these bytes. Refusals 0 (no memory), 1 (device fault), 15 (not now) and 16 (failed).
@@ -51,8 +53,8 @@ impl<D: Disk> Keeper<D> {
 
         // On an honest device: at `Ok` the keeper holds the same commands over the same image, and where it keeps an image
         // whatever a crash at any moment leaves stands for it.
-        ensures held { D.honest self.old.disk → (base : Image) (first last : List Change) → Holds self.old (D.state self.old.disk) base first last
-            → OnOk result (Holds self.new (D.state self.new.disk) base first last) }
+        ensures held { D.honest self.old.disk → (base : Image) (fronts : List (List Change)) (last : List Change) → Holds self.old (D.state self.old.disk) base fronts last
+            → OnOk result (Holds self.new (D.state self.new.disk) base fronts last) }
         ensures any_moment { D.honest self.old.disk → (image : Image) (number : ℕ) → Keeps self.old (D.state self.old.disk) image number
             → LeavesOnly (D.state self.old.disk) (D.state self.new.disk) (λ content. StandsFor content image number) }
     {
@@ -67,7 +69,8 @@ impl<D: Disk> Keeper<D> {
         };
         let mut buffer = vec![in self.alloc; 0; put.blocks as usize * BLOCK_BYTES as usize]?;
         let from = plan.first().start() + put.place as u64;
-        let regions = Regions::of(&self.header.geometry);
+        let geometry = self.header.geometry;
+        let regions = Regions::of(&geometry);
         match copy_over(
             &mut self.disk,
             &regions,
@@ -103,8 +106,8 @@ impl<D: Disk> Keeper<D> {
         ensures remembered { (commands : List Change) → Remembers self.old commands → OnOk result (Remembers self.new commands) }
 
         // As for `copy_some`.
-        ensures held { D.honest self.old.disk → (base : Image) (first last : List Change) → Holds self.old (D.state self.old.disk) base first last
-            → OnOk result (Holds self.new (D.state self.new.disk) base first last) }
+        ensures held { D.honest self.old.disk → (base : Image) (fronts : List (List Change)) (last : List Change) → Holds self.old (D.state self.old.disk) base fronts last
+            → OnOk result (Holds self.new (D.state self.new.disk) base fronts last) }
         ensures any_moment { D.honest self.old.disk → (image : Image) (number : ℕ) → Keeps self.old (D.state self.old.disk) image number
             → LeavesOnly (D.state self.old.disk) (D.state self.new.disk) (λ content. StandsFor content image number) }
     {
@@ -114,18 +117,18 @@ impl<D: Disk> Keeper<D> {
 }
 
 impl<D: Disk> Keeper<D> {
-    /// Takes the other area into use, behind the one that is: groups go there from now on. Its time is where one area is in
-    /// use and its list isn't empty.
+    /// Takes the next area into use, behind those that are: groups go there from now on. Its time is where one isn't in use,
+    /// and the list of the last one that is isn't empty.
     ///
-    /// The other area's first gate is closed and synced, and then the header changes. It takes memory for the last touches
-    /// of the blocks. Refusals 0 (no memory), 1 (device fault), 9 (numbers full), 15 (not now) and 16 (failed).
+    /// The next area's first gate is closed and synced, and then the header changes. It takes memory for the last touches of
+    /// the blocks, and for one more checkpoint that waits. Refusals 0 (no memory), 1 (device fault), 9 (numbers full), 15 (not now) and 16 (failed).
     pub fn rotate(&mut self) -> Result<(), KeeperFault>
         ensures ok { OnOk result (self.new ≡ rotated_by self.old self.new.disk self.new.memory) }
         ensures err { IfErr result (λ fault. self.new ≡ refused_by fault self.old self.new.disk) }
         ensures failed { (result ≡ Err KeeperFault.Failed) ↔ IsTrue self.old.failed }
-        ensures not_now { (result ≡ Err KeeperFault.NotNow) ↔ ((self.old.failed ≡ false) × (IsRotateTime self.old.phase self.old.used → ⊥)) }
+        ensures not_now { (result ≡ Err KeeperFault.NotNow) ↔ ((self.old.failed ≡ false) × (IsRotateTime self.old → ⊥)) }
         ensures full { (result ≡ Err KeeperFault.NumbersFull)
-            ↔ ((self.old.failed ≡ false) × IsRotateTime self.old.phase self.old.used × (self.old.generation ≡ 18446744073709551615)) }
+            ↔ ((self.old.failed ≡ false) × IsRotateTime self.old × (self.old.generation ≡ 18446744073709551615)) }
         ensures only { IfErr result IsStepFault }
         ensures unchanged { IfErr result (λ fault. (fault ≡ KeeperFault.DeviceFault) ⊎ (self.new.disk ≡ self.old.disk)) }
         ensures extent { D.extent self.new.disk ≡ D.extent self.old.disk }
@@ -133,30 +136,36 @@ impl<D: Disk> Keeper<D> {
         ensures faults_err { IfErr result (λ fault. D.faults self.new.disk ≡ faults_by fault (D.faults self.old.disk)) }
         ensures honest { D.honest self.new.disk ↔ D.honest self.old.disk }
         ensures fresh { OnOk result (Remembers self.new []) }
-        ensures left { (commands : List Change) → Remembers self.old commands → OnOk result (self.new.phase ≡ Copying (len (dirty_blocks 0 commands))) }
+        ensures left { (commands : List Change) → Remembers self.old commands → OnOk result (self.new.lefts ≡ self.old.lefts ++ len (dirty_blocks 0 commands) ∷ []) }
+        ensures phase { (commands : List Change) → Remembers self.old commands → OnOk result (self.new.phase ≡ phase_with self.old.phase (len (dirty_blocks 0 commands))) }
 
-        // On an honest device: at `Ok` the commands of the one area stand in front of an empty list. A crash as for `copy_some`.
-        ensures held { D.honest self.old.disk → (base : Image) (last : List Change) → Holds self.old (D.state self.old.disk) base [] last
-            → OnOk result (Holds self.new (D.state self.new.disk) base last []) }
+        // On an honest device: at `Ok` the commands of the last area stand in front of an empty list. A crash as for `copy_some`.
+        ensures held { D.honest self.old.disk → (base : Image) (fronts : List (List Change)) (last : List Change) → Holds self.old (D.state self.old.disk) base fronts last
+            → OnOk result (Holds self.new (D.state self.new.disk) base (fronts ++ last ∷ []) []) }
         ensures any_moment { D.honest self.old.disk → (image : Image) (number : ℕ) → Keeps self.old (D.state self.old.disk) image number
             → LeavesOnly (D.state self.old.disk) (D.state self.new.disk) (λ content. StandsFor content image number) }
     {
         if self.failed {
             return Err(KeeperFault::Failed);
         }
-        if self.plan.is_some() || self.area.is_empty() {
+        if !self.has_spare_area() || self.area.is_empty() {
             return Err(KeeperFault::NotNow);
         }
-        let Some(header) = self.header.next(&self.with_both()) else {
+        let Some(header) = self.header.next(&self.with_next()) else {
             return Err(KeeperFault::NumbersFull);
         };
         let geometry = self.header.geometry;
         let touches = latest_writes(self.alloc, &self.area, geometry.blocks as u32)?;
-        let mut next = self.other_area();
+        self.waiting.reserve(1)?;
+        let mut next = self.next_area();
         match begin_turn(&mut self.disk, &mut next, self.slot, &header) {
             Ok(()) => {
                 let first = mem::replace(&mut self.area, next);
-                self.plan = Some(CopyPlan::of(first, touches));
+                add_plan(
+                    &mut self.plan,
+                    &mut self.waiting,
+                    CopyPlan::of(first, touches),
+                );
                 self.header = header;
                 self.slot = self.slot.other();
                 Ok(())
@@ -168,35 +177,49 @@ impl<D: Disk> Keeper<D> {
         }
     }
 
-    // The other area in use too, behind the one that is.
-    fn with_both(&self) -> HeaderChange
-        ensures { result ≡ with_both self.now.memory.header }
+    // Whether an area isn't in use.
+    fn has_spare_area(&self) -> bool
+        ensures spare { IsTrue result ↔ (length self.now.turned + 1 < areas_in self.now.geometry) }
+        ensures room { IsTrue result → self.now.memory.header.in_front + 1 < areas_in self.now.memory.header.geometry }
+    {
+        self.header.in_front as u16 + 1 < self.header.geometry.areas() as u16
+    }
+
+    // The next area in use too, behind those that are.
+    fn with_next(&self) -> HeaderChange
+        requires { self.now.memory.header.in_front + 1 < areas_in self.now.memory.header.geometry }
+        ensures { result ≡ with_next self.now.memory.header }
     {
         HeaderChange {
-            areas: Areas::Two,
+            in_front: self.header.in_front + 1,
             first_area: self.header.first_area,
             map_slot: self.header.map_slot,
             base: self.header.base,
         }
     }
 
-    // The second area alone in use, over the other map slot and this base.
-    fn with_second(&self, base: u64) -> HeaderChange
-        ensures { result ≡ with_second self.now.memory.header base }
+    // The first area no longer in use, over the other map slot and this base.
+    fn without_first(&self, base: u64) -> HeaderChange
+        requires { 0 < self.now.memory.header.in_front }
+        ensures change { result ≡ without_first self.now.memory.header base }
+        ensures few { result.in_front < areas_in self.now.memory.header.geometry }
+        ensures first { result.first_area < areas_in self.now.memory.header.geometry }
     {
+        let regions = Regions::of(&self.header.geometry);
         HeaderChange {
-            areas: Areas::One,
-            first_area: self.header.first_area.other(),
+            in_front: self.header.in_front - 1,
+            first_area: regions.area_behind(self.header.first_area, 1),
             map_slot: self.header.map_slot.other(),
             base,
         }
     }
 
-    // The area behind the one in use, whose list is empty.
-    fn other_area(&self) -> Area
+    // The area behind those in use, whose list is empty.
+    fn next_area(&self) -> Area
+        requires { self.now.memory.header.in_front + 1 < areas_in self.now.memory.header.geometry }
         ensures { result ≡ record {
-          from = area_at self.now.geometry (other_of self.now.memory.header.first_area);
-          bytes = self.now.geometry.area;
+          from = area_at self.now.geometry (behind (areas_in self.now.geometry) (suc self.now.memory.header.in_front) self.now.memory.header.first_area);
+          bytes = area_size self.now.geometry;
           blocks = self.now.geometry.blocks;
           next = self.now.memory.area.next;
           gate = 0;
@@ -204,11 +227,12 @@ impl<D: Disk> Keeper<D> {
         } }
     {
         let geometry = self.header.geometry;
-        let from = Regions::of(&geometry).area_from(self.header.first_area.other());
+        let regions = Regions::of(&geometry);
+        let index = regions.area_behind(self.header.first_area, self.header.in_front + 1);
         Area::new(
             self.alloc,
-            from,
-            geometry.area,
+            regions.area_from(index),
+            geometry.area_size(),
             geometry.blocks,
             self.area.next(),
         )
@@ -216,8 +240,8 @@ impl<D: Disk> Keeper<D> {
 }
 
 impl<D: Disk> Keeper<D> {
-    /// Writes the map after the first area into the map slot that isn't in force, and syncs. Its time is where two areas are
-    /// in use, no block is left to copy, and the map isn't written.
+    /// Writes the map after the first area into the map slot that isn't in force, and syncs. Its time is where several areas
+    /// are in use, no block is left to copy, and the map isn't written.
     ///
     /// It takes memory for one map. Refusals 0 (no memory), 1 (device fault), 15 (not now) and 16 (failed).
     pub fn write_map(&mut self) -> Result<(), KeeperFault>
@@ -235,8 +259,8 @@ impl<D: Disk> Keeper<D> {
         ensures remembered { (commands : List Change) → Remembers self.old commands → OnOk result (Remembers self.new commands) }
 
         // As for `copy_some`.
-        ensures held { D.honest self.old.disk → (base : Image) (first last : List Change) → Holds self.old (D.state self.old.disk) base first last
-            → OnOk result (Holds self.new (D.state self.new.disk) base first last) }
+        ensures held { D.honest self.old.disk → (base : Image) (fronts : List (List Change)) (last : List Change) → Holds self.old (D.state self.old.disk) base fronts last
+            → OnOk result (Holds self.new (D.state self.new.disk) base fronts last) }
         ensures any_moment { D.honest self.old.disk → (image : Image) (number : ℕ) → Keeps self.old (D.state self.old.disk) image number
             → LeavesOnly (D.state self.old.disk) (D.state self.new.disk) (λ content. StandsFor content image number) }
     {
@@ -253,13 +277,9 @@ impl<D: Disk> Keeper<D> {
             return Err(KeeperFault::NotNow);
         }
         let map = plan.map_after(self.alloc, &self.map)?;
+        let geometry = self.header.geometry;
         let slot = self.header.map_slot.other();
-        match store_map(
-            &mut self.disk,
-            &Regions::of(&self.header.geometry),
-            slot,
-            &map,
-        ) {
+        match store_map(&mut self.disk, &Regions::of(&geometry), slot, &map) {
             Ok(()) => {
                 plan.set_map(map);
                 Ok(())
@@ -271,8 +291,8 @@ impl<D: Disk> Keeper<D> {
         }
     }
 
-    /// Lets the first area go: the second is alone in use, and map and data hold what the first did. Its time is where the
-    /// map is written.
+    /// Lets the first area go: it is no longer in use, and map and data hold what it did. Its time is where the map is
+    /// written.
     ///
     /// The header changes. Refusals 1 (device fault), 9 (numbers full), 15 (not now) and 16 (failed).
     pub fn finish(&mut self) -> Result<(), KeeperFault>
@@ -291,10 +311,11 @@ impl<D: Disk> Keeper<D> {
         ensures honest { D.honest self.new.disk ↔ D.honest self.old.disk }
         ensures remembered { (commands : List Change) → Remembers self.old commands → OnOk result (Remembers self.new commands) }
 
-        // On an honest device: at `Ok` map and data hold what the commands in front made of the image that they held. A crash
-        // as for `copy_some`.
-        ensures held { D.honest self.old.disk → (base : Image) (first last : List Change) → Holds self.old (D.state self.old.disk) base first last
-            → OnOk result (Holds self.new (D.state self.new.disk) (apply_all first base) [] last) }
+        // On an honest device: at `Ok` map and data hold what the commands of the first area made of the image that they held. A
+        // crash as for `copy_some`.
+        ensures held { D.honest self.old.disk → (base : Image) (first : List Change) (others : List (List Change)) (last : List Change)
+            → Holds self.old (D.state self.old.disk) base (first ∷ others) last
+            → OnOk result (Holds self.new (D.state self.new.disk) (apply_all first base) others last) }
         ensures any_moment { D.honest self.old.disk → (image : Image) (number : ℕ) → Keeps self.old (D.state self.old.disk) image number
             → LeavesOnly (D.state self.old.disk) (D.state self.new.disk) (λ content. StandsFor content image number) }
     {
@@ -304,7 +325,7 @@ impl<D: Disk> Keeper<D> {
         let Some(base) = self.base_after() else {
             return Err(KeeperFault::NotNow);
         };
-        let Some(header) = self.header.next(&self.with_second(base)) else {
+        let Some(header) = self.header.next(&self.without_first(base)) else {
             return Err(KeeperFault::NumbersFull);
         };
         match change_header(&mut self.disk, self.slot, &header) {
@@ -319,16 +340,24 @@ impl<D: Disk> Keeper<D> {
         }
     }
 
-    // The second area is alone in use, by this header, and map and data hold what the first area did.
+    // The first area is no longer in use, by this header, and map and data hold what it did.
     fn take_over(&mut self, header: Header)
+        requires time { IsFinishTime self.old.phase }
         requires geometry { header.geometry ≡ self.old.geometry }
-        requires base { header.base ≡ self.old.turned }
+        requires in_front { header.in_front ≡ self.old.memory.header.in_front - 1 }
+        requires base { header.base ≡ first_turned self.old.base self.old.turned }
         ensures { self.new ≡ record self.old {
           generation = header.generation;
           base = header.base;
-          turned = header.base;
-          phase = One;
-          memory = record self.old.memory { header = header; slot = other_of self.old.memory.slot; map = map_after self.old.memory.plan self.old.memory.map; plan = None };
+          turned = turned_of (plans_behind self.old.memory.plans);
+          lefts = lefts_of (plans_behind self.old.memory.plans);
+          phase = phase_of (plans_behind self.old.memory.plans);
+          memory = record self.old.memory {
+            header = header;
+            slot = other_of self.old.memory.slot;
+            map = map_after self.old.memory.plans self.old.memory.map;
+            plans = plans_behind self.old.memory.plans;
+          };
         } }
     {
         if let Some(plan) = self.plan.take()
@@ -336,13 +365,15 @@ impl<D: Disk> Keeper<D> {
         {
             self.map = map;
         }
+        self.plan = take_first(&mut self.waiting);
         self.header = header;
         self.slot = self.slot.other();
     }
 
     // The number of the last command in the first area, where the map after it is written.
     fn base_after(&self) -> Option<u64>
-        ensures some { IfSome result (λ base. IsFinishTime self.now.phase × (base ≡ self.now.turned)) }
+        ensures some { IfSome result (λ base. IsFinishTime self.now.phase × (base ≡ first_turned self.now.base self.now.turned)) }
+        ensures several { IfSome result (λ base. 0 < self.now.memory.header.in_front) }
         ensures none { IfNone result (IsFinishTime self.now.phase → ⊥) }
     {
         match &self.plan {

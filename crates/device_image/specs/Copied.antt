@@ -31,8 +31,9 @@ pub record IsTurnBegun (before : State) (extent from : ℕ) (header : Header) (s
   pub others : (place : ℕ) → 8192 ≤ place → place ≢ from → slice_index after.seen place ≡ slice_index before.seen place
   pub synced : IsAllSynced after
 
--- what a crash may leave meanwhile: the header that was in force, in this slot, or, once the gate is closed, the new one
+-- what a crash may leave meanwhile: the header that was in force, in this slot, or, once the gate is closed, the new one;
+-- at other places what stood there and wasn't unsynced
 pub record LeavesTurn (before : State) (extent from : ℕ) (current : Header) (slot : Side) (header : Header) (content : List ℕ) : Type 0 where
   pub size : length content ≡ length before.seen
-  pub others : (place : ℕ) → 8192 ≤ place → place ≢ from → slice_index content place ≡ slice_index before.seen place
+  pub others : (place : ℕ) → 8192 ≤ place → place ≢ from → (before.unsynced place → ⊥) → slice_index content place ≡ slice_index before.seen place
   pub either : HoldsHeader content extent current slot ⊎ ((slice_index content from ≡ 0) × HoldsHeader content extent header (other_of slot))

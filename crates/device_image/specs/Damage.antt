@@ -19,7 +19,7 @@ pub record HasBadMap (content : List ℕ) : Type 0 where
   pub map : HoldsBadMap content (map_at header.geometry header.map_slot) header.geometry.blocks
 
 -- One of these areas is damaged, behind the lists of those in front of it; the first of them begins with the number `next`.
-abbrev pub IsOneDamaged : List Side → List ℕ → Geometry → ℕ → Type 0
+abbrev pub IsOneDamaged : List ℕ → List ℕ → Geometry → ℕ → Type 0
 IsOneDamaged [] content geometry next = ⊥
 IsOneDamaged (area ∷ areas) content geometry next =
     IsDamaged (area_of geometry area) next content

@@ -1,6 +1,6 @@
 -- Which commands a journal holds, and over which image.
-use Rattle.std.specs.Prelude.{ℕ, ◌≡◌, ◌+◌, ◌*◌, ◌<◌, Bool, false, List, [], length}
-use Rattle.std.specs.List.{list_any}
+use Rattle.std.specs.Prelude.{ℕ, ◌≡◌, ◌+◌, ◌*◌, ◌<◌, Bool, false, List, [], length, map}
+use Rattle.std.specs.List.{flat_map, list_any}
 use Rattle.alloc_map.specs.Codes.{state_at}
 use Rattle.disk_model.specs.Disk.{State}
 use Rattle.image_model.specs.Change.{Change}
@@ -10,7 +10,7 @@ use Rattle.image_model.specs.declared.geometry.Geometry.{Geometry}
 use Rattle.journal_format.specs.GroupList.{changes_of}
 use Rattle.device_image.specs.Keeper.{KeeperState, One}
 use Rattle.device_image.specs.Keeps.{Keeps}
-use Rattle.device_image.specs.Stands.{all_changes, stored_image}
+use Rattle.device_image.specs.Stands.{stored_image}
 
 -- whether one of the commands writes the block
 abbrev pub is_written : ℕ → List Change → Bool
@@ -23,20 +23,26 @@ pub record IsBase (base : Image) (content : List ℕ) (geometry : Geometry) (sta
   pub bytes : (block offset : ℕ) → offset < 4096 → is_written block commands ≡ false
       → base.byte (4096 * block + offset) ≡ (stored_image content geometry states).byte (4096 * block + offset)
 
+-- commands of several areas, one area after another
+abbrev pub joined : List (List Change) → List Change
+joined fronts = flat_map (λ front. front) fronts
+
 -- The keeper, whose device is in this state, holds this image in map and data, and over it these commands: the first of
--- them in the areas in front of the last one, which a checkpoint carries into map and data, and the others in the last.
-pub record Holds {D : Type 0} (keeper : KeeperState D) (state : State) (base : Image) (first last : List Change) : Type 0 where
-  pub keeps : Keeps keeper state (apply_all last (apply_all first base)) (keeper.base + length first + length last)
-  pub in_front : all_changes keeps.areas.front ≡ first
+-- them in the areas in front of the last one, each with its own, which checkpoints carry into map and data one after
+-- another, and the others in the last.
+pub record Holds {D : Type 0} (keeper : KeeperState D) (state : State) (base : Image) (fronts : List (List Change)) (last : List Change) : Type 0 where
+  pub keeps : Keeps keeper state (apply_all last (apply_all (joined fronts) base)) (keeper.base + length (joined fronts) + length last)
+  pub in_front : map changes_of keeps.areas.front ≡ fronts
   pub in_last : changes_of keeps.areas.groups ≡ last
-  pub is_base : IsBase base state.seen keeper.geometry keeper.memory.map first
+  pub is_base : IsBase base state.seen keeper.geometry keeper.memory.map (joined fronts)
 
 -- What a keeper holds that keeps this image: nothing in front of the last area where one is in use.
 pub record HoldsAs {D : Type 0} (keeper : KeeperState D) (state : State) (image : Image) (number : ℕ) : Type 0 where
   pub base : Image
-  pub first : List Change
+  pub fronts : List (List Change)
   pub last : List Change
-  pub holds : Holds keeper state base first last
-  pub image_is : image ≡ apply_all last (apply_all first base)
-  pub number_is : number ≡ keeper.base + length first + length last
-  pub one : keeper.phase ≡ One → first ≡ []
+  pub holds : Holds keeper state base fronts last
+  pub image_is : image ≡ apply_all last (apply_all (joined fronts) base)
+  pub number_is : number ≡ keeper.base + length (joined fronts) + length last
+  pub one : keeper.phase ≡ One → fronts ≡ []
+  pub several : fronts ≡ [] → keeper.phase ≡ One

@@ -20,7 +20,7 @@ pub data Phase : Type 0 where
   -- all are copied, and the map after the first area is written
   Mapped : Phase
 
--- A checkpoint that is under way: the first of the areas in use, before which block all is copied that is to be copied, how
+-- A checkpoint of an area that stands in front of the last: that area, before which block all is copied that is to be copied, how
 -- many blocks are left to copy, and, once it is written, the map after that area.
 pub record PlanState : Type 0 where
   pub first : AreaState
@@ -29,12 +29,13 @@ pub record PlanState : Type 0 where
   pub mapped : Option (List Kind)
 
 -- what a keeper remembers of its device, to find blocks and the next gate again: the header in force and its slot, the
--- states of the blocks at the base, the checkpoint that is under way, and the area that groups are added to
+-- states of the blocks at the base, a checkpoint of each area in use in front of the last, in the order of the ring, and the
+-- area that groups are added to
 pub record Memory : Type 0 where
   pub header : Header
   pub slot : Side
   pub map : List Kind
-  pub plan : Option PlanState
+  pub plans : List PlanState
   pub area : AreaState
 
 pub record KeeperState (D : Type 0) : Type 0 where
@@ -46,8 +47,10 @@ pub record KeeperState (D : Type 0) : Type 0 where
   pub count : ℕ
   -- the number of the last command in map and data
   pub base : ℕ
-  -- that of the last command in the areas in use in front of the last one, which the base becomes
-  pub turned : ℕ
+  -- those of the last commands in the areas in use in front of the last one, of which the first becomes the base
+  pub turned : List ℕ
+  -- how many blocks each of these areas leaves to copy; of the first, how many of them are left
+  pub lefts : List ℕ
   -- the place of the next gate in the area that groups are added to
   pub used : ℕ
   pub phase : Phase
@@ -72,19 +75,41 @@ abbrev pub phase_in : ℕ → Option (List Kind) → Phase
 phase_in left None = Copying left
 phase_in left (Some states) = Mapped
 
-abbrev pub phase_of : Option PlanState → Phase
-phase_of None = One
-phase_of (Some plan) = phase_in plan.left plan.mapped
+abbrev pub phase_of : List PlanState → Phase
+phase_of [] = One
+phase_of (plan ∷ plans) = phase_in plan.left plan.mapped
 
--- the number of the last command in an area in front of the last, or the base where there is none
-abbrev pub turned_of : Option PlanState → ℕ → ℕ
-turned_of None base = base
-turned_of (Some plan) base = (plan.first.next + 18446744073709551615) % 18446744073709551616
+-- the number of the last command in an area, or of the last one in front of it where its list is empty
+abbrev pub last_number : AreaState → ℕ
+last_number area = (area.next + 18446744073709551615) % 18446744073709551616
+
+-- these numbers of areas that stand in front of the last
+abbrev pub turned_of : List PlanState → List ℕ
+turned_of [] = []
+turned_of (plan ∷ plans) = last_number plan.first ∷ turned_of plans
+
+-- the last of them, or the base where there is none
+abbrev pub last_turned : ℕ → List ℕ → ℕ
+last_turned base [] = base
+last_turned base (first ∷ rest) = last_turned first rest
+
+-- how many blocks each of these areas leaves to copy
+abbrev pub lefts_of : List PlanState → List ℕ
+lefts_of [] = []
+lefts_of (plan ∷ plans) = plan.left ∷ lefts_of plans
 
 -- the areas in use in front of the last, in the order of the ring
-abbrev pub earlier_of : Option PlanState → List AreaState
-earlier_of None = []
-earlier_of (Some plan) = plan.first ∷ []
+abbrev pub earlier_of : List PlanState → List AreaState
+earlier_of [] = []
+earlier_of (plan ∷ plans) = plan.first ∷ earlier_of plans
+
+-- nothing of the area is copied yet
+abbrev pub IsUncopied : PlanState → Type 0
+IsUncopied plan = plan ≡ record { first = plan.first; copied = 0; left = count_puts plan.first.blocks plan.first.touched; mapped = None }
+
+abbrev pub AreUncopied : List PlanState → Type 0
+AreUncopied [] = Unit {0}
+AreUncopied (plan ∷ plans) = IsUncopied plan × AreUncopied plans
 
 -- the states of the blocks after these touches, where these are the states before
 pub record AreStatesAfter (touched : List TouchedRange) (before after : List Kind) : Type 0 where

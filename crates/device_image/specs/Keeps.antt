@@ -1,12 +1,9 @@
 -- that a keeper keeps an image
 use Rattle.std.specs.Prelude.{ℕ, ◌≡◌, ◌+◌, ◌<◌, ◌≤◌, IsTrue, false, List, [], ◌∷◌, ◌++◌, slice_index, Option, Some, None}
 use Rattle.disk_model.specs.Disk.{State, InRange, IsAllSynced, IsSteady}
-use Rattle.header_slots.specs.Header.{mode_of}
-use Rattle.header_slots.specs.declared.header.Areas.{Areas}
 use Rattle.header_slots.specs.declared.header.Header.{Header}
 use Rattle.image_model.specs.Side.{other_of}
 use Rattle.image_model.specs.declared.command.Kind.{Kind}
-use Rattle.image_model.specs.declared.side.Side.{Side}
 use Rattle.image_model.specs.Image.{Image}
 use Rattle.image_model.specs.declared.geometry.Geometry.{Geometry}
 use Rattle.journal_format.specs.Area.{AreaState}
@@ -15,27 +12,27 @@ use Rattle.journal_format.specs.Spelling.{StoredGroup}
 use Rattle.journal_format.specs.Touches.{last_touch, touched_by_groups}
 use Rattle.journal_format.specs.declared.touch.Touch.TheVariants.{Put}
 use Rattle.journal_format.specs.declared.touch.TouchedRange.{TouchedRange}
-use Rattle.regions.specs.Layout.{area_at, behind, block_at, map_at, ring}
+use Rattle.regions.specs.Layout.{area_at, area_size, block_at, map_at}
 use Rattle.regions.specs.Map.{HoldsMap}
-use Rattle.device_image.specs.Keeper.{AreStatesAfter, KeeperState, PlanState, count_puts, earlier_of, is_put, phase_of}
-use Rattle.device_image.specs.Stands.{StandsFor, next_number}
+use Rattle.device_image.specs.Keeper.{AreStatesAfter, AreUncopied, KeeperState, PlanState, count_puts, earlier_of, is_put, phase_of}
+use Rattle.device_image.specs.Stands.{StandsFor, areas_in_front, last_area, next_number}
 
 -- the area is this one of a device with these sizes
-pub record IsPlaced (area : AreaState) (geometry : Geometry) (side : Side) : Type 0 where
-  pub from : area.from ≡ area_at geometry side
-  pub bytes : area.bytes ≡ geometry.area
+pub record IsPlaced (area : AreaState) (geometry : Geometry) (index : ℕ) : Type 0 where
+  pub from : area.from ≡ area_at geometry index
+  pub bytes : area.bytes ≡ area_size geometry
   pub blocks : area.blocks ≡ geometry.blocks
 
 -- These areas hold these lists, the first with the number `next` on: each is at the end of its list and knows what its
 -- commands touched, and nothing in it is unsynced.
-abbrev pub AreHeld : List Side → Geometry → ℕ → List (List StoredGroup) → List AreaState → State → Type 0
+abbrev pub AreHeld : List ℕ → Geometry → ℕ → List (List StoredGroup) → List AreaState → State → Type 0
 AreHeld [] geometry next [] [] state = Unit {0}
 AreHeld [] geometry next [] (area ∷ areas) state = ⊥
 AreHeld [] geometry next (groups ∷ lists) areas state = ⊥
-AreHeld (side ∷ sides) geometry next [] areas state = ⊥
-AreHeld (side ∷ sides) geometry next (groups ∷ lists) [] state = ⊥
-AreHeld (side ∷ sides) geometry next (groups ∷ lists) (area ∷ areas) state =
-    IsPlaced area geometry side × IsHeld area next groups state × AreHeld sides geometry (next_behind next groups) lists areas state
+AreHeld (index ∷ more) geometry next [] areas state = ⊥
+AreHeld (index ∷ more) geometry next (groups ∷ lists) [] state = ⊥
+AreHeld (index ∷ more) geometry next (groups ∷ lists) (area ∷ areas) state =
+    IsPlaced area geometry index × IsHeld area next groups state × AreHeld more geometry (next_behind next groups) lists areas state
 
 -- the number that follows lists of groups, where the first of them has to begin with `next`
 abbrev pub behind_lists : ℕ → List (List StoredGroup) → ℕ
@@ -47,8 +44,8 @@ pub record HoldsAreas (state : State) (header : Header) (lists : List (List Stor
   pub front : List (List StoredGroup)
   pub groups : List StoredGroup
   pub are : lists ≡ front ++ groups ∷ []
-  pub earlier_held : AreHeld (ring (mode_of header.areas) header.first_area) header.geometry (next_number header.base) front earlier state
-  pub placed : IsPlaced area header.geometry (behind (mode_of header.areas) header.first_area)
+  pub earlier_held : AreHeld (areas_in_front header) header.geometry (next_number header.base) front earlier state
+  pub placed : IsPlaced area header.geometry (last_area header)
   pub held : IsHeld area (behind_lists (next_number header.base) front) groups state
 
 -- what the first of several areas in use touched, by the lists in front of the last; nothing where one area is in use
@@ -75,17 +72,17 @@ IsMapWritten (Some after) state header states front left =
     (left ≡ 0) × AreStatesAfter (touched_first header front) states after
     × HoldsMap state.seen (map_at header.geometry (other_of header.map_slot)) header.geometry.blocks after × IsAllSynced state
 
--- A checkpoint is under way: two areas are in use, what is copied is there, and so many blocks are left.
+-- A checkpoint is under way: what is copied of the first area is there, and so many blocks are left.
 pub record IsCopying (plan : PlanState) (state : State) (header : Header) (states : List Kind) (front : List (List StoredGroup)) : Type 0 where
-  pub areas : header.areas ≡ Areas.Two
   pub within : plan.copied ≤ header.geometry.blocks
   pub counted : plan.left + count_puts plan.copied (touched_first header front) ≡ count_puts header.geometry.blocks (touched_first header front)
   pub are_copied : AreCopied state.seen header front plan.copied
   pub map_written : IsMapWritten plan.mapped state header states front plan.left
 
-abbrev pub IsInPhase : Option PlanState → State → Header → List Kind → List (List StoredGroup) → Type 0
-IsInPhase None state header states front = header.areas ≡ Areas.One
-IsInPhase (Some plan) state header states front = IsCopying plan state header states front
+-- Where several areas are in use a checkpoint of the first is under way, and nothing of those behind it is copied.
+abbrev pub IsInPhase : List PlanState → State → Header → List Kind → List (List StoredGroup) → Type 0
+IsInPhase [] state header states front = Unit {0}
+IsInPhase (plan ∷ plans) state header states front = IsCopying plan state header states front × AreUncopied plans
 
 -- The keeper, whose device is in this state, keeps this image with this last number: it works, the content stands for
 -- them, and what it shows and remembers is what stands there. No place is loose. Where one area is in use nothing is
@@ -101,8 +98,8 @@ pub record Keeps {D : Type 0} (keeper : KeeperState D) (state : State) (image : 
   pub slotted : keeper.memory.slot ≡ stands.slot
   pub counted : keeper.count ≡ number
   pub mapped : keeper.memory.map ≡ stands.states
-  pub areas : HoldsAreas state stands.header stands.lists (earlier_of keeper.memory.plan) keeper.memory.area
+  pub areas : HoldsAreas state stands.header stands.lists (earlier_of keeper.memory.plans) keeper.memory.area
   pub taken : keeper.used ≡ sizes_of areas.groups
-  pub phase : keeper.phase ≡ phase_of keeper.memory.plan
-  pub phased : IsInPhase keeper.memory.plan state stands.header stands.states areas.front
+  pub phase : keeper.phase ≡ phase_of keeper.memory.plans
+  pub phased : IsInPhase keeper.memory.plans state stands.header stands.states areas.front
   pub unsynced : (place : ℕ) → state.unsynced place → IsCopyPlace stands.header areas.front place

@@ -2,7 +2,6 @@
 use Rattle.std.specs.Prelude.{ℕ, suc, ◌≡◌, ◌+◌, ◌%◌, ◌/◌, if◌then◌else◌, List, [], ◌∷◌, length, slice_index}
 use Rattle.std.specs.List.{flat_map}
 use Rattle.alloc_map.specs.Codes.{state_at}
-use Rattle.header_slots.specs.Header.{mode_of}
 use Rattle.header_slots.specs.Slots.{HoldsHeader}
 use Rattle.header_slots.specs.declared.header.Header.{Header}
 use Rattle.image_model.specs.Change.{Change}
@@ -15,7 +14,7 @@ use Rattle.image_model.specs.declared.geometry.Geometry.{Geometry}
 use Rattle.journal_format.specs.Area.{AreaState}
 use Rattle.journal_format.specs.GroupList.{IsList, changes_of, next_behind}
 use Rattle.journal_format.specs.Spelling.{StoredGroup}
-use Rattle.regions.specs.Layout.{area_at, block_at, map_at, ring}
+use Rattle.regions.specs.Layout.{area_at, area_size, areas_in, behind, block_at, map_at, ring}
 use Rattle.regions.specs.Map.{HoldsMap}
 
 -- an image of so many blocks of which nothing was written
@@ -35,16 +34,23 @@ abbrev pub next_number : ℕ → ℕ
 next_number number = (number + 1) % 18446744073709551616
 
 -- an area of a device with these sizes; the place in it and the next number are those of an empty one
-abbrev pub area_of : Geometry → Side → AreaState
-area_of geometry side = record { from = area_at geometry side; bytes = geometry.area; blocks = geometry.blocks; next = 0; gate = 0; touched = [] }
+abbrev pub area_of : Geometry → ℕ → AreaState
+area_of geometry area = record { from = area_at geometry area; bytes = area_size geometry; blocks = geometry.blocks; next = 0; gate = 0; touched = [] }
 
 -- the areas in use, in the order of the ring
-abbrev pub in_use : Header → List Side
-in_use header = ring (suc (mode_of header.areas)) header.first_area
+abbrev pub in_use : Header → List ℕ
+in_use header = ring (areas_in header.geometry) (suc header.in_front) header.first_area
+
+-- those in front of the last, and the last
+abbrev pub areas_in_front : Header → List ℕ
+areas_in_front header = ring (areas_in header.geometry) header.in_front header.first_area
+
+abbrev pub last_area : Header → ℕ
+last_area header = behind (areas_in header.geometry) header.in_front header.first_area
 
 -- These areas hold these lists of groups: that of the first begins with the number `next`, and each further one with the
 -- number behind those in front of it.
-abbrev pub HoldLists : List Side → List ℕ → Geometry → ℕ → List (List StoredGroup) → Type 0
+abbrev pub HoldLists : List ℕ → List ℕ → Geometry → ℕ → List (List StoredGroup) → Type 0
 HoldLists [] content geometry next [] = Unit {0}
 HoldLists [] content geometry next (groups ∷ lists) = ⊥
 HoldLists (area ∷ areas) content geometry next [] = ⊥

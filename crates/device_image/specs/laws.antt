@@ -11,5 +11,6 @@ pub mod Sole
 pub mod Steps
 mod Touched
 pub mod HeaderReplaced
+pub mod Headers
 pub mod CheckpointBounds
 pub mod Written

@@ -1,5 +1,5 @@
 -- What a crash may leave of a device that was just opened.
-use Rattle.std.proofs.Common.{◌≡◌, ℕ, ◌+◌, List, [], length, refl, subst, arith}
+use Rattle.std.proofs.Common.{ℕ, ◌+◌, List, [], refl, subst, arith}
 use Rattle.checkpoint.specs.Recovery.{IsRecovered}
 use Rattle.device_image.specs.Keeper.{KeeperState}
 use Rattle.device_image.specs.Keeps.{Keeps}

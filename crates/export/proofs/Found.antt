@@ -1,8 +1,9 @@
 -- what an opening has found is what map and data hold
 use Rattle.std.proofs.Common.{◌≡◌, List, [], ◌∷◌, ◌++◌, ap, sym, ◌∙◌, subst}
-use Rattle.device_image.specs.Holds.{Holds}
+use Rattle.device_image.specs.Holds.{Holds, joined}
 use Rattle.device_image.specs.Keeper.{KeeperState}
 use Rattle.device_image.specs.Stands.{all_changes, stored_image}
+use Rattle.device_image.specs.laws.AfterWrite.{joined_lists}
 use Rattle.device_image.specs.laws.Frame.{all_changes-append}
 use Rattle.disk_model.specs.Disk.{State}
 use Rattle.image_model.specs.Change.{Change}
@@ -17,9 +18,10 @@ found keeper state image holds =
     let keeps = holds.keeps in
     let stands = keeps.stands in
     let base : Image = stored_image state.seen stands.header.geometry stands.states in
+    let before : all_changes keeps.areas.front ≡ [] = sym (joined_lists keeps.areas.front) ∙ ap joined holds.in_front in
     let none : all_changes stands.lists ≡ [] =
     ap all_changes keeps.areas.are ∙ (all_changes-append keeps.areas.front (keeps.areas.groups ∷ [])
-    ∙ (ap (λ (l : List Change). l ++ (changes_of keeps.areas.groups ++ [])) holds.in_front ∙ ap (λ (l : List Change). l ++ []) holds.in_last)) in
+    ∙ (ap (λ (l : List Change). l ++ (changes_of keeps.areas.groups ++ [])) before ∙ ap (λ (l : List Change). l ++ []) holds.in_last)) in
     let same : image ≡ stored_image state.seen keeper.geometry keeper.memory.map =
     stands.shows ∙ (ap (λ (l : List Change). apply_all l base) none
     ∙ (ap (λ (g : Geometry). stored_image state.seen g stands.states) (sym keeps.sizes) ∙ ap (λ (m : List Kind). stored_image state.seen keeper.geometry m) (sym keeps.mapped))) in

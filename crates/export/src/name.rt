@@ -14,10 +14,12 @@ pub trait ExportName: ImageName {
 /// The member that stands here is the one that nobody picked.
 impl ExportName for Brand {
     ghost use Rattle.std.proofs.Common.{lit≤, refl};
+    ghost use Rattle.image_model.specs.declared.layout.Layout.TheVariants as Layout;
 
     ghost geometry = { record {
       blocks = 1;
       area = 2097152;
+      layout = Layout.One;
       some_blocks = lit≤ tt;
       not_too_many = lit≤ tt;
       area_not_too_small = lit≤ tt;

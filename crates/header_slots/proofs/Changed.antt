@@ -4,11 +4,11 @@ use Rattle.std.proofs.lemmas.Bool.{cases_eq}
 use Rattle.disk_model.specs.Disk.{State, InRange, IsSound, IsStored, IsSyncedIn, MayLeave, MayLeaveTorn}
 use Rattle.image_model.specs.Geometry.{device_bytes_of}
 use Rattle.image_model.specs.Side.{other_of}
-use Rattle.image_model.specs.declared.geometry.Geometry.{Geometry}
 use Rattle.image_model.specs.declared.side.Side.{Side}
 use Rattle.image_model.specs.declared.side.Side.TheVariants.{Zero, One}
 use Rattle.header_slots.specs.declared.header.Header.{Header}
-use Rattle.header_slots.specs.Header.{number_at, SpellsAt}
+use Rattle.header_slots.specs.Header.{SpellsAt}
+use Rattle.header_slots.specs.Number.{number_at}
 use Rattle.header_slots.specs.Slots.{slot_at, generation_in, HoldsHeader, IsOpen}
 use Rattle.header_slots.specs.Change.{ComesNext, IsBodyStored, IsGateClosed, IsInPlace, IsLeftOutside, LeavesClosing, LeavesEither}
 use Rattle.header_slots.specs.laws.Frame.{moved_spelling, same_number}
@@ -77,7 +77,7 @@ comes_in_force a b size current header slot holds same next is_open spells = rec
         omega (arith, this, other, next_is);
   };
   spelled = spells;
-  whole = holds.whole ∙ ap (λ (geometry : Geometry). device_bytes_of geometry.blocks geometry.area) (sym next.geometry);
+  whole = holds.whole ∙ ap (λ (blocks : ℕ). device_bytes_of blocks current.geometry.area) (sym next.blocks) ∙ ap (λ (area : ℕ). device_bytes_of header.geometry.blocks area) (sym next.area);
 }
 
 -- what a state has kept of an earlier one: the header in force, and all that lies outside the two slots

@@ -9,14 +9,13 @@ use Rattle.header_slots.specs.Header.{SpellsAt}
 use Rattle.header_slots.specs.Slots.{slot_at, IsOpen, HoldsHeader}
 
 -- the next header: its generation is one greater, the sizes stay, and the rest is as the change says
-abbrev pub renewed : Header → HeaderChange → Header
-renewed header change = record header {
-  generation = header.generation + 1;
-  areas = change.areas;
-  first_area = change.first_area;
-  map_slot = change.map_slot;
-  base = change.base;
-}
+pub record IsRenewed (header : Header) (change : HeaderChange) (next : Header) : Type 0 where
+  pub generation : next.generation ≡ header.generation + 1
+  pub geometry : next.geometry ≡ header.geometry
+  pub in_front : next.in_front ≡ change.in_front
+  pub first_area : next.first_area ≡ change.first_area
+  pub map_slot : next.map_slot ≡ change.map_slot
+  pub base : next.base ≡ change.base
 
 -- The gate of a slot is closed, and a read gives what it gave before at every other place.
 pub record IsGateClosed (before : State) (slot : Side) (after : State) : Type 0 where
@@ -37,10 +36,11 @@ pub record IsBodyStored (before : State) (slot : Side) (header : Header) (after 
   pub spelled : SpellsAt bytes 0 header
   pub stored : IsStored before (slot_at slot + 1) bytes after
 
--- the header comes next to this one, on the same device
+-- the header comes next to this one, on a device of the same size
 pub record ComesNext (current header : Header) : Type 0 where
   pub generation : header.generation ≡ current.generation + 1
-  pub geometry : header.geometry ≡ current.geometry
+  pub blocks : header.geometry.blocks ≡ current.geometry.blocks
+  pub area : header.geometry.area ≡ current.geometry.area
 
 -- outside the two slots a content that a crash now may leave
 pub record IsLeftOutside (before : State) (content : List ℕ) : Type 0 where

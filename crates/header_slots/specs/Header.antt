@@ -1,30 +1,28 @@
 -- a header as bytes, by docs/FORMATS.md, "Header slot"
 use Rattle.std.specs.Prelude.{ℕ, ◌≡◌, ◌≢◌, ◌+◌, ◌%◌, ◌<◌, ◌≤◌, List, length, slice_index}
-use Rattle.byteorder.specs.Endian.{big_from}
-use Rattle.header_slots.specs.declared.header.Areas.{Areas}
 use Rattle.header_slots.specs.declared.header.Header.{Header}
+use Rattle.header_slots.specs.Number.{number_at}
+use Rattle.image_model.specs.Layout.{area_size_of, areas_of}
 use Rattle.image_model.specs.Side.{index_of}
-
--- the big-endian number in so many bytes from a place on
-unfoldable pub number_at : ℕ → ℕ → List ℕ → ℕ
-number_at place count content = big_from place count content
+use Rattle.image_model.specs.declared.layout.Layout.{Layout}
+use Rattle.image_model.specs.declared.layout.Layout.TheVariants.{One}
 
 -- `NBDJRNL1` as a number
-abbrev pub magic : ℕ
-magic = 0x4e42444a524e4c31
+abbrev pub magic_of : Layout → ℕ
+magic_of One = 0x4e42444a524e4c31
 
-abbrev pub mode_of : Areas → ℕ
-mode_of Areas.One = 0
-mode_of Areas.Two = 1
+-- the byte that tells how many areas are in use in front of the last
+abbrev pub mode_of : Layout → ℕ → ℕ
+mode_of One in_front = in_front
 
 -- The 39 bytes from this place on, behind a gate, spell this header.
 pub record SpellsAt (content : List ℕ) (place : ℕ) (header : Header) : Type 0 where
-  pub begins : number_at place 8 content ≡ magic
+  pub begins : number_at place 8 content ≡ magic_of header.geometry.layout
   pub generation : number_at (place + 8) 8 content ≡ header.generation
   pub blocks : number_at (place + 16) 8 content ≡ header.geometry.blocks
-  pub area : number_at (place + 24) 4 content ≡ header.geometry.area
-  pub mode : slice_index content (place + 28) ≡ mode_of header.areas
-  pub first_area : slice_index content (place + 29) ≡ index_of header.first_area
+  pub area : number_at (place + 24) 4 content ≡ area_size_of header.geometry.layout header.geometry.area
+  pub mode : slice_index content (place + 28) ≡ mode_of header.geometry.layout header.in_front
+  pub first_area : slice_index content (place + 29) ≡ header.first_area
   pub map_slot : slice_index content (place + 30) ≡ index_of header.map_slot
   pub base : number_at (place + 31) 8 content ≡ header.base
 
@@ -38,10 +36,16 @@ pub record IsBodyOf (header : Header) (bytes : List ℕ) : Type 0 where
 abbrev pub AreSizes : ℕ → ℕ → Type 0
 AreSizes blocks area = (1 ≤ blocks) × (blocks ≤ 16777216) × (2097152 ≤ area) × (area ≤ 1073741824) × (area % 8192 ≡ 0)
 
--- The 39 bytes from this place on spell no header.
+-- the sizes that a layout spells by these numbers
+abbrev pub AreSpelledSizes : Layout → ℕ → ℕ → Type 0
+AreSpelledSizes One blocks area = AreSizes blocks area
+
+-- The 39 bytes from this place on spell no header: no layout has their magic, or one has, of which another field is bad.
 pub data IsBadAt (content : List ℕ) (place : ℕ) : Type 0 where
-  another_magic : number_at place 8 content ≢ magic → IsBadAt content place
-  outside_limits : ¬ (AreSizes (number_at (place + 16) 8 content) (number_at (place + 24) 4 content)) → IsBadAt content place
-  no_mode : 1 < slice_index content (place + 28) → IsBadAt content place
-  no_first_area : 1 < slice_index content (place + 29) → IsBadAt content place
+  another_magic : ((layout : Layout) → number_at place 8 content ≢ magic_of layout) → IsBadAt content place
+  outside_limits : (layout : Layout) → number_at place 8 content ≡ magic_of layout
+      → ¬ (AreSpelledSizes layout (number_at (place + 16) 8 content) (number_at (place + 24) 4 content)) → IsBadAt content place
+  no_mode : (layout : Layout) → number_at place 8 content ≡ magic_of layout
+      → ((in_front : ℕ) → in_front < areas_of layout → slice_index content (place + 28) ≢ mode_of layout in_front) → IsBadAt content place
+  no_first_area : (layout : Layout) → number_at place 8 content ≡ magic_of layout → areas_of layout ≤ slice_index content (place + 29) → IsBadAt content place
   no_map_slot : 1 < slice_index content (place + 30) → IsBadAt content place

@@ -9,7 +9,8 @@ use Rattle.header_slots.specs.declared.header.Header.{Header}
 use Rattle.image_model.specs.declared.side.Side.{Side}
 use Rattle.image_model.specs.declared.side.Side.TheVariants.{Zero, One}
 use Rattle.image_model.specs.Side.{index_of, other_of}
-use Rattle.header_slots.specs.Header.{number_at, SpellsAt, IsBodyOf, IsBadAt}
+use Rattle.header_slots.specs.Header.{SpellsAt, IsBodyOf, IsBadAt}
+use Rattle.header_slots.specs.Number.{number_at}
 
 -- the first byte of a slot, its gate
 abbrev pub slot_at : Side → ℕ

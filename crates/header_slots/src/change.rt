@@ -1,12 +1,13 @@
 ghost use Rattle.std.specs.Prelude.{◌≡◌, ◌+◌, ◌≤◌, ◌<◌, ◌↔◌, ◌∷◌, [], IsTrue, IfOk, IfSome, None, OnOk};
 ghost use Rattle.disk_model.specs.Disk.{IsKept, IsStored, IsSyncedIn, LeavesOnly, MayLeave, MayLeaveTorn};
 ghost use Rattle.disk_model.specs.Faults.{faults_after};
+ghost use Rattle.image_model.specs.Layout.{areas_of};
 ghost use Rattle.image_model.specs.Side.{other_of};
-ghost use Rattle.header_slots.specs.Change.{renewed, ComesNext, IsBodyStored, IsGateClosed, IsInPlace, LeavesClosing, LeavesEither};
+ghost use Rattle.header_slots.specs.Change.{ComesNext, IsRenewed, IsBodyStored, IsGateClosed, IsInPlace, LeavesClosing, LeavesEither};
 ghost use Rattle.header_slots.specs.Slots.{slot_at, HoldsHeader, IsOpen};
 ghost use Rattle.header_slots.specs.declared.header.Header.{Header};
 
-use crate::header::{Areas, Header};
+use crate::header::Header;
 use crate::slots::slot_from;
 use disk_model::{DeviceFault, Disk, write_synced};
 use image_model::{CLOSED, OPEN, Side};
@@ -14,8 +15,8 @@ use image_model::{CLOSED, OPEN, Side};
 /// What a new header says anew. Its generation is one greater than that of the header in force, and the sizes stay.
 #[derive(Clone, Copy, Debug, PartialEq, Eq)]
 pub struct HeaderChange {
-    pub areas: Areas,
-    pub first_area: Side,
+    pub in_front: u8,
+    pub first_area: u8,
     pub map_slot: Side,
     /// The number of the last command that map and data hold.
     pub base: u64,
@@ -24,14 +25,16 @@ pub struct HeaderChange {
 impl Header {
     /// The next header, with what the change says; none where no generation is greater: refusal 9 (numbers full).
     pub fn next(&self, change: &HeaderChange) -> Option<Header>
-        ensures some { IfSome result (λ header. header ≡ renewed self.now change.now) }
+        requires few { change.now.in_front < areas_of self.now.geometry.layout }
+        requires first { change.now.first_area < areas_of self.now.geometry.layout }
+        ensures some { IfSome result (IsRenewed self.now change.now) }
         ensures none { (result ≡ None) ↔ (self.now.generation ≡ 18446744073709551615) }
     {
         let generation = self.generation.checked_add(1)?;
         Some(Header {
             generation,
             geometry: self.geometry,
-            areas: change.areas,
+            in_front: change.in_front,
             first_area: change.first_area,
             map_slot: change.map_slot,
             base: change.base,

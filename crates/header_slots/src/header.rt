@@ -1,15 +1,9 @@
-ghost use Rattle.std.specs.Prelude.{◌≡◌, ◌+◌, ◌≤◌, length, MatchOption};
-ghost use Rattle.header_slots.specs.Header.{number_at, SpellsAt, IsBadAt};
+ghost use Rattle.std.specs.Prelude.{◌≡◌, ◌+◌, ◌<◌, ◌≤◌, length, MatchOption};
+ghost use Rattle.header_slots.specs.Number.{number_at};
+ghost use Rattle.image_model.specs.Layout.{areas_of};
 
 use byteorder::{BigEndian, ByteOrder};
-use image_model::{Geometry, Side};
-
-/// How many areas are in use.
-#[derive(Clone, Copy, Debug, PartialEq, Eq)]
-pub enum Areas {
-    One,
-    Two,
-}
+use image_model::{Geometry, Layout, Side};
 
 /// What a header slot says, but for its gate.
 #[derive(Clone, Copy, Debug, PartialEq, Eq)]
@@ -17,12 +11,15 @@ pub struct Header {
     /// Of two headers the one with the greater generation is in force.
     pub generation: u64,
     pub geometry: Geometry,
-    pub areas: Areas,
-    /// The area that holds the first commands above the base.
-    pub first_area: Side,
+    /// How many areas are in use in front of the last.
+    pub in_front: u8,
+    /// The area that holds the first commands above the base; those behind it in the ring are in use too.
+    pub first_area: u8,
     pub map_slot: Side,
     /// The number of the last command that map and data hold.
     pub base: u64,
+    pub ghost few_areas: { in_front < areas_of geometry.layout },
+    pub ghost first_inside: { first_area < areas_of geometry.layout },
 }
 
 // The bytes of a header behind its gate.
@@ -32,6 +29,8 @@ pub const HEADER_BYTES: usize = 39;
 const MAGIC: u64 = 0x4e42_444a_524e_4c31;
 
 impl Header {
+    ghost use Rattle.header_slots.specs.Header.{IsBadAt, SpellsAt, magic_of, mode_of};
+
     // The bytes behind the gate.
     pub fn encode(&self) -> [u8; HEADER_BYTES]
         ensures { SpellsAt result 0 self.now }
@@ -39,24 +38,39 @@ impl Header {
         let Header {
             generation,
             geometry,
-            areas,
+            in_front,
             first_area,
             map_slot,
             base,
         } = *self;
         let mut bytes = [0u8; HEADER_BYTES];
-        BigEndian::write_u64(&mut bytes, MAGIC);
+        BigEndian::write_u64(&mut bytes, Self::magic(geometry.layout));
         BigEndian::write_u64(&mut bytes[8..], generation);
         BigEndian::write_u64(&mut bytes[16..], geometry.blocks);
-        BigEndian::write_u32(&mut bytes[24..], geometry.area);
-        bytes[28] = match areas {
-            Areas::One => 0,
-            Areas::Two => 1,
-        };
-        bytes[29] = first_area.index();
+        BigEndian::write_u32(&mut bytes[24..], geometry.area_size());
+        bytes[28] = Self::mode(geometry.layout, in_front);
+        bytes[29] = first_area;
         bytes[30] = map_slot.index();
         BigEndian::write_u64(&mut bytes[31..], base);
         bytes
+    }
+
+    // What a header of this layout begins with.
+    fn magic(layout: Layout) -> u64
+        ensures { result ≡ magic_of layout }
+    {
+        match layout {
+            Layout::One => MAGIC,
+        }
+    }
+
+    // The byte that tells how many areas are in use.
+    fn mode(layout: Layout, in_front: u8) -> u8
+        ensures { result ≡ mode_of layout in_front }
+    {
+        match layout {
+            Layout::One => in_front,
+        }
     }
 
     // The header that these bytes spell; none where a field is outside its limits.
@@ -67,16 +81,20 @@ impl Header {
         if u64_at(bytes, 0) != MAGIC {
             return None;
         }
-        let areas = match bytes[28] {
-            0 => Areas::One,
-            1 => Areas::Two,
-            _ => return None,
-        };
+        let geometry = Geometry::new(u64_at(bytes, 16), u32_at(bytes, 24))?;
+        let in_front = bytes[28];
+        if in_front >= geometry.areas() {
+            return None;
+        }
+        let first_area = bytes[29];
+        if first_area >= geometry.areas() {
+            return None;
+        }
         Some(Header {
             generation: u64_at(bytes, 8),
-            geometry: Geometry::new(u64_at(bytes, 16), u32_at(bytes, 24))?,
-            areas,
-            first_area: Side::of(bytes[29])?,
+            geometry,
+            in_front,
+            first_area,
             map_slot: Side::of(bytes[30])?,
             base: u64_at(bytes, 31),
         })

@@ -9,6 +9,6 @@ mod slots;
 
 pub use change::{HeaderChange, change_header, close_other, open_other, write_body};
 pub use fault::HeaderFault;
-pub use header::{Areas, Header};
+pub use header::Header;
 pub use laws::header_laws;
 pub use slots::{SLOT_BYTES, close_gate, fill_slot, open_gate, read_current};

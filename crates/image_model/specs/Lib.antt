@@ -5,6 +5,7 @@ pub mod Dirty
 pub mod Edit
 pub mod Geometry
 pub mod Image
+pub mod Layout
 pub mod Patched
 pub mod Side
 pub mod laws

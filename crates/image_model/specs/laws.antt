@@ -4,6 +4,7 @@ pub mod DirtyCounts
 pub mod DirtyMaps
 pub mod DirtyTails
 pub mod Edits
+pub mod Layouts
 pub mod Positions
 pub mod Slots
 pub mod WholeEdits

@@ -1,5 +1,8 @@
 ghost use Rattle.std.specs.Prelude.{◌≡◌, ◌+◌, ◌*◌, ◌%◌, ◌≤◌, ◌<◌, ◌^◌, ◌↔◌, IsSome, IfSome};
 ghost use Rattle.image_model.specs.Geometry.{device_bytes_of, map_bytes_of};
+ghost use Rattle.image_model.specs.Layout.{area_size_of, areas_of};
+
+use crate::layout::Layout;
 
 /// The bytes of a block.
 pub const BLOCK_BYTES: u64 = 4096;
@@ -13,14 +16,12 @@ pub const LEAST_AREA_BYTES: u32 = 2_097_152;
 /// The most bytes of a journal area.
 pub const MOST_AREA_BYTES: u32 = 1_073_741_824;
 
-/// The journal areas of a device.
-pub const AREAS: u64 = 2;
-
-/// The size of an image in blocks, and of a journal area in bytes, within their limits.
+/// The size of an image in blocks, and of a journal area in bytes, within their limits, and how its areas lie.
 #[derive(Clone, Copy, Debug, PartialEq, Eq)]
 pub struct Geometry {
     pub blocks: u64,
     pub area: u32,
+    pub layout: Layout,
     pub ghost some_blocks: { 1 ≤ blocks },
     pub ghost not_too_many: { blocks ≤ 16777216 },
     pub ghost area_not_too_small: { 2097152 ≤ area },
@@ -29,9 +30,9 @@ pub struct Geometry {
 }
 
 impl Geometry {
-    /// The geometry of these sizes; none where one of them is outside its limits.
+    /// The geometry of these sizes, of layout 1; none where one of them is outside its limits.
     pub fn new(blocks: u64, area: u32) -> Option<Geometry>
-        ensures given { IfSome result (λ geometry. (geometry.blocks ≡ blocks) × (geometry.area ≡ area)) }
+        ensures given { IfSome result (λ geometry. (geometry.blocks ≡ blocks) × (geometry.area ≡ area) × (geometry.layout ≡ Layout.One)) }
         ensures within { IsSome result ↔
             ((1 ≤ blocks) × (blocks ≤ 16777216) × (2097152 ≤ area) × (area ≤ 1073741824) × (area % 8192 ≡ 0)) }
     {
@@ -41,7 +42,25 @@ impl Geometry {
         if area < LEAST_AREA_BYTES || area > MOST_AREA_BYTES || area % 8192 != 0 {
             return None;
         }
-        Some(Geometry { blocks, area })
+        Some(Geometry {
+            blocks,
+            area,
+            layout: Layout::One,
+        })
+    }
+
+    /// The journal areas of the device.
+    pub fn areas(&self) -> u8
+        ensures { result ≡ areas_of self.now.layout }
+    {
+        self.layout.areas()
+    }
+
+    /// The bytes of each of them.
+    pub fn area_size(&self) -> u32
+        ensures { result ≡ area_size_of self.now.layout self.now.area }
+    {
+        self.layout.area_size(self.area)
     }
 
     /// The bytes of a map slot.
@@ -55,6 +74,6 @@ impl Geometry {
     pub fn device_bytes(&self) -> u64
         ensures { result ≡ device_bytes_of self.now.blocks self.now.area }
     {
-        8192 + AREAS * self.area as u64 + 2 * self.map_bytes() + BLOCK_BYTES * self.blocks
+        8192 + 2 * self.area as u64 + 2 * self.map_bytes() + BLOCK_BYTES * self.blocks
     }
 }

@@ -1,5 +1,5 @@
 -- which blocks an edit needs old bytes of, and what is made of them
-use Rattle.std.proofs.Common.{◌≡◌, inl, inr, ◌⊎◌, ⊎_elim, ℕ, ◌+◌, ◌-◌, ◌*◌, ◌/◌, ◌%◌, ◌≤◌, ◌<◌, ◌^◌, ◌&&◌, Bool, true, false, not, nat_eq, max, min, if◌then◌else◌, List, ◌++◌, length, take, drop, replicate, get_or, Option, Some, None, ap, sym, subst, ◌∙◌, refl, arith, append_assoc, length-append, length-drop}
+use Rattle.std.proofs.Common.{◌≡◌, inl, inr, ◌⊎◌, ⊎_elim, ℕ, ◌+◌, ◌-◌, ◌*◌, ◌/◌, ◌%◌, ◌≤◌, ◌<◌, Bool, true, false, nat_eq, max, min, if◌then◌else◌, List, ◌++◌, length, take, drop, replicate, get_or, Option, Some, None, ap, sym, subst, ◌∙◌, refl, arith, append_assoc, length-append, length-drop}
 use Rattle.std.specs.Option.{unwrap_or}
 use Rattle.std.proofs.Math.Seq.{take-length}
 use Rattle.std.proofs.lemmas.Bool.{cases_lt, le-ltb, lt-ltb}
@@ -8,11 +8,11 @@ use Rattle.std.proofs.lemmas.List.{get_or-drop, get_or-replicate, get_or-take, g
 use Rattle.std.proofs.lemmas.List.FromFn.{get_or-map-range_with_len, length-map-range_with_len}
 use Rattle.device_image.specs.Holds.{is_written}
 use Rattle.image_model.specs.declared.command.Edges.{Edges}
-use Rattle.image_model.specs.declared.command.Edges.TheVariants.{Head, Tail, Both}
+use Rattle.image_model.specs.declared.command.Edges.TheVariants.{Head}
 use Rattle.image_model.specs.declared.command.Kind.{Kind}
 use Rattle.image_model.specs.declared.command.Kind.TheVariants.{Data, Hole}
-use Rattle.image_model.specs.Change.{Change, Written, Cleared, Edged}
-use Rattle.image_model.specs.Edit.{ByteEdit, BytesPut, BytesZeroed, BytesTrimmed, IsEdit, apply_edit, becomes, blocks_met, bytes_of, cleared_within, count_of, end_spanned, first_spanned, is_partial_data, offset_of}
+use Rattle.image_model.specs.Change.{Change, Cleared, Edged}
+use Rattle.image_model.specs.Edit.{ByteEdit, BytesPut, BytesZeroed, BytesTrimmed, apply_edit, becomes, blocks_met, bytes_of, cleared_within, count_of, end_spanned, first_spanned, offset_of}
 use Rattle.image_model.specs.Image.{Image, covers, last_of}
 use Rattle.image_model.specs.laws.Becoming.{get-bytes_of, length-bytes_of}
 use Rattle.image_model.specs.laws.WholeEdits.{back_bytes, bytes_from, front_bytes, put_parts}

@@ -1,7 +1,6 @@
 -- what is read is what the image has, and the image is shown still
-use Rattle.std.proofs.Common.{◌≡◌, inl, inr, ◌<◌, ◌+◌, ◌*◌, ◌∙◌, ap, sym, refl, ℕ, Bool, true, false, ◌||◌, List, length, get_or, Option, Some, None, arith, rules}
+use Rattle.std.proofs.Common.{◌≡◌, inl, inr, ◌<◌, ◌+◌, ◌*◌, ◌∙◌, ap, sym, refl, ℕ, false, List, length, get_or, Option, Some, None, arith, rules}
 use Rattle.std.specs.Option.{unwrap_or}
-use Rattle.std.proofs.lemmas.Bool.{true≢false}
 use Rattle.std.proofs.lemmas.List.{places}
 use Rattle.alloc_map.specs.Codes.{state_at}
 use Rattle.device_image.specs.Holds.{is_written}
@@ -9,7 +8,6 @@ use Rattle.image_model.specs.Change.{Change}
 use Rattle.image_model.specs.Image.{Image}
 use Rattle.image_model.specs.declared.command.Kind.{Kind}
 use Rattle.image_model.specs.declared.command.Kind.TheVariants.{Data}
-use Rattle.shared_cache.specs.Blocks.{BlocksState, is_clean, is_dirty, is_held}
 use Rattle.shared_cache.specs.Cache.{CacheState, bytes_seen}
 use Rattle.shared_cache.specs.laws.Views.{missing_seen}
 use Rattle.order_book.specs.Cached.{dirty_of}

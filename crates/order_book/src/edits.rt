@@ -2,7 +2,7 @@ ghost use Rattle.std.specs.Prelude.{◌≡◌, ◌≢◌, ◌⊎◌, ◌+◌, �
 ghost use Rattle.alloc_map.specs.Codes.{state_at};
 ghost use Rattle.checkpoint.specs.Keeper.{faults_by, refused_by};
 ghost use Rattle.checkpoint.specs.declared.fault.KeeperFault.TheVariants as KeeperFault;
-ghost use Rattle.device_image.specs.Holds.{Holds, is_written};
+ghost use Rattle.device_image.specs.Holds.{Holds, is_written, joined};
 ghost use Rattle.journal_format.specs.Reading.{IsOnlyRead};
 ghost use Rattle.image_model.specs.Bodies.{body_bytes};
 ghost use Rattle.image_model.specs.Change.{Change, change_of};
@@ -141,10 +141,10 @@ fn read_part<D: Disk>(
     ensures faults_err { IfErr result (λ fault. D.faults keeper.new.disk ≡ faults_by fault (D.faults keeper.old.disk)) }
     ensures honest { D.honest keeper.new.disk ↔ D.honest keeper.old.disk }
     ensures only_read { D.honest keeper.old.disk → IsOnlyRead (D.state keeper.old.disk) (D.state keeper.new.disk) }
-    ensures holds { D.honest keeper.old.disk → (base : Image) (front last : List Change) → Holds keeper.old (D.state keeper.old.disk) base front last
-        → OnOk result (Holds keeper.new (D.state keeper.new.disk) base front last) }
-    ensures bytes { D.honest keeper.old.disk → (base : Image) (front last : List Change) → Holds keeper.old (D.state keeper.old.disk) base front last
-        → OnOk result ((k : ℕ) → k < 4096 → IsMissing (edit_of edit.now) cache.now block → base.kind block ≡ Data → is_written block front ≡ false
+    ensures holds { D.honest keeper.old.disk → (base : Image) (fronts : List (List Change)) (last : List Change) → Holds keeper.old (D.state keeper.old.disk) base fronts last
+        → OnOk result (Holds keeper.new (D.state keeper.new.disk) base fronts last) }
+    ensures bytes { D.honest keeper.old.disk → (base : Image) (fronts : List (List Change)) (last : List Change) → Holds keeper.old (D.state keeper.old.disk) base fronts last
+        → OnOk result ((k : ℕ) → k < 4096 → IsMissing (edit_of edit.now) cache.now block → base.kind block ≡ Data → is_written block (joined fronts) ≡ false
         → slice_index into.new k ≡ base.byte (4096 * block + k)) }
 {
     if !needs_old(edit, block) {
@@ -178,10 +178,10 @@ pub(crate) fn read_old<D: Disk>(
     ensures faults_err { IfErr result (λ fault. D.faults keeper.new.disk ≡ faults_by fault (D.faults keeper.old.disk)) }
     ensures honest { D.honest keeper.new.disk ↔ D.honest keeper.old.disk }
     ensures only_read { D.honest keeper.old.disk → IsOnlyRead (D.state keeper.old.disk) (D.state keeper.new.disk) }
-    ensures holds { D.honest keeper.old.disk → (base : Image) (front last : List Change) → Holds keeper.old (D.state keeper.old.disk) base front last
-        → OnOk result (Holds keeper.new (D.state keeper.new.disk) base front last) }
-    ensures bytes { D.honest keeper.old.disk → (base : Image) (front last : List Change) → Holds keeper.old (D.state keeper.old.disk) base front last
-        → OnOk result ((block k : ℕ) → k < 4096 → IsMissing (edit_of edit.now) cache.now block → base.kind block ≡ Data → is_written block front ≡ false
+    ensures holds { D.honest keeper.old.disk → (base : Image) (fronts : List (List Change)) (last : List Change) → Holds keeper.old (D.state keeper.old.disk) base fronts last
+        → OnOk result (Holds keeper.new (D.state keeper.new.disk) base fronts last) }
+    ensures bytes { D.honest keeper.old.disk → (base : Image) (fronts : List (List Change)) (last : List Change) → Holds keeper.old (D.state keeper.old.disk) base fronts last
+        → OnOk result ((block k : ℕ) → k < 4096 → IsMissing (edit_of edit.now) cache.now block → base.kind block ≡ Data → is_written block (joined fronts) ≡ false
         → slice_index (if block == offset_of (edit_of edit.now) / 4096 then head.new else tail.new) k ≡ base.byte (4096 * block + k)) }
 {
     let (first, last) = ends_of(edit);

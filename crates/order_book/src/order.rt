@@ -6,7 +6,7 @@ ghost use Rattle.alloc_map.specs.Runs.{AreRuns};
 ghost use Rattle.image_model.specs.Bodies.{body_limit};
 ghost use Rattle.checkpoint.specs.Keeper.{faults_by, refused_by};
 ghost use Rattle.checkpoint.specs.declared.fault.KeeperFault.TheVariants as KeeperFault;
-ghost use Rattle.device_image.specs.Holds.{Holds, is_written};
+ghost use Rattle.device_image.specs.Holds.{Holds, is_written, joined};
 ghost use Rattle.image_model.specs.Change.{Change, change_of};
 ghost use Rattle.image_model.specs.declared.command.Kind.TheVariants.{Data};
 ghost use Rattle.journal_format.specs.Reading.{IsOnlyRead};
@@ -551,8 +551,8 @@ impl<B: BoardName> Order<B> {
         ensures taken { OnOk result ((image : Image) × ShowsImage image self.old.cache × TakesEdit (edit_of edit) image self.old self.new pass.old pass.new) }
         ensures held { (NeedsDevice self.old (edit_of edit) → ⊥) → (image : Image) → ShowsImage image self.old.cache
             → OnOk result (TakesEdit (edit_of edit) image self.old self.new pass.old pass.new) }
-        ensures image { D.honest keeper.old.disk → (base image : Image) (front last : List Change) → Holds keeper.old (D.state keeper.old.disk) base front last
-            → ShowsImage image self.old.cache → IsCleanAt base front image self.old.dirty
+        ensures image { D.honest keeper.old.disk → (base image : Image) (fronts : List (List Change)) (last : List Change) → Holds keeper.old (D.state keeper.old.disk) base fronts last
+            → ShowsImage image self.old.cache → IsCleanAt base (joined fronts) image self.old.dirty
             → OnOk result (TakesEdit (edit_of edit) image self.old self.new pass.old pass.new) }
         ensures blocks { length self.new.cache.states ≡ length self.old.cache.states }
         ensures numbers { IsNumbered self.old }
@@ -582,8 +582,8 @@ impl<B: BoardName> Order<B> {
         ensures faults_err { IfErr result (λ refused. D.faults keeper.new.disk ≡ faults_after refused.0 (D.faults keeper.old.disk)) }
         ensures honest { D.honest keeper.new.disk ↔ D.honest keeper.old.disk }
         ensures only_read { D.honest keeper.old.disk → IsOnlyRead (D.state keeper.old.disk) (D.state keeper.new.disk) }
-        ensures holds { D.honest keeper.old.disk → (base : Image) (front last : List Change) → Holds keeper.old (D.state keeper.old.disk) base front last
-            → (IsErrAnd result (λ refused. refused.0 ≡ OrderFault.DeviceFault) → ⊥) → Holds keeper.new (D.state keeper.new.disk) base front last }
+        ensures holds { D.honest keeper.old.disk → (base : Image) (fronts : List (List Change)) (last : List Change) → Holds keeper.old (D.state keeper.old.disk) base fronts last
+            → (IsErrAnd result (λ refused. refused.0 ≡ OrderFault.DeviceFault) → ⊥) → Holds keeper.new (D.state keeper.new.disk) base fronts last }
     {
         let _mark = self.mark();
         if !self.needs_device(&edit) {
@@ -744,18 +744,18 @@ impl<B: BoardName> Order<B> {
         // The bytes of a block are those in memory, where it has some, and else those of the base.
         ensures in_memory { OnOk result ((j k : ℕ) (bytes : List ℕ) → 4096 * j < length into.new → k < 4096
             → bytes_seen self.old.cache (first + j) ≡ Some bytes → slice_index into.new (4096 * j + k) ≡ slice_index bytes k) }
-        ensures from_base { D.honest keeper.old.disk → (base : Image) (front last : List Change) → Holds keeper.old (D.state keeper.old.disk) base front last
+        ensures from_base { D.honest keeper.old.disk → (base : Image) (fronts : List (List Change)) (last : List Change) → Holds keeper.old (D.state keeper.old.disk) base fronts last
             → OnOk result ((j k : ℕ) → 4096 * j < length into.new → k < 4096 → bytes_seen self.old.cache (first + j) ≡ None
-            → base.kind (first + j) ≡ Data → is_written (first + j) front ≡ false
+            → base.kind (first + j) ≡ Data → is_written (first + j) (joined fronts) ≡ false
             → slice_index into.new (4096 * j + k) ≡ base.byte (4096 * (first + j) + k)) }
         ensures view { OnOk result (ShowsRead first into.new self.old.cache self.new.cache) }
 
         // So they are those of the image, where the base has what is data and not dirty, and the image is shown still.
-        ensures image { D.honest keeper.old.disk → (base image : Image) (front last : List Change) → Holds keeper.old (D.state keeper.old.disk) base front last
-            → ShowsImage image self.old.cache → IsCleanAt base front image self.old.dirty
+        ensures image { D.honest keeper.old.disk → (base image : Image) (fronts : List (List Change)) (last : List Change) → Holds keeper.old (D.state keeper.old.disk) base fronts last
+            → ShowsImage image self.old.cache → IsCleanAt base (joined fronts) image self.old.dirty
             → OnOk result ((j k : ℕ) → 4096 * j < length into.new → k < 4096 → slice_index into.new (4096 * j + k) ≡ image.byte (4096 * (first + j) + k)) }
-        ensures shown { D.honest keeper.old.disk → (base image : Image) (front last : List Change) → Holds keeper.old (D.state keeper.old.disk) base front last
-            → ShowsImage image self.old.cache → IsCleanAt base front image self.old.dirty → OnOk result (ShowsImage image self.new.cache) }
+        ensures shown { D.honest keeper.old.disk → (base image : Image) (fronts : List (List Change)) (last : List Change) → Holds keeper.old (D.state keeper.old.disk) base fronts last
+            → ShowsImage image self.old.cache → IsCleanAt base (joined fronts) image self.old.dirty → OnOk result (ShowsImage image self.new.cache) }
 
         // The device is read alone, and the keeper holds what it held.
         ensures size { length into.new ≡ length into.old }
@@ -766,8 +766,8 @@ impl<B: BoardName> Order<B> {
         ensures faults_err { IfErr result (λ fault. D.faults keeper.new.disk ≡ faults_by fault (D.faults keeper.old.disk)) }
         ensures honest { D.honest keeper.new.disk ↔ D.honest keeper.old.disk }
         ensures only_read { D.honest keeper.old.disk → IsOnlyRead (D.state keeper.old.disk) (D.state keeper.new.disk) }
-        ensures holds { D.honest keeper.old.disk → (base : Image) (front last : List Change) → Holds keeper.old (D.state keeper.old.disk) base front last
-            → OnOk result (Holds keeper.new (D.state keeper.new.disk) base front last) }
+        ensures holds { D.honest keeper.old.disk → (base : Image) (fronts : List (List Change)) (last : List Change) → Holds keeper.old (D.state keeper.old.disk) base fronts last
+            → OnOk result (Holds keeper.new (D.state keeper.new.disk) base fronts last) }
     {
         let held = read_blocks(&self.cache, keeper, first, into)?;
         keep_blocks(&mut self.cache, first, held, into);

@@ -1,7 +1,7 @@
 ghost use Rattle.std.specs.Prelude.{◌≡◌, ◌≢◌, ◌⊎◌, ◌+◌, ◌*◌, ◌/◌, ◌%◌, ◌<◌, ◌≤◌, ◌^◌, ◌↔◌, ◌-◌, ℕ, List, length, slice_index, Some, None, false, IfErr, IfOk, IsTrue, OnOk, OnErr};
 ghost use Rattle.checkpoint.specs.Keeper.{faults_by, refused_by};
 ghost use Rattle.checkpoint.specs.declared.fault.KeeperFault.TheVariants as KeeperFault;
-ghost use Rattle.device_image.specs.Holds.{Holds, is_written};
+ghost use Rattle.device_image.specs.Holds.{Holds, is_written, joined};
 ghost use Rattle.image_model.specs.Change.{Change};
 ghost use Rattle.image_model.specs.Image.{Image};
 ghost use Rattle.image_model.specs.declared.command.Kind.TheVariants.{Data};
@@ -113,10 +113,10 @@ fn read_run<D: Disk>(
     ensures faults_err { IfErr result (λ fault. D.faults keeper.new.disk ≡ faults_by fault (D.faults keeper.old.disk)) }
     ensures honest { D.honest keeper.new.disk ↔ D.honest keeper.old.disk }
     ensures only_read { D.honest keeper.old.disk → IsOnlyRead (D.state keeper.old.disk) (D.state keeper.new.disk) }
-    ensures holds { D.honest keeper.old.disk → (base : Image) (front last : List Change) → Holds keeper.old (D.state keeper.old.disk) base front last
-        → OnOk result (Holds keeper.new (D.state keeper.new.disk) base front last) }
-    ensures bytes { D.honest keeper.old.disk → (base : Image) (front last : List Change) → Holds keeper.old (D.state keeper.old.disk) base front last
-        → OnOk result ((j k : ℕ) → from ≤ j → j < to → k < 4096 → base.kind (first + j) ≡ Data → is_written (first + j) front ≡ false
+    ensures holds { D.honest keeper.old.disk → (base : Image) (fronts : List (List Change)) (last : List Change) → Holds keeper.old (D.state keeper.old.disk) base fronts last
+        → OnOk result (Holds keeper.new (D.state keeper.new.disk) base fronts last) }
+    ensures bytes { D.honest keeper.old.disk → (base : Image) (fronts : List (List Change)) (last : List Change) → Holds keeper.old (D.state keeper.old.disk) base fronts last
+        → OnOk result ((j k : ℕ) → from ≤ j → j < to → k < 4096 → base.kind (first + j) ≡ Data → is_written (first + j) (joined fronts) ≡ false
         → slice_index into.new (4096 * j + k) ≡ base.byte (4096 * (first + j) + k)) }
 {
     keeper.read_base(first + from as u64, &mut into[BLOCK * from..BLOCK * to])
@@ -148,13 +148,13 @@ pub(crate) fn read_blocks<D: Disk>(
     ensures faults_err { IfErr result (λ fault. D.faults keeper.new.disk ≡ faults_by fault (D.faults keeper.old.disk)) }
     ensures honest { D.honest keeper.new.disk ↔ D.honest keeper.old.disk }
     ensures only_read { D.honest keeper.old.disk → IsOnlyRead (D.state keeper.old.disk) (D.state keeper.new.disk) }
-    ensures holds { D.honest keeper.old.disk → (base : Image) (front last : List Change) → Holds keeper.old (D.state keeper.old.disk) base front last
-        → OnOk result (Holds keeper.new (D.state keeper.new.disk) base front last) }
+    ensures holds { D.honest keeper.old.disk → (base : Image) (fronts : List (List Change)) (last : List Change) → Holds keeper.old (D.state keeper.old.disk) base fronts last
+        → OnOk result (Holds keeper.new (D.state keeper.new.disk) base fronts last) }
     ensures in_memory { OnOk result ((j k : ℕ) (bytes : List ℕ) → 4096 * j < length into.new → k < 4096
         → bytes_seen cache.now (first + j) ≡ Some bytes → slice_index into.new (4096 * j + k) ≡ slice_index bytes k) }
-    ensures from_base { D.honest keeper.old.disk → (base : Image) (front last : List Change) → Holds keeper.old (D.state keeper.old.disk) base front last
+    ensures from_base { D.honest keeper.old.disk → (base : Image) (fronts : List (List Change)) (last : List Change) → Holds keeper.old (D.state keeper.old.disk) base fronts last
         → OnOk result ((j k : ℕ) → 4096 * j < length into.new → k < 4096 → bytes_seen cache.now (first + j) ≡ None
-        → base.kind (first + j) ≡ Data → is_written (first + j) front ≡ false
+        → base.kind (first + j) ≡ Data → is_written (first + j) (joined fronts) ≡ false
         → slice_index into.new (4096 * j + k) ≡ base.byte (4096 * (first + j) + k)) }
 {
     let blocks = into.len() / BLOCK;

@@ -1,3 +1,4 @@
 pub mod Layout
 pub mod Map
 pub mod Writes
+pub mod laws

@@ -3,14 +3,14 @@ ghost use Rattle.disk_model.specs.Disk.{MayLeave, MayLeaveTorn, IsKept, IsWriteF
 ghost use Rattle.disk_model.specs.Faults.{faults_after};
 ghost use Rattle.image_model.specs.Geometry.{device_bytes_of, map_bytes_of};
 ghost use Rattle.image_model.specs.declared.side.Side.TheVariants as Side;
-ghost use Rattle.regions.specs.Layout.{area_at, map_at, block_at};
+ghost use Rattle.regions.specs.Layout.{area_at, area_size, areas_in, behind, block_at, map_at};
 ghost use Rattle.regions.specs.Map.{HoldsMap, IsMapReading, faults_after_reading};
 ghost use Rattle.regions.specs.Writes.{IsMapWritten, IsSameOutside, IsSteadyIn};
 
 use crate::fault::RegionFault;
 use alloc_map::AllocMap;
 use disk_model::{DeviceFault, Disk};
-use image_model::{AREAS, BLOCK_BYTES, Geometry, Side};
+use image_model::{BLOCK_BYTES, Geometry, Side};
 use std::alloc::Global;
 
 /// Where the map slots and the data of a device stand.
@@ -30,11 +30,24 @@ impl Regions {
     }
 
     /// The first byte of an area.
-    pub fn area_from(&self, area: Side) -> u64
+    pub fn area_from(&self, area: u8) -> u64
+        requires { area < areas_in self.now.geometry }
         ensures place { result ≡ area_at self.now.geometry area }
-        ensures inside { result + self.now.geometry.area ≤ map_at self.now.geometry Side.Zero }
+        ensures inside { result + area_size self.now.geometry ≤ map_at self.now.geometry Side.Zero }
     {
-        8192 + self.geometry.area as u64 * area.index() as u64
+        8192 + self.geometry.area_size() as u64 * area as u64
+    }
+
+    /// The area so many places behind this one in the ring.
+    pub fn area_behind(&self, area: u8, places: u8) -> u8
+        requires area { area < areas_in self.now.geometry }
+        requires places { places < areas_in self.now.geometry }
+        ensures area { result ≡ behind (areas_in self.now.geometry) places area }
+        ensures inside { result < areas_in self.now.geometry }
+    {
+        let areas = self.geometry.areas() as u16;
+        let at = area as u16 + places as u16;
+        (if at < areas { at } else { at - areas }) as u8
     }
 
     /// The first byte of a map slot.
@@ -42,7 +55,7 @@ impl Regions {
         ensures place { result ≡ map_at self.now.geometry slot }
         ensures inside { result + map_bytes_of self.now.geometry.blocks ≤ block_at self.now.geometry 0 }
     {
-        8192 + AREAS * self.geometry.area as u64 + self.geometry.map_bytes() * slot.index() as u64
+        8192 + 2 * self.geometry.area as u64 + self.geometry.map_bytes() * slot.index() as u64
     }
 
     /// The first byte of a block's data.
@@ -51,9 +64,7 @@ impl Regions {
         ensures place { result ≡ block_at self.now.geometry block }
         ensures inside { result + 4096 ≤ device_bytes_of self.now.geometry.blocks self.now.geometry.area }
     {
-        8192 + AREAS * self.geometry.area as u64
-            + 2 * self.geometry.map_bytes()
-            + BLOCK_BYTES * block
+        8192 + 2 * self.geometry.area as u64 + 2 * self.geometry.map_bytes() + BLOCK_BYTES * block
     }
 
     /// Reads the map of a map slot, in one call of the device. It takes memory for one map. Refusals 0 (no memory), 1

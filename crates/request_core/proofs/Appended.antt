@@ -13,9 +13,10 @@ use Rattle.disk_model.specs.laws.Moments.{begins, ends, weakens}
 use Rattle.image_model.specs.Change.{AreChanges, change_of, Change}
 use Rattle.image_model.specs.Image.{Image, apply_all}
 use Rattle.journal_format.specs.Group.{Numbered}
+use Rattle.regions.specs.Layout.{area_size}
 use Rattle.order_book.specs.Order.{OrderState, with_group}
 use Rattle.request_core.specs.inner.Steps.{IsAppended}
-use Rattle.request_core.specs.Parts.{IsDiskOf, IsKeeperOf, IsOrderOf, StandsAfter, first_commands, last_commands, turned_at}
+use Rattle.request_core.specs.Parts.{IsDiskOf, IsKeeperOf, IsOrderOf, StandsAfter, fronts_at, last_commands, turned_at}
 use Rattle.request_core.specs.inner.Storing.{IsKept, event_of, hand_after, order_after}
 use Rattle.request_core.specs.laws.Lives.{either_stands, group_takes, IsOrdered, keeps_of, last_grows, ordered}
 use Rattle.request_core.proofs.Stored.{goes_failed, goes_full, goes_none, goes_on_to, kept_back, kept_faulted, kept_held, kept_out_of_memory, kept_stored, not_true_is}
@@ -26,6 +27,7 @@ use Rattle.export_model.specs.Serve.{Failure, Nothing, OutOfMemory, DeviceFailur
 use Rattle.export_model.specs.Step.{append, put_back, out_of_memory, stored_more}
 use Rattle.export_model.specs.World.{World, image_after}
 use Rattle.export_model_laws.specs.Law.{IsWithin}
+use Rattle.export_model_laws.specs.laws.Within.{rising_more}
 use Rattle.device_image.specs.Holds.{Holds}
 use Rattle.device_image.specs.Remembers.{Remembers}
 
@@ -58,7 +60,7 @@ module _ {D : Type 0} (state : D → State) (faults extent : D → ℕ) (honest 
         (same_disk world (logged (put_back world) (Failed FailedBefore)) (Failed FailedBefore) (with_group order group) None old new same (put_back_here (Failed FailedBefore))
         (kept_back world old (faults old.disk) kept order group of (Failed FailedBefore)))
 
-    pub appended_full : (new : KeeperState D) → old.failed ≡ false → old.geometry.area < end_after old group → new ≡ old
+    pub appended_full : (new : KeeperState D) → old.failed ≡ false → area_size old.geometry < end_after old group → new ≡ old
         → IsAppended world (append Nothing world) Held (with_group order group) None old new (faults new.disk) (honest old.disk) (state old.disk) (state new.disk)
     appended_full new failed full same =
         goes_full world old (faults old.disk) kept order group of
@@ -66,7 +68,7 @@ module _ {D : Type 0} (state : D → State) (faults extent : D → ℕ) (honest 
         (same_disk world (held (put_back world)) Held (with_group order group) None old new same (put_back_here Held)
         (kept_back world old (faults old.disk) kept order group of Held))
 
-    pub appended_out_of_memory : (new : KeeperState D) → old.failed ≡ false → end_after old group ≤ old.geometry.area → new ≡ old
+    pub appended_out_of_memory : (new : KeeperState D) → old.failed ≡ false → end_after old group ≤ area_size old.geometry → new ≡ old
         → IsAppended world (append OutOfMemory world) (Failed NoMemory) order (Some group) old new (faults new.disk) (honest old.disk) (state old.disk) (state new.disk)
     appended_out_of_memory new failed fit same =
         goes_on_to world old (faults old.disk) kept order group of OutOfMemory
@@ -85,7 +87,7 @@ module _ {D : Type 0} (state : D → State) (faults extent : D → ℕ) (honest 
         weakens (any (image_after world.stage.order world.stage.stored world.stage.setting.image) (world.stage.setting.opening + world.stage.stored) (keeps_of world.stage (ordered world within) old (faults old.disk) (state old.disk) kept (disk.holds (sym kept.failed ∙ failed))) (group_takes world.stage order group of within.sealed old (faults old.disk) kept))
         (either_stands world.stage order group of within.sealed)
 
-    pub appended_faulted : (new : KeeperState D) → old.failed ≡ false → end_after old group ≤ old.geometry.area → new ≡ record old { disk = new.disk; failed = true }
+    pub appended_faulted : (new : KeeperState D) → old.failed ≡ false → end_after old group ≤ area_size old.geometry → new ≡ record old { disk = new.disk; failed = true }
         → faults new.disk ≡ counted (faults old.disk) → (honest old.disk → honest new.disk)
         → (honest old.disk → (image : Image) (number : ℕ) → Keeps old (state old.disk) image number → AreChanges old.geometry.blocks (map change_of group.commands)
         → LeavesOnly (state old.disk) (state new.disk) (λ content. StandsFor content image number
@@ -108,11 +110,11 @@ module _ {D : Type 0} (state : D → State) (faults extent : D → ℕ) (honest 
 
     pub appended : (new : KeeperState D)
         → ((keeper : KeeperState D) (image : Image) (number : ℕ) (content : List ℕ) → Keeps keeper (state keeper.disk) image number → MayLeave (state keeper.disk) content → StandsFor content image number)
-        → old.failed ≡ false → end_after old group ≤ old.geometry.area → new ≡ grown_by old group new.disk new.memory
+        → old.failed ≡ false → end_after old group ≤ area_size old.geometry → new ≡ grown_by old group new.disk new.memory
         → faults new.disk ≡ faults old.disk → (honest old.disk → honest new.disk)
         → ((commands : List Change) → Remembers old commands → AreChanges old.geometry.blocks (map change_of group.commands) → Remembers new (commands ++ map change_of group.commands))
-        → (honest old.disk → (base : Image) (first last : List Change) → Holds old (state old.disk) base first last → AreChanges old.geometry.blocks (map change_of group.commands)
-        → Holds new (state new.disk) base first (last ++ map change_of group.commands))
+        → (honest old.disk → (base : Image) (fronts : List (List Change)) (last : List Change) → Holds old (state old.disk) base fronts last → AreChanges old.geometry.blocks (map change_of group.commands)
+        → Holds new (state new.disk) base fronts (last ++ map change_of group.commands))
         → (honest old.disk → (image : Image) (number : ℕ) → Keeps old (state old.disk) image number → AreChanges old.geometry.blocks (map change_of group.commands)
         → LeavesOnly (state old.disk) (state new.disk) (λ content. StandsFor content image number
         ⊎ StandsFor content (apply_all (map change_of group.commands) image) (number + length group.commands)))
@@ -123,9 +125,9 @@ module _ {D : Type 0} (state : D → State) (faults extent : D → ℕ) (honest 
         (record {
           kept = kept_next;
           disk = λ is_honest disk.
-              let holds = subst (λ (l : List Change). Holds new (state new.disk) (image_after world.stage.order world.stage.base world.stage.setting.image) (first_commands world.stage) l)
+              let holds = subst (λ (l : List Change). Holds new (state new.disk) (image_after world.stage.order world.stage.base world.stage.setting.image) (fronts_at world.stage) l)
               (sym (last_grows world.stage order group of within.sealed behind))
-              (held is_honest (image_after world.stage.order world.stage.base world.stage.setting.image) (first_commands world.stage) (last_commands world.stage) (disk.holds (sym kept.failed ∙ failed)) takes) in
+              (held is_honest (image_after world.stage.order world.stage.base world.stage.setting.image) (fronts_at world.stage) (last_commands world.stage) (disk.holds (sym kept.failed ∙ failed)) takes) in
               let keeps = keeps_of (stored_more Nothing world).stage next_ordered new (faults new.disk) (state new.disk) kept_next.of_keeper holds in (
                 record {
                   holds = λ still. holds;
@@ -149,7 +151,12 @@ module _ {D : Type 0} (state : D → State) (faults extent : D → ℕ) (honest 
         next_ordered : IsOrdered (stored_more Nothing world).stage
         next_ordered =
             let hand = of.hand in
-            record { base = (ordered world within).base; turned = omega (arith, behind, hand); stored = within.sealed }
+            record {
+              rising = rising_more world.stage.base world.stage.turned world.stage.stored world.stage.sealed within.stored within.rising;
+              base = (ordered world within).base;
+              turned = omega (arith, behind, hand);
+              stored = within.sealed;
+            }
 
         kept_next : IsKept world (stored_more Nothing world) Took order None new (faults new.disk)
         kept_next =
@@ -162,8 +169,8 @@ module _ {D : Type 0} (state : D → State) (faults extent : D → ℕ) (honest 
     -- any refusal
     pub appended_refused : (refusal : KeeperFault) (new : KeeperState D) → IsAppendFault refusal
         → ((refusal ≡ fault.Failed) ↔ IsTrue old.failed)
-        → ((refusal ≡ fault.AreaFull) ↔ ((old.failed ≡ false) × (old.geometry.area < end_after old group)))
-        → ((refusal ≡ fault.OutOfOrder) ↔ ((old.failed ≡ false) × (end_after old group ≤ old.geometry.area) × (group.first ≢ old.count + 1)))
+        → ((refusal ≡ fault.AreaFull) ↔ ((old.failed ≡ false) × (area_size old.geometry < end_after old group)))
+        → ((refusal ≡ fault.OutOfOrder) ↔ ((old.failed ≡ false) × (end_after old group ≤ area_size old.geometry) × (group.first ≢ old.count + 1)))
         → new ≡ refused_by refusal old new.disk → faults new.disk ≡ faults_by refusal (faults old.disk) → (honest old.disk → honest new.disk)
         → (honest old.disk → (image : Image) (number : ℕ) → Keeps old (state old.disk) image number → AreChanges old.geometry.blocks (map change_of group.commands)
         → LeavesOnly (state old.disk) (state new.disk) (λ content. StandsFor content image number
@@ -171,7 +178,7 @@ module _ {D : Type 0} (state : D → State) (faults extent : D → ℕ) (honest 
         → (failure : Failure) × IsAppended world (append failure world) (event_of refusal) (order_after refusal order group) (hand_after refusal group) old new (faults new.disk) (honest old.disk) (state old.disk) (state new.disk)
     appended_refused fault.NoMemory new only failed full out_of_order same level stays_honest any =
         let works = not_true_is old.failed (λ is. memory_unlike_failed (failed.1 is)) in
-        (OutOfMemory, appended_out_of_memory new works (fit (cases_lt old.geometry.area (end_after old group)) works) same)
+        (OutOfMemory, appended_out_of_memory new works (fit (cases_lt (area_size old.geometry) (end_after old group)) works) same)
       where
         memory_unlike_failed : fault.NoMemory ≡ fault.Failed → ⊥
         memory_unlike_failed is = cc
@@ -179,12 +186,12 @@ module _ {D : Type 0} (state : D → State) (faults extent : D → ℕ) (honest 
         memory_unlike_full : fault.NoMemory ≡ fault.AreaFull → ⊥
         memory_unlike_full is = cc
 
-        fit : (old.geometry.area < end_after old group) ⊎ (end_after old group ≤ old.geometry.area) → old.failed ≡ false → end_after old group ≤ old.geometry.area
+        fit : (area_size old.geometry < end_after old group) ⊎ (end_after old group ≤ area_size old.geometry) → old.failed ≡ false → end_after old group ≤ area_size old.geometry
         fit (inl over) works = absurd (memory_unlike_full (full.1 (works, over)))
         fit (inr within_area) works = within_area
     appended_refused fault.DeviceFault new only failed full out_of_order same level stays_honest any =
         let works = not_true_is old.failed (λ is. device_unlike_failed (failed.1 is)) in
-        (DeviceFailure, appended_faulted new works (fit (cases_lt old.geometry.area (end_after old group)) works) same level stays_honest any)
+        (DeviceFailure, appended_faulted new works (fit (cases_lt (area_size old.geometry) (end_after old group)) works) same level stays_honest any)
       where
         device_unlike_failed : fault.DeviceFault ≡ fault.Failed → ⊥
         device_unlike_failed is = cc
@@ -192,7 +199,7 @@ module _ {D : Type 0} (state : D → State) (faults extent : D → ℕ) (honest 
         device_unlike_full : fault.DeviceFault ≡ fault.AreaFull → ⊥
         device_unlike_full is = cc
 
-        fit : (old.geometry.area < end_after old group) ⊎ (end_after old group ≤ old.geometry.area) → old.failed ≡ false → end_after old group ≤ old.geometry.area
+        fit : (area_size old.geometry < end_after old group) ⊎ (end_after old group ≤ area_size old.geometry) → old.failed ≡ false → end_after old group ≤ area_size old.geometry
         fit (inl over) works = absurd (device_unlike_full (full.1 (works, over)))
         fit (inr within_area) works = within_area
     appended_refused fault.BadMap new only failed full out_of_order same level stays_honest any = absurd only

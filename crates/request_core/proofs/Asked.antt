@@ -38,9 +38,9 @@ use Rattle.journal_format.specs.Reading.{IsOnlyRead}
 use Rattle.nbd_wire.specs.declared.message.Answer.{Answer}
 use Rattle.order_book.specs.Reading.{IsCleanAt}
 use Rattle.order_book.specs.Shown.{ShowsImage}
-use Rattle.device_image.specs.Holds.{Holds}
+use Rattle.device_image.specs.Holds.{Holds, joined}
 use Rattle.image_model.specs.Change.{Change}
-use Rattle.request_core.specs.Parts.{AreConnectionsOf, IsDiskOf, IsKeeperOf, IsOrderOf, Shows, StandsAfter, first_commands}
+use Rattle.request_core.specs.Parts.{AreConnectionsOf, IsDiskOf, IsKeeperOf, IsOrderOf, Shows, StandsAfter, fronts_at}
 use Rattle.request_core.specs.inner.Storing.{stopped_with}
 use Rattle.request_core.proofs.CheckpointSteps.{order_stopped}
 use Rattle.nbd_wire.specs.declared.error.Errno.TheVariants.{Io, NoMemory}
@@ -176,6 +176,7 @@ module _ {D : Type 0} (state : D → State) (faults extent : D → ℕ) (honest 
     count = kept.count;
     base = kept.base;
     turned = kept.turned;
+    lefts = kept.lefts;
     generation = kept.generation;
     phase = kept.phase;
     used = kept.used;
@@ -190,7 +191,7 @@ module _ {D : Type 0} (state : D → State) (faults extent : D → ℕ) (honest 
   crash_read read disk = weakens read.any_moment (λ content left. disk.leaves content left)
 
   disk_read : (honest keeper.disk → IsOnlyRead (state keeper.disk) (state next.disk))
-      → (honest keeper.disk → (base : Image) (front last : List Change) → Holds keeper (state keeper.disk) base front last → Holds next (state next.disk) base front last)
+      → (honest keeper.disk → (base : Image) (fronts : List (List Change)) (last : List Change) → Holds keeper (state keeper.disk) base fronts last → Holds next (state next.disk) base fronts last)
       → honest keeper.disk → KeepsDisk world world keeper next (state keeper.disk) (state next.disk)
   disk_read only_read holds is_honest disk =
       let leaves = crash_read (only_read is_honest) disk in (
@@ -201,9 +202,9 @@ module _ {D : Type 0} (state : D → State) (faults extent : D → ℕ) (honest 
         leaves,
       )
 
-  clean_now : IsCleanAt (image_after world.stage.order world.stage.base world.stage.setting.image) (first_commands world.stage)
+  clean_now : IsCleanAt (image_after world.stage.order world.stage.base world.stage.setting.image) (joined (fronts_at world.stage))
       (image_after world.stage.order (length world.stage.order) world.stage.setting.image) old.dirty
-  clean_now = subst (IsCleanAt _ (first_commands world.stage) _) (sym of.dirty) (clean_at world.stage (ordered world within) within.cleaned kept.takes)
+  clean_now = subst (IsCleanAt _ (joined (fronts_at world.stage)) _) (sym of.dirty) (clean_at world.stage (ordered world within) within.cleaned kept.takes)
 
   answered_read : (new : OrderState) (read : Reads new) (failure : Failure) → shown_by read.image request.head ≡ shown_by (image_shown failure world.stage) request.head
       → Answers new hand (shown (image_shown failure world.stage) world c request)
@@ -265,7 +266,7 @@ module _ {D : Type 0} (state : D → State) (faults extent : D → ℕ) (honest 
       known : world.stage.setting.trusted ≡ true → IsKnownBy state honest keeper old (image_after world.stage.order (length world.stage.order) world.stage.setting.image)
       known trusted =
           let is = sure trusted in
-          record { sure = is.0; base = _; front = _; last = _; holds = is.1.holds runs; shows = is.2; clean = clean_now }
+          record { sure = is.0; base = _; fronts = _; last = _; holds = is.1.holds runs; shows = is.2; clean = clean_now }
 
   -- a request in which a call of the device failed
   stopped_same : (group : Option Numbered) (middle : OrderState) → middle ≡ record old { stopped = true } → stopped_with group middle ≡ stopped_with group old
@@ -307,6 +308,7 @@ module _ {D : Type 0} (state : D → State) (faults extent : D → ℕ) (honest 
             count = kept.count;
             base = kept.base;
             turned = kept.turned;
+            lefts = kept.lefts;
             generation = kept.generation;
             phase = kept.phase;
             used = kept.used;

@@ -1,9 +1,9 @@
 -- what the steps of a checkpoint make of the world and of its device
-use Rattle.std.proofs.Common.{◌≡◌, ℕ, ◌+◌, ◌-◌, ◌↔◌, Bool, true, false, if◌then◌else◌, IsTrue, Option, Some, None, Result, Ok, Err, List, [], ◌∷◌, ◌++◌, take, drop, sym, ◌∙◌, ap, subst, refl, arith}
+use Rattle.std.proofs.Common.{◌≡◌, ℕ, ◌+◌, ◌-◌, ◌↔◌, Bool, true, false, if◌then◌else◌, IsTrue, Option, Some, None, Result, Ok, Err, List, [], ◌∷◌, ◌++◌, length, take, sym, ◌∙◌, ap, subst, refl, arith}
 use Rattle.std.proofs.lemmas.Bool.{eq-eqb, eqb-true}
 use Rattle.std.specs.FinMap.{len}
 use Rattle.checkpoint.specs.Keeper.{refused_by, faults_by}
-use Rattle.checkpoint.specs.Steps.{IsCopyTime, IsFinishTime, IsMapTime, IsRotateTime, IsStepFault, copied_by, finished_by, left_in, mapped_by, rotated_by}
+use Rattle.checkpoint.specs.Steps.{IsCopyTime, IsFinishTime, IsMapTime, IsRotateTime, IsStepFault, behind_first, copied_by, fewer, finished_by, first_turned, left_in, mapped_by, phase_left, phase_with, rotated_by}
 use Rattle.checkpoint.specs.declared.fault.KeeperFault.{KeeperFault}
 use Rattle.checkpoint.specs.declared.fault.KeeperFault.TheVariants as fault
 use Rattle.device_image.specs.Holds.{Holds}
@@ -22,21 +22,21 @@ use Rattle.image_model.specs.laws.DirtyCounts.{dirty_count}
 use Rattle.journal_format.specs.Group.{Numbered}
 use Rattle.order_book.specs.Order.{OrderState, with_group}
 use Rattle.request_core.specs.inner.Steps.{IsAppended}
-use Rattle.request_core.specs.Parts.{IsDiskOf, IsKeeperOf, IsOrderOf, StandsAfter, first_commands, last_commands, part, phase_at, turned_at}
+use Rattle.request_core.specs.Parts.{IsDiskOf, IsKeeperOf, IsOrderOf, StandsAfter, fronts_at, fronts_of, last_commands, lefts_by, numbers_of, part, phase_at, turned_at}
 use Rattle.request_core.specs.inner.Storing.{hand_refused, order_refused, step_event, stopped_with}
-use Rattle.request_core.specs.laws.Lives.{IsOrdered, apply_append, keeps_of, ordered, take_part}
+use Rattle.request_core.specs.laws.Lives.{IsOrdered, apply_append, keeps_of, ordered, part_none, take_part, through_turned}
 use Rattle.request_core.specs.laws.Orders.{order_puts_back, order_stops}
 use Rattle.request_core.proofs.Stored.{not_true_is}
-use Rattle.request_core.proofs.Times.{copy_phase, copy_sound, copy_whole, finish_one, finish_sound, finish_whole, map_phase, map_sound, map_whole, rotate_empty, rotate_phase, rotate_sound, rotate_whole}
-use Rattle.export_model.specs.Checkpoint.{can_copy, can_finish, can_map, can_rotate, finished, is_full, is_turned, last_turned, rotated, to_copy}
+use Rattle.request_core.proofs.Times.{areas_two, copy_lefts, copy_phase, copy_sound, copy_whole, finish_lefts, finish_phase, finish_some, finish_sound, finish_whole, fronts_more, map_phase, map_sound, map_whole, numbers_length, numbers_more, rotate_lefts, rotate_phase, rotate_some, rotate_sound, rotate_whole, phase_by}
+use Rattle.export_model.specs.Checkpoint.{can_copy, can_finish, can_map, can_rotate, finished, is_full, is_turned, last_turned, left_behind, rotated, to_copy}
 use Rattle.export_model.specs.declared.event.Event.{Event}
 use Rattle.export_model.specs.declared.event.Event.TheVariants.{Took, Held, Failed}
 use Rattle.export_model.specs.declared.event.StepFault.TheVariants.{NoMemory, DeviceFault, NumbersFull, FailedBefore}
 use Rattle.export_model.specs.Serve.{Failure, Nothing, OutOfMemory, DeviceFailure, held, logged, faulted, staged}
 use Rattle.export_model.specs.Step.{copy_block, finish, in_time, out_of_memory, rotate, without_memory, write_map, written}
 use Rattle.export_model.specs.World.{World, Stage, image_after}
-use Rattle.export_model_laws.specs.Law.{IsWithin}
-use Rattle.export_model_laws.specs.laws.Within.{last_of_more}
+use Rattle.export_model_laws.specs.Law.{IsRising, IsWithin}
+use Rattle.export_model_laws.specs.laws.Within.{last_of_more, rising_end, turned_through}
 
 pub not_true : (b : Bool) → (b ≡ true → ⊥) → b ≡ false
 not_true true none = absurd (none refl)
@@ -45,10 +45,6 @@ not_true false none = refl
 pub not_false : (b : Bool) → (b ≡ false → ⊥) → b ≡ true
 not_false true none = refl
 not_false false none = absurd (none refl)
-
--- no commands stand between a number and itself
-part_none : (order : List Change) (from until : ℕ) → from ≡ until → part order from until ≡ []
-part_none order from until same = ap (λ (n : ℕ). take n (drop from order)) (let none : until - from ≡ 0 = omega (arith, same) in none)
 
 -- the order where the device has failed
 pub order_stopped : (stage : Stage) (order : OrderState) (hand : Option Numbered) (failures : ℕ) → IsOrderOf stage order hand
@@ -96,6 +92,7 @@ module _ {D : Type 0} (state : D → State) (faults extent : D → ℕ) (honest 
         count = kept.count;
         base = kept.base;
         turned = kept.turned;
+        lefts = kept.lefts;
         generation = kept.generation;
         phase = kept.phase;
         used = kept.used;
@@ -139,8 +136,8 @@ module _ {D : Type 0} (state : D → State) (faults extent : D → ℕ) (honest 
 
     pub moved_on : (new : KeeperState D) → ((keeper : KeeperState D) (image : Image) (number : ℕ) (content : List ℕ) → Keeps keeper (state keeper.disk) image number → MayLeave (state keeper.disk) content → StandsFor content image number)
         → old.failed ≡ false → IsOrdered next_stage → IsKeeperOf next_stage new (faults new.disk) → Stays new
-        → (honest old.disk → Holds old (state old.disk) (image_after world.stage.order world.stage.base world.stage.setting.image) (first_commands world.stage) (last_commands world.stage)
-        → Holds new (state new.disk) (image_after world.stage.order base world.stage.setting.image) (first_commands next_stage) (last_commands next_stage))
+        → (honest old.disk → Holds old (state old.disk) (image_after world.stage.order world.stage.base world.stage.setting.image) (fronts_at world.stage) (last_commands world.stage)
+        → Holds new (state new.disk) (image_after world.stage.order base world.stage.setting.image) (fronts_at next_stage) (last_commands next_stage))
         → Leaves (logged (staged world next_stage) Took) Took order hand new
     moved_on new crash works next_ordered next_kept stays holding = record {
       kept = record { connections = refl; log = refl; of_order = order_turned; of_keeper = next_kept };
@@ -262,12 +259,12 @@ module _ {D : Type 0} (state : D → State) (faults extent : D → ℕ) (honest 
           (nothing_done (Failed FailedBefore) new same),
     )
 
-  -- what holds of the phase and the place that the world shows holds of the keeper's, and the other way round
-  of_keeper_phase : (P : Phase → ℕ → Type 0) → P old.phase old.used → P (phase_at world.stage) world.stage.at
-  of_keeper_phase P is = subst (λ (n : ℕ). P (phase_at world.stage) n) kept.used (subst (λ (p : Phase). P p old.used) kept.phase is)
+  -- what holds of the phase that the world shows holds of the keeper's, and the other way round
+  of_keeper_phase : (P : Phase → Type 0) → P old.phase → P (phase_at world.stage)
+  of_keeper_phase P is = subst P kept.phase is
 
-  to_keeper_phase : (P : Phase → ℕ → Type 0) → P (phase_at world.stage) world.stage.at → P old.phase old.used
-  to_keeper_phase P is = subst (λ (p : Phase). P p old.used) (sym kept.phase) (subst (λ (n : ℕ). P (phase_at world.stage) n) (sym kept.used) is)
+  to_keeper_phase : (P : Phase → Type 0) → P (phase_at world.stage) → P old.phase
+  to_keeper_phase P is = subst P (sym kept.phase) is
 
   full_generation : is_full world.stage ≡ true → old.generation ≡ 18446744073709551615
   full_generation full = kept.generation ∙ eqb-true world.stage.generation 18446744073709551615 full
@@ -279,55 +276,51 @@ module _ {D : Type 0} (state : D → State) (faults extent : D → ℕ) (honest 
   never_full is = cc
 
   -- the times of the steps, by the keeper and by the world
-  rotate_here : can_rotate world.stage ≡ true → IsRotateTime old.phase old.used
-  rotate_here now = to_keeper_phase IsRotateTime (rotate_sound world.stage.turned world.stage.mapped world.stage.left world.stage.at world.stage.base world.stage.stored within.taken now)
+  as_many : length old.turned ≡ length world.stage.turned
+  as_many = ap length kept.turned ∙ numbers_length world.stage.setting.opening world.stage.turned
 
-  rotate_there : IsRotateTime old.phase old.used → can_rotate world.stage ≡ true
-  rotate_there now = rotate_whole world.stage.turned world.stage.mapped world.stage.left world.stage.at world.stage.base world.stage.stored (ordered world within).turned within.taken (of_keeper_phase IsRotateTime now)
+  rotate_here : can_rotate world.stage ≡ true → IsRotateTime old
+  rotate_here now =
+      let is = rotate_sound world.stage.turned world.stage.at world.stage.base world.stage.stored within.taken now in
+      let few = is.0 in let some = is.1 in let used = kept.used in let areas = areas_two old.geometry.layout in
+      (omega (arith, few, as_many, areas), omega (arith, some, used))
 
-  abbrev CopyTime : Phase → ℕ → Type 0
-  CopyTime phase used = IsCopyTime phase
+  rotate_there : IsRotateTime old → can_rotate world.stage ≡ true
+  rotate_there now =
+      let few = now.0 in let some = now.1 in let used = kept.used in let areas = areas_two old.geometry.layout in
+      rotate_whole world.stage.turned world.stage.at world.stage.base world.stage.stored (ordered world within).turned within.taken (omega (arith, few, as_many, areas)) (omega (arith, some, used))
 
   copy_here : can_copy world.stage ≡ true → IsCopyTime old.phase
-  copy_here now = to_keeper_phase CopyTime (copy_sound world.stage.turned world.stage.mapped world.stage.left now)
+  copy_here now = to_keeper_phase IsCopyTime (copy_sound world.stage.turned world.stage.mapped world.stage.left now)
 
   copy_there : IsCopyTime old.phase → can_copy world.stage ≡ true
-  copy_there now = copy_whole world.stage.turned world.stage.mapped world.stage.left (of_keeper_phase CopyTime now)
-
-  abbrev MapTime : Phase → ℕ → Type 0
-  MapTime phase used = IsMapTime phase
+  copy_there now = copy_whole world.stage.turned world.stage.mapped world.stage.left (of_keeper_phase IsCopyTime now)
 
   map_here : can_map world.stage ≡ true → IsMapTime old.phase
-  map_here now = to_keeper_phase MapTime (map_sound world.stage.turned world.stage.mapped world.stage.left now)
+  map_here now = to_keeper_phase IsMapTime (map_sound world.stage.turned world.stage.mapped world.stage.left now)
 
   map_there : IsMapTime old.phase → can_map world.stage ≡ true
-  map_there now = map_whole world.stage.turned world.stage.mapped world.stage.left (of_keeper_phase MapTime now)
-
-  abbrev FinishTime : Phase → ℕ → Type 0
-  FinishTime phase used = IsFinishTime phase
+  map_there now = map_whole world.stage.turned world.stage.mapped world.stage.left (of_keeper_phase IsMapTime now)
 
   finish_here : can_finish world.stage ≡ true → IsFinishTime old.phase
-  finish_here now = to_keeper_phase FinishTime (finish_sound world.stage.turned world.stage.mapped world.stage.left now)
+  finish_here now = to_keeper_phase IsFinishTime (finish_sound world.stage.turned world.stage.mapped world.stage.left now)
 
   finish_there : IsFinishTime old.phase → can_finish world.stage ≡ true
-  finish_there now = finish_whole world.stage.turned world.stage.mapped world.stage.left (of_keeper_phase FinishTime now)
+  finish_there now = finish_whole world.stage.turned world.stage.mapped world.stage.left (of_keeper_phase IsFinishTime now)
 
   abbrev pub CrashLaw : Type 0
   CrashLaw = (keeper : KeeperState D) (image : Image) (number : ℕ) (content : List ℕ) → Keeps keeper (state keeper.disk) image number → MayLeave (state keeper.disk) content → StandsFor content image number
 
   module _ (new : KeeperState D) (crash : CrashLaw) (works : old.failed ≡ false) (level : faults new.disk ≡ faults old.disk) (stays : Stays new) where
     -- another area comes into use
-    module _ (same : new ≡ rotated_by old new.disk new.memory) (fresh : Remembers new []) (left : (commands : List Change) → Remembers old commands → new.phase ≡ Copying (len (dirty_blocks 0 commands)))
-        (holding : honest old.disk → (base : Image) (last : List Change) → Holds old (state old.disk) base [] last → Holds new (state new.disk) base last []) where
-      module _ (now : IsRotateTime old.phase old.used) where
-        none : world.stage.turned ≡ []
-        none = rotate_empty world.stage.turned world.stage.mapped world.stage.left world.stage.at (of_keeper_phase IsRotateTime now)
-
-        at_base : turned_at world.stage ≡ world.stage.base
-        at_base = ap (last_turned world.stage.base) none
-
-        unmapped : world.stage.mapped ≡ false
-        unmapped = not_true world.stage.mapped (λ is. never_full (sym (ap is_turned none) ∙ (within.mapped is).0))
+    module _ (same : new ≡ rotated_by old new.disk new.memory) (fresh : Remembers new [])
+        (left : (commands : List Change) → Remembers old commands → new.lefts ≡ old.lefts ++ len (dirty_blocks 0 commands) ∷ [])
+        (phase : (commands : List Change) → Remembers old commands → new.phase ≡ phase_with old.phase (len (dirty_blocks 0 commands)))
+        (holding : honest old.disk → (base : Image) (fronts : List (List Change)) (last : List Change) → Holds old (state old.disk) base fronts last
+        → Holds new (state new.disk) base (fronts ++ last ∷ []) []) where
+      module _ (now : IsRotateTime old) where
+        mapped_turned : world.stage.mapped ≡ true → is_turned world.stage.turned ≡ true
+        mapped_turned is = (within.mapped is).0
 
         at_stored : last_turned world.stage.base (world.stage.turned ++ world.stage.stored ∷ []) ≡ world.stage.stored
         at_stored = last_of_more world.stage.base world.stage.turned world.stage.stored
@@ -335,26 +328,41 @@ module _ {D : Type 0} (state : D → State) (faults extent : D → ℕ) (honest 
         last_none : last_commands (rotated world.stage) ≡ []
         last_none = part_none world.stage.order (turned_at (rotated world.stage)) world.stage.stored at_stored
 
-        first_is : first_commands (rotated world.stage) ≡ last_commands world.stage
-        first_is = ap (part world.stage.order world.stage.base) at_stored ∙ ap (λ (n : ℕ). part world.stage.order n world.stage.stored) (sym at_base)
+        abbrev copies : ℕ
+        copies = to_copy (turned_at world.stage) world.stage.stored world.stage.order
 
-        first_none : first_commands world.stage ≡ []
-        first_none = part_none world.stage.order world.stage.base (turned_at world.stage) (sym at_base)
+        copies_are : len (dirty_blocks 0 (last_commands world.stage)) ≡ copies
+        copies_are = dirty_count 0 (turned_at world.stage) (last_commands world.stage)
 
-        copies_are : len (dirty_blocks 0 (last_commands world.stage)) ≡ to_copy world.stage.base world.stage.stored world.stage.order
-        copies_are = dirty_count 0 world.stage.base (last_commands world.stage)
-            ∙ ap (λ (n : ℕ). len (dirty_blocks world.stage.base (part world.stage.order n world.stage.stored))) at_base
+        abbrev left_next : ℕ
+        left_next = if is_turned world.stage.turned then world.stage.left else to_copy world.stage.base world.stage.stored world.stage.order
+
+        -- where no area stood in front of the last, what is left to copy is what that one has
+        same_left : (turned : List ℕ) → (if is_turned turned then world.stage.left else to_copy (last_turned world.stage.base turned) world.stage.stored world.stage.order)
+            ≡ (if is_turned turned then world.stage.left else to_copy world.stage.base world.stage.stored world.stage.order)
+        same_left [] = refl
+        same_left (first ∷ rest) = refl
 
         phase_is : new.phase ≡ phase_at (rotated world.stage)
-        phase_is = left (last_commands world.stage) kept.remembers ∙ ap (λ (n : ℕ). Copying n) copies_are
-            ∙ rotate_phase world.stage.turned world.stage.mapped world.stage.stored world.stage.left (to_copy world.stage.base world.stage.stored world.stage.order) none unmapped
+        phase_is = phase (last_commands world.stage) kept.remembers ∙ ap (phase_with old.phase) copies_are ∙ ap (λ (p : Phase). phase_with p copies) kept.phase
+            ∙ rotate_phase world.stage.turned world.stage.mapped world.stage.stored world.stage.left copies mapped_turned
+            ∙ ap (λ (n : ℕ). phase_by (world.stage.turned ++ world.stage.stored ∷ []) world.stage.mapped n) (same_left world.stage.turned)
+
+        lefts_are : new.lefts ≡ lefts_by world.stage.order left_next (world.stage.turned ++ world.stage.stored ∷ [])
+        lefts_are = left (last_commands world.stage) kept.remembers ∙ ap (λ (n : ℕ). old.lefts ++ n ∷ []) copies_are ∙ ap (λ (l : List ℕ). l ++ copies ∷ []) kept.lefts
+            ∙ rotate_lefts world.stage.order world.stage.left world.stage.base world.stage.turned world.stage.stored
+
+        turned_are : new.turned ≡ numbers_of world.stage.setting.opening (world.stage.turned ++ world.stage.stored ∷ [])
+        turned_are = ap (λ (k : KeeperState D). k.turned) same ∙ ap (λ (n : ℕ). old.turned ++ n ∷ []) kept.count ∙ ap (λ (l : List ℕ). l ++ (world.stage.setting.opening + world.stage.stored) ∷ []) kept.turned
+            ∙ numbers_more world.stage.setting.opening world.stage.turned world.stage.stored
 
         kept_rotated : IsKeeperOf (rotated world.stage) new (faults new.disk)
         kept_rotated = record {
           geometry = ap (λ (k : KeeperState D). k.geometry) same ∙ kept.geometry;
           count = ap (λ (k : KeeperState D). k.count) same ∙ kept.count;
           base = ap (λ (k : KeeperState D). k.base) same ∙ kept.base;
-          turned = ap (λ (k : KeeperState D). k.turned) same ∙ kept.count ∙ ap (λ (n : ℕ). world.stage.setting.opening + n) (sym at_stored);
+          turned = turned_are;
+          lefts = lefts_are;
           generation = ap (λ (k : KeeperState D). k.generation) same ∙ ap (λ (n : ℕ). n + 1) kept.generation;
           phase = phase_is;
           used = ap (λ (k : KeeperState D). k.used) same;
@@ -366,36 +374,43 @@ module _ {D : Type 0} (state : D → State) (faults extent : D → ℕ) (honest 
 
         ordered_rotated : IsOrdered (rotated world.stage)
         ordered_rotated =
-            let base = (ordered world within).base in let turned = (ordered world within).turned in
-            record { base = omega (arith, base, turned, at_stored); turned = omega (arith, at_stored); stored = (ordered world within).stored }
+            let base = (ordered world within).base in let turned = (ordered world within).turned in let some = now.1 in let used = kept.used in
+            record {
+              rising = rising_end world.stage.base world.stage.turned world.stage.stored
+                  (rotate_some world.stage.turned world.stage.at world.stage.base world.stage.stored turned within.taken (omega (arith, some, used))) within.rising;
+              base = omega (arith, base, turned, at_stored);
+              turned = omega (arith, at_stored);
+              stored = (ordered world within).stored;
+            }
 
         rotated_leaves : Leaves (logged (staged world (rotated world.stage)) Took) Took order hand new
         rotated_leaves =
             let image = image_after world.stage.order world.stage.base world.stage.setting.image in
-            moved_on world.stage.base (world.stage.turned ++ world.stage.stored ∷ []) (if is_turned world.stage.turned then world.stage.left else to_copy world.stage.base world.stage.stored world.stage.order)
+            moved_on world.stage.base (world.stage.turned ++ world.stage.stored ∷ []) left_next
             world.stage.mapped 0 (world.stage.generation + 1) new crash works ordered_rotated kept_rotated stays
             (λ is_honest holds.
-            subst (λ (l : List Change). Holds new (state new.disk) image (first_commands (rotated world.stage)) l) (sym last_none)
-            (subst (λ (f : List Change). Holds new (state new.disk) image f []) (sym first_is)
-            (holding is_honest image (last_commands world.stage) (subst (λ (f : List Change). Holds old (state old.disk) image f (last_commands world.stage)) first_none holds))))
+            subst (λ (l : List Change). Holds new (state new.disk) image (fronts_at (rotated world.stage)) l) (sym last_none)
+            (subst (λ (f : List (List Change)). Holds new (state new.disk) image f []) (fronts_more world.stage.order world.stage.base world.stage.turned world.stage.stored)
+            (holding is_honest image (fronts_at world.stage) (last_commands world.stage) holds)))
 
-      pub rotate_done : ((IsRotateTime old.phase old.used → ⊥) → ⊥) → (IsRotateTime old.phase old.used → old.generation ≡ 18446744073709551615 → ⊥) → (failure : Failure) × Leaves (rotate failure world) Took order hand new
+      pub rotate_done : ((IsRotateTime old → ⊥) → ⊥) → (IsRotateTime old → old.generation ≡ 18446744073709551615 → ⊥) → (failure : Failure) × Leaves (rotate failure world) Took order hand new
       rotate_done now room =
-          step_done (can_rotate world.stage) (is_full world.stage) (λ failure. written failure world (rotated world.stage)) (IsRotateTime old.phase old.used) rotate_here rotate_there
+          step_done (can_rotate world.stage) (is_full world.stage) (λ failure. written failure world (rotated world.stage)) (IsRotateTime old) rotate_here rotate_there
           new now (λ here full. room here (full_generation full)) works rotated_leaves
 
     -- blocks more are copied
     module _ (blocks : ℕ) (same : new ≡ copied_by old blocks new.disk new.memory) (remembered : (commands : List Change) → Remembers old commands → Remembers new commands)
-        (holding : honest old.disk → (base : Image) (first last : List Change) → Holds old (state old.disk) base first last → Holds new (state new.disk) base first last) where
+        (holding : honest old.disk → (base : Image) (fronts : List (List Change)) (last : List Change) → Holds old (state old.disk) base fronts last → Holds new (state new.disk) base fronts last) where
       pub copied_leaves : IsCopyTime old.phase → Leaves (logged (staged world (record world.stage { left = world.stage.left - blocks })) Took) Took order hand new
       copied_leaves now =
-          let here = of_keeper_phase CopyTime now in
-          moved_on world.stage.base world.stage.turned (world.stage.left - blocks) world.stage.mapped world.stage.at world.stage.generation new crash works (let is = ordered world within in record { base = is.base; turned = is.turned; stored = is.stored })
+          let here = of_keeper_phase IsCopyTime now in
+          moved_on world.stage.base world.stage.turned (world.stage.left - blocks) world.stage.mapped world.stage.at world.stage.generation new crash works (let is = ordered world within in record { rising = is.rising; base = is.base; turned = is.turned; stored = is.stored })
           (record {
             geometry = ap (λ (k : KeeperState D). k.geometry) same ∙ kept.geometry;
             count = ap (λ (k : KeeperState D). k.count) same ∙ kept.count;
             base = ap (λ (k : KeeperState D). k.base) same ∙ kept.base;
             turned = ap (λ (k : KeeperState D). k.turned) same ∙ kept.turned;
+            lefts = ap (λ (k : KeeperState D). k.lefts) same ∙ ap (fewer blocks) kept.lefts ∙ copy_lefts world.stage.order world.stage.turned world.stage.left blocks;
             generation = ap (λ (k : KeeperState D). k.generation) same ∙ kept.generation;
             phase = ap (λ (k : KeeperState D). k.phase) same ∙ ap (λ (p : Phase). Copying (left_in p - blocks)) kept.phase ∙ copy_phase world.stage.turned world.stage.mapped world.stage.left blocks here;
             used = ap (λ (k : KeeperState D). k.used) same ∙ kept.used;
@@ -404,11 +419,11 @@ module _ {D : Type 0} (state : D → State) (faults extent : D → ℕ) (honest 
             takes = kept.takes;
             remembers = remembered (last_commands world.stage) kept.remembers;
           })
-          stays (λ is_honest. holding is_honest (image_after world.stage.order world.stage.base world.stage.setting.image) (first_commands world.stage) (last_commands world.stage))
+          stays (λ is_honest. holding is_honest (image_after world.stage.order world.stage.base world.stage.setting.image) (fronts_at world.stage) (last_commands world.stage))
 
     -- one block more is copied
     module _ (same : new ≡ copied_by old 1 new.disk new.memory) (remembered : (commands : List Change) → Remembers old commands → Remembers new commands)
-        (holding : honest old.disk → (base : Image) (first last : List Change) → Holds old (state old.disk) base first last → Holds new (state new.disk) base first last) where
+        (holding : honest old.disk → (base : Image) (fronts : List (List Change)) (last : List Change) → Holds old (state old.disk) base fronts last → Holds new (state new.disk) base fronts last) where
       pub copy_done : ((IsCopyTime old.phase → ⊥) → ⊥) → (failure : Failure) × Leaves (copy_block failure world) Took order hand new
       copy_done now =
           step_done (can_copy world.stage) false (λ failure. written failure world (record world.stage { left = world.stage.left - 1 })) (IsCopyTime old.phase) copy_here copy_there
@@ -416,16 +431,17 @@ module _ {D : Type 0} (state : D → State) (faults extent : D → ℕ) (honest 
 
     -- the map is written
     module _ (same : new ≡ mapped_by old new.disk new.memory) (remembered : (commands : List Change) → Remembers old commands → Remembers new commands)
-        (holding : honest old.disk → (base : Image) (first last : List Change) → Holds old (state old.disk) base first last → Holds new (state new.disk) base first last) where
+        (holding : honest old.disk → (base : Image) (fronts : List (List Change)) (last : List Change) → Holds old (state old.disk) base fronts last → Holds new (state new.disk) base fronts last) where
       mapped_leaves : IsMapTime old.phase → Leaves (logged (staged world (record world.stage { mapped = true })) Took) Took order hand new
       mapped_leaves now =
-          let here = of_keeper_phase MapTime now in
-          moved_on world.stage.base world.stage.turned world.stage.left true world.stage.at world.stage.generation new crash works (let is = ordered world within in record { base = is.base; turned = is.turned; stored = is.stored })
+          let here = of_keeper_phase IsMapTime now in
+          moved_on world.stage.base world.stage.turned world.stage.left true world.stage.at world.stage.generation new crash works (let is = ordered world within in record { rising = is.rising; base = is.base; turned = is.turned; stored = is.stored })
           (record {
             geometry = ap (λ (k : KeeperState D). k.geometry) same ∙ kept.geometry;
             count = ap (λ (k : KeeperState D). k.count) same ∙ kept.count;
             base = ap (λ (k : KeeperState D). k.base) same ∙ kept.base;
             turned = ap (λ (k : KeeperState D). k.turned) same ∙ kept.turned;
+            lefts = ap (λ (k : KeeperState D). k.lefts) same ∙ kept.lefts;
             generation = ap (λ (k : KeeperState D). k.generation) same ∙ kept.generation;
             phase = ap (λ (k : KeeperState D). k.phase) same ∙ map_phase world.stage.turned world.stage.mapped world.stage.left here;
             used = ap (λ (k : KeeperState D). k.used) same ∙ kept.used;
@@ -434,7 +450,7 @@ module _ {D : Type 0} (state : D → State) (faults extent : D → ℕ) (honest 
             takes = kept.takes;
             remembers = remembered (last_commands world.stage) kept.remembers;
           })
-          stays (λ is_honest. holding is_honest (image_after world.stage.order world.stage.base world.stage.setting.image) (first_commands world.stage) (last_commands world.stage))
+          stays (λ is_honest. holding is_honest (image_after world.stage.order world.stage.base world.stage.setting.image) (fronts_at world.stage) (last_commands world.stage))
 
       pub map_done : ((IsMapTime old.phase → ⊥) → ⊥) → (failure : Failure) × Leaves (write_map failure world) Took order hand new
       map_done now =
@@ -443,32 +459,44 @@ module _ {D : Type 0} (state : D → State) (faults extent : D → ℕ) (honest 
 
     -- the first area is no longer in use
     module _ (same : new ≡ finished_by old new.disk new.memory) (remembered : (commands : List Change) → Remembers old commands → Remembers new commands)
-        (holding : honest old.disk → (base : Image) (first last : List Change) → Holds old (state old.disk) base first last → Holds new (state new.disk) (apply_all first base) [] last) where
-      module _ (first : ℕ) (one : world.stage.turned ≡ first ∷ []) where
-        at_first : turned_at world.stage ≡ first
-        at_first = ap (last_turned world.stage.base) one
+        (holding : honest old.disk → (base : Image) (first : List Change) (others : List (List Change)) (last : List Change) → Holds old (state old.disk) base (first ∷ others) last
+        → Holds new (state new.disk) (apply_all first base) others last) where
+      module _ (first : ℕ) (rest : List ℕ) (some : world.stage.turned ≡ first ∷ rest) where
+        rising_first : IsRising world.stage.base (first ∷ rest) world.stage.stored
+        rising_first = subst (λ (t : List ℕ). IsRising world.stage.base t world.stage.stored) some within.rising
 
-        image_is : image_after world.stage.order first world.stage.setting.image ≡ apply_all (first_commands world.stage) (image_after world.stage.order world.stage.base world.stage.setting.image)
+        image_is : image_after world.stage.order first world.stage.setting.image
+            ≡ apply_all (part world.stage.order world.stage.base first) (image_after world.stage.order world.stage.base world.stage.setting.image)
         image_is =
-            ap (λ (n : ℕ). image_after world.stage.order n world.stage.setting.image) (sym at_first)
-            ∙ ap (λ (l : List Change). apply_all l world.stage.setting.image) (take_part world.stage.order world.stage.base (turned_at world.stage) (ordered world within).base)
-            ∙ apply_append (take world.stage.base world.stage.order) (first_commands world.stage) world.stage.setting.image
+            let below = rising_first.0 in
+            ap (λ (l : List Change). apply_all l world.stage.setting.image) (take_part world.stage.order world.stage.base first (omega (arith, below)))
+            ∙ apply_append (take world.stage.base world.stage.order) (part world.stage.order world.stage.base first) world.stage.setting.image
 
-        last_is : part world.stage.order first world.stage.stored ≡ last_commands world.stage
-        last_is = ap (λ (n : ℕ). part world.stage.order n world.stage.stored) (sym at_first)
+        last_is : part world.stage.order (last_turned first rest) world.stage.stored ≡ last_commands world.stage
+        last_is = ap (λ (t : List ℕ). part world.stage.order (last_turned world.stage.base t) world.stage.stored) (sym some)
 
-        finished_one : Leaves (logged (staged world (finished world.stage (first ∷ []))) Took) Took order hand new
-        finished_one =
-            let is = ordered world within in let turned = is.turned in
-            moved_on first [] 0 false world.stage.at (world.stage.generation + 1) new crash works
-            (record { base = omega arith; turned = omega (arith, turned, at_first); stored = is.stored })
+        ends_are : old.turned ≡ (world.stage.setting.opening + first) ∷ numbers_of world.stage.setting.opening rest
+        ends_are = kept.turned ∙ ap (numbers_of world.stage.setting.opening) some
+
+        finished_first : Leaves (logged (staged world (finished world.stage (first ∷ rest))) Took) Took order hand new
+        finished_first =
+            let is = ordered world within in
+            let lefts_are = kept.lefts ∙ ap (lefts_by world.stage.order world.stage.left) some in
+            moved_on first rest (left_behind first rest world.stage.order) false world.stage.at (world.stage.generation + 1) new crash works
+            (record {
+              rising = rising_first.1;
+              base = through_turned first rest world.stage.stored rising_first.1;
+              turned = turned_through first rest world.stage.stored rising_first.1;
+              stored = is.stored;
+            })
             (record {
               geometry = ap (λ (k : KeeperState D). k.geometry) same ∙ kept.geometry;
               count = ap (λ (k : KeeperState D). k.count) same ∙ kept.count;
-              base = ap (λ (k : KeeperState D). k.base) same ∙ kept.turned ∙ ap (λ (n : ℕ). world.stage.setting.opening + n) at_first;
-              turned = ap (λ (k : KeeperState D). k.turned) same ∙ kept.turned ∙ ap (λ (n : ℕ). world.stage.setting.opening + n) at_first;
+              base = ap (λ (k : KeeperState D). k.base) same ∙ ap (first_turned old.base) ends_are;
+              turned = ap (λ (k : KeeperState D). k.turned) same ∙ ap behind_first ends_are;
+              lefts = ap (λ (k : KeeperState D). k.lefts) same ∙ ap behind_first lefts_are ∙ finish_lefts world.stage.order first rest;
               generation = ap (λ (k : KeeperState D). k.generation) same ∙ ap (λ (n : ℕ). n + 1) kept.generation;
-              phase = ap (λ (k : KeeperState D). k.phase) same;
+              phase = ap (λ (k : KeeperState D). k.phase) same ∙ ap (λ (l : List ℕ). phase_left (behind_first l)) lefts_are ∙ finish_phase world.stage.order first rest;
               used = ap (λ (k : KeeperState D). k.used) same ∙ kept.used;
               failed = ap (λ (k : KeeperState D). k.failed) same ∙ kept.failed;
               faults = level ∙ kept.faults;
@@ -477,15 +505,15 @@ module _ {D : Type 0} (state : D → State) (faults extent : D → ℕ) (honest 
             })
             stays
             (λ is_honest holds.
-            subst (λ (l : List Change). Holds new (state new.disk) (image_after world.stage.order first world.stage.setting.image) (part world.stage.order first first) l) (sym last_is)
-            (subst (λ (f : List Change). Holds new (state new.disk) (image_after world.stage.order first world.stage.setting.image) f (last_commands world.stage)) (sym (part_none world.stage.order first first refl))
-            (subst (λ (i : Image). Holds new (state new.disk) i [] (last_commands world.stage)) (sym image_is)
-            (holding is_honest (image_after world.stage.order world.stage.base world.stage.setting.image) (first_commands world.stage) (last_commands world.stage) holds))))
+            subst (λ (l : List Change). Holds new (state new.disk) (image_after world.stage.order first world.stage.setting.image) (fronts_of world.stage.order first rest) l) (sym last_is)
+            (subst (λ (i : Image). Holds new (state new.disk) i (fronts_of world.stage.order first rest) (last_commands world.stage)) (sym image_is)
+            (holding is_honest (image_after world.stage.order world.stage.base world.stage.setting.image) (part world.stage.order world.stage.base first) (fronts_of world.stage.order first rest) (last_commands world.stage)
+            (subst (λ (t : List ℕ). Holds old (state old.disk) (image_after world.stage.order world.stage.base world.stage.setting.image) (fronts_of world.stage.order world.stage.base t) (last_commands world.stage)) some holds))))
 
       finished_leaves : IsFinishTime old.phase → Leaves (logged (staged world (finished world.stage world.stage.turned)) Took) Took order hand new
       finished_leaves now =
-          let is = finish_one world.stage.turned world.stage.mapped world.stage.left within.areas (of_keeper_phase FinishTime now) in
-          subst (λ (t : List ℕ). Leaves (logged (staged world (finished world.stage t)) Took) Took order hand new) (sym is.1) (finished_one is.0 is.1)
+          let is = finish_some world.stage.turned world.stage.mapped world.stage.left (of_keeper_phase IsFinishTime now) in
+          subst (λ (t : List ℕ). Leaves (logged (staged world (finished world.stage t)) Took) Took order hand new) (sym is.2) (finished_first is.0 is.1 is.2)
 
       pub finish_done : ((IsFinishTime old.phase → ⊥) → ⊥) → (IsFinishTime old.phase → old.generation ≡ 18446744073709551615 → ⊥) → (failure : Failure) × Leaves (finish failure world) Took order hand new
       finish_done now room =
@@ -504,9 +532,9 @@ module _ {D : Type 0} (state : D → State) (faults extent : D → ℕ) (honest 
     abbrev OnlyFull : Type 0 → Type 0
     OnlyFull Time = (told refusal ≡ told fault.NumbersFull) ↔ ((old.failed ≡ false) × Time × (old.generation ≡ 18446744073709551615))
 
-    pub rotate_refused : OnlyIn (IsRotateTime old.phase old.used) → OnlyFull (IsRotateTime old.phase old.used) → Refused (λ failure. rotate failure world)
+    pub rotate_refused : OnlyIn (IsRotateTime old) → OnlyFull (IsRotateTime old) → Refused (λ failure. rotate failure world)
     rotate_refused not_now full =
-        step_refused (can_rotate world.stage) (is_full world.stage) (λ failure. written failure world (rotated world.stage)) (IsRotateTime old.phase old.used) rotate_here rotate_there
+        step_refused (can_rotate world.stage) (is_full world.stage) (λ failure. written failure world (rotated world.stage)) (IsRotateTime old) rotate_here rotate_there
         refusal new only failed not_now
         (λ is. let due = full.0 is in (due.0, due.1, generation_full due.2)) (λ works now is. full.1 (works, now, full_generation is))
         (λ memory. refl) refl same level stays_honest stays

@@ -37,16 +37,16 @@ module _ {D : Type 0} (state : D → State) (faults : D → ℕ) (honest : D →
     image = read.image;
     kinds = read.kinds;
     in_memory = read.in_memory;
-    from_base = λ sure base front last holds k below none. absurd (read.there k below none);
-    own = λ sure base given front last holds shows clean. read.own given shows;
-    shows = λ sure base given front last holds shows clean. shows;
+    from_base = λ sure base fronts last holds k below none. absurd (read.there k below none);
+    own = λ sure base given fronts last holds shows clean. read.own given shows;
+    shows = λ sure base given fronts last holds shows clean. shows;
     answer = read.answer;
     order = refl;
     states = refl;
     keeper_is = refl;
     level = refl;
     only_read = still;
-    holds = λ sure base front last holds. holds;
+    holds = λ sure base fronts last holds. holds;
     in_frames = λ failed. refl;
     there = λ failed. read.there;
   }

@@ -11,7 +11,7 @@ use Rattle.request_core.specs.inner.Steps.{IsAnyTalked, IsAppended, IsPerformed}
 use Rattle.request_core.specs.Parts.{AreConnectionsOf, IsDiskOf, IsKeeperOf, IsOrderOf, Shows}
 use Rattle.request_core.specs.inner.Serving.{IsTalked, with_commands}
 use Rattle.request_core.specs.inner.Storing.{IsKept}
-use Rattle.request_core.specs.laws.Lives.{all_both, disk_grows, IsOrdered, last_stay, ordered}
+use Rattle.request_core.specs.laws.Lives.{all_both, disk_grows, IsOrdered, last_stay, lefts_same, ordered}
 use Rattle.export_model.specs.declared.connection.Connection.{Connection}
 use Rattle.export_model.specs.declared.event.Event.{Event}
 use Rattle.export_model.specs.Serve.{Failure, Nothing, OutOfMemory, DeviceFailure, Misread}
@@ -34,6 +34,7 @@ keeper_grows stage commands keeper failures is takes of = record {
   count = of.count;
   base = of.base;
   turned = of.turned;
+  lefts = of.lefts ∙ sym (lefts_same stage.left stage.base stage.turned stage.stored stage.order commands is.stored is.rising);
   generation = of.generation;
   phase = of.phase;
   used = of.used;

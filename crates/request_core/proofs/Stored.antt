@@ -8,12 +8,14 @@ use Rattle.disk_model.specs.Faults.{counted}
 use Rattle.image_model.specs.Change.{change_of}
 use Rattle.image_model.specs.Command.{bodies_of}
 use Rattle.image_model.specs.declared.geometry.Geometry.{Geometry}
+use Rattle.regions.specs.Layout.{area_size}
 use Rattle.journal_format.specs.Group.{Numbered}
 use Rattle.order_book.specs.Order.{OrderState, Seals, with_durable, with_group, with_clean}
 use Rattle.request_core.specs.Parts.{IsKeeperOf, IsOrderOf, last_commands, turned_at}
 use Rattle.request_core.specs.inner.Storing.{IsKept, PublishesBy, SealsBy, CleansBy}
 use Rattle.request_core.specs.laws.Orders.{bodies_same, commands_length, hand_is, order_publishes, order_puts_back, order_seals, order_stops, order_stores, clean_due, order_cleans}
 use Rattle.request_core.proofs.Serves.{if_false, if_true}
+use Rattle.request_core.proofs.Times.{area_whole}
 use Rattle.export_model.specs.declared.event.Event.{Event}
 use Rattle.export_model.specs.declared.event.Event.TheVariants.{Took, Held, Failed}
 use Rattle.export_model.specs.declared.event.StepFault.TheVariants.{NoMemory, DeviceFault, FailedBefore}
@@ -48,6 +50,7 @@ keeper_same stage keeper failures sealed durable of = record {
   count = of.count;
   base = of.base;
   turned = of.turned;
+  lefts = of.lefts;
   generation = of.generation;
   phase = of.phase;
   used = of.used;
@@ -160,22 +163,22 @@ module _ {D : Type 0} (world : World) (keeper : KeeperState D) (failures : ℕ) 
     works : keeper.failed ≡ false → world.stage.stopped ≡ false
     works is = sym of_keeper.failed ∙ is
 
-    fits_is : end_after keeper group ≤ keeper.geometry.area → fits world ≡ true
-    fits_is fit = let used = of_keeper.used in let area = ap (λ (g : Geometry). g.area) of_keeper.geometry in
+    fits_is : end_after keeper group ≤ area_size keeper.geometry → fits world ≡ true
+    fits_is fit = let used = of_keeper.used in let area = area_whole keeper.geometry.layout keeper.geometry.area ∙ ap (λ (g : Geometry). g.area) of_keeper.geometry in
         le-leb (world.stage.at + 17 + bodies_bytes (in_hand world) + 1) world.stage.setting.geometry.area (omega (arith, fit, used, area, hand_bodies))
 
-    full_is : keeper.geometry.area < end_after keeper group → fits world ≡ false
-    full_is full = let used = of_keeper.used in let area = ap (λ (g : Geometry). g.area) of_keeper.geometry in
+    full_is : area_size keeper.geometry < end_after keeper group → fits world ≡ false
+    full_is full = let used = of_keeper.used in let area = area_whole keeper.geometry.layout keeper.geometry.area ∙ ap (λ (g : Geometry). g.area) of_keeper.geometry in
         lt-leb (world.stage.at + 17 + bodies_bytes (in_hand world) + 1) world.stage.setting.geometry.area (omega (arith, full, used, area, hand_bodies))
 
     -- where storing the group in hand leads: the device failed before, the group doesn't fit, or it is tried
     pub goes_failed : (P : World → Type 0) → keeper.failed ≡ true → P (logged (put_back world) (Failed FailedBefore)) → P (append Nothing world)
     goes_failed P failed here = if_true P (nat_lt world.stage.stored world.stage.sealed) _ _ has_hand (if_true P world.stage.stopped _ _ (sym of_keeper.failed ∙ failed) here)
 
-    pub goes_full : (P : World → Type 0) → keeper.failed ≡ false → keeper.geometry.area < end_after keeper group → P (held (put_back world)) → P (append Nothing world)
+    pub goes_full : (P : World → Type 0) → keeper.failed ≡ false → area_size keeper.geometry < end_after keeper group → P (held (put_back world)) → P (append Nothing world)
     goes_full P failed full here = if_true P (nat_lt world.stage.stored world.stage.sealed) _ _ has_hand (if_false P world.stage.stopped _ _ (works failed) (if_false P (fits world) _ _ (full_is full) here))
 
-    pub goes_on_to : (failure : Failure) (P : World → Type 0) → keeper.failed ≡ false → end_after keeper group ≤ keeper.geometry.area → P (stored_more failure world) → P (append failure world)
+    pub goes_on_to : (failure : Failure) (P : World → Type 0) → keeper.failed ≡ false → end_after keeper group ≤ area_size keeper.geometry → P (stored_more failure world) → P (append failure world)
     goes_on_to failure P failed fit here = if_true P (nat_lt world.stage.stored world.stage.sealed) _ _ has_hand (if_false P world.stage.stopped _ _ (works failed) (if_true P (fits world) _ _ (fits_is fit) here))
 
     -- the group is pending again
@@ -199,6 +202,7 @@ module _ {D : Type 0} (world : World) (keeper : KeeperState D) (failures : ℕ) 
         count = of_keeper.count;
         base = of_keeper.base;
         turned = of_keeper.turned;
+        lefts = of_keeper.lefts;
         generation = of_keeper.generation;
         phase = of_keeper.phase;
         used = of_keeper.used;
@@ -222,6 +226,7 @@ module _ {D : Type 0} (world : World) (keeper : KeeperState D) (failures : ℕ) 
         count = let count = of_keeper.count in let hand = of.hand in omega (arith, count, hand, commands_length group);
         base = of_keeper.base;
         turned = of_keeper.turned;
+        lefts = of_keeper.lefts;
         generation = of_keeper.generation;
         phase = of_keeper.phase;
         used = let used = of_keeper.used in omega (arith, used, hand_bodies);
@@ -274,6 +279,7 @@ keeper_cleans stage keeper failures cleaned of = record {
   count = of.count;
   base = of.base;
   turned = of.turned;
+  lefts = of.lefts;
   generation = of.generation;
   phase = of.phase;
   used = of.used;

@@ -60,7 +60,7 @@ pub record IsEditServed {D : Type 0} (state : D → State) (faults : D → ℕ) 
   pub keeper_is : next ≡ record keeper { disk = next.disk }
   pub level : faults next.disk ≡ faults keeper.disk
   pub only_read : honest keeper.disk → IsOnlyRead (state keeper.disk) (state next.disk)
-  pub holds : honest keeper.disk → (base : Image) (front last : List Change) → Holds keeper (state keeper.disk) base front last → Holds next (state next.disk) base front last
+  pub holds : honest keeper.disk → (base : Image) (fronts : List (List Change)) (last : List Change) → Holds keeper (state keeper.disk) base fronts last → Holds next (state next.disk) base fronts last
 
 -- A call of the device failed, or has failed before, for old bytes of a write request for which there is a number and room.
 pub record IsEditRefused {D : Type 0} (state : D → State) (faults : D → ℕ) (honest : D → Type 0) (request : Message) (old new : OrderState) (keeper next : KeeperState D) (result : Served) : Type 0 where

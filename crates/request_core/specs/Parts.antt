@@ -1,5 +1,5 @@
 -- when the parts of an export are of a world
-use Rattle.std.specs.Prelude.{ℕ, ◌≡◌, ◌+◌, ◌-◌, ◌≤◌, ◌<◌, true, false, if◌then◌else◌, Option, Some, None, IfSome, List, [], ◌++◌, length, map, drop, take, slice_index_or}
+use Rattle.std.specs.Prelude.{ℕ, ◌≡◌, ◌+◌, ◌-◌, ◌≤◌, ◌<◌, true, false, if◌then◌else◌, Option, Some, None, IfSome, List, [], ◌∷◌, ◌++◌, length, map, drop, take, slice_index_or}
 use Rattle.device_image.specs.Holds.{Holds}
 use Rattle.device_image.specs.Keeper.{KeeperState, Phase, One, Copying, Mapped}
 use Rattle.device_image.specs.Remembers.{Remembers}
@@ -15,7 +15,7 @@ use Rattle.export_model.specs.declared.connection.Connection.{Connection}
 use Rattle.export_model.specs.declared.connection.Connection.TheVariants.{Closed}
 use Rattle.image_model.specs.Bodies.{body_bytes}
 use Rattle.export_model.specs.Run.{IsReached}
-use Rattle.export_model.specs.Checkpoint.{is_turned, last_turned}
+use Rattle.export_model.specs.Checkpoint.{is_turned, last_turned, to_copy}
 use Rattle.export_model.specs.World.{World, Stage, dirty_behind, image_after}
 
 -- The content stands for the image after some first commands of the order, `least` of them or more, and for the number
@@ -34,7 +34,33 @@ part order from until = take (until - from) (drop from order)
 abbrev pub turned_at : Stage → ℕ
 turned_at stage = last_turned stage.base stage.turned
 
--- the commands in the areas in front of the last, and those in the last
+-- the commands in each of the areas in front of the last
+abbrev pub fronts_of : List Change → ℕ → List ℕ → List (List Change)
+fronts_of order base [] = []
+fronts_of order base (first ∷ rest) = part order base first ∷ fronts_of order first rest
+
+abbrev pub fronts_at : Stage → List (List Change)
+fronts_at stage = fronts_of stage.order stage.base stage.turned
+
+-- how many blocks each of these areas has to copy
+abbrev pub copies_of : List Change → ℕ → List ℕ → List ℕ
+copies_of order base [] = []
+copies_of order base (first ∷ rest) = to_copy base first order ∷ copies_of order first rest
+
+-- how many of them each leaves to copy, where the first leaves so many, and nothing of the others is copied
+abbrev pub lefts_by : List Change → ℕ → List ℕ → List ℕ
+lefts_by order left [] = []
+lefts_by order left (first ∷ rest) = left ∷ copies_of order first rest
+
+abbrev pub lefts_at : Stage → List ℕ
+lefts_at stage = lefts_by stage.order stage.left stage.turned
+
+-- the numbers of commands that are counted from an opening on
+abbrev pub numbers_of : ℕ → List ℕ → List ℕ
+numbers_of opening [] = []
+numbers_of opening (count ∷ counts) = (opening + count) ∷ numbers_of opening counts
+
+-- all the commands in the areas in front of the last, and those in the last
 abbrev pub first_commands : Stage → List Change
 first_commands stage = part stage.order stage.base (turned_at stage)
 
@@ -74,7 +100,8 @@ pub record IsKeeperOf {D : Type 0} (stage : Stage) (keeper : KeeperState D) (fai
   pub geometry : keeper.geometry ≡ stage.setting.geometry
   pub count : keeper.count ≡ stage.setting.opening + stage.stored
   pub base : keeper.base ≡ stage.setting.opening + stage.base
-  pub turned : keeper.turned ≡ stage.setting.opening + turned_at stage
+  pub turned : keeper.turned ≡ numbers_of stage.setting.opening stage.turned
+  pub lefts : keeper.lefts ≡ lefts_at stage
   pub generation : keeper.generation ≡ stage.generation
   pub phase : keeper.phase ≡ phase_at stage
   pub used : keeper.used ≡ stage.at
@@ -91,7 +118,7 @@ AreConnectionsOf world connections = (connection : ℕ) → slice_index_or conne
 -- The keeper, whose device is in this state, is that of a world: as long as the device hasn't failed the keeper holds the
 -- image up to the base and what is stored above it, and whatever a crash may leave reaches all that is stored.
 pub record IsDiskOf {D : Type 0} (stage : Stage) (keeper : KeeperState D) (state : State) : Type 0 where
-  pub holds : stage.stopped ≡ false → Holds keeper state (image_after stage.order stage.base stage.setting.image) (first_commands stage) (last_commands stage)
+  pub holds : stage.stopped ≡ false → Holds keeper state (image_after stage.order stage.base stage.setting.image) (fronts_at stage) (last_commands stage)
   pub leaves : (content : List ℕ) → MayLeave state content → StandsAfter stage.order stage.setting.image stage.setting.opening stage.stored content
 
 -- What the order knows of the image is that after all of its commands.

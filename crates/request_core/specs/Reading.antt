@@ -4,7 +4,7 @@ use Rattle.alloc_map.specs.Codes.{state_at}
 use Rattle.checkpoint.specs.Keeper.{faults_by, refused_by}
 use Rattle.checkpoint.specs.declared.fault.KeeperFault.{KeeperFault}
 use Rattle.checkpoint.specs.declared.fault.KeeperFault.TheVariants as fault
-use Rattle.device_image.specs.Holds.{Holds, is_written}
+use Rattle.device_image.specs.Holds.{Holds, is_written, joined}
 use Rattle.device_image.specs.Keeper.{KeeperState}
 use Rattle.disk_model.specs.Disk.{State}
 use Rattle.image_model.specs.Change.{Change}
@@ -35,15 +35,15 @@ pub record IsRead {D : Type 0} (state : D → State) (faults : D → ℕ) (hones
   pub kinds : (block : ℕ) → image.kind block ≡ state_at old.cache.states block
   pub in_memory : (k : ℕ) (bytes : List ℕ) → k < head.length → bytes_seen old.cache ((head.offset + k) / 4096) ≡ Some bytes
       → image.byte (head.offset + k) ≡ slice_index bytes ((head.offset + k) % 4096)
-  pub from_base : honest keeper.disk → (base : Image) (front last : List Change) → Holds keeper (state keeper.disk) base front last
+  pub from_base : honest keeper.disk → (base : Image) (fronts : List (List Change)) (last : List Change) → Holds keeper (state keeper.disk) base fronts last
       → (k : ℕ) → k < head.length → bytes_seen old.cache ((head.offset + k) / 4096) ≡ None
-      → base.kind ((head.offset + k) / 4096) ≡ Data → is_written ((head.offset + k) / 4096) front ≡ false
+      → base.kind ((head.offset + k) / 4096) ≡ Data → is_written ((head.offset + k) / 4096) (joined fronts) ≡ false
       → image.byte (head.offset + k) ≡ base.byte (head.offset + k)
-  pub own : honest keeper.disk → (base given : Image) (front last : List Change) → Holds keeper (state keeper.disk) base front last
-      → ShowsImage given old.cache → IsCleanAt base front given old.dirty
+  pub own : honest keeper.disk → (base given : Image) (fronts : List (List Change)) (last : List Change) → Holds keeper (state keeper.disk) base fronts last
+      → ShowsImage given old.cache → IsCleanAt base (joined fronts) given old.dirty
       → (k : ℕ) → k < head.length → image.byte (head.offset + k) ≡ given.byte (head.offset + k)
-  pub shows : honest keeper.disk → (base given : Image) (front last : List Change) → Holds keeper (state keeper.disk) base front last
-      → ShowsImage given old.cache → IsCleanAt base front given old.dirty → ShowsImage given new.cache
+  pub shows : honest keeper.disk → (base given : Image) (fronts : List (List Change)) (last : List Change) → Holds keeper (state keeper.disk) base fronts last
+      → ShowsImage given old.cache → IsCleanAt base (joined fronts) given old.dirty → ShowsImage given new.cache
   pub answer : result ≡ ready_for head.cookie (shown_by image head)
   -- only what is in memory has changed, and the device was read alone
   pub order : new ≡ record old { cache = new.cache }
@@ -51,7 +51,7 @@ pub record IsRead {D : Type 0} (state : D → State) (faults : D → ℕ) (hones
   pub keeper_is : next ≡ record keeper { disk = next.disk }
   pub level : faults next.disk ≡ faults keeper.disk
   pub only_read : honest keeper.disk → IsOnlyRead (state keeper.disk) (state next.disk)
-  pub holds : honest keeper.disk → (base : Image) (front last : List Change) → Holds keeper (state keeper.disk) base front last → Holds next (state next.disk) base front last
+  pub holds : honest keeper.disk → (base : Image) (fronts : List (List Change)) (last : List Change) → Holds keeper (state keeper.disk) base fronts last → Holds next (state next.disk) base fronts last
   -- of a keeper that had failed nothing was read: all was in memory
   pub in_frames : keeper.failed ≡ true → new ≡ old
   pub there : keeper.failed ≡ true → (k : ℕ) → k < head.length → bytes_seen old.cache ((head.offset + k) / 4096) ≢ None
@@ -60,11 +60,11 @@ pub record IsRead {D : Type 0} (state : D → State) (faults : D → ℕ) (hones
 pub record IsKnownBy {D : Type 0} (state : D → State) (honest : D → Type 0) (keeper : KeeperState D) (order : OrderState) (image : Image) : Type 0 where
   pub sure : honest keeper.disk
   pub base : Image
-  pub front : List Change
+  pub fronts : List (List Change)
   pub last : List Change
-  pub holds : Holds keeper (state keeper.disk) base front last
+  pub holds : Holds keeper (state keeper.disk) base fronts last
   pub shows : ShowsImage image order.cache
-  pub clean : IsCleanAt base front image order.dirty
+  pub clean : IsCleanAt base (joined fronts) image order.dirty
 
 -- A call of the device failed, or has failed before: the answer is EIO, and the order is stopped.
 pub record IsUnread {D : Type 0} (state : D → State) (faults : D → ℕ) (honest : D → Type 0) (head : RequestHead) (old new : OrderState) (keeper next : KeeperState D) (result : Served) : Type 0 where

@@ -58,9 +58,9 @@ module _ {D : Type 0} (keeper : KeeperState D) (disk : D) (state : State) where
     unsynced = keeps.unsynced;
   }
 
-  holds_with : (base : Image) (first last : List Change) → Holds keeper state base first last → Holds (record keeper { disk = disk }) state base first last
+  holds_with : (base : Image) (fronts : List (List Change)) (last : List Change) → Holds keeper state base fronts last → Holds (record keeper { disk = disk }) state base fronts last
   unfolding keeps_with
-  holds_with base first last holds = record {
+  holds_with base fronts last holds = record {
     keeps = keeps_with _ _ holds.keeps;
     in_front = holds.in_front;
     in_last = holds.in_last;
@@ -81,6 +81,7 @@ module _ {D : Type 0} (keeper : KeeperState D) (disk : D) (state : State) where
             count = kept.count;
             base = kept.base;
             turned = kept.turned;
+            lefts = kept.lefts;
             generation = kept.generation;
             phase = kept.phase;
             used = kept.used;

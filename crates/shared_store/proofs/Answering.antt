@@ -3,6 +3,7 @@ use Rattle.std.specs.Prelude.{IfOk, OnErr}
 use Rattle.std.proofs.Common.{◌≡◌, ◌≢◌, ◌⊎◌, inl, inr, ℕ, zero, suc, ◌+◌, ◌*◌, ◌/◌, ◌%◌, ◌<◌, ◌≤◌, ◌==◌, Bool, true, false, if◌then◌else◌, Option, None, Some, List, [], ◌∷◌, ◌++◌, length, take, Result, Ok, Err, refl, ap, sym, ◌∙◌, subst, arith}
 use Rattle.std.proofs.lemmas.Bool.{cases_Bool}
 use mathlib.Core.List.{IsPrefix}
+use Rattle.device_image.specs.Holds.{joined}
 use Rattle.device_image.specs.Keeper.{KeeperState}
 use Rattle.disk_model.specs.Disk.{State}
 use Rattle.image_model.specs.Change.{Change}
@@ -169,12 +170,12 @@ module _ (opening : ℕ) (image : Image) (trusted : Type 0) (request : Message) 
     own works = record {
       sure = stored.sure so;
       base = apply_all stored.copied image;
-      front = stored.front;
+      fronts = stored.fronts;
       last = stored.last;
       holds = stored.holds so works;
       shows = is.shows sure;
-      clean = clean_at opening image trusted old is stored.copied stored.front stored.last
-          (subst (λ (h : List Change). IsPrefix ((stored.copied ++ stored.front) ++ stored.last) h) known stored.within) (omega (arith, base, stored.base));
+      clean = clean_at opening image trusted old is stored.copied (joined stored.fronts) stored.last
+          (subst (λ (h : List Change). IsPrefix ((stored.copied ++ joined stored.fronts) ++ stored.last) h) known stored.within) (omega (arith, base, stored.base));
     }
 
     read_bytes : (read : IsRead state faults honest request.head old new keeper next result) → (keeper.failed ≡ true) ⊎ (keeper.failed ≡ false)
@@ -187,7 +188,7 @@ module _ (opening : ℕ) (image : Image) (trusted : Type 0) (request : Message) 
         read.in_memory k found.0 below found.1 ∙ (is.shows sure).bytes block found.0 found.1 rest (omega arith) ∙ ap after.byte place
     read_bytes read (inr works) k below =
         let is_own = own works in
-        read.own is_own.sure is_own.base after is_own.front is_own.last is_own.holds (is.shows sure) is_own.clean k below
+        read.own is_own.sure is_own.base after is_own.fronts is_own.last is_own.holds (is.shows sure) is_own.clean k below
 
     pub with_keeper : (given : Result Action Errno) → IsServedBy state faults honest given request geometry kept old new keeper next result → Tells
     with_keeper (Ok End) by = absurd by

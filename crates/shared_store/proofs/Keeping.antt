@@ -6,13 +6,14 @@ use Rattle.std.proofs.lemmas.List.{append-nil}
 use mathlib.Core.List.{IsPrefix}
 use Rattle.checkpoint.specs.Keeper.{end_after, grown_by, refused_by}
 use Rattle.checkpoint.specs.Recovery.{IsRecovered}
-use Rattle.checkpoint.specs.Steps.{IsRotateTime, copied_by, finished_by, mapped_by, rotated_by}
+use Rattle.checkpoint.specs.Steps.{IsFinishTime, behind_first, copied_by, finished_by, first_turned, mapped_by, rotated_by}
 use Rattle.checkpoint.specs.declared.fault.KeeperFault.{KeeperFault}
 use Rattle.checkpoint.specs.declared.fault.KeeperFault.TheVariants as fault
-use Rattle.device_image.specs.Holds.{Holds}
+use Rattle.device_image.specs.Holds.{Holds, joined}
 use Rattle.device_image.specs.Keeper.{Copying, KeeperState, Mapped, Memory, One, Phase}
 use Rattle.device_image.specs.Keeps.{Keeps}
 use Rattle.device_image.specs.Stands.{StandsFor}
+use Rattle.device_image.specs.laws.AfterCall.{joined-push, one_in_use}
 use Rattle.device_image.specs.laws.Kept.{kept_content}
 use Rattle.disk_model.specs.Disk.{IsSound, LeavesOnly, MayLeave, State}
 use Rattle.disk_model.specs.laws.Moments.{begins, ends, goes_on, weakens}
@@ -26,7 +27,8 @@ use Rattle.marks.specs.laws.Beginnings.{prefix_none, prefix_self, prefix_trans}
 use Rattle.order_book.specs.Order.{IsPublishedTo, OrderState}
 use Rattle.request_core.specs.laws.Lives.{apply_append}
 use Rattle.request_core.specs.laws.Orders.{commands_length}
-use Rattle.shared_store.specs.Keepers.{HasLeft, IsOfHistory, KeepsHistory}
+use Rattle.regions.specs.Layout.{area_size}
+use Rattle.shared_store.specs.Keepers.{HasLeft, IsOfHistory, KeepsHistory, ends_of}
 use Rattle.shared_store.specs.Parts.{IsPartOf, IsSealed, SealedState, StandsWithin}
 
 -- of two beginnings of one list that are as long each is the other
@@ -52,17 +54,24 @@ stands_longer opening image history longer least content is grows = record {
   stands = is.stands;
 }
 
-not_one : (left : ℕ) → Copying left ≡ One → ⊥
-not_one left is = cc
+-- where one area is in use no checkpoint ends
+none_to_finish : (phase : Phase) → phase ≡ One → IsFinishTime phase → ⊥
+none_to_finish One one time = time
+none_to_finish (Copying left) one time = time
+none_to_finish Mapped one time = cc
 
-mapped_not_one : Mapped ≡ One → ⊥
-mapped_not_one is = cc
+-- one more area stands behind others
+ends-push : (number : ℕ) (fronts : List (List Change)) (last : List Change) → ends_of number (fronts ++ last ∷ []) ≡ ends_of number fronts ++ (number + length (joined fronts) + length last) ∷ []
+ends-push number [] last = ap (λ (n : ℕ). n ∷ []) (omega arith)
+ends-push number (front ∷ fronts) last =
+    let all = length-append front (joined fronts) in
+    ap (λ (l : List ℕ). (number + length front) ∷ l)
+    (ends-push (number + length front) fronts last ∙ ap (λ (n : ℕ). ends_of (number + length front) fronts ++ n ∷ []) (omega (arith, all)))
 
--- the time to take the next area into use is where one is
-one_area : (phase : Phase) (used : ℕ) → ((IsRotateTime phase used → ⊥) → ⊥) → phase ≡ One
-one_area One used time = refl
-one_area (Copying left) used time = absurd (time (λ none. none))
-one_area Mapped used time = absurd (time (λ none. none))
+-- the base goes up
+pub first_after : (number : ℕ) (fronts : List (List Change)) → number ≤ first_turned number (ends_of number fronts)
+first_after number [] = omega arith
+first_after number (front ∷ fronts) = omega arith
 
 full_is_other : fault.DeviceFault ≡ fault.AreaFull → ⊥
 full_is_other is = cc
@@ -83,13 +92,12 @@ pub opened : {D : Type 0} (state : D → State) (honest : D → Type 0) (opening
     → (trusted → Holds keeper (state keeper.disk) image [] []) → IsOfHistory state honest opening image trusted seat keeper
 opened state honest opening image trusted seat keeper recovered count known blocks sure holds = record {
   copied = [];
-  front = [];
+  fronts = [];
   last = [];
   base = omega (arith, recovered.base, count);
-  turned = omega (arith, recovered.turned);
-  count = omega (arith, recovered.base, recovered.turned);
+  turned = recovered.turned;
+  count = omega (arith, recovered.base);
   within = prefix_none seat.history;
-  one = λ one. refl;
   blocks = blocks;
   sure = sure;
   holds = λ is works. holds is;
@@ -111,13 +119,12 @@ module _ {D : Type 0} (state : D → State) (honest : D → Type 0) (opening : �
   pub seated : (old new : KeeperKnows) (keeper : KeeperState D) → Of old keeper → IsPrefix old.history new.history → new.durable ≤ keeper.count → new.base ≡ old.base → Of new keeper
   seated old new keeper is grows durable base = record {
     copied = is.copied;
-    front = is.front;
+    fronts = is.fronts;
     last = is.last;
     base = is.base;
     turned = is.turned;
     count = is.count;
-    within = prefix_trans ((is.copied ++ is.front) ++ is.last) old.history new.history is.within grows;
-    one = is.one;
+    within = prefix_trans ((is.copied ++ joined is.fronts) ++ is.last) old.history new.history is.within grows;
     blocks = is.blocks;
     sure = is.sure;
     holds = is.holds;
@@ -128,21 +135,21 @@ module _ {D : Type 0} (state : D → State) (honest : D → Type 0) (opening : �
 
   module _ (seat : KeeperKnows) (keeper : KeeperState D) (is : Of seat keeper) where
     abbrev pub all : List Change
-    all = (is.copied ++ is.front) ++ is.last
+    all = (is.copied ++ joined is.fronts) ++ is.last
 
     pub all_count : keeper.count ≡ opening + length all
-    all_count = omega (arith, is.base, is.turned, is.count, length-append is.copied is.front, length-append (is.copied ++ is.front) is.last)
+    all_count = omega (arith, is.base, is.count, length-append is.copied (joined is.fronts), length-append (is.copied ++ joined is.fronts) is.last)
 
-    all_image : apply_all all image ≡ apply_all is.last (apply_all is.front (apply_all is.copied image))
-    all_image = apply_append (is.copied ++ is.front) is.last image ∙ ap (apply_all is.last) (apply_append is.copied is.front image)
+    all_image : apply_all all image ≡ apply_all is.last (apply_all (joined is.fronts) (apply_all is.copied image))
+    all_image = apply_append (is.copied ++ joined is.fronts) is.last image ∙ ap (apply_all is.last) (apply_append is.copied (joined is.fronts) image)
 
     -- it keeps the image after all that it has stored
     pub keeps_all : trusted → keeper.failed ≡ false → Keeps keeper (state keeper.disk) (apply_all all image) (opening + length all)
     keeps_all sure works =
         let holds = is.holds sure works in
-        let number : keeper.base + length is.front + length is.last ≡ opening + length all = omega (arith, is.base, length-append is.copied is.front, length-append (is.copied ++ is.front) is.last) in
+        let number : keeper.base + length (joined is.fronts) + length is.last ≡ opening + length all = omega (arith, is.base, length-append is.copied (joined is.fronts), length-append (is.copied ++ joined is.fronts) is.last) in
         subst (λ (n : ℕ). Keeps keeper (state keeper.disk) (apply_all all image) n) number
-        (subst (λ (i : Image). Keeps keeper (state keeper.disk) i (keeper.base + length is.front + length is.last)) (sym all_image) holds.keeps)
+        (subst (λ (i : Image). Keeps keeper (state keeper.disk) i (keeper.base + length (joined is.fronts) + length is.last)) (sym all_image) holds.keeps)
 
     -- so that is what a crash leaves
     pub leaves_all : trusted → (content : List ℕ) → MayLeave (state keeper.disk) content → StandsWithin opening image seat.history keeper.count content
@@ -162,13 +169,12 @@ module _ {D : Type 0} (state : D → State) (honest : D → Type 0) (opening : �
         → Of seat (record keeper { disk = disk; failed = true })
     failed_by disk kept left = record {
       copied = is.copied;
-      front = is.front;
+      fronts = is.fronts;
       last = is.last;
       base = is.base;
       turned = is.turned;
       count = is.count;
       within = is.within;
-      one = is.one;
       blocks = is.blocks;
       sure = λ sure. kept (is.sure sure);
       holds = λ sure works. absurd (both_ways true works refl);
@@ -211,19 +217,18 @@ module _ {D : Type 0} (state : D → State) (honest : D → Type 0) (opening : �
 
     -- the keeper holds the same over the same image
     pub stays : (next : KeeperState D) → next.base ≡ keeper.base → next.turned ≡ keeper.turned → next.count ≡ keeper.count → next.geometry ≡ keeper.geometry
-        → (next.phase ≡ One → keeper.phase ≡ One) → (honest keeper.disk → honest next.disk)
-        → (trusted → next.failed ≡ false → Holds next (state next.disk) (apply_all is.copied image) is.front is.last)
+        → (honest keeper.disk → honest next.disk)
+        → (trusted → next.failed ≡ false → Holds next (state next.disk) (apply_all is.copied image) is.fronts is.last)
         → (trusted → next.failed ≡ true → (content : List ℕ) → MayLeave (state next.disk) content → StandsWithin opening image seat.history keeper.count content)
         → Of seat next
-    stays next base turned count geometry phase kept holds leaves = record {
+    stays next base turned count geometry kept holds leaves = record {
       copied = is.copied;
-      front = is.front;
+      fronts = is.fronts;
       last = is.last;
       base = base ∙ is.base;
-      turned = omega (arith, base, turned, is.turned);
-      count = omega (arith, count, turned, is.count);
+      turned = turned ∙ (is.turned ∙ ap (λ (n : ℕ). ends_of n is.fronts) (sym base));
+      count = omega (arith, count, base, is.count);
       within = is.within;
-      one = λ one. is.one (phase one);
       blocks = ap (λ (g : Geometry). g.blocks) geometry ∙ is.blocks;
       sure = λ sure. kept (is.sure sure);
       holds = holds;
@@ -235,13 +240,13 @@ module _ {D : Type 0} (state : D → State) (honest : D → Type 0) (opening : �
     -- the device was read alone
     pub read_by : (extent : ℕ) (next : KeeperState D) → (honest next.disk → IsSound extent (state next.disk)) → next ≡ record keeper { disk = next.disk } → (honest keeper.disk → honest next.disk)
         → (honest keeper.disk → IsOnlyRead (state keeper.disk) (state next.disk))
-        → (honest keeper.disk → (base : Image) (front last : List Change) → Holds keeper (state keeper.disk) base front last → Holds next (state next.disk) base front last)
+        → (honest keeper.disk → (base : Image) (fronts : List (List Change)) (last : List Change) → Holds keeper (state keeper.disk) base fronts last → Holds next (state next.disk) base fronts last)
         → Of seat next
     read_by extent next sound same kept only holds =
         let failed : next.failed ≡ keeper.failed = ap (λ (k : KeeperState D). k.failed) same in
         stays next (ap (λ (k : KeeperState D). k.base) same) (ap (λ (k : KeeperState D). k.turned) same) (ap (λ (k : KeeperState D). k.count) same) (ap (λ (k : KeeperState D). k.geometry) same)
-        (λ one. sym (ap (λ (k : KeeperState D). k.phase) same) ∙ one) kept
-        (λ sure works. holds (is.sure sure) (apply_all is.copied image) is.front is.last (is.holds sure (sym failed ∙ works)))
+        kept
+        (λ sure works. holds (is.sure sure) (apply_all is.copied image) is.fronts is.last (is.holds sure (sym failed ∙ works)))
         (λ sure failed content left. leaves_all seat keeper is sure content (ends (only (is.sure sure)).any_moment (sound (kept (is.sure sure))) content left))
 
     -- a read of the device failed
@@ -251,54 +256,78 @@ module _ {D : Type 0} (state : D → State) (honest : D → Type 0) (opening : �
         refused seat keeper is refusal next same kept (λ cause sure content left. leaves_all seat keeper is sure content (ends (only (is.sure sure)).any_moment (sound (kept (is.sure sure))) content left))
 
     -- the next area is in use
-    pub rotated : (disk : D) (memory : Memory) → keeper.failed ≡ false → keeper.phase ≡ One → (honest keeper.disk → honest disk)
-        → (honest keeper.disk → (base : Image) (last : List Change) → Holds keeper (state keeper.disk) base [] last → Holds (rotated_by keeper disk memory) (state disk) base last [])
+    pub rotated : (disk : D) (memory : Memory) → keeper.failed ≡ false → (honest keeper.disk → honest disk)
+        → (honest keeper.disk → (base : Image) (fronts : List (List Change)) (last : List Change) → Holds keeper (state keeper.disk) base fronts last → Holds (rotated_by keeper disk memory) (state disk) base (fronts ++ last ∷ []) [])
         → Of seat (rotated_by keeper disk memory)
-    rotated disk memory works one kept holds =
-        let none = is.one one in
-        let lists : (is.copied ++ is.front) ++ is.last ≡ (is.copied ++ is.last) ++ [] =
-        ap (λ (l : List Change). (is.copied ++ l) ++ is.last) none ∙ (ap (λ (l : List Change). l ++ is.last) (append-nil is.copied) ∙ sym (append-nil (is.copied ++ is.last))) in
+    rotated disk memory works kept holds =
+        let more = joined-push is.fronts is.last in
+        let lists : (is.copied ++ joined is.fronts) ++ is.last ≡ (is.copied ++ joined (is.fronts ++ is.last ∷ [])) ++ [] =
+        append_assoc is.copied (joined is.fronts) is.last ∙ (ap (λ (l : List Change). is.copied ++ l) (sym more) ∙ sym (append-nil (is.copied ++ joined (is.fronts ++ is.last ∷ [])))) in
         record {
           copied = is.copied;
-          front = is.last;
+          fronts = is.fronts ++ is.last ∷ [];
           last = [];
           base = is.base;
-          turned = omega (arith, is.count, is.turned, ap length none);
-          count = omega arith;
+          turned = (λ i. is.turned i ++ is.count i ∷ []) ∙ sym (ends-push keeper.base is.fronts is.last);
+          count = omega (arith, is.count, ap (λ (l : List Change). length l) more, length-append (joined is.fronts) is.last);
           within = subst (λ (l : List Change). IsPrefix l seat.history) lists is.within;
-          one = λ now. absurd (not_one _ now);
           blocks = is.blocks;
           sure = λ sure. kept (is.sure sure);
-          holds = λ sure still. holds (is.sure sure) (apply_all is.copied image) is.last
-              (subst (λ (l : List Change). Holds keeper (state keeper.disk) (apply_all is.copied image) l is.last) none (is.holds sure works));
+          holds = λ sure still. holds (is.sure sure) (apply_all is.copied image) is.fronts is.last (is.holds sure works);
           leaves = λ sure failed. absurd (both_ways keeper.failed works failed);
           seat_durable = is.seat_durable;
           seat_base = is.seat_base;
         }
 
     -- map and data hold what the first area did, and the seat knows the base
-    pub finished : (disk : D) (memory : Memory) → keeper.failed ≡ false → (honest keeper.disk → honest disk)
-        → (honest keeper.disk → (base : Image) (front last : List Change) → Holds keeper (state keeper.disk) base front last → Holds (finished_by keeper disk memory) (state disk) (apply_all front base) [] last)
-        → Of (record seat { base = keeper.turned }) (finished_by keeper disk memory)
-    finished disk memory works kept holds =
-        let lists : (is.copied ++ is.front) ++ is.last ≡ ((is.copied ++ is.front) ++ []) ++ is.last = ap (λ (l : List Change). l ++ is.last) (sym (append-nil (is.copied ++ is.front))) in
-        record {
-          copied = is.copied ++ is.front;
-          front = [];
-          last = is.last;
-          base = omega (arith, is.base, is.turned, length-append is.copied is.front);
-          turned = omega arith;
-          count = is.count;
-          within = subst (λ (l : List Change). IsPrefix l seat.history) lists is.within;
-          one = λ now. refl;
-          blocks = is.blocks;
-          sure = λ sure. kept (is.sure sure);
-          holds = λ sure still. subst (λ (i : Image). Holds (finished_by keeper disk memory) (state disk) i [] is.last) (sym (apply_append is.copied is.front image))
-              (holds (is.sure sure) (apply_all is.copied image) is.front is.last (is.holds sure works));
-          leaves = λ sure failed. absurd (both_ways keeper.failed works failed);
-          seat_durable = is.seat_durable;
-          seat_base = refl;
-        }
+    pub finished : (disk : D) (memory : Memory) → keeper.failed ≡ false → (keeper.phase ≡ One → ⊥) → (honest keeper.disk → honest disk)
+        → (honest keeper.disk → (base : Image) (first : List Change) (others : List (List Change)) (last : List Change) → Holds keeper (state keeper.disk) base (first ∷ others) last
+        → Holds (finished_by keeper disk memory) (state disk) (apply_all first base) others last)
+        → Of (record seat { base = first_turned keeper.base keeper.turned }) (finished_by keeper disk memory)
+    finished disk memory works several kept holds = by_fronts is.fronts refl
+      where
+        by_fronts : (fronts : List (List Change)) → is.fronts ≡ fronts → Of (record seat { base = first_turned keeper.base keeper.turned }) (finished_by keeper disk memory)
+        by_fronts [] none =
+            let ends : keeper.turned ≡ [] = is.turned ∙ ap (ends_of keeper.base) none in
+            let still : first_turned keeper.base keeper.turned ≡ keeper.base = ap (first_turned keeper.base) ends in
+            record {
+              copied = is.copied;
+              fronts = [];
+              last = is.last;
+              base = still ∙ is.base;
+              turned = ap behind_first ends;
+              count = omega (arith, is.count, still, ap (λ (f : List (List Change)). length (joined f)) none);
+              within = subst (λ (f : List (List Change)). IsPrefix ((is.copied ++ joined f) ++ is.last) seat.history) none is.within;
+              blocks = is.blocks;
+              sure = λ sure. kept (is.sure sure);
+              holds = λ sure still. absurd (several (one_in_use keeper (state keeper.disk) (apply_all is.copied image) is.last
+                  (subst (λ (f : List (List Change)). Holds keeper (state keeper.disk) (apply_all is.copied image) f is.last) none (is.holds sure works))));
+              leaves = λ sure failed. absurd (both_ways keeper.failed works failed);
+              seat_durable = is.seat_durable;
+              seat_base = refl;
+            }
+        by_fronts (first ∷ others) are =
+            let ends : keeper.turned ≡ (keeper.base + length first) ∷ ends_of (keeper.base + length first) others = is.turned ∙ ap (ends_of keeper.base) are in
+            let reached : first_turned keeper.base keeper.turned ≡ keeper.base + length first = ap (first_turned keeper.base) ends in
+            let lists : (is.copied ++ joined is.fronts) ++ is.last ≡ ((is.copied ++ first) ++ joined others) ++ is.last =
+            ap (λ (f : List (List Change)). (is.copied ++ joined f) ++ is.last) are ∙ ap (λ (l : List Change). l ++ is.last) (sym (append_assoc is.copied first (joined others))) in
+            record {
+              copied = is.copied ++ first;
+              fronts = others;
+              last = is.last;
+              base = omega (arith, reached, is.base, length-append is.copied first);
+              turned = ap behind_first ends ∙ ap (λ (n : ℕ). ends_of n others) (sym reached);
+              count = omega (arith, is.count, reached, ap (λ (f : List (List Change)). length (joined f)) are, length-append first (joined others));
+              within = subst (λ (l : List Change). IsPrefix l seat.history) lists is.within;
+              blocks = is.blocks;
+              sure = λ sure. kept (is.sure sure);
+              holds = λ sure still. subst (λ (i : Image). Holds (finished_by keeper disk memory) (state disk) i others is.last) (sym (apply_append is.copied first image))
+                  (holds (is.sure sure) (apply_all is.copied image) first others is.last
+                  (subst (λ (f : List (List Change)). Holds keeper (state keeper.disk) (apply_all is.copied image) f is.last) are (is.holds sure works)));
+              leaves = λ sure failed. absurd (both_ways keeper.failed works failed);
+              seat_durable = is.seat_durable;
+              seat_base = refl;
+            }
 
     -- a crash at any moment of a call leaves what was stored before it
     stands_all : (content : List ℕ) → StandsFor content (apply_all (all seat keeper is) image) (opening + length (all seat keeper is)) → StandsWithin opening image seat.history keeper.count content
@@ -346,55 +375,54 @@ module _ {D : Type 0} (state : D → State) (honest : D → Type 0) (opening : �
           refused seat keeper is refusal next same kept
           (λ cause sure. left_by extent next (sound (kept (is.sure sure))) sure (unfailed result refusal failed told (λ e. failed_is_other (sym cause ∙ e))) (any_moment (is.sure sure)))
 
-      -- nothing but the device and the phase has changed
-      step_stays : keeper.failed ≡ false → next.failed ≡ keeper.failed → next.base ≡ keeper.base → next.turned ≡ keeper.turned → next.count ≡ keeper.count → next.geometry ≡ keeper.geometry → (next.phase ≡ One → ⊥)
-          → (honest keeper.disk → (base : Image) (front last : List Change) → Holds keeper (state keeper.disk) base front last → Holds next (state next.disk) base front last) → Of seat next
-      step_stays works failed base turned count geometry phase holds =
-          stays next base turned count geometry (λ one. absurd (phase one)) kept
-          (λ sure still. holds (is.sure sure) (apply_all is.copied image) is.front is.last (is.holds sure works))
+      -- the same numbers, and the same held
+      step_stays : keeper.failed ≡ false → next.failed ≡ keeper.failed → next.base ≡ keeper.base → next.turned ≡ keeper.turned → next.count ≡ keeper.count → next.geometry ≡ keeper.geometry
+          → (honest keeper.disk → (base : Image) (fronts : List (List Change)) (last : List Change) → Holds keeper (state keeper.disk) base fronts last → Holds next (state next.disk) base fronts last) → Of seat next
+      step_stays works failed base turned count geometry holds =
+          stays next base turned count geometry kept
+          (λ sure still. holds (is.sure sure) (apply_all is.copied image) is.fronts is.last (is.holds sure works))
           (λ sure broken. absurd (both_ways keeper.failed works (sym failed ∙ broken)))
 
       pub copied : (most : ℕ) (result : Result ℕ KeeperFault) → IfOk result (λ blocks. (1 ≤ blocks) × (blocks ≤ most) × (next ≡ copied_by keeper blocks next.disk next.memory))
           → IfErr result (λ refusal. next ≡ refused_by refusal keeper next.disk) → (result ≡ Err fault.Failed) ↔ IsTrue keeper.failed
-          → (honest keeper.disk → (base : Image) (front last : List Change) → Holds keeper (state keeper.disk) base front last → OnOk result (Holds next (state next.disk) base front last))
+          → (honest keeper.disk → (base : Image) (fronts : List (List Change)) (last : List Change) → Holds keeper (state keeper.disk) base fronts last → OnOk result (Holds next (state next.disk) base fronts last))
           → (honest keeper.disk → (found : Image) (number : ℕ) → Keeps keeper (state keeper.disk) found number → LeavesOnly (state keeper.disk) (state next.disk) (λ content. StandsFor content found number))
           → Of seat next
       copied most (Ok blocks) ok err failed held any_moment =
           let same = ok.2 in
           step_stays (worked blocks failed) (ap (λ (k : KeeperState D). k.failed) same) (ap (λ (k : KeeperState D). k.base) same) (ap (λ (k : KeeperState D). k.turned) same) (ap (λ (k : KeeperState D). k.count) same)
-          (ap (λ (k : KeeperState D). k.geometry) same) (λ one. not_one _ (sym (ap (λ (k : KeeperState D). k.phase) same) ∙ one)) held
+          (ap (λ (k : KeeperState D). k.geometry) same) held
       copied most (Err refusal) ok err failed held any_moment = step_refused refusal (Err refusal) refl err failed any_moment
 
       pub mapped : {T : Type 0} (result : Result T KeeperFault) → OnOk result (next ≡ mapped_by keeper next.disk next.memory)
           → IfErr result (λ refusal. next ≡ refused_by refusal keeper next.disk) → (result ≡ Err fault.Failed) ↔ IsTrue keeper.failed
-          → (honest keeper.disk → (base : Image) (front last : List Change) → Holds keeper (state keeper.disk) base front last → OnOk result (Holds next (state next.disk) base front last))
+          → (honest keeper.disk → (base : Image) (fronts : List (List Change)) (last : List Change) → Holds keeper (state keeper.disk) base fronts last → OnOk result (Holds next (state next.disk) base fronts last))
           → (honest keeper.disk → (found : Image) (number : ℕ) → Keeps keeper (state keeper.disk) found number → LeavesOnly (state keeper.disk) (state next.disk) (λ content. StandsFor content found number))
           → Of seat next
       mapped (Ok value) same err failed held any_moment =
           step_stays (worked value failed) (ap (λ (k : KeeperState D). k.failed) same) (ap (λ (k : KeeperState D). k.base) same) (ap (λ (k : KeeperState D). k.turned) same) (ap (λ (k : KeeperState D). k.count) same)
-          (ap (λ (k : KeeperState D). k.geometry) same) (λ one. mapped_not_one (sym (ap (λ (k : KeeperState D). k.phase) same) ∙ one)) held
+          (ap (λ (k : KeeperState D). k.geometry) same) held
       mapped (Err refusal) ok err failed held any_moment = step_refused refusal (Err refusal) refl err failed any_moment
 
       pub turned : {T : Type 0} (result : Result T KeeperFault) → OnOk result (next ≡ rotated_by keeper next.disk next.memory)
           → IfErr result (λ refusal. next ≡ refused_by refusal keeper next.disk) → (result ≡ Err fault.Failed) ↔ IsTrue keeper.failed
-          → (result ≡ Err fault.NotNow) ↔ ((keeper.failed ≡ false) × (IsRotateTime keeper.phase keeper.used → ⊥))
-          → (honest keeper.disk → (base : Image) (last : List Change) → Holds keeper (state keeper.disk) base [] last → OnOk result (Holds next (state next.disk) base last []))
+          → (honest keeper.disk → (base : Image) (fronts : List (List Change)) (last : List Change) → Holds keeper (state keeper.disk) base fronts last → OnOk result (Holds next (state next.disk) base (fronts ++ last ∷ []) []))
           → (honest keeper.disk → (found : Image) (number : ℕ) → Keeps keeper (state keeper.disk) found number → LeavesOnly (state keeper.disk) (state next.disk) (λ content. StandsFor content found number))
           → Of seat next
-      turned (Ok value) same err failed not_now held any_moment =
-          let works = worked value failed in
+      turned (Ok value) same err failed held any_moment =
           subst (Of seat) (sym same)
-          (rotated next.disk next.memory works (one_area keeper.phase keeper.used (λ late. let e = not_now.1 (works, late) in cc)) kept
-          (λ sure base last holds. subst (λ (k : KeeperState D). Holds k (state next.disk) base last []) same (held sure base last holds)))
-      turned (Err refusal) ok err failed not_now held any_moment = step_refused refusal (Err refusal) refl err failed any_moment
+          (rotated next.disk next.memory (worked value failed) kept
+          (λ sure base fronts last holds. subst (λ (k : KeeperState D). Holds k (state next.disk) base (fronts ++ last ∷ []) []) same (held sure base fronts last holds)))
+      turned (Err refusal) ok err failed held any_moment = step_refused refusal (Err refusal) refl err failed any_moment
 
-      pub ended : keeper.failed ≡ false → next ≡ finished_by keeper next.disk next.memory
-          → (honest keeper.disk → (base : Image) (front last : List Change) → Holds keeper (state keeper.disk) base front last → Holds next (state next.disk) (apply_all front base) [] last)
-          → Of (record seat { base = keeper.turned }) next
-      ended works same held =
-          subst (Of (record seat { base = keeper.turned })) (sym same)
-          (finished next.disk next.memory works kept
-          (λ sure base front last holds. subst (λ (k : KeeperState D). Holds k (state next.disk) (apply_all front base) [] last) same (held sure base front last holds)))
+      pub ended : {T : Type 0} (value : T) → keeper.failed ≡ false → next ≡ finished_by keeper next.disk next.memory → (Ok value ≡ Err fault.NotNow) ↔ ((keeper.failed ≡ false) × (IsFinishTime keeper.phase → ⊥))
+          → (honest keeper.disk → (base : Image) (first : List Change) (others : List (List Change)) (last : List Change) → Holds keeper (state keeper.disk) base (first ∷ others) last
+          → Holds next (state next.disk) (apply_all first base) others last)
+          → Of (record seat { base = next.base }) next
+      ended value works same not_now held =
+          subst (λ (k : KeeperState D). Of (record seat { base = k.base }) k) (sym same)
+          (finished next.disk next.memory works (λ one. let e = not_now.1 (works, none_to_finish keeper.phase one) in cc) kept
+          (λ sure base first others last holds. subst (λ (k : KeeperState D). Holds k (state next.disk) (apply_all first base) others last) same (held sure base first others last holds)))
 
     -- the order made durable what is stored
     pub published : (new : KeeperKnows) (order : OrderState) (b : Bool) → MatchBool b (IsPublishedTo seat order keeper.count new) (new ≡ seat) → Of new keeper
@@ -417,21 +445,20 @@ module _ {D : Type 0} (state : D → State) (honest : D → Type 0) (opening : �
       all_within = subst (λ (l : List Change). IsPrefix (l ++ commands) new.history) behind (prefix_trans (part.before ++ commands) told new.history part.within known)
 
       pub appended : (disk : D) (memory : Memory) → new.durable ≡ seat.durable → new.base ≡ seat.base → keeper.failed ≡ false → AreChanges image.blocks commands → (honest keeper.disk → honest disk)
-          → (honest keeper.disk → (base : Image) (first last : List Change) → Holds keeper (state keeper.disk) base first last → AreChanges keeper.geometry.blocks commands
-          → Holds (grown_by keeper group disk memory) (state disk) base first (last ++ commands))
+          → (honest keeper.disk → (base : Image) (fronts : List (List Change)) (last : List Change) → Holds keeper (state keeper.disk) base fronts last → AreChanges keeper.geometry.blocks commands
+          → Holds (grown_by keeper group disk memory) (state disk) base fronts (last ++ commands))
           → Of new (grown_by keeper group disk memory)
       appended disk memory durable base works takes kept holds = record {
         copied = is.copied;
-        front = is.front;
+        fronts = is.fronts;
         last = is.last ++ commands;
         base = is.base;
         turned = is.turned;
         count = omega (arith, is.count, length-append is.last commands, commands_length group);
-        within = subst (λ (l : List Change). IsPrefix l new.history) (append_assoc (is.copied ++ is.front) is.last commands) all_within;
-        one = is.one;
+        within = subst (λ (l : List Change). IsPrefix l new.history) (append_assoc (is.copied ++ joined is.fronts) is.last commands) all_within;
         blocks = is.blocks;
         sure = λ sure. kept (is.sure sure);
-        holds = λ sure still. holds (is.sure sure) (apply_all is.copied image) is.front is.last (is.holds sure works)
+        holds = λ sure still. holds (is.sure sure) (apply_all is.copied image) is.fronts is.last (is.holds sure works)
             (subst (λ (n : ℕ). AreChanges n commands) (sym is.blocks) takes);
         leaves = λ sure failed. absurd (both_ways keeper.failed works failed);
         seat_durable = omega (arith, durable, is.seat_durable);
@@ -482,9 +509,9 @@ module _ {D : Type 0} (state : D → State) (honest : D → Type 0) (opening : �
         by_number (inl same) fits = same
         by_number (inr other) fits = absurd (order (works, fits, other))
 
-    pub follows : (group : Numbered) → keeper.failed ≡ false → (((keeper.failed ≡ false) × (keeper.geometry.area < end_after keeper group)) → ⊥)
-        → (((keeper.failed ≡ false) × (end_after keeper group ≤ keeper.geometry.area) × (group.first ≢ keeper.count + 1)) → ⊥) → group.first ≡ keeper.count + 1
-    follows group = next_fits keeper.geometry.area (end_after keeper group) group.first (keeper.count + 1)
+    pub follows : (group : Numbered) → keeper.failed ≡ false → (((keeper.failed ≡ false) × (area_size keeper.geometry < end_after keeper group)) → ⊥)
+        → (((keeper.failed ≡ false) × (end_after keeper group ≤ area_size keeper.geometry) × (group.first ≢ keeper.count + 1)) → ⊥) → group.first ≡ keeper.count + 1
+    follows group = next_fits (area_size keeper.geometry) (end_after keeper group) group.first (keeper.count + 1)
 
     -- what became of a sealed group
     module _ (new : KeeperKnows) (given : SealedState) (group : Numbered) (told : List Change) (sealed : IsSealed opening image.blocks given) (group_is : group ≡ given.group) (told_is : told ≡ given.told)
@@ -497,19 +524,19 @@ module _ {D : Type 0} (state : D → State) (honest : D → Type 0) (opening : �
       takes : AreChanges image.blocks (map change_of group.commands)
       takes = subst (λ (g : Numbered). AreChanges image.blocks (map change_of g.commands)) (sym group_is) sealed.takes
 
-      pub append_stored : (next : KeeperState D) → (honest keeper.disk → honest next.disk) → ⊥ ↔ IsTrue keeper.failed → ⊥ ↔ ((keeper.failed ≡ false) × (keeper.geometry.area < end_after keeper group))
-          → ⊥ ↔ ((keeper.failed ≡ false) × (end_after keeper group ≤ keeper.geometry.area) × (group.first ≢ keeper.count + 1)) → next ≡ grown_by keeper group next.disk next.memory
-          → (honest keeper.disk → (base : Image) (first last : List Change) → Holds keeper (state keeper.disk) base first last → AreChanges keeper.geometry.blocks (map change_of group.commands)
-          → Holds next (state next.disk) base first (last ++ map change_of group.commands))
+      pub append_stored : (next : KeeperState D) → (honest keeper.disk → honest next.disk) → ⊥ ↔ IsTrue keeper.failed → ⊥ ↔ ((keeper.failed ≡ false) × (area_size keeper.geometry < end_after keeper group))
+          → ⊥ ↔ ((keeper.failed ≡ false) × (end_after keeper group ≤ area_size keeper.geometry) × (group.first ≢ keeper.count + 1)) → next ≡ grown_by keeper group next.disk next.memory
+          → (honest keeper.disk → (base : Image) (fronts : List (List Change)) (last : List Change) → Holds keeper (state keeper.disk) base fronts last → AreChanges keeper.geometry.blocks (map change_of group.commands)
+          → Holds next (state next.disk) base fronts (last ++ map change_of group.commands))
           → Of new next
       append_stored next kept failed full order same held =
           let works = not_true_is keeper.failed (λ was. failed.1 was) in
           subst (Of new) (sym same)
           (appended new group told part grows known (follows group works full.1 order.1) next.disk next.memory durable base works takes kept
-          (λ sure base first last holds takes. subst (λ (k : KeeperState D). Holds k (state next.disk) base first (last ++ map change_of group.commands)) same (held sure base first last holds takes)))
+          (λ sure base fronts last holds takes. subst (λ (k : KeeperState D). Holds k (state next.disk) base fronts (last ++ map change_of group.commands)) same (held sure base fronts last holds takes)))
 
-      pub append_leaves : (extent : ℕ) (next : KeeperState D) → (honest keeper.disk → IsSound extent (state keeper.disk)) → ⊥ ↔ IsTrue keeper.failed → ⊥ ↔ ((keeper.failed ≡ false) × (keeper.geometry.area < end_after keeper group))
-          → ⊥ ↔ ((keeper.failed ≡ false) × (end_after keeper group ≤ keeper.geometry.area) × (group.first ≢ keeper.count + 1))
+      pub append_leaves : (extent : ℕ) (next : KeeperState D) → (honest keeper.disk → IsSound extent (state keeper.disk)) → ⊥ ↔ IsTrue keeper.failed → ⊥ ↔ ((keeper.failed ≡ false) × (area_size keeper.geometry < end_after keeper group))
+          → ⊥ ↔ ((keeper.failed ≡ false) × (end_after keeper group ≤ area_size keeper.geometry) × (group.first ≢ keeper.count + 1))
           → (honest keeper.disk → (found : Image) (number : ℕ) → Keeps keeper (state keeper.disk) found number → AreChanges keeper.geometry.blocks (map change_of group.commands)
           → LeavesOnly (state keeper.disk) (state next.disk) (λ content. StandsFor content found number ⊎ StandsFor content (apply_all (map change_of group.commands) found) (number + length group.commands)))
           → trusted → LeavesOnly (state keeper.disk) (state next.disk) (StandsWithin opening image new.history keeper.count)
@@ -519,8 +546,8 @@ module _ {D : Type 0} (state : D → State) (honest : D → Type 0) (opening : �
 
       -- of a refusal but a fault of the device the device is as it was
       pub refused_leaves : (extent : ℕ) (next : KeeperState D) → (honest keeper.disk → IsSound extent (state keeper.disk)) → (refusal : KeeperFault)
-          → (refusal ≡ fault.Failed) ↔ IsTrue keeper.failed → (refusal ≡ fault.AreaFull) ↔ ((keeper.failed ≡ false) × (keeper.geometry.area < end_after keeper group))
-          → (refusal ≡ fault.OutOfOrder) ↔ ((keeper.failed ≡ false) × (end_after keeper group ≤ keeper.geometry.area) × (group.first ≢ keeper.count + 1))
+          → (refusal ≡ fault.Failed) ↔ IsTrue keeper.failed → (refusal ≡ fault.AreaFull) ↔ ((keeper.failed ≡ false) × (area_size keeper.geometry < end_after keeper group))
+          → (refusal ≡ fault.OutOfOrder) ↔ ((keeper.failed ≡ false) × (end_after keeper group ≤ area_size keeper.geometry) × (group.first ≢ keeper.count + 1))
           → (refusal ≡ fault.DeviceFault) ⊎ (next.disk ≡ keeper.disk)
           → (honest keeper.disk → (found : Image) (number : ℕ) → Keeps keeper (state keeper.disk) found number → AreChanges keeper.geometry.blocks (map change_of group.commands)
           → LeavesOnly (state keeper.disk) (state next.disk) (λ content. StandsFor content found number ⊎ StandsFor content (apply_all (map change_of group.commands) found) (number + length group.commands)))
@@ -533,8 +560,8 @@ module _ {D : Type 0} (state : D → State) (honest : D → Type 0) (opening : �
           weakens (leaves_still extent next (sound (is.sure sure)) sure same) (λ content stands. stands_longer opening image seat.history new.history keeper.count content stands grows)
 
       pub append_refused : (extent : ℕ) (next : KeeperState D) → (honest next.disk → IsSound extent (state next.disk)) → (honest keeper.disk → honest next.disk) → (refusal : KeeperFault)
-          → (refusal ≡ fault.Failed) ↔ IsTrue keeper.failed → (refusal ≡ fault.AreaFull) ↔ ((keeper.failed ≡ false) × (keeper.geometry.area < end_after keeper group))
-          → (refusal ≡ fault.OutOfOrder) ↔ ((keeper.failed ≡ false) × (end_after keeper group ≤ keeper.geometry.area) × (group.first ≢ keeper.count + 1))
+          → (refusal ≡ fault.Failed) ↔ IsTrue keeper.failed → (refusal ≡ fault.AreaFull) ↔ ((keeper.failed ≡ false) × (area_size keeper.geometry < end_after keeper group))
+          → (refusal ≡ fault.OutOfOrder) ↔ ((keeper.failed ≡ false) × (end_after keeper group ≤ area_size keeper.geometry) × (group.first ≢ keeper.count + 1))
           → next ≡ refused_by refusal keeper next.disk
           → (honest keeper.disk → (found : Image) (number : ℕ) → Keeps keeper (state keeper.disk) found number → AreChanges keeper.geometry.blocks (map change_of group.commands)
           → LeavesOnly (state keeper.disk) (state next.disk) (λ content. StandsFor content found number ⊎ StandsFor content (apply_all (map change_of group.commands) found) (number + length group.commands)))

@@ -10,6 +10,7 @@ use Rattle.image_model.specs.declared.command.Kind.{Kind}
 use Rattle.image_model.specs.laws.CleanedMaps.{cleaned-blocks}
 use Rattle.image_model.specs.laws.DirtyMaps.{dirty_blocks-push}
 use Rattle.journal_format.specs.Group.{Numbered}
+use Rattle.device_image.specs.Holds.{joined}
 use Rattle.device_image.specs.Keeper.{KeeperState}
 use Rattle.disk_model.specs.Disk.{State}
 use Rattle.marks.specs.Known.{KeeperKnows}
@@ -274,8 +275,8 @@ module _ (opening : ℕ) (image : Image) (trusted : Type 0) where
         let known : Of told = subst Of (sym same) (based order is keeper.base) in
         let told_base : told.base ≡ max order.base keeper.base = ap (λ (o : OrderState). o.base) same in
         let told_mark : told.mark ≡ order.mark = ap (λ (o : OrderState). o.mark) same in
-        let within = prefix_length stored.copied seat.history (prefix_front stored.copied (stored.front ++ stored.last) seat.history
-        (subst (λ (l : List Change). IsPrefix l seat.history) (append_assoc stored.copied stored.front stored.last) stored.within)) in
+        let within = prefix_length stored.copied seat.history (prefix_front stored.copied (joined stored.fronts ++ stored.last) seat.history
+        (subst (λ (l : List Change). IsPrefix l seat.history) (append_assoc stored.copied (joined stored.fronts) stored.last) stored.within)) in
         cleaned_to told known number new new_is (omega (arith, known.settled, told_base, base, number_is))
         (omega (arith, number_is, stored.base, within, ap length history, is.mark, told_mark)) (omega (arith, told_base, number_is))
         (ap (λ (o : OrderState). length o.cache.states) new_is) shows

@@ -3,6 +3,7 @@ use Rattle.std.specs.Prelude.{IfOk, OnErr}
 use Rattle.std.proofs.Common.{◌≡◌, ◌⊎◌, inl, inr, ℕ, ◌+◌, ◌-◌, ◌*◌, ◌/◌, ◌%◌, ◌<◌, ◌≤◌, true, false, None, List, [], ◌++◌, length, Result, Ok, Err, refl, ap, sym, ◌∙◌, subst, arith}
 use Rattle.std.proofs.lemmas.Bool.{cases_Bool}
 use mathlib.Core.List.{IsPrefix}
+use Rattle.device_image.specs.Holds.{joined}
 use Rattle.device_image.specs.Keeper.{KeeperState}
 use Rattle.disk_model.specs.Disk.{IsSound, LeavesOnly, State}
 use Rattle.image_model.specs.Change.{Change, IsChange, change_of}
@@ -76,9 +77,9 @@ module _ (opening : ℕ) (image : Image) (trusted : Type 0) (request : Message) 
         by_failed : trusted → (keeper.failed ≡ true) ⊎ (keeper.failed ≡ false) → ShowsImage (apply_all old.history image) new.cache
         by_failed sure (inl failed) = subst (λ (o : OrderState). ShowsImage (apply_all old.history image) o.cache) (sym (read.in_frames failed)) (is.shows sure)
         by_failed sure (inr works) =
-            read.shows (stored.sure (so sure)) (apply_all stored.copied image) (apply_all old.history image) stored.front stored.last (stored.holds (so sure) works) (is.shows sure)
-            (clean_at opening image trusted old is stored.copied stored.front stored.last
-            (subst (λ (h : List Change). IsPrefix ((stored.copied ++ stored.front) ++ stored.last) h) known stored.within) (omega (arith, base, stored.base)))
+            read.shows (stored.sure (so sure)) (apply_all stored.copied image) (apply_all old.history image) stored.fronts stored.last (stored.holds (so sure) works) (is.shows sure)
+            (clean_at opening image trusted old is stored.copied (joined stored.fronts) stored.last
+            (subst (λ (h : List Change). IsPrefix ((stored.copied ++ joined stored.fronts) ++ stored.last) h) known stored.within) (omega (arith, base, stored.base)))
 
         shows : trusted → ShowsImage (apply_all old.history image) new.cache
         shows sure = by_failed sure (cases_Bool keeper.failed)

@@ -1,8 +1,8 @@
 -- what lies under the keeper's lock
-use Rattle.std.specs.Prelude.{ℕ, ◌≡◌, ◌+◌, ◌≤◌, true, false, List, [], ◌++◌, length}
+use Rattle.std.specs.Prelude.{ℕ, ◌≡◌, ◌+◌, ◌≤◌, true, false, List, [], ◌∷◌, ◌++◌, length}
 use mathlib.Core.List.{IsPrefix}
-use Rattle.device_image.specs.Holds.{Holds}
-use Rattle.device_image.specs.Keeper.{KeeperState, One}
+use Rattle.device_image.specs.Holds.{Holds, joined}
+use Rattle.device_image.specs.Keeper.{KeeperState}
 use Rattle.disk_model.specs.Disk.{LeavesOnly, MayLeave, State}
 use Rattle.image_model.specs.Change.{Change}
 use Rattle.image_model.specs.Image.{Image, apply_all}
@@ -18,21 +18,25 @@ pub record SeatedState (D : Type 0) : Type 0 where
 abbrev pub empty_device : State
 empty_device = record { seen = []; unsynced = λ place. ⊥; loose = λ place. ⊥; moment = 0; left_since = λ moment content. ⊥ }
 
--- What the keeper has stored is the beginning of the history that its seat knows: what map and data hold, what stands in the areas
--- in front of the last, and what stands in the last. Where the device is trusted, the keeper holds just these over the image as it
+-- the numbers of the last commands in areas that hold these, one area behind another, where the last one in front has this number
+abbrev pub ends_of : ℕ → List (List Change) → List ℕ
+ends_of number [] = []
+ends_of number (front ∷ fronts) = (number + length front) ∷ ends_of (number + length front) fronts
+
+-- What the keeper has stored is the beginning of the history that its seat knows: what map and data hold, what stands in each of the
+-- areas in front of the last, and what stands in the last. Where the device is trusted, the keeper holds just these over the image as it
 -- was at the opening; and once a call of the device has failed, whatever a crash may leave has at least these.
 pub record IsOfHistory {D : Type 0} (state : D → State) (honest : D → Type 0) (opening : ℕ) (image : Image) (trusted : Type 0) (seat : KeeperKnows) (keeper : KeeperState D) : Type 0 where
   pub copied : List Change
-  pub front : List Change
+  pub fronts : List (List Change)
   pub last : List Change
   pub base : keeper.base ≡ opening + length copied
-  pub turned : keeper.turned ≡ keeper.base + length front
-  pub count : keeper.count ≡ keeper.turned + length last
-  pub within : IsPrefix ((copied ++ front) ++ last) seat.history
-  pub one : keeper.phase ≡ One → front ≡ []
+  pub turned : keeper.turned ≡ ends_of keeper.base fronts
+  pub count : keeper.count ≡ keeper.base + length (joined fronts) + length last
+  pub within : IsPrefix ((copied ++ joined fronts) ++ last) seat.history
   pub blocks : keeper.geometry.blocks ≡ image.blocks
   pub sure : trusted → honest keeper.disk
-  pub holds : trusted → keeper.failed ≡ false → Holds keeper (state keeper.disk) (apply_all copied image) front last
+  pub holds : trusted → keeper.failed ≡ false → Holds keeper (state keeper.disk) (apply_all copied image) fronts last
   pub leaves : trusted → keeper.failed ≡ true → (content : List ℕ) → MayLeave (state keeper.disk) content
       → StandsWithin opening image seat.history keeper.count content
   -- what the seat has raised the durable number to is stored, and it knows the base

@@ -11,6 +11,7 @@ ghost use Rattle.export_model.specs.Verdict.{verdict};
 ghost use Rattle.export_model.specs.declared.action.Action.{Action};
 ghost use Rattle.nbd_wire.specs.declared.error.Errno.{Errno};
 ghost use Rattle.order_book.specs.Order.{PublishesTo, with_durable};
+ghost use Rattle.regions.specs.Layout.{area_size};
 ghost use Rattle.request_core.specs.Outcomes.{IsServedBy};
 ghost use Rattle.request_core.specs.Serving.{IsPassServed};
 ghost use Rattle.shared_store.specs.Keepers.{HasLeft, IsOfHistory};
@@ -95,7 +96,7 @@ impl<B: ImageName, D: Disk> SharedKeeper<B, D> {
     pub fn append(&mut self, board: &Board<B>, sealed: SealedGroup<B>) -> Result<(), Unstored<B>>
         ensures ok { OnOk result (self.new.keeper ≡ grown_by self.old.keeper sealed.group self.new.keeper.disk self.new.keeper.memory) }
         ensures told { OnOk result (IsPrefix sealed.told self.new.seat.history) }
-        ensures full { IsErrAnd result IsFull ↔ ((self.old.keeper.failed ≡ false) × (self.old.keeper.geometry.area < end_after self.old.keeper sealed.group)) }
+        ensures full { IsErrAnd result IsFull ↔ ((self.old.keeper.failed ≡ false) × (area_size self.old.keeper.geometry < end_after self.old.keeper sealed.group)) }
         ensures back { IfErr result (IsBack D.faults sealed self.old.keeper self.new.keeper) }
         ensures seen { IsPrefix self.old.seat.history self.new.seat.history }
         ensures durable { self.new.seat.durable ≡ self.old.seat.durable }
@@ -141,9 +142,9 @@ impl<B: ImageName, D: Disk> SharedKeeper<B, D> {
         ensures ok { OnOk result (self.new.keeper ≡ rotated_by self.old.keeper self.new.keeper.disk self.new.keeper.memory) }
         ensures err { IfErr result (λ fault. self.new.keeper ≡ refused_by fault self.old.keeper self.new.keeper.disk) }
         ensures failed { (result ≡ Err KeeperFault.Failed) ↔ IsTrue self.old.keeper.failed }
-        ensures not_now { (result ≡ Err KeeperFault.NotNow) ↔ ((self.old.keeper.failed ≡ false) × (IsRotateTime self.old.keeper.phase self.old.keeper.used → ⊥)) }
+        ensures not_now { (result ≡ Err KeeperFault.NotNow) ↔ ((self.old.keeper.failed ≡ false) × (IsRotateTime self.old.keeper → ⊥)) }
         ensures full { (result ≡ Err KeeperFault.NumbersFull)
-            ↔ ((self.old.keeper.failed ≡ false) × IsRotateTime self.old.keeper.phase self.old.keeper.used × (self.old.keeper.generation ≡ 18446744073709551615)) }
+            ↔ ((self.old.keeper.failed ≡ false) × IsRotateTime self.old.keeper × (self.old.keeper.generation ≡ 18446744073709551615)) }
         ensures only { IfErr result IsStepFault }
         ensures faults_ok { OnOk result (D.faults self.new.keeper.disk ≡ D.faults self.old.keeper.disk) }
         ensures faults_err { IfErr result (λ fault. D.faults self.new.keeper.disk ≡ faults_by fault (D.faults self.old.keeper.disk)) }
@@ -202,7 +203,7 @@ impl<B: ImageName, D: Disk> SharedKeeper<B, D> {
         ensures only { IfErr result IsStepFault }
         ensures faults_ok { OnOk result (D.faults self.new.keeper.disk ≡ D.faults self.old.keeper.disk) }
         ensures faults_err { IfErr result (λ fault. D.faults self.new.keeper.disk ≡ faults_by fault (D.faults self.old.keeper.disk)) }
-        ensures seat { OnOk result (self.new.seat ≡ record self.old.seat { base = self.old.keeper.turned }) }
+        ensures seat { OnOk result (self.new.seat ≡ record self.old.seat { base = self.new.keeper.base }) }
         ensures same { OnErr result (self.new.seat ≡ self.old.seat) }
         ensures any_moment { B.trusted → LeavesOnly (D.state self.old.keeper.disk) (D.state self.new.keeper.disk)
             (StandsWithin B.opening B.image self.new.seat.history self.old.keeper.count) }

@@ -2,7 +2,6 @@
 use crate::devices::{append, block_of, formatted, opened, put};
 use checkpoint::{Keeper, KeeperFault, Report};
 use disk_model::{Disk, SimDisk};
-use header_slots::Areas;
 use image_model::{Geometry, Kind};
 use std::alloc::Global;
 use std::process::Abort;
@@ -44,10 +43,10 @@ fn refused(alloc: Global, disk: SimDisk) -> Result<(KeeperFault, Report), Fail> 
 }
 
 // What a device holds whose commands each wrote a block of their own, none of which is in map and data.
-fn report(areas: Areas, commands: u64) -> Report {
+fn report(in_front: u8, commands: u64) -> Report {
     Report {
         blocks: 16,
-        areas,
+        in_front,
         base: 0,
         commands,
         data_blocks: commands,
@@ -73,7 +72,7 @@ fn last_generation_in_the_time_of_a_rotation(rt: HostRuntime) -> Result<(), Fail
     append(&mut keeper, put(alloc, 2, 4, 0x42)?)?;
     check_rotation(&rt, &mut keeper);
     let found = refused(alloc, keeper.into_disk())?;
-    assert!(rt; found == (KeeperFault::NumbersFull, report(Areas::One, 2)));
+    assert!(rt; found == (KeeperFault::NumbersFull, report(0, 2)));
     Ok(())
 }
 
@@ -103,7 +102,7 @@ fn last_generation_in_the_time_of_a_finish(rt: HostRuntime) -> Result<(), Fail> 
     append(&mut keeper, put(alloc, 2, 4, 0x42)?)?;
     check_finish(&rt, &mut keeper);
     let found = refused(alloc, keeper.into_disk())?;
-    assert!(rt; found == (KeeperFault::NumbersFull, report(Areas::Two, 2)));
+    assert!(rt; found == (KeeperFault::NumbersFull, report(1, 2)));
     Ok(())
 }
 
@@ -112,7 +111,7 @@ fn opening_that_needs_two_generations(rt: HostRuntime) -> Result<(), Fail> {
     let alloc = rt.alloc();
     let disk = late(&rt, alloc, 0xfe)?.into_disk();
     let found = refused(alloc, disk)?;
-    assert!(rt; found == (KeeperFault::NumbersFull, report(Areas::Two, 1)));
+    assert!(rt; found == (KeeperFault::NumbersFull, report(1, 1)));
     let found = opened(alloc, late(&rt, alloc, 0xfd)?.into_disk())?;
     assert!(rt; found.generation() == u64::MAX && found.base() == 1);
     Ok(())

@@ -1,7 +1,7 @@
 //! Headers by hand, written to a simulated device, changed and read again.
 use disk_model::{DeviceFault, Disk, SimDisk};
 use header_slots::{
-    Areas, Header, HeaderChange, HeaderFault, change_header, fill_slot, open_gate, read_current,
+    Header, HeaderChange, HeaderFault, change_header, fill_slot, open_gate, read_current,
 };
 use image_model::{Geometry, Side};
 use std::process::Abort;
@@ -44,16 +44,34 @@ fn replaced(
     read_current(disk)
 }
 
-// A header of a device of 16 blocks.
-fn header(geometry: Geometry, generation: u64, areas: Areas, side: Side, base: u64) -> Header {
-    Header {
+// A header of a device of 16 blocks, whose first area and map slot have the same number.
+fn header(
+    geometry: Geometry,
+    generation: u64,
+    in_front: u8,
+    side: Side,
+    base: u64,
+) -> Option<Header> {
+    if in_front >= geometry.areas() || side.index() >= geometry.areas() {
+        return None;
+    }
+    Some(Header {
         generation,
         geometry,
-        areas,
-        first_area: side,
+        in_front,
+        first_area: side.index(),
         map_slot: side,
         base,
+    })
+}
+
+// The header that follows this one, where the device has the areas that the change names.
+fn next_of(header: &Header, change: &HeaderChange) -> Option<Header> {
+    let areas = header.geometry.areas();
+    if change.in_front >= areas || change.first_area >= areas {
+        return None;
     }
+    header.next(change)
 }
 
 // The first header of a device.
@@ -80,12 +98,12 @@ fn check_change(
 fn headers_of_three_generations(rt: HostRuntime) -> Result<(), Fail> {
     let geometry = Geometry::new(16, 2_097_152).expect(&rt, "sizes within their limits");
     let mut disk = SimDisk::new(rt.alloc(), 4_276_224)?;
-    let fresh = header(geometry, 1, Areas::One, Side::Zero, 0);
+    let fresh = header(geometry, 1, 0, Side::Zero, 0).expect(&rt, "areas of the device");
     check_first(&rt, &mut disk, &fresh);
     assert!(rt; slot_zero(&rt, &mut disk) == Ok(FRESH));
-    let second = header(geometry, 2, Areas::Two, Side::Zero, 0);
+    let second = header(geometry, 2, 1, Side::Zero, 0).expect(&rt, "areas of the device");
     check_change(&rt, &mut disk, Side::Zero, &second, FRESH);
-    let third = header(geometry, 3, Areas::One, Side::One, 1);
+    let third = header(geometry, 3, 0, Side::One, 1).expect(&rt, "areas of the device");
     check_change(&rt, &mut disk, Side::One, &third, THIRD);
     Ok(())
 }
@@ -94,14 +112,14 @@ fn headers_of_three_generations(rt: HostRuntime) -> Result<(), Fail> {
 fn next_header_is_one_generation_on(rt: HostRuntime) {
     let geometry = Geometry::new(16, 2_097_152).expect(&rt, "sizes within their limits");
     let change = HeaderChange {
-        areas: Areas::Two,
-        first_area: Side::Zero,
+        in_front: 1,
+        first_area: 0,
         map_slot: Side::Zero,
         base: 0,
     };
-    let fresh = header(geometry, 1, Areas::One, Side::Zero, 0);
-    let second = header(geometry, 2, Areas::Two, Side::Zero, 0);
-    assert_eq!(rt; fresh.next(&change), Some(second));
-    let last = header(geometry, u64::MAX, Areas::One, Side::Zero, 0);
-    assert_eq!(rt; last.next(&change), None);
+    let fresh = header(geometry, 1, 0, Side::Zero, 0).expect(&rt, "areas of the device");
+    let second = header(geometry, 2, 1, Side::Zero, 0).expect(&rt, "areas of the device");
+    assert_eq!(rt; next_of(&fresh, &change), Some(second));
+    let last = header(geometry, u64::MAX, 0, Side::Zero, 0).expect(&rt, "areas of the device");
+    assert_eq!(rt; next_of(&last, &change), None);
 }

@@ -13,7 +13,6 @@ use crate::plan::Plan;
 use checkpoint::{Keeper, Report};
 use disk_model::Disk;
 use front_end::Refusal;
-use header_slots::Areas;
 use image_model::Geometry;
 use nbdj_pipe::pipe;
 use std::alloc::Global;
@@ -147,12 +146,8 @@ fn is_of_content(refusal: Refusal) -> bool {
 }
 
 fn print_report<W: Write>(report: &Report, output: &mut W) -> Result<(), Refusal> {
-    let mode = match report.areas {
-        Areas::One => 0,
-        Areas::Two => 1,
-    };
     print(output, format_args!("blocks {}", report.blocks))?;
-    print(output, format_args!("mode {mode}"))?;
+    print(output, format_args!("mode {}", report.in_front))?;
     print(output, format_args!("base {}", report.base))?;
     print(output, format_args!("commands {}", report.commands))?;
     print(output, format_args!("data {}", report.data_blocks))?;

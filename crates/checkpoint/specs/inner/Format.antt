@@ -21,5 +21,5 @@ pub record AreClosed (state : State) : Type 0 where
 pub record IsFresh (content : List ℕ) (geometry : Geometry) : Type 0 where
   pub spelled : SpellsAt content 1 (first_header geometry)
   pub rest : (place : ℕ) → 40 ≤ place → place < 4096 → slice_index content place ≡ 0
-  pub gate : slice_index content (area_at geometry Zero) ≡ 0
+  pub gate : slice_index content (area_at geometry 0) ≡ 0
   pub map : (k : ℕ) → k < map_bytes_of geometry.blocks → slice_index content (map_at geometry Zero + k) ≡ 0

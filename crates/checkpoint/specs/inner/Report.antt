@@ -1,10 +1,19 @@
 -- What functions of this crate hand to one another, beside `Report`.
-use Rattle.std.specs.Prelude.{List, Option, Some, None}
+use Rattle.std.specs.Prelude.{ℕ, ◌≡◌, List, [], ◌∷◌}
 use Rattle.image_model.specs.declared.command.Kind.{Kind}
 use Rattle.journal_format.specs.Area.{AreaState}
 use Rattle.device_image.specs.Keeper.{AreStatesAfter, PlanState}
 
--- the states behind the areas in use, where these are the ones in front of them
-abbrev pub AreStatesBehind : Option PlanState → AreaState → List Kind → List Kind → Type 0
-AreStatesBehind None area before after = AreStatesAfter area.touched before after
-AreStatesBehind (Some plan) area before after = (turned : List Kind) × AreStatesAfter plan.first.touched before turned × AreStatesAfter area.touched turned after
+-- these checkpoints are of areas of an image of so many blocks
+abbrev pub AreOf : ℕ → List PlanState → Type 0
+AreOf blocks [] = Unit {0}
+AreOf blocks (plan ∷ plans) = (plan.first.blocks ≡ blocks) × AreOf blocks plans
+
+-- the states behind the areas in use in front of the last, where these are the ones in front of them
+abbrev pub AreStatesTurned : List PlanState → List Kind → List Kind → Type 0
+AreStatesTurned [] before after = after ≡ before
+AreStatesTurned (plan ∷ plans) before after = (turned : List Kind) × AreStatesAfter plan.first.touched before turned × AreStatesTurned plans turned after
+
+-- and behind the last of them
+abbrev pub AreStatesBehind : List PlanState → AreaState → List Kind → List Kind → Type 0
+AreStatesBehind plans area before after = (turned : List Kind) × AreStatesTurned plans before turned × AreStatesAfter area.touched turned after

@@ -2,7 +2,6 @@
 use Rattle.std.proofs.Common.{◌≡◌, ⊎_elim, ℕ, ◌+◌, ◌-◌, ◌*◌, ◌/◌, ◌≤◌, ◌<◌, Bool, true, false, Option, Some, None, List, [], ◌∷◌, slice_index, sym, ◌∙◌, ap, subst, arith}
 use Rattle.std.proofs.lemmas.Bool.{cases_lt}
 use Rattle.disk_model.specs.Disk.{State, InRange, IsAllSynced}
-use Rattle.header_slots.specs.Header.{mode_of}
 use Rattle.header_slots.specs.declared.header.Header.{Header}
 use Rattle.image_model.specs.Image.{Image}
 use Rattle.image_model.specs.Side.{other_of}
@@ -11,13 +10,13 @@ use Rattle.journal_format.specs.Spelling.{StoredGroup}
 use Rattle.journal_format.specs.Touches.{last_touch}
 use Rattle.journal_format.specs.declared.touch.Touch.{Touch}
 use Rattle.journal_format.specs.declared.touch.Touch.TheVariants.{Put}
-use Rattle.regions.specs.Layout.{area_at, block_at, ring}
+use Rattle.regions.specs.Layout.{area_at, area_size, areas_in, block_at}
 use Rattle.device_image.specs.Copied.{IsCopiedOver}
 use Rattle.device_image.specs.Free.{to_be_copied}
-use Rattle.device_image.specs.Keeper.{KeeperState, PlanState, count_puts, earlier_of, is_put, phase_of}
+use Rattle.device_image.specs.Keeper.{AreUncopied, KeeperState, PlanState, count_puts, earlier_of, is_put, phase_of}
 use Rattle.device_image.specs.Keeps.{AreCopied, IsCopyPlace, IsCopying, IsInPhase, IsMapWritten, Keeps, touched_first}
-use Rattle.device_image.specs.Stands.{HoldLists, next_number}
-use Rattle.device_image.specs.laws.Frame.{area_high, map_low}
+use Rattle.device_image.specs.Stands.{HoldLists, areas_in_front, next_number}
+use Rattle.device_image.specs.laws.Frame.{first_high, map_low}
 use Rattle.device_image.specs.laws.AfterWrite.{first_list}
 use Rattle.device_image.specs.laws.Kept.{held}
 use Rattle.device_image.specs.laws.Lists.{KeepsLists}
@@ -32,16 +31,16 @@ not_put : {b : Bool} → b ≡ false → b ≡ true → ⊥
 not_put is other = cc
 
 -- a block that was put last by the first area: it is one of the image, and its bytes stand in that area
-pub sound_put : (content : List ℕ) (header : Header) (front : List (List StoredGroup)) → HoldLists (ring (mode_of header.areas) header.first_area) content header.geometry (next_number header.base) front
+pub sound_put : (content : List ℕ) (header : Header) (front : List (List StoredGroup)) → HoldLists (areas_in_front header) content header.geometry (next_number header.base) front
     → (block from : ℕ) → last_touch block (touched_first header front) ≡ Some (Put from)
-    → (block < header.geometry.blocks) × (area_at header.geometry header.first_area ≤ from) × (from + 4096 ≤ area_at header.geometry header.first_area + header.geometry.area)
+    → (block < header.geometry.blocks) × (area_at header.geometry header.first_area ≤ from) × (from + 4096 ≤ area_at header.geometry header.first_area + area_size header.geometry)
 sound_put content header [] holds block from is = absurd (none_is_some is)
 sound_put content header (groups ∷ front) holds block from is =
     let geometry = header.geometry in
     let start = area_at geometry header.first_area in
-    let list = first_list header.areas header.first_area geometry content (next_number header.base) groups front holds in
-    subst (λ (touch : Option Touch). IsSoundTouch geometry.blocks start (start + geometry.area) block touch) is
-    (groups_sound geometry.blocks start (start + geometry.area) block content start (next_number header.base) groups list.stand (omega arith) (omega (arith, list.inside)))
+    let list = first_list (areas_in geometry) header.in_front header.first_area geometry content (next_number header.base) groups front holds in
+    subst (λ (touch : Option Touch). IsSoundTouch geometry.blocks start (start + area_size geometry) block touch) is
+    (groups_sound geometry.blocks start (start + area_size geometry) block content start (next_number header.base) groups list.stand (omega arith) (omega (arith, list.inside)))
 
 is_put_some : (touch : Option Touch) (from : ℕ) → touch ≡ Some (Put from) → is_put touch ≡ true
 is_put_some touch from is = ap is_put is
@@ -49,12 +48,12 @@ is_put_some touch from is = ap is_put is
 module _ {D : Type 0} (keeper : KeeperState D) (before : State) (image : Image) (number : ℕ) (keeps : Keeps keeper before image number) where
   abbrev pub first_puts : (block from : ℕ) → last_touch block (touched_first keeps.stands.header keeps.areas.front) ≡ Some (Put from)
       → (block < keeps.stands.header.geometry.blocks) × (area_at keeps.stands.header.geometry keeps.stands.header.first_area ≤ from)
-      × (from + 4096 ≤ area_at keeps.stands.header.geometry keeps.stands.header.first_area + keeps.stands.header.geometry.area)
+      × (from + 4096 ≤ area_at keeps.stands.header.geometry keeps.stands.header.first_area + area_size keeps.stands.header.geometry)
   first_puts = sound_put before.seen keeps.stands.header keeps.areas.front (held keeper before image number keeps)
 
   -- the phase stays where the first area, the data and the maps stay
   module _ (after : State)
-      (first_same : (place : ℕ) → InRange (area_at keeps.stands.header.geometry keeps.stands.header.first_area) keeps.stands.header.geometry.area place → slice_index after.seen place ≡ slice_index before.seen place)
+      (first_same : (place : ℕ) → InRange (area_at keeps.stands.header.geometry keeps.stands.header.first_area) (area_size keeps.stands.header.geometry) place → slice_index after.seen place ≡ slice_index before.seen place)
       (high_same : (place : ℕ) → 8192 + 2 * keeps.stands.header.geometry.area ≤ place → slice_index after.seen place ≡ slice_index before.seen place)
       (synced : IsAllSynced before → IsAllSynced after) where
     copied_on : (copied : ℕ) → AreCopied before.seen keeps.stands.header keeps.areas.front copied → AreCopied after.seen keeps.stands.header keeps.areas.front copied
@@ -74,15 +73,17 @@ module _ {D : Type 0} (keeper : KeeperState D) (before : State) (image : Image) 
       synced written.3,
     )
 
-    pub phase_on : (plan : Option PlanState) → IsInPhase plan before keeps.stands.header keeps.stands.states keeps.areas.front → IsInPhase plan after keeps.stands.header keeps.stands.states keeps.areas.front
-    phase_on None phased = phased
-    phase_on (Some plan) phased = record {
-      areas = phased.areas;
-      within = phased.within;
-      counted = phased.counted;
-      are_copied = copied_on plan.copied phased.are_copied;
-      map_written = map_on plan.mapped plan.left phased.map_written;
-    }
+    pub phase_on : (plans : List PlanState) → IsInPhase plans before keeps.stands.header keeps.stands.states keeps.areas.front → IsInPhase plans after keeps.stands.header keeps.stands.states keeps.areas.front
+    phase_on [] phased = tt
+    phase_on (plan ∷ plans) phased = (
+      record {
+        within = phased.0.within;
+        counted = phased.0.counted;
+        are_copied = copied_on plan.copied phased.0.are_copied;
+        map_written = map_on plan.mapped plan.left phased.0.map_written;
+      },
+      phased.1,
+    )
 
   -- blocks that are put last by the first area, from `first` on, whose bytes follow one another there
   module _ (plan : PlanState) (phased : IsCopying plan before keeps.stands.header keeps.stands.states keeps.areas.front) (unmapped : plan.mapped ≡ None) (first blocks from left : ℕ)
@@ -102,7 +103,7 @@ module _ {D : Type 0} (keeper : KeeperState D) (before : State) (image : Image) 
           put = put;
         }
 
-    pub source : (area_at keeps.stands.header.geometry keeps.stands.header.first_area ≤ from) × (from + 4096 * blocks ≤ area_at keeps.stands.header.geometry keeps.stands.header.first_area + keeps.stands.header.geometry.area)
+    pub source : (area_at keeps.stands.header.geometry keeps.stands.header.first_area ≤ from) × (from + 4096 * blocks ≤ area_at keeps.stands.header.geometry keeps.stands.header.first_area + area_size keeps.stands.header.geometry)
     source =
         let one = first_puts (first + 0) (from + 4096 * 0) (puts 0 (omega (arith, some))) in
         let last = first_puts (first + (blocks - 1)) (from + 4096 * (blocks - 1)) (puts (blocks - 1) (omega (arith, some))) in
@@ -116,7 +117,7 @@ module _ {D : Type 0} (keeper : KeeperState D) (before : State) (image : Image) 
       more_copied block at below is k small =
           let geometry = keeps.stands.header.geometry in
           let there = first_puts block at is in
-          let read : slice_index before.seen (at + k) ≡ slice_index after.seen (at + k) = sym (outside (at + k) (omega (arith, there.2, small, area_high geometry keeps.stands.header.first_area))) in
+          let read : slice_index before.seen (at + k) ≡ slice_index after.seen (at + k) = sym (outside (at + k) (omega (arith, there.2, small, first_high keeps.stands.header))) in
           ⊎_elim
           (λ early. done.others (block_at geometry block + k) (λ within. omega (arith, within.0, early, behind_is, small))
           ∙ phased.are_copied block at early is k small ∙ read)
@@ -135,19 +136,25 @@ module _ {D : Type 0} (keeper : KeeperState D) (before : State) (image : Image) 
           (cases_lt block first))
           (cases_lt block plan.copied)
 
-      pub keeps_copied : (now : KeeperState D) → earlier_of keeper.memory.plan ≡ plan.first ∷ []
-          → now ≡ record keeper { disk = now.disk; turned = now.turned; phase = phase_of (Some (record plan { copied = first + blocks; left = left })); memory = record keeper.memory { plan = Some (record plan { copied = first + blocks; left = left }) } }
-          → KeepsLists now after image number keeps.areas.front keeps.areas.groups
-      keeps_copied now earlier is =
+      pub keeps_copied : (now : KeeperState D) (rest : List PlanState) → keeper.memory.plans ≡ plan ∷ rest → AreUncopied rest
+          → now ≡ record keeper {
+            disk = now.disk;
+            turned = now.turned;
+            lefts = now.lefts;
+            phase = phase_of (record plan { copied = first + blocks; left = left } ∷ rest);
+            memory = record keeper.memory { plans = record plan { copied = first + blocks; left = left } ∷ rest };
+          } → KeepsLists now after image number keeps.areas.front keeps.areas.groups
+      keeps_copied now rest were uncopied is =
           keeps_after keeper before image number keeps after done.size
           (λ place used. done.others place (λ within. used (to_be_copied (copy_places place within))))
           (λ place unsynced. ⊎_elim (λ was. keeps.unsynced place was) (λ within. copy_places place within) (done.unsynced place unsynced))
-          done.steady now (Some (record plan { copied = first + blocks; left = left })) (sym earlier)
-          (record {
-            areas = phased.areas;
-            within = inside;
-            counted = counted;
-            are_copied = more_copied;
-            map_written = subst (λ (mapped : Option (List Kind)). IsMapWritten mapped after keeps.stands.header keeps.stands.states keeps.areas.front left) (sym unmapped) tt;
-          })
+          done.steady now (record plan { copied = first + blocks; left = left } ∷ rest) (sym (ap earlier_of were)) (
+            record {
+              within = inside;
+              counted = counted;
+              are_copied = more_copied;
+              map_written = subst (λ (mapped : Option (List Kind)). IsMapWritten mapped after keeps.stands.header keeps.stands.states keeps.areas.front left) (sym unmapped) tt;
+            },
+            uncopied,
+          )
           is

@@ -1,13 +1,10 @@
 -- What a device stands for where only its last area in use has changed, and data that are to be copied.
-use Rattle.std.proofs.Common.{◌≡◌, ℕ, zero, suc, ◌+◌, ◌*◌, ◌/◌, ◌%◌, ◌≤◌, ◌<◌, Bool, false, IsTrue, if◌then◌else◌, Option, Some, None, List, [], ◌∷◌, ◌++◌, length, slice_index, Ok, refl, sym, ◌∙◌, ap, subst, arith}
+use Rattle.std.proofs.Common.{◌≡◌, ◌≢◌, ℕ, zero, suc, ◌+◌, ◌*◌, ◌/◌, ◌%◌, ◌≤◌, ◌<◌, Bool, false, IsTrue, if◌then◌else◌, Option, Some, None, List, [], ◌∷◌, ◌++◌, length, slice_index, Ok, refl, sym, ◌∙◌, ap, subst, arith}
 use Rattle.std.proofs.lemmas.Grind.{flat_map-append}
 use Rattle.alloc_map.specs.Codes.{state_at}
 use Rattle.disk_model.specs.Disk.{State, InRange}
-use Rattle.header_slots.specs.Header.{mode_of}
 use Rattle.header_slots.specs.Slots.{HoldsHeader, IsReading}
 use Rattle.image_model.specs.Geometry.{map_bytes_of}
-use Rattle.image_model.specs.Side.{other_of}
-use Rattle.header_slots.specs.declared.header.Areas.{Areas}
 use Rattle.header_slots.specs.declared.header.Header.{Header}
 use Rattle.image_model.specs.declared.side.Side.{Side}
 use Rattle.image_model.specs.declared.side.Side.TheVariants.{Zero, One}
@@ -24,24 +21,22 @@ use Rattle.journal_format.specs.declared.touch.Touch.{Touch}
 use Rattle.journal_format.specs.declared.touch.Touch.TheVariants.{Put, Clear}
 use Rattle.journal_format.specs.laws.Contents.{list_ends, list_stays}
 use Rattle.journal_format.specs.laws.LastTouches.{groups_kind, groups_byte}
-use Rattle.regions.specs.Layout.{area_at, behind, block_at, map_at, ring}
+use Rattle.regions.specs.Layout.{area_at, area_size, areas_in, behind, block_at, map_at, next_of, ring}
 use Rattle.regions.specs.Map.{HoldsMap}
+use Rattle.regions.specs.laws.Ring.{apart, area_high, area_low, behind_apart, behind_below, next_below, ring-last}
 use Rattle.device_image.specs.Keeper.{is_put}
 use Rattle.device_image.specs.Keeps.{AreHeld, IsCopyPlace, IsPlaced, behind_lists}
-use Rattle.device_image.specs.Stands.{StandsFor, HoldLists, all_changes, area_of, is_data, next_number, stored_image}
+use Rattle.device_image.specs.Stands.{StandsFor, HoldLists, all_changes, area_of, areas_in_front, is_data, last_area, next_number, stored_image}
 
-pub area_low : (geometry : Geometry) (side : Side) → 8192 ≤ area_at geometry side
-area_low geometry Zero = omega arith
-area_low geometry One = omega arith
+-- the last area in use is one of the device's
+pub last_inside : (header : Header) → last_area header < areas_in header.geometry
+last_inside header = behind_below (areas_in header.geometry) header.in_front header.first_area header.first_inside
 
-pub area_high : (geometry : Geometry) (side : Side) → area_at geometry side + geometry.area ≤ 8192 + 2 * geometry.area
-area_high geometry Zero = omega arith
-area_high geometry One = omega arith
+pub last_high : (header : Header) → area_at header.geometry (last_area header) + area_size header.geometry ≤ 8192 + 2 * header.geometry.area
+last_high header = area_high header.geometry (last_area header) (last_inside header)
 
--- a place of the one area isn't one of the other
-pub apart : (geometry : Geometry) (side : Side) (place : ℕ) → InRange (area_at geometry side) geometry.area place → InRange (area_at geometry (other_of side)) geometry.area place → ⊥
-apart geometry Zero place here there = omega (arith, here.0, here.1, there.0, there.1)
-apart geometry One place here there = omega (arith, here.0, here.1, there.0, there.1)
+pub first_high : (header : Header) → area_at header.geometry header.first_area + area_size header.geometry ≤ 8192 + 2 * header.geometry.area
+first_high header = area_high header.geometry header.first_area header.first_inside
 
 -- a list depends on the area's place alone
 pub moved_list : (area other : AreaState) (first : ℕ) (groups : List StoredGroup) (content : List ℕ) → area.from ≡ other.from → area.bytes ≡ other.bytes → area.blocks ≡ other.blocks
@@ -151,14 +146,14 @@ not_true : {b : Bool} → b ≡ false → IsTrue b → ⊥
 not_true is true_is = cc
 
 -- where the data stay but for those that are to be copied, the commands make the same of map and data
-pub copied_images : (areas : ℕ) (old content : List ℕ) (header : Header) (next : ℕ) (front more : List (List StoredGroup)) (states : List Kind)
+pub copied_images : (count n : ℕ) (old content : List ℕ) (header : Header) (next : ℕ) (front more : List (List StoredGroup)) (states : List Kind)
     → ((place : ℕ) → block_at header.geometry 0 ≤ place → (IsCopyPlace header front place → ⊥) → slice_index content place ≡ slice_index old place)
-    → HoldLists (ring areas header.first_area) old header.geometry next front
+    → HoldLists (ring count n header.first_area) old header.geometry next front
     → apply_all (all_changes (front ++ more)) (stored_image old header.geometry states) ≡ apply_all (all_changes (front ++ more)) (stored_image content header.geometry states)
-copied_images areas old content header next [] more states same holds =
+copied_images count n old content header next [] more states same holds =
     ap (λ (image : Image). apply_all (all_changes more) image) (sym (image_kept old content header.geometry (λ place above. same place above (λ copy. not_true refl copy.put)) states))
-copied_images zero old content header next (groups ∷ front) more states same holds = absurd holds
-copied_images (suc areas) old content header next (groups ∷ front) more states same holds =
+copied_images count zero old content header next (groups ∷ front) more states same holds = absurd holds
+copied_images count (suc n) old content header next (groups ∷ front) more states same holds =
     let geometry = header.geometry in
     let changes = all_changes (front ++ more) in
     apply_all-append (changes_of groups) changes (stored_image old geometry states)
@@ -172,39 +167,38 @@ copied_images (suc areas) old content header next (groups ∷ front) more states
     not_true none (subst (λ (b : ℕ). IsTrue (is_put (last_touch b (touched_by_groups (area_at geometry header.first_area) groups)))) which copy.put))))))
     ∙ sym (apply_all-append (changes_of groups) changes (stored_image content geometry states))
 
--- the areas in use are those in front of the last, and the last
-pub ring-last : (count : ℕ) (area : Side) → ring (suc count) area ≡ ring count area ++ behind count area ∷ []
-ring-last zero area = refl
-ring-last (suc count) area = ap (λ (rest : List Side). area ∷ rest) (ring-last count (other_of area))
+-- these areas are the device's, and none of them is that one
+abbrev pub AreOthers : Geometry → List ℕ → ℕ → Type 0
+AreOthers geometry [] last = Unit {0}
+AreOthers geometry (area ∷ areas) last = (area < areas_in geometry) × (area ≢ last) × AreOthers geometry areas last
 
--- these areas are none of them that one
-abbrev pub AreOthers : List Side → Side → Type 0
-AreOthers [] last = Unit {0}
-AreOthers (area ∷ areas) last = (last ≡ other_of area) × AreOthers areas last
+-- an area behind others in the ring is none of them
+pub others_behind : (geometry : Geometry) (n k area : ℕ) → area < areas_in geometry → n ≤ k → k < areas_in geometry → AreOthers geometry (ring (areas_in geometry) n area) (behind (areas_in geometry) k area)
+others_behind geometry zero k area inside fits few = tt
+others_behind geometry (suc n) zero area inside fits few = absurd (omega (arith, fits))
+others_behind geometry (suc n) (suc k) area inside fits few = (
+  inside,
+  behind_apart (areas_in geometry) 0 (suc k) area inside (omega arith) few,
+  others_behind geometry n k (next_of (areas_in geometry) area) (next_below (areas_in geometry) area inside) (omega (arith, fits)) (omega (arith, few)),
+)
 
-pub others_in_use : (areas : Areas) (first : Side) → AreOthers (ring (mode_of areas) first) (behind (mode_of areas) first)
-others_in_use Areas.One first = tt
-others_in_use Areas.Two first = (refl, tt)
-
--- a place of another area isn't one of the last
-pub not_in_last : (geometry : Geometry) (area last : Side) (place : ℕ) → last ≡ other_of area → InRange (area_at geometry area) geometry.area place → InRange (area_at geometry last) geometry.area place → ⊥
-not_in_last geometry area last place is here there =
-    apart geometry area place here (subst (λ (side : Side). InRange (area_at geometry side) geometry.area place) is there)
+pub others_in_use : (header : Header) → AreOthers header.geometry (areas_in_front header) (last_area header)
+others_in_use header = others_behind header.geometry header.in_front header.in_front header.first_area header.first_inside (omega arith) header.few_areas
 
 -- where the bytes of areas stay, but for those of the last one, lists of the others stay
-pub lists_kept : (areas : List Side) (last : Side) (old content : List ℕ) (geometry : Geometry) (next : ℕ) (lists : List (List StoredGroup)) → AreOthers areas last
-    → ((place : ℕ) → place < 8192 + 2 * geometry.area → (InRange (area_at geometry last) geometry.area place → ⊥) → slice_index content place ≡ slice_index old place)
+pub lists_kept : (areas : List ℕ) (last : ℕ) (old content : List ℕ) (geometry : Geometry) (next : ℕ) (lists : List (List StoredGroup)) → AreOthers geometry areas last
+    → ((place : ℕ) → place < 8192 + 2 * geometry.area → (InRange (area_at geometry last) (area_size geometry) place → ⊥) → slice_index content place ≡ slice_index old place)
     → HoldLists areas old geometry next lists → HoldLists areas content geometry next lists
 lists_kept [] last old content geometry next [] others same holds = tt
 lists_kept [] last old content geometry next (groups ∷ lists) others same holds = absurd holds
 lists_kept (area ∷ areas) last old content geometry next [] others same holds = absurd holds
 lists_kept (area ∷ areas) last old content geometry next (groups ∷ lists) others same holds = (
-  list_kept (area_of geometry area) next groups old content (λ place here. same place (omega (arith, area_high geometry area, here.1)) (not_in_last geometry area last place others.0 here)) holds.0,
-  lists_kept areas last old content geometry (next_behind next groups) lists others.1 same holds.1,
+  list_kept (area_of geometry area) next groups old content (λ place here. same place (omega (arith, area_high geometry area others.0, here.1)) (apart geometry area last place others.1 here)) holds.0,
+  lists_kept areas last old content geometry (next_behind next groups) lists others.2 same holds.1,
 )
 
 -- lists with one more behind them
-pub with_last : (areas : List Side) (last : Side) (content : List ℕ) (geometry : Geometry) (next : ℕ) (front : List (List StoredGroup)) (groups : List StoredGroup)
+pub with_last : (areas : List ℕ) (last : ℕ) (content : List ℕ) (geometry : Geometry) (next : ℕ) (front : List (List StoredGroup)) (groups : List StoredGroup)
     → HoldLists areas content geometry next front → IsList (area_of geometry last) (behind_lists next front) groups content → HoldLists (areas ++ last ∷ []) content geometry next (front ++ groups ∷ [])
 with_last [] last content geometry next [] groups holds list = (list, tt)
 with_last [] last content geometry next (more ∷ front) groups holds list = absurd holds
@@ -215,7 +209,7 @@ with_last (area ∷ areas) last content geometry next (more ∷ front) groups ho
 )
 
 -- areas that are held hold their lists
-pub held_lists : (sides : List Side) (geometry : Geometry) (next : ℕ) (lists : List (List StoredGroup)) (areas : List AreaState) (state : State)
+pub held_lists : (sides : List ℕ) (geometry : Geometry) (next : ℕ) (lists : List (List StoredGroup)) (areas : List AreaState) (state : State)
     → AreHeld sides geometry next lists areas state → HoldLists sides state.seen geometry next lists
 held_lists [] geometry next [] [] state held = tt
 held_lists [] geometry next [] (area ∷ areas) state held = absurd held
@@ -228,12 +222,12 @@ held_lists (side ∷ sides) geometry next (groups ∷ lists) (area ∷ areas) st
 )
 
 -- one area that is held still is where its bytes stay and nothing of it is unsynced
-pub one_kept : (area : AreaState) (geometry : Geometry) (side : Side) (next : ℕ) (groups : List StoredGroup) (before after : State) → IsPlaced area geometry side
-    → ((place : ℕ) → InRange (area_at geometry side) geometry.area place → slice_index after.seen place ≡ slice_index before.seen place)
-    → ((place : ℕ) → InRange (area_at geometry side) geometry.area place → after.unsynced place → ⊥)
+pub one_kept : (area : AreaState) (geometry : Geometry) (side : ℕ) (next : ℕ) (groups : List StoredGroup) (before after : State) → IsPlaced area geometry side
+    → ((place : ℕ) → InRange (area_at geometry side) (area_size geometry) place → slice_index after.seen place ≡ slice_index before.seen place)
+    → ((place : ℕ) → InRange (area_at geometry side) (area_size geometry) place → after.unsynced place → ⊥)
     → IsHeld area next groups before → IsHeld area next groups after
 one_kept area geometry side next groups before after placed same synced held =
-    let here : (place : ℕ) → InRange area.from area.bytes place → InRange (area_at geometry side) geometry.area place =
+    let here : (place : ℕ) → InRange area.from area.bytes place → InRange (area_at geometry side) (area_size geometry) place =
     λ place within. (omega (arith, within.0, placed.from), omega (arith, within.1, placed.from, placed.bytes)) in
     record {
       list = list_kept area next groups before.seen after.seen (λ place within. same place (here place within)) held.list;
@@ -244,8 +238,8 @@ one_kept area geometry side next groups before after placed same synced held =
     }
 
 -- and so are areas, but for the last one
-pub held_kept : (sides : List Side) (last : Side) (geometry : Geometry) (next : ℕ) (lists : List (List StoredGroup)) (areas : List AreaState) (before after : State) → AreOthers sides last
-    → ((place : ℕ) → place < 8192 + 2 * geometry.area → (InRange (area_at geometry last) geometry.area place → ⊥) → slice_index after.seen place ≡ slice_index before.seen place)
+pub held_kept : (sides : List ℕ) (last : ℕ) (geometry : Geometry) (next : ℕ) (lists : List (List StoredGroup)) (areas : List AreaState) (before after : State) → AreOthers geometry sides last
+    → ((place : ℕ) → place < 8192 + 2 * geometry.area → (InRange (area_at geometry last) (area_size geometry) place → ⊥) → slice_index after.seen place ≡ slice_index before.seen place)
     → ((place : ℕ) → place < 8192 + 2 * geometry.area → after.unsynced place → ⊥)
     → AreHeld sides geometry next lists areas before → AreHeld sides geometry next lists areas after
 held_kept [] last geometry next [] [] before after others same synced held = tt
@@ -256,17 +250,17 @@ held_kept (side ∷ sides) last geometry next (groups ∷ lists) [] before after
 held_kept (side ∷ sides) last geometry next (groups ∷ lists) (area ∷ areas) before after others same synced held = (
   held.0,
   one_kept area geometry side next groups before after held.0
-      (λ place here. same place (omega (arith, area_high geometry side, here.1)) (not_in_last geometry side last place others.0 here))
-      (λ place here. synced place (omega (arith, area_high geometry side, here.1))) held.1,
-  held_kept sides last geometry (next_behind next groups) lists areas before after others.1 same synced held.2,
+      (λ place here. same place (omega (arith, area_high geometry side others.0, here.1)) (apart geometry side last place others.1 here))
+      (λ place here. synced place (omega (arith, area_high geometry side others.0, here.1))) held.1,
+  held_kept sides last geometry (next_behind next groups) lists areas before after others.2 same synced held.2,
 )
 
 -- the last area in use of what a content stands for
 abbrev pub last_of : {content : List ℕ} {image : Image} {number : ℕ} → StandsFor content image number → AreaState
-last_of stands = area_of stands.header.geometry (behind (mode_of stands.header.areas) stands.header.first_area)
+last_of stands = area_of stands.header.geometry (last_area stands.header)
 
-abbrev pub fronts_of : {content : List ℕ} {image : Image} {number : ℕ} → StandsFor content image number → List Side
-fronts_of stands = ring (mode_of stands.header.areas) stands.header.first_area
+abbrev pub fronts_of : {content : List ℕ} {image : Image} {number : ℕ} → StandsFor content image number → List ℕ
+fronts_of stands = areas_in_front stands.header
 
 -- the last area has another list, and all else stays but for data that are to be copied
 module _ (old content : List ℕ) (image other : Image) (number count : ℕ) (stands : StandsFor old image number) (front : List (List StoredGroup)) (groups : List StoredGroup)
@@ -277,7 +271,7 @@ module _ (old content : List ℕ) (image other : Image) (number count : ℕ) (st
   low_same place below outside = same place outside (λ copy. omega (arith, below, copy.inside.0))
 
   pub map_same : (place : ℕ) → 8192 + 2 * stands.header.geometry.area ≤ place → place < block_at stands.header.geometry 0 → slice_index content place ≡ slice_index old place
-  map_same place above below = same place (λ within. omega (arith, above, area_high stands.header.geometry (behind (mode_of stands.header.areas) stands.header.first_area), within.1))
+  map_same place above below = same place (λ within. omega (arith, above, last_high stands.header, within.1))
       (λ copy. omega (arith, below, copy.inside.0))
 
   abbrev pub stands_with : IsList (last_of stands) (behind_lists (next_number stands.header.base) front) groups content
@@ -285,7 +279,7 @@ module _ (old content : List ℕ) (image other : Image) (number count : ℕ) (st
       → other ≡ apply_all (all_changes (front ++ groups ∷ [])) (stored_image old stands.header.geometry stands.states)
       → StandsFor content other count
   stands_with list count_is shows =
-      let low = area_low stands.header.geometry (behind (mode_of stands.header.areas) stands.header.first_area) in
+      let low = area_low stands.header.geometry (last_area stands.header) in
       record {
         header = stands.header;
         slot = stands.slot;
@@ -293,13 +287,13 @@ module _ (old content : List ℕ) (image other : Image) (number count : ℕ) (st
         lists = front ++ groups ∷ [];
         in_force = header_kept old content stands.header stands.slot size (λ place below. low_same place (omega arith) (λ within. omega (arith, below, low, within.0))) stands.in_force;
         map = map_kept old content stands.states stands.header.geometry stands.header.map_slot map_same stands.map;
-        held = subst (λ (areas : List Side). HoldLists areas content stands.header.geometry (next_number stands.header.base) (front ++ groups ∷ []))
-            (sym (ring-last (mode_of stands.header.areas) stands.header.first_area))
-            (with_last (fronts_of stands) (behind (mode_of stands.header.areas) stands.header.first_area) content stands.header.geometry (next_number stands.header.base) front groups
-            (lists_kept (fronts_of stands) (behind (mode_of stands.header.areas) stands.header.first_area) old content stands.header.geometry (next_number stands.header.base) front
-            (others_in_use stands.header.areas stands.header.first_area) low_same holds)
+        held = subst (λ (areas : List ℕ). HoldLists areas content stands.header.geometry (next_number stands.header.base) (front ++ groups ∷ []))
+            (sym (ring-last (areas_in stands.header.geometry) stands.header.in_front stands.header.first_area))
+            (with_last (fronts_of stands) (last_area stands.header) content stands.header.geometry (next_number stands.header.base) front groups
+            (lists_kept (fronts_of stands) (last_area stands.header) old content stands.header.geometry (next_number stands.header.base) front
+            (others_in_use stands.header) low_same holds)
             list);
         count = count_is;
-        shows = shows ∙ copied_images (mode_of stands.header.areas) old content stands.header (next_number stands.header.base) front (groups ∷ []) stands.states
-            (λ place above none. same place (λ within. omega (arith, above, area_high stands.header.geometry (behind (mode_of stands.header.areas) stands.header.first_area), within.1)) none) holds;
+        shows = shows ∙ copied_images (areas_in stands.header.geometry) stands.header.in_front old content stands.header (next_number stands.header.base) front (groups ∷ []) stands.states
+            (λ place above none. same place (λ within. omega (arith, above, last_high stands.header, within.1)) none) holds;
       }

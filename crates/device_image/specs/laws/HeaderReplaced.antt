@@ -1,30 +1,34 @@
 -- What a device stands for once the header has changed: at the begin of a checkpoint, and at its end.
-use Rattle.std.proofs.Common.{◌≡◌, ⊎_elim, ℕ, ◌+◌, ◌*◌, ◌/◌, ◌%◌, ◌≤◌, ◌<◌, if◌then◌else◌, List, [], ◌∷◌, length, slice_index, Option, Some, None, refl, sym, ◌∙◌, ap, subst, arith, length-append}
+use Rattle.std.proofs.Common.{◌≡◌, ⊎_elim, ℕ, suc, ◌+◌, ◌*◌, ◌/◌, ◌%◌, ◌≤◌, ◌<◌, if◌then◌else◌, List, [], ◌∷◌, ◌++◌, length, slice_index, Option, Some, None, refl, sym, ◌∙◌, ap, subst, arith, length-append}
 use Rattle.std.proofs.lemmas.Bool.{cases_lt}
-use Rattle.std.proofs.lemmas.List.{get_or_past}
+use Rattle.std.proofs.lemmas.List.{append-nil, get_or_past}
 use Rattle.alloc_map.specs.Codes.{state_at}
 use Rattle.disk_model.specs.Disk.{InRange}
 use Rattle.header_slots.specs.Slots.{HoldsHeader}
 use Rattle.header_slots.specs.declared.header.Header.{Header}
 use Rattle.image_model.specs.Geometry.{map_bytes_of}
+use Rattle.image_model.specs.Change.{Change}
 use Rattle.image_model.specs.Image.{Image, apply_all}
 use Rattle.image_model.specs.Side.{other_of}
 use Rattle.image_model.specs.declared.command.Kind.{Kind}
 use Rattle.image_model.specs.declared.command.Kind.TheVariants.{Data, Zero, Hole}
 use Rattle.image_model.specs.declared.geometry.Geometry.{Geometry}
 use Rattle.image_model.specs.declared.side.Side.{Side}
-use Rattle.journal_format.specs.GroupList.{IsList, IsOpen, Stand, changes_of, next_behind, number_behind, size_of, sizes_of}
+use Rattle.journal_format.specs.GroupList.{IsOpen, Stand, changes_of, next_behind, number_behind, size_of, sizes_of}
 use Rattle.journal_format.specs.Spelling.{StoredGroup}
 use Rattle.journal_format.specs.Touches.{byte_after_touch, kind_after, last_touch, touched_by_groups}
 use Rattle.journal_format.specs.declared.touch.Touch.{Touch}
 use Rattle.journal_format.specs.declared.touch.Touch.TheVariants.{Put, Clear}
 use Rattle.journal_format.specs.laws.LastTouches.{groups_kind, groups_byte}
-use Rattle.regions.specs.Layout.{area_at, block_at, map_at}
+use Rattle.regions.specs.Layout.{area_at, area_size, areas_in, behind, block_at, map_at, next_of, ring}
 use Rattle.regions.specs.Map.{HoldsMap}
+use Rattle.regions.specs.laws.Ring.{area_low, ring-last}
+use Rattle.device_image.specs.Free.{IsFree}
 use Rattle.device_image.specs.Keeper.{AreStatesAfter}
-use Rattle.device_image.specs.Stands.{StandsFor, all_changes, area_of, is_data, next_number, stored_image}
-use Rattle.device_image.specs.CheckpointHeader.{begun, ended}
-use Rattle.device_image.specs.laws.Frame.{apart, apply_all-append, area_high, blocks-apply_all, image_kept, list_kept, map_low}
+use Rattle.device_image.specs.Stands.{StandsFor, HoldLists, all_changes, areas_in_front, in_use, is_data, next_number, stored_image}
+use Rattle.device_image.specs.laws.Frame.{all_changes-append, apply_all-append, blocks-apply_all, image_kept, map_low, with_last}
+use Rattle.device_image.specs.laws.Free.{AreSame, lists_stay, lists_still, map_stays, shows_still}
+use Rattle.device_image.specs.laws.Headers.{begun, ended}
 use Rattle.device_image.specs.laws.Touched.{IsSoundTouch, groups_sound}
 
 -- behind groups that follow the number `last` the next number is the one that follows the last of them
@@ -59,33 +63,37 @@ slot_kept old content states geometry slot same map = record {
   map = map.map;
 }
 
--- a checkpoint begins: an empty area comes behind the one in use
-module _ (old content : List ℕ) (header : Header) (states : List Kind) (groups : List StoredGroup) (image : Image) (number : ℕ)
-    (map : HoldsMap old (map_at header.geometry header.map_slot) header.geometry.blocks states)
-    (list : IsList (area_of header.geometry header.first_area) (next_number header.base) groups old)
-    (count : number ≡ header.base + length (all_changes (groups ∷ [])))
-    (shows : image ≡ apply_all (all_changes (groups ∷ [])) (stored_image old header.geometry states))
-    (some : 0 < header.geometry.area)
-    (same : (place : ℕ) → 8192 ≤ place → (InRange (area_at header.geometry (other_of header.first_area)) header.geometry.area place → ⊥) → slice_index content place ≡ slice_index old place)
-    (closed : IsOpen content (area_at header.geometry (other_of header.first_area)) → ⊥) where
-  pub behind_areas : (place : ℕ) → 8192 + 2 * header.geometry.area ≤ place → slice_index content place ≡ slice_index old place
-  behind_areas place above = same place (omega (arith, above)) (λ within. omega (arith, above, within.1, area_high header.geometry (other_of header.first_area)))
+-- the changes of lists do not change where an empty one comes behind them
+pub changes-empty : (lists : List (List StoredGroup)) → all_changes (lists ++ [] ∷ []) ≡ all_changes lists
+changes-empty lists = all_changes-append lists ([] ∷ []) ∙ append-nil (all_changes lists)
 
-  pub list_here : IsList (area_of header.geometry header.first_area) (next_number header.base) groups content
-  list_here = list_kept (area_of header.geometry header.first_area) (next_number header.base) groups old content
-      (λ place here. same place (omega (arith, here.0)) (λ there. apart header.geometry header.first_area place here there)) list
+-- a checkpoint begins: an empty area comes behind those in use
+module _ (old content : List ℕ) (image : Image) (number : ℕ) (stands : StandsFor old image number) (front : List (List StoredGroup)) (groups : List StoredGroup)
+    (are : stands.lists ≡ front ++ groups ∷ [])
+    (same : (place : ℕ) → 8192 ≤ place → (IsFree stands.header front place → ⊥) → slice_index content place ≡ slice_index old place)
+    (holds : HoldLists (areas_in_front stands.header) old stands.header.geometry (next_number stands.header.base) front)
+    (room : suc stands.header.in_front < areas_in stands.header.geometry) (some : 0 < area_size stands.header.geometry)
+    (closed : IsOpen content (area_at stands.header.geometry (behind (areas_in stands.header.geometry) (suc stands.header.in_front) stands.header.first_area)) → ⊥) where
+  pub begun_lists : HoldLists (in_use (begun stands.header room)) content stands.header.geometry (next_number stands.header.base) (stands.lists ++ [] ∷ [])
+  begun_lists =
+      let header = stands.header in
+      let last = behind (areas_in header.geometry) (suc header.in_front) header.first_area in
+      subst (λ (areas : List ℕ). HoldLists areas content header.geometry (next_number header.base) (stands.lists ++ [] ∷ [])) (sym (ring-last (areas_in header.geometry) (suc header.in_front) header.first_area))
+      (with_last (in_use header) last content header.geometry (next_number header.base) stands.lists [] (lists_still old content image number stands front groups are same holds)
+      (record { stand = closed; inside = some }))
 
-  abbrev pub begins_turn : (slot : Side) → HoldsHeader content (length content) (begun header) slot → StandsFor content image number
+  abbrev pub begins_turn : (slot : Side) → HoldsHeader content (length content) (begun stands.header room) slot → StandsFor content image number
   begins_turn slot in_force = record {
-    header = begun header;
+    header = begun stands.header room;
     slot = slot;
-    states = states;
-    lists = groups ∷ [] ∷ [];
+    states = stands.states;
+    lists = stands.lists ++ [] ∷ [];
     in_force = in_force;
-    map = slot_kept old content states header.geometry header.map_slot (λ place within. behind_areas place (omega (arith, within.0, map_low header.geometry header.map_slot))) map;
-    held = (list_here, (record { stand = closed; inside = some }, tt));
-    count = count;
-    shows = shows ∙ ap (apply_all (all_changes (groups ∷ []))) (sym (image_kept old content header.geometry (λ place above. behind_areas place (omega (arith, above))) states));
+    map = map_stays old content stands.header front same stands.states stands.map;
+    held = begun_lists;
+    count = stands.count ∙ ap (λ (changes : List Change). stands.header.base + length changes) (sym (changes-empty stands.lists));
+    shows = shows_still old content image number stands front groups are same holds
+        ∙ ap (λ (changes : List Change). apply_all changes (stored_image content stands.header.geometry stands.states)) (sym (changes-empty stands.lists));
   }
 
 -- the list of an area whose puts are copied, and the map after it
@@ -142,49 +150,55 @@ module _ (old : List ℕ) (geometry : Geometry) (place next : ℕ) (groups : Lis
       let kinds = λ (block : ℕ). groups_kind geometry.blocks old place next groups stand (stored_image old geometry before) block ∙ state_after block in
       λ i. record { blocks = sizes i; byte = λ p. all_bytes p i; kind = λ block. kinds block i }
 
--- a checkpoint ends: the second area alone is in use, over what map and data then hold
-module _ (old content : List ℕ) (header : Header) (before after : List Kind) (first second : List StoredGroup) (image : Image) (number : ℕ)
+-- areas stay where all behind the header slots does
+pub areas_above : (areas : List ℕ) (geometry : Geometry) (old content : List ℕ) → ((place : ℕ) → 8192 ≤ place → slice_index content place ≡ slice_index old place) → AreSame areas geometry old content
+areas_above [] geometry old content same = tt
+areas_above (area ∷ areas) geometry old content same = (λ place here. same place (omega (arith, here.0, area_low geometry area)), areas_above areas geometry old content same)
+
+-- a checkpoint ends: the first area is no longer in use, over what map and data then hold
+module _ (old content : List ℕ) (header : Header) (before after : List Kind) (rest : ℕ) (is : header.in_front ≡ suc rest) (first : List StoredGroup) (others : List (List StoredGroup)) (image : Image) (number : ℕ)
     (fits : header.base < 18446744073709551616) (blocks : length before ≡ header.geometry.blocks)
     (map : HoldsMap old (map_at header.geometry (other_of header.map_slot)) header.geometry.blocks after)
     (states : AreStatesAfter (touched_by_groups (area_at header.geometry header.first_area) first) before after)
     (copied : (block from : ℕ) → block < header.geometry.blocks → last_touch block (touched_by_groups (area_at header.geometry header.first_area) first) ≡ Some (Put from) → (k : ℕ) → k < 4096
     → slice_index old (block_at header.geometry block + k) ≡ slice_index old (from + k))
-    (first_list : IsList (area_of header.geometry header.first_area) (next_number header.base) first old)
-    (second_list : IsList (area_of header.geometry (other_of header.first_area)) (next_behind (next_number header.base) first) second old)
-    (count : number ≡ header.base + length (all_changes (first ∷ second ∷ [])))
-    (shows : image ≡ apply_all (all_changes (first ∷ second ∷ [])) (stored_image old header.geometry before))
+    (lists : HoldLists (in_use header) old header.geometry (next_number header.base) (first ∷ others))
+    (count : number ≡ header.base + length (all_changes (first ∷ others)))
+    (shows : image ≡ apply_all (all_changes (first ∷ others)) (stored_image old header.geometry before))
     (same : (place : ℕ) → 8192 ≤ place → slice_index content place ≡ slice_index old place) where
   abbrev pub base_after : ℕ
   base_after = header.base + length (changes_of first)
 
   pub number_after : next_behind (next_number header.base) first ≡ next_number base_after
-  number_after = (follows header.geometry.blocks old (area_at header.geometry header.first_area) (next_number header.base) header.base first fits refl first_list.stand).following
+  number_after = (follows header.geometry.blocks old (area_at header.geometry header.first_area) (next_number header.base) header.base first fits refl lists.0.stand).following
 
-  pub counted : number ≡ base_after + length (all_changes (second ∷ []))
-  counted = omega (arith, count, length-append (changes_of first) (all_changes (second ∷ [])))
+  pub counted : number ≡ base_after + length (all_changes others)
+  counted = omega (arith, count, length-append (changes_of first) (all_changes others))
 
-  pub shown : image ≡ apply_all (all_changes (second ∷ [])) (stored_image content header.geometry after)
+  pub shown : image ≡ apply_all (all_changes others) (stored_image content header.geometry after)
   shown =
       shows
-      ∙ apply_all-append (changes_of first) (all_changes (second ∷ [])) (stored_image old header.geometry before)
-      ∙ ap (apply_all (all_changes (second ∷ [])))
-      (taken_over old header.geometry (area_at header.geometry header.first_area) (next_number header.base) first first_list.stand before after blocks states copied
+      ∙ apply_all-append (changes_of first) (all_changes others) (stored_image old header.geometry before)
+      ∙ ap (apply_all (all_changes others))
+      (taken_over old header.geometry (area_at header.geometry header.first_area) (next_number header.base) first lists.0.stand before after blocks states copied
       ∙ sym (image_kept old content header.geometry (λ place above. same place (omega (arith, above))) after))
 
-  abbrev pub ends_turn : (slot : Side) → HoldsHeader content (length content) (ended header base_after) slot → StandsFor content image number
+  pub others_held : HoldLists (in_use (ended header rest is base_after)) content header.geometry (next_number base_after) others
+  others_held =
+      let areas = ring (areas_in header.geometry) (suc rest) (next_of (areas_in header.geometry) header.first_area) in
+      let here = subst (λ (n : ℕ). HoldLists (ring (areas_in header.geometry) n (next_of (areas_in header.geometry) header.first_area)) old header.geometry (next_behind (next_number header.base) first) others) is lists.1 in
+      subst (λ (next : ℕ). HoldLists areas content header.geometry next others) number_after
+      (lists_stay areas old content header.geometry (next_behind (next_number header.base) first) others (areas_above areas header.geometry old content same) here)
+
+  abbrev pub ends_turn : (slot : Side) → HoldsHeader content (length content) (ended header rest is base_after) slot → StandsFor content image number
   ends_turn slot in_force = record {
-    header = ended header base_after;
+    header = ended header rest is base_after;
     slot = slot;
     states = after;
-    lists = second ∷ [];
+    lists = others;
     in_force = in_force;
     map = slot_kept old content after header.geometry (other_of header.map_slot) (λ place within. same place (omega (arith, within.0, map_low header.geometry (other_of header.map_slot)))) map;
-    held = (
-      subst (λ (next : ℕ). IsList (area_of header.geometry (other_of header.first_area)) next second content) number_after
-          (list_kept (area_of header.geometry (other_of header.first_area)) (next_behind (next_number header.base) first) second old content
-          (λ place here. same place (omega (arith, here.0))) second_list),
-      tt,
-    );
+    held = others_held;
     count = counted;
     shows = shown;
   }

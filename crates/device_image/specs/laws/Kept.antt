@@ -35,7 +35,7 @@ module _ {D : Type 0} (keeper : KeeperState D) (state : State) (image : Image) (
   first = behind_lists (next_number keeps.stands.header.base) keeps.areas.front
 
   pub held : HoldLists (fronts_of keeps.stands) state.seen keeps.stands.header.geometry (next_number keeps.stands.header.base) keeps.areas.front
-  held = held_lists _ _ _ _ (earlier_of keeper.memory.plan) state keeps.areas.earlier_held
+  held = held_lists _ _ _ _ (earlier_of keeper.memory.plans) state keeps.areas.earlier_held
 
   pub low_synced : (place : ℕ) → place < 8192 + 2 * keeps.stands.header.geometry.area → state.unsynced place → ⊥
   low_synced place below unsynced = let copy = keeps.unsynced place unsynced in omega (arith, below, copy.inside.0)

@@ -35,7 +35,7 @@ one_states content place blocks states others map other =
     (subst (λ (bytes : List ℕ). IsMapOf bytes others) (one_slot_bytes content place blocks other.bytes map.bytes other.slot map.slot) other.map)
 
 -- areas hold one list each
-one_lists : (areas : List Side) (content : List ℕ) (geometry : Geometry) (next : ℕ) (lists others : List (List StoredGroup))
+one_lists : (areas : List ℕ) (content : List ℕ) (geometry : Geometry) (next : ℕ) (lists others : List (List StoredGroup))
     → HoldLists areas content geometry next lists → HoldLists areas content geometry next others → lists ≡ others
 one_lists [] content geometry next [] [] holds also = refl
 one_lists [] content geometry next [] (groups ∷ others) holds also = absurd also
@@ -49,7 +49,7 @@ one_lists (area ∷ areas) content geometry next (groups ∷ lists) (more ∷ ot
     λ i. here i ∷ rest i
 
 -- and none of them is damaged
-lists_sound : (areas : List Side) (content : List ℕ) (geometry : Geometry) (next : ℕ) (lists : List (List StoredGroup))
+lists_sound : (areas : List ℕ) (content : List ℕ) (geometry : Geometry) (next : ℕ) (lists : List (List StoredGroup))
     → HoldLists areas content geometry next lists → IsOneDamaged areas content geometry next → ⊥
 lists_sound [] content geometry next lists holds damaged = damaged
 lists_sound (area ∷ areas) content geometry next [] holds damaged = holds

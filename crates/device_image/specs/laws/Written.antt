@@ -1,5 +1,5 @@
 -- The last touches of blocks and the commands that made them.
-use Rattle.std.proofs.Common.{◌≤◌, ◌≡◌, ℕ, ◌+◌, ◌-◌, ◌*◌, ◌/◌, Bool, true, false, ◌&&◌, ◌||◌, if◌then◌else◌, Option, Some, None, List, [], ◌∷◌, ◌++◌, length, refl, sym, ◌∙◌, ap, arith}
+use Rattle.std.proofs.Common.{◌≤◌, ◌≡◌, ℕ, ◌+◌, ◌/◌, Bool, true, false, ◌&&◌, ◌||◌, if◌then◌else◌, Option, Some, None, List, [], ◌∷◌, ◌++◌, length, refl, sym, ◌∙◌, ap, arith}
 use Rattle.std.specs.Option.{is_some}
 use Rattle.std.specs.List.{list_any}
 use Rattle.image_model.specs.Change.{Change, Written, Cleared, Edged, IsChange, AreChanges}
@@ -11,7 +11,6 @@ use Rattle.journal_format.specs.Spelling.{StoredGroup, change_bytes}
 use Rattle.journal_format.specs.Touches.{data_place, last_touch, later, touched_by, touched_by_changes, touched_by_groups}
 use Rattle.image_model.specs.declared.command.Kind.{Kind}
 use Rattle.journal_format.specs.declared.touch.Touch.{Touch}
-use Rattle.journal_format.specs.declared.touch.Touch.TheVariants.{Put, Clear}
 use Rattle.journal_format.specs.declared.touch.TouchedRange.{TouchedRange}
 use Rattle.journal_format.specs.laws.LastTouches.{last_touch-append, touch_of, touches_told}
 use Rattle.device_image.specs.Holds.{is_written}

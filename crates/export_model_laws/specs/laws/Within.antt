@@ -37,7 +37,7 @@ longest-le limit (command ∷ commands) =
     (λ none. omega arith)
 
 -- areas stay in use while more is stored
-rising_more : (base : ℕ) (turned : List ℕ) (stored more : ℕ) → stored ≤ more → IsRising base turned stored → IsRising base turned more
+pub rising_more : (base : ℕ) (turned : List ℕ) (stored more : ℕ) → stored ≤ more → IsRising base turned stored → IsRising base turned more
 rising_more base [] stored more le is = omega (arith, le, is)
 rising_more base (first ∷ rest) stored more le is = (is.0, rising_more first rest stored more le is.1)
 
@@ -47,7 +47,7 @@ rising_through base [] stored is = is
 rising_through base (first ∷ rest) stored is = let first_in = is.0 in let rest_in = rising_through first rest stored is.1 in omega (arith, first_in, rest_in)
 
 -- the next area comes into use behind one that holds something
-rising_end : (base : ℕ) (turned : List ℕ) (stored : ℕ) → last_turned base turned < stored → IsRising base turned stored → IsRising base (turned ++ stored ∷ []) stored
+pub rising_end : (base : ℕ) (turned : List ℕ) (stored : ℕ) → last_turned base turned < stored → IsRising base turned stored → IsRising base (turned ++ stored ∷ []) stored
 rising_end base [] stored some is = (some, omega arith)
 rising_end base (first ∷ rest) stored some is = (is.0, rising_end first rest stored some is.1)
 

@@ -1,5 +1,5 @@
 -- What functions of this crate hand to one another, beside `Edits`.
-use Rattle.std.specs.Prelude.{ℕ, ◌≡◌, ◌+◌, ◌-◌, ◌*◌, ◌/◌, ◌%◌, Bool, true, false, max, min, if◌then◌else◌, List, ◌++◌, length, take, drop, replicate, Option, Some, None}
+use Rattle.std.specs.Prelude.{ℕ, ◌≡◌, ◌+◌, ◌-◌, ◌*◌, ◌/◌, ◌%◌, Bool, true, false, max, min, List, ◌++◌, length, take, drop, replicate, Option, Some, None}
 use Rattle.image_model.specs.declared.command.Command.{Command}
 use Rattle.image_model.specs.declared.command.Command.TheVariants as command
 use Rattle.image_model.specs.declared.command.Edges.{Edges}
@@ -8,7 +8,7 @@ use Rattle.image_model.specs.declared.command.Kind.TheVariants.{Hole}
 use Rattle.image_model.specs.declared.edit.Edit.{Edit}
 use Rattle.image_model.specs.declared.edit.Edit.TheVariants as edit
 use Rattle.image_model.specs.Change.{Change, Written, Cleared}
-use Rattle.image_model.specs.Edit.{ByteEdit, BytesPut, BytesZeroed, BytesTrimmed, becomes, blocks_met}
+use Rattle.image_model.specs.Edit.{ByteEdit, BytesPut, BytesZeroed, BytesTrimmed, blocks_met}
 
 -- the bytes of all blocks that a put touches, of old ones of the first and of the last, and its own between them
 abbrev pub put_bytes : List ℕ → ℕ → List ℕ → List ℕ → List ℕ

@@ -1,21 +1,21 @@
 -- What an edit becomes over an image that is in memory in part, and what the order shows then.
-use Rattle.std.proofs.Common.{◌≡◌, ℕ, ◌+◌, ◌-◌, ◌*◌, ◌/◌, ◌%◌, ◌≤◌, ◌<◌, ◌&&◌, Bool, true, false, not, nat_eq, nat_le, if◌then◌else◌, List, [], ◌++◌, length, map, replicate, get_or, Option, Some, None, ap, sym, subst, ◌∙◌, refl, arith, length-append}
+use Rattle.std.proofs.Common.{◌≡◌, ℕ, ◌+◌, ◌-◌, ◌*◌, ◌/◌, ◌%◌, ◌≤◌, ◌<◌, ◌&&◌, Bool, true, false, not, nat_eq, nat_le, if◌then◌else◌, List, [], ◌++◌, length, replicate, get_or, Option, Some, None, ap, sym, subst, ◌∙◌, refl, arith, length-append}
 use Rattle.std.specs.List.{sum}
 use Rattle.std.proofs.lemmas.Bool.{and_parts, both_ways}
 use Rattle.std.proofs.lemmas.Bool.Decides.{nat_tests}
-use Rattle.std.proofs.lemmas.List.{get_or-replicate, get_or_default, same_lists}
+use Rattle.std.proofs.lemmas.List.{get_or-replicate, same_lists}
 use Rattle.std.proofs.lemmas.List.FromFn.{get_or-map-range_with_len, length-map-range_with_len}
 use Rattle.std.specs.FinMap.{len}
 use Rattle.alloc_map.specs.Codes.{state_at}
 use Rattle.image_model.specs.declared.command.Kind.{Kind}
 use Rattle.image_model.specs.declared.command.Kind.TheVariants.{Data, Zero, Hole}
-use Rattle.image_model.specs.Change.{Change, Written, Cleared, Edged}
+use Rattle.image_model.specs.Change.{Change, Written, Edged}
 use Rattle.image_model.specs.declared.command.Edges.TheVariants.{Head, Tail, Both}
 use Rattle.image_model.specs.Dirty.{frames_suffice, with_blocks}
-use Rattle.image_model.specs.Edit.{ByteEdit, BytesPut, BytesZeroed, BytesTrimmed, IsZeroElsewhere, apply_edit, becomes, blocks_met, byte_edited, bytes_of, cleared_within, count_of, is_partial_data, offset_of, spans}
+use Rattle.image_model.specs.Edit.{ByteEdit, BytesPut, BytesZeroed, BytesTrimmed, IsZeroElsewhere, apply_edit, becomes, blocks_met, byte_edited, bytes_of, cleared_within, count_of, is_partial_data, spans}
 use Rattle.image_model.specs.Image.{Image, apply, is_data, last_of}
 use Rattle.image_model.specs.laws.Becoming.{becomes_edit, length-bytes_of}
-use Rattle.image_model.specs.laws.WholeEdits.{bytes_from, put_parts, back_bytes, end_place, front_bytes}
+use Rattle.image_model.specs.laws.WholeEdits.{bytes_from, put_parts, back_bytes, front_bytes}
 use Rattle.marks.specs.Known.{PassState}
 use Rattle.shared_cache.specs.Cache.{CacheState, bytes_for, bytes_seen}
 use Rattle.shared_cache.specs.Blocks.{bytes_of as frame_bytes}

@@ -5,6 +5,7 @@ use Rattle.std.specs.List.{list_any}
 use Rattle.std.specs.Option.{is_some}
 use Rattle.std.proofs.lemmas.Bool.{both_ways, cases_Bool, or_parts}
 use Rattle.std.proofs.lemmas.List.{drop-drop, take-append-drop, take_all}
+use Rattle.device_image.specs.Holds.{joined}
 use Rattle.device_image.specs.laws.Written.{untouched_unwritten}
 use Rattle.image_model.specs.Change.{AreChanges, Change, Cleared, Edged, IsChange, IsCleared, Written}
 use Rattle.image_model.specs.Dirty.{last_write}
@@ -14,8 +15,8 @@ use Rattle.image_model.specs.declared.command.Kind.TheVariants.{Data, Zero, Hole
 use Rattle.image_model.specs.laws.DirtyMaps.{get-dirty_blocks}
 use Rattle.image_model.specs.laws.Slots.{byte-apply, untouched_byte}
 use Rattle.order_book.specs.Reading.{IsCleanAt}
-use Rattle.request_core.specs.Parts.{first_commands, part, turned_at}
-use Rattle.request_core.specs.laws.Lives.{IsOrdered, all_behind, apply_append, take_part}
+use Rattle.request_core.specs.Parts.{first_commands, fronts_at, part, turned_at}
+use Rattle.request_core.specs.laws.Lives.{IsOrdered, all_behind, apply_append, joined_at, take_part}
 use Rattle.export_model.specs.World.{Stage, dirty_behind, image_after}
 
 -- a block that no command touches keeps its state
@@ -124,24 +125,28 @@ module _ (stage : Stage) (is : IsOrdered stage) (cleaned : stage.cleaned ≤ sta
       (sym (get-dirty_blocks (stage.setting.opening + stage.cleaned) behind block) ∙ clean)
       (sym (ap (λ (i : Image). i.kind block) all_image) ∙ is_data)
 
-  pub clean_at : IsCleanAt (image_after stage.order stage.base stage.setting.image) (first_commands stage) (image_after stage.order (length stage.order) stage.setting.image) (dirty_behind stage.cleaned stage)
-  clean_at = record {
-    kinds = λ block is_data clean.
-        let none = untouched block is_data clean in
-        ap (λ (i : Image). i.kind block) base_image
-        ∙ kind_stays block (part stage.order stage.cleaned stage.base) front (none_taken block (stage.base - stage.cleaned) behind none)
-        ∙ sym (kind_stays block behind front none)
-        ∙ sym (ap (λ (i : Image). i.kind block) all_image) ∙ is_data;
-    unwritten = λ block is_data clean.
-        let none = untouched block is_data clean in
-        let from : stage.cleaned + (stage.base - stage.cleaned) ≡ stage.base = omega (arith, cleaned) in
-        let further = none_dropped block (stage.base - stage.cleaned) behind none in
-        untouched_unwritten block (first_commands stage) (none_taken block (turned_at stage - stage.base) (drop stage.base stage.order)
-        (subst (λ (l : List Change). list_any (touches block) l ≡ false) (drop-drop (stage.base - stage.cleaned) stage.cleaned stage.order ∙ ap (λ (n : ℕ). drop n stage.order) from) further));
-    bytes = λ block is_data clean k inside.
-        let none = untouched block is_data clean in
-        ap (λ (i : Image). i.byte (4096 * block + k)) base_image
-        ∙ byte_stays block k (part stage.order stage.cleaned stage.base) front inside (none_taken block (stage.base - stage.cleaned) behind none)
-        ∙ sym (byte_stays block k behind front inside none)
-        ∙ sym (ap (λ (i : Image). i.byte (4096 * block + k)) all_image);
-  }
+  pub clean_at : IsCleanAt (image_after stage.order stage.base stage.setting.image) (joined (fronts_at stage)) (image_after stage.order (length stage.order) stage.setting.image) (dirty_behind stage.cleaned stage)
+  clean_at = subst (λ (l : List Change). IsCleanAt (image_after stage.order stage.base stage.setting.image) l (image_after stage.order (length stage.order) stage.setting.image) (dirty_behind stage.cleaned stage))
+      (sym (joined_at stage is)) clean_first
+    where
+      clean_first : IsCleanAt (image_after stage.order stage.base stage.setting.image) (first_commands stage) (image_after stage.order (length stage.order) stage.setting.image) (dirty_behind stage.cleaned stage)
+      clean_first = record {
+        kinds = λ block is_data clean.
+            let none = untouched block is_data clean in
+            ap (λ (i : Image). i.kind block) base_image
+            ∙ kind_stays block (part stage.order stage.cleaned stage.base) front (none_taken block (stage.base - stage.cleaned) behind none)
+            ∙ sym (kind_stays block behind front none)
+            ∙ sym (ap (λ (i : Image). i.kind block) all_image) ∙ is_data;
+        unwritten = λ block is_data clean.
+            let none = untouched block is_data clean in
+            let from : stage.cleaned + (stage.base - stage.cleaned) ≡ stage.base = omega (arith, cleaned) in
+            let further = none_dropped block (stage.base - stage.cleaned) behind none in
+            untouched_unwritten block (first_commands stage) (none_taken block (turned_at stage - stage.base) (drop stage.base stage.order)
+            (subst (λ (l : List Change). list_any (touches block) l ≡ false) (drop-drop (stage.base - stage.cleaned) stage.cleaned stage.order ∙ ap (λ (n : ℕ). drop n stage.order) from) further));
+        bytes = λ block is_data clean k inside.
+            let none = untouched block is_data clean in
+            ap (λ (i : Image). i.byte (4096 * block + k)) base_image
+            ∙ byte_stays block k (part stage.order stage.cleaned stage.base) front inside (none_taken block (stage.base - stage.cleaned) behind none)
+            ∙ sym (byte_stays block k behind front inside none)
+            ∙ sym (ap (λ (i : Image). i.byte (4096 * block + k)) all_image);
+      }

@@ -11,15 +11,15 @@ use Rattle.image_model.specs.Image.{Image, apply, apply_all}
 use Rattle.image_model.specs.declared.geometry.Geometry.{Geometry}
 use Rattle.journal_format.specs.Group.{Numbered}
 use Rattle.order_book.specs.Order.{OrderState}
-use Rattle.request_core.specs.Parts.{IsDiskOf, IsKeeperOf, IsOrderOf, StandsAfter, first_commands, last_commands, part, turned_at}
+use Rattle.request_core.specs.Parts.{IsDiskOf, IsKeeperOf, IsOrderOf, StandsAfter, copies_of, first_commands, fronts_at, fronts_of, last_commands, lefts_by, part, turned_at}
 use Rattle.export_model.specs.World.{Stage, World, image_after}
 use Rattle.request_core.specs.laws.Orders.{commands_length, hand_is}
-use Rattle.device_image.specs.Holds.{Holds}
+use Rattle.device_image.specs.Holds.{Holds, joined}
 use Rattle.std.proofs.Math.Seq.{take-add}
 use Rattle.export_model.specs.Checkpoint.{last_turned}
 use Rattle.export_model_laws.specs.Law.{IsRising, IsWithin}
-use Rattle.export_model_laws.specs.laws.Within.{turned_through}
-use Rattle.export_model_laws.specs.laws.Parts.{part_more, part_same}
+use Rattle.export_model_laws.specs.laws.Within.{rising_through, turned_through}
+use Rattle.export_model_laws.specs.laws.Parts.{copied_same, part_more, part_same}
 
 -- commands one after another
 pub apply_append : (xs ys : List Change) (image : Image) → apply_all (xs ++ ys) image ≡ apply_all ys (apply_all xs image)
@@ -70,8 +70,47 @@ pub through_turned : (base : ℕ) (turned : List ℕ) (stored : ℕ) → IsRisin
 through_turned base [] stored is = omega arith
 through_turned base (first ∷ rest) stored is = let here = is.0 in let behind = through_turned first rest stored is.1 in omega (arith, here, behind)
 
+-- no commands stand between a number and itself
+pub part_none : (order : List Change) (from until : ℕ) → from ≡ until → part order from until ≡ []
+part_none order from until same = ap (λ (n : ℕ). take n (drop from order)) (let none : until - from ≡ 0 = omega (arith, same) in none)
+
+-- commands that come to the end of the order are in no area in front of the last
+fronts_same : (base : ℕ) (turned : List ℕ) (stored : ℕ) (order more : List Change) → stored ≤ length order → IsRising base turned stored
+    → fronts_of (order ++ more) base turned ≡ fronts_of order base turned
+fronts_same base [] stored order more within is = refl
+fronts_same base (first ∷ rest) stored order more within is =
+    let below = is.0 in let through = rising_through first rest stored is.1 in
+    let here = part_same base first order more (omega (arith, below)) (omega (arith, through, within)) in
+    let behind = fronts_same first rest stored order more within is.1 in
+    λ i. here i ∷ behind i
+
+-- and change nothing of what these leave to copy
+copies_same : (base : ℕ) (turned : List ℕ) (stored : ℕ) (order more : List Change) → stored ≤ length order → IsRising base turned stored
+    → copies_of (order ++ more) base turned ≡ copies_of order base turned
+copies_same base [] stored order more within is = refl
+copies_same base (first ∷ rest) stored order more within is =
+    let below = is.0 in let through = rising_through first rest stored is.1 in
+    let here = copied_same base first order more (omega (arith, below)) (omega (arith, through, within)) in
+    let behind = copies_same first rest stored order more within is.1 in
+    λ i. here i ∷ behind i
+
+pub lefts_same : (left base : ℕ) (turned : List ℕ) (stored : ℕ) (order more : List Change) → stored ≤ length order → IsRising base turned stored
+    → lefts_by (order ++ more) left turned ≡ lefts_by order left turned
+lefts_same left base [] stored order more within is = refl
+lefts_same left base (first ∷ rest) stored order more within is = ap (λ (l : List ℕ). left ∷ l) (copies_same first rest stored order more within is.1)
+
+-- the commands of all these areas, one area after another
+joined_fronts : (base : ℕ) (turned : List ℕ) (stored : ℕ) (order : List Change) → IsRising base turned stored
+    → joined (fronts_of order base turned) ≡ part order base (last_turned base turned)
+joined_fronts base [] stored order is = sym (part_none order base base refl)
+joined_fronts base (first ∷ rest) stored order is =
+    let below = is.0 in
+    ap (λ (l : List Change). part order base first ++ l) (joined_fronts first rest stored order is.1)
+    ∙ sym (part_more base first (last_turned first rest) order (omega (arith, below)) (through_turned first rest stored is.1))
+
 -- how the numbers of a stage stand to one another
 pub record IsOrdered (stage : Stage) : Type 0 where
+  pub rising : IsRising stage.base stage.turned stage.stored
   pub base : stage.base ≤ turned_at stage
   pub turned : turned_at stage ≤ stage.stored
   pub stored : stage.stored ≤ length stage.order
@@ -80,6 +119,7 @@ pub ordered : (world : World) → IsWithin world → IsOrdered world.stage
 ordered world within =
     let stored = within.stored in let sealed = within.sealed in
     record {
+      rising = within.rising;
       base = through_turned world.stage.base world.stage.turned world.stage.stored within.rising;
       turned = turned_through world.stage.base world.stage.turned world.stage.stored within.rising;
       stored = omega (arith, stored, sealed);
@@ -92,17 +132,18 @@ module _ (stage : Stage) (is : IsOrdered stage) where
       sym (ap (apply_all (last_commands stage)) (ap (λ (l : List Change). apply_all l image) (take_part stage.order stage.base (turned_at stage) is.base) ∙ apply_append (take stage.base stage.order) (first_commands stage) image))
       ∙ sym (ap (λ (l : List Change). apply_all l image) (take_part stage.order (turned_at stage) stage.stored is.turned) ∙ apply_append (take (turned_at stage) stage.order) (last_commands stage) image)
 
+  pub joined_at : joined (fronts_at stage) ≡ first_commands stage
+  joined_at = joined_fronts stage.base stage.turned stage.stored stage.order is.rising
+
   pub keeps_of : {D : Type 0} (keeper : KeeperState D) (failures : ℕ) (state : State) → IsKeeperOf stage keeper failures
-      → Holds keeper state (image_after stage.order stage.base stage.setting.image) (first_commands stage) (last_commands stage)
+      → Holds keeper state (image_after stage.order stage.base stage.setting.image) (fronts_at stage) (last_commands stage)
       → Keeps keeper state (image_after stage.order stage.stored stage.setting.image) (stage.setting.opening + stage.stored)
   keeps_of keeper failures state kept holds =
       subst (λ (n : ℕ). Keeps keeper state (image_after stage.order stage.stored stage.setting.image) n) (sym holds.keeps.counted ∙ kept.count)
-      (subst (λ (i : Image). Keeps keeper state i (keeper.base + length (first_commands stage) + length (last_commands stage))) (image_held stage.setting.image) holds.keeps)
+      (subst (λ (i : Image). Keeps keeper state i (keeper.base + length (joined (fronts_at stage)) + length (last_commands stage)))
+      (ap (λ (l : List Change). apply_all (last_commands stage) (apply_all l (image_after stage.order stage.base stage.setting.image))) joined_at ∙ image_held stage.setting.image) holds.keeps)
 
-  -- commands that come to the end of the order are in no area
-  pub first_stay : (more : List Change) → part (stage.order ++ more) stage.base (turned_at stage) ≡ first_commands stage
-  first_stay more = let turned = is.turned in let stored = is.stored in part_same stage.base (turned_at stage) stage.order more is.base (omega (arith, turned, stored))
-
+  -- commands that come to the end of the order are not in the last area
   pub last_stay : (more : List Change) → part (stage.order ++ more) (turned_at stage) stage.stored ≡ last_commands stage
   last_stay more = part_same (turned_at stage) stage.stored stage.order more is.turned is.stored
 
@@ -113,9 +154,10 @@ module _ (stage : Stage) (is : IsOrdered stage) where
       let base = is.base in let turned = is.turned in let stored = is.stored in
       record {
         holds = λ works.
-            subst (λ (l : List Change). Holds keeper state (image_after (stage.order ++ more) stage.base stage.setting.image) (part (stage.order ++ more) stage.base (turned_at stage)) l) (sym (last_stay more))
-            (subst (λ (f : List Change). Holds keeper state (image_after (stage.order ++ more) stage.base stage.setting.image) f (last_commands stage)) (sym (first_stay more))
-            (subst (λ (commands : List Change). Holds keeper state (apply_all commands stage.setting.image) (first_commands stage) (last_commands stage))
+            subst (λ (l : List Change). Holds keeper state (image_after (stage.order ++ more) stage.base stage.setting.image) (fronts_of (stage.order ++ more) stage.base stage.turned) l) (sym (last_stay more))
+            (subst (λ (f : List (List Change)). Holds keeper state (image_after (stage.order ++ more) stage.base stage.setting.image) f (last_commands stage))
+            (sym (fronts_same stage.base stage.turned stage.stored stage.order more is.stored is.rising))
+            (subst (λ (commands : List Change). Holds keeper state (apply_all commands stage.setting.image) (fronts_at stage) (last_commands stage))
             (sym (take-append-le stage.base stage.order more (omega (arith, base, turned, stored)))) (disk.holds works)));
         leaves = λ content left. stands_more stage.order more stage.setting.image stage.setting.opening stage.stored content (disk.leaves content left);
       }

@@ -15,11 +15,11 @@ returns-in_err-scan-clause-read g c honest synced =
     let before = g.D.Disk.state c.args.disk.now in
     let after = g.D.Disk.state c.scan.new.disk in
     let new = c.new-area.ensures in
-    let from : area.from ≡ area_at c.args.geometry.now c.args.side = ap (λ (a : AreaState). a.from) new ∙ c.area_from-from.ensures.place ∙ ap (λ (size : Geometry). area_at size c.args.side) c.of.ensures in
+    let from : area.from ≡ area_at c.args.geometry.now c.args.index = ap (λ (a : AreaState). a.from) new ∙ c.area_from-from.ensures.place ∙ ap (λ (size : Geometry). area_at size c.args.index) c.of.ensures in
     let same = seen_same (g.met.D.Disk.sound c.args.disk.now honest) synced (call.only_read honest) in
     let first : area.next ≡ c.args.next = ap (λ (a : AreaState). a.next) new in
     at_refusal _ _ _ _ c.from_residual.ensures.1
     (scan_refused c.in_err-scan.field-0.0 _ call.causes (λ is.
-    moved_damage area (area_of c.args.geometry.now c.args.side) c.args.next after.seen from (ap (λ (a : AreaState). a.bytes) new) (ap (λ (a : AreaState). a.blocks) new)
+    moved_damage area (area_of c.args.geometry.now c.args.index) c.args.next after.seen from (ap (λ (a : AreaState). a.bytes) new ∙ c.area_size.ensures) (ap (λ (a : AreaState). a.blocks) new)
     (subst (λ (content : List ℕ). IsDamaged area c.args.next content) same
     (subst (λ (n : ℕ). IsDamaged area n before.seen) first (call.damaged honest (λ place within. synced place) (ap Err is))))))

@@ -1,63 +1,127 @@
-use Rattle.std.proofs.Common.{List, [], ◌∷◌, sym, subst}
-use Rattle.journal_format.specs.Spelling.{StoredGroup}
-use Rattle.device_image.specs.Keeper.{PlanState}
-use Rattle.device_image.specs.Keeps.{HoldsAreas}
+use Rattle.std.proofs.Common.{◌≡◌, ◌<◌, ◌+◌, ℕ, suc, List, [], ◌∷◌, ◌++◌, length, if◌then◌else◌, refl, sym, ◌∙◌, ap, subst, arith, length-append}
+use Rattle.image_model.specs.declared.geometry.Geometry.{Geometry}
+use Rattle.journal_format.specs.Area.{AreaState}
+use Rattle.journal_format.specs.GroupList.{IsDamaged}
 use Rattle.journal_format.specs.laws.Chained.{reads_on}
-use Rattle.checkpoint.proofs.Areas.{last_damaged, one_held, two_held}
+use Rattle.regions.specs.Layout.{areas_in, behind}
+use Rattle.device_image.specs.Keeper.{AreUncopied, PlanState, last_turned, turned_of}
+use Rattle.device_image.specs.Keeps.{IsPlaced}
+use Rattle.device_image.specs.Stands.{area_of, last_area, next_number}
+use Rattle.device_image.specs.laws.CheckpointBounds.{uncopied_more}
+use Rattle.checkpoint.specs.Keeper.{AreSized}
+use Rattle.checkpoint.proofs.Areas.{AreHeldSoFar, all_held, area_damaged, last-push, more_held, next_after, placed_sized, sized_more}
 use Rattle.checkpoint.proofs.Readings.{at_refusal, damage_weaker, seen_same, still_synced}
 use Rattle.checkpoint.proofs.opening.read_areas.Goals as goal
 
-pub returns-in_ok-area-in-One-clause-read : goal.returns-in_ok-area-in-One-clause-read
-returns-in_ok-area-in-One-clause-read g c honest synced =
-    (one_held c.args.header.now c.in-One.is (g.D.Disk.state c.read_area.new.disk) c.in_ok-area-in-One.area c.in_ok-area-in-One.ensures.placed (c.in_ok-area-in-One.ensures.read honest synced))
-
-pub returns-in_err-area-in-Two-clause-only_read : goal.returns-in_err-area-in-Two-clause-only_read
-returns-in_err-area-in-Two-clause-only_read g c honest =
-    let first = c.in_ok-first-in-Two.ensures in
-    reads_on (g.met.D.Disk.sound c.args.disk.now honest) (first.only_read honest) (c.in_err-area-in-Two.ensures.only_read (first.honest.1 honest))
-
-pub returns-in_err-area-in-Two-clause-read : goal.returns-in_err-area-in-Two-clause-read
-returns-in_err-area-in-Two-clause-read g c honest synced =
+pub returns-in_err-plan-clause-read : goal.returns-in_err-plan-clause-read
+returns-in_err-plan-clause-read g c honest synced =
     let header = c.args.header.now in
-    let first = c.in_ok-first-in-Two.ensures in
-    let second = c.in_err-area-in-Two.ensures in
-    let mid = g.D.Disk.state c.read_area-in-Two.new.disk in
-    let after = g.D.Disk.state c.read_area-in-Two-2.new.disk in
-    let mid_honest = first.honest.1 honest in
-    let mid_synced = still_synced synced (first.only_read honest) in
-    let same = seen_same (g.met.D.Disk.sound c.read_area-in-Two.new.disk mid_honest) mid_synced (second.only_read mid_honest) in
-    at_refusal _ _ _ _ c.from_residual-in_err-area-in-Two.ensures.1
-    (damage_weaker c.in_err-area-in-Two.field-0.0
-    (last_damaged header c.in-Two.is mid c.in_ok-first-in-Two.first first.placed (first.read honest synced) after.seen c.other-side.result c.next.result same c.next.ensures c.other-side.ensures)
-    (second.read mid_honest mid_synced))
+    let so_far = c.loop-place.invariant in
+    let call = c.in_err-plan.ensures in
+    let before = g.D.Disk.state c.loop-place.disk in
+    let after = g.D.Disk.state c.read_plan.new.disk in
+    let mid_honest = so_far.honest.1 honest in
+    let mid_synced = still_synced synced (so_far.only_read honest) in
+    let read = call.only_read mid_honest in
+    let same = seen_same (g.met.D.Disk.sound c.loop-place.disk mid_honest) mid_synced read in
+    let index : c.area_behind-index.result ≡ behind (areas_in header.geometry) c.loop-place.place header.first_area =
+    c.area_behind-index.ensures.area ∙ ap (λ (size : Geometry). behind (areas_in size) c.loop-place.place header.first_area) c.of-regions.ensures in
+    at_refusal _ _ _ _ c.from_residual.ensures.1
+    (damage_weaker c.in_err-plan.field-0.0
+    (λ damaged. area_damaged header c.loop-place.place c.loop-place.plans.items before after c.loop-place.next (so_far.held honest synced) same (still_synced mid_synced read)
+    (omega (arith, c.loop-place-test.true)) after.seen refl
+    (subst (λ (i : ℕ). IsDamaged (area_of header.geometry i) c.loop-place.next after.seen) index damaged))
+    (call.read mid_honest mid_synced))
 
-pub returns-in_ok-area-in-Two-clause-only_read : goal.returns-in_ok-area-in-Two-clause-only_read
-returns-in_ok-area-in-Two-clause-only_read g c honest =
-    let first = c.in_ok-first-in-Two.ensures in
-    reads_on (g.met.D.Disk.sound c.args.disk.now honest) (first.only_read honest) (c.in_ok-area-in-Two.ensures.only_read (first.honest.1 honest))
+pub returns-in_err-map_err-clause-only_read : goal.returns-in_err-map_err-clause-only_read
+returns-in_err-map_err-clause-only_read g c honest =
+    let so_far = c.loop-place.invariant in
+    reads_on (g.met.D.Disk.sound c.args.disk.now honest) (so_far.only_read honest) (c.in_ok-plan.ensures.only_read (so_far.honest.1 honest))
 
-pub returns-in_ok-area-in-Two-clause-read : goal.returns-in_ok-area-in-Two-clause-read
-returns-in_ok-area-in-Two-clause-read g c honest synced =
+pub loop-place-preserved : goal.loop-place-preserved
+loop-place-preserved g c =
     let header = c.args.header.now in
-    let first = c.in_ok-first-in-Two.ensures in
-    let second = c.in_ok-area-in-Two.ensures in
-    let mid = g.D.Disk.state c.read_area-in-Two.new.disk in
-    let after = g.D.Disk.state c.read_area-in-Two-2.new.disk in
-    let mid_honest = first.honest.1 honest in
-    let mid_synced = still_synced synced (first.only_read honest) in
-    let same = seen_same (g.met.D.Disk.sound c.read_area-in-Two.new.disk mid_honest) mid_synced (second.only_read mid_honest) in
-    subst (λ (plan : PlanState). (lists : List (List StoredGroup)) × HoldsAreas after header lists (plan.first ∷ []) c.in_ok-area-in-Two.area) (sym c.of.ensures)
-    (two_held header c.in-Two.is mid c.in_ok-first-in-Two.first first.placed (first.read honest synced) after c.in_ok-area-in-Two.area c.next.result c.other-side.result same
-    (still_synced mid_synced (second.only_read mid_honest)) c.next.ensures c.other-side.ensures second.placed (second.read mid_honest mid_synced))
+    let extent = g.D.Disk.extent c.args.disk.now in
+    let so_far = c.loop-place.invariant in
+    let plans = c.loop-place.plans.items in
+    let plan = c.in_ok-plan.plan in
+    let call = c.in_ok-plan.ensures in
+    let before = g.D.Disk.state c.loop-place.disk in
+    let after = g.D.Disk.state c.read_plan.new.disk in
+    let now = c.next-next.result in
+    let now_is : now ≡ plan.first.next = c.next-next.ensures ∙ ap (λ (a : AreaState). a.next) c.first.ensures in
+    let pushed : c.push.new.self.items ≡ plans ++ plan ∷ [] = c.push.ensures.items ∙ ap (λ b. if b then plans ++ plan ∷ [] else plans) (sym c.in_ok-map_err.ensures.variant) in
+    let index : c.area_behind-index.result ≡ behind (areas_in header.geometry) c.loop-place.place header.first_area =
+    c.area_behind-index.ensures.area ∙ ap (λ (size : Geometry). behind (areas_in size) c.loop-place.place header.first_area) c.of-regions.ensures in
+    let inside = subst (λ (size : Geometry). c.area_behind-index.result < areas_in size) c.of-regions.ensures c.area_behind-index.ensures.inside in
+    let next_place : suc c.loop-place.place ≡ c.loop-place.place + 1 = omega arith in
+    record {
+      extent = call.extent ∙ so_far.extent;
+      faults = call.faults_ok ∙ so_far.faults;
+      honest = (λ honest. so_far.honest.0 (call.honest.0 honest), λ honest. call.honest.1 (so_far.honest.1 honest));
+      sized = subst (λ (all : List PlanState). AreSized all header.geometry extent) (sym pushed)
+          (sized_more plans plan header.geometry extent so_far.sized (placed_sized plan.first header.geometry c.area_behind-index.result extent call.placed inside c.requires));
+      uncopied = subst AreUncopied (sym pushed) (uncopied_more plans plan so_far.uncopied call.uncopied);
+      many = omega (arith, so_far.many, ap length pushed, length-append plans (plan ∷ []));
+      following = next_after plan.first now (omega arith) now_is
+          ∙ ap next_number (sym (ap (λ (all : List PlanState). last_turned header.base (turned_of all)) pushed ∙ last-push header.base plans plan));
+      only_read = λ honest. reads_on (g.met.D.Disk.sound c.args.disk.now honest) (so_far.only_read honest) (call.only_read (so_far.honest.1 honest));
+      held = λ honest synced.
+          let mid_honest = so_far.honest.1 honest in
+          let mid_synced = still_synced synced (so_far.only_read honest) in
+          let read = call.only_read mid_honest in
+          let same = seen_same (g.met.D.Disk.sound c.loop-place.disk mid_honest) mid_synced read in
+          subst (λ (all : List PlanState). AreHeldSoFar after header (c.loop-place.place + 1) all now) (sym pushed)
+          (subst (λ (n : ℕ). AreHeldSoFar after header n (plans ++ plan ∷ []) now) next_place
+          (more_held header c.loop-place.place plans before after c.loop-place.next (so_far.held honest synced) same (still_synced mid_synced read) plan now
+          (subst (λ (i : ℕ). IsPlaced plan.first header.geometry i) index call.placed) (call.read mid_honest mid_synced) now_is));
+    }
 
-pub returns-in_err-area-in-Two-clause-honest : goal.returns-in_err-area-in-Two-clause-honest
-returns-in_err-area-in-Two-clause-honest g c =
-    let first = c.in_ok-first-in-Two.ensures in
-    let second = c.in_err-area-in-Two.ensures in
-    (λ honest. first.honest.0 (second.honest.0 honest), λ honest. second.honest.1 (first.honest.1 honest))
+pub returns-in_err-area-clause-only_read : goal.returns-in_err-area-clause-only_read
+returns-in_err-area-clause-only_read g c honest =
+    let so_far = c.loop-place.invariant in
+    reads_on (g.met.D.Disk.sound c.args.disk.now honest) (so_far.only_read honest) (c.in_err-area.ensures.only_read (so_far.honest.1 honest))
 
-pub returns-in_ok-area-in-Two-clause-honest : goal.returns-in_ok-area-in-Two-clause-honest
-returns-in_ok-area-in-Two-clause-honest g c =
-    let first = c.in_ok-first-in-Two.ensures in
-    let second = c.in_ok-area-in-Two.ensures in
-    (λ honest. first.honest.0 (second.honest.0 honest), λ honest. second.honest.1 (first.honest.1 honest))
+pub returns-in_err-area-clause-read : goal.returns-in_err-area-clause-read
+returns-in_err-area-clause-read g c honest synced =
+    let header = c.args.header.now in
+    let so_far = c.loop-place.invariant in
+    let call = c.in_err-area.ensures in
+    let before = g.D.Disk.state c.loop-place.disk in
+    let after = g.D.Disk.state c.read_area.new.disk in
+    let mid_honest = so_far.honest.1 honest in
+    let mid_synced = still_synced synced (so_far.only_read honest) in
+    let read = call.only_read mid_honest in
+    let same = seen_same (g.met.D.Disk.sound c.loop-place.disk mid_honest) mid_synced read in
+    let place : c.loop-place.place ≡ header.in_front = omega (arith, c.loop-place-test.false) in
+    let held = subst (λ (n : ℕ). AreHeldSoFar before header n c.loop-place.plans.items c.loop-place.next) place (so_far.held honest synced) in
+    let index : c.area_behind-last.result ≡ last_area header =
+    c.area_behind-last.ensures.area ∙ ap (λ (size : Geometry). behind (areas_in size) header.in_front header.first_area) c.of-regions.ensures in
+    at_refusal _ _ _ _ c.from_residual-in_err-area.ensures.1
+    (damage_weaker c.in_err-area.field-0.0
+    (λ damaged. area_damaged header header.in_front c.loop-place.plans.items before after c.loop-place.next held same (still_synced mid_synced read) (omega arith) after.seen refl
+    (subst (λ (i : ℕ). IsDamaged (area_of header.geometry i) c.loop-place.next after.seen) index damaged))
+    (call.read mid_honest mid_synced))
+
+pub returns-clause-only_read : goal.returns-clause-only_read
+returns-clause-only_read g c honest =
+    let so_far = c.loop-place.invariant in
+    reads_on (g.met.D.Disk.sound c.args.disk.now honest) (so_far.only_read honest) (c.in_ok-area.ensures.only_read (so_far.honest.1 honest))
+
+pub returns-clause-read : goal.returns-clause-read
+returns-clause-read g c honest synced =
+    let header = c.args.header.now in
+    let so_far = c.loop-place.invariant in
+    let call = c.in_ok-area.ensures in
+    let before = g.D.Disk.state c.loop-place.disk in
+    let after = g.D.Disk.state c.read_area.new.disk in
+    let mid_honest = so_far.honest.1 honest in
+    let mid_synced = still_synced synced (so_far.only_read honest) in
+    let read = call.only_read mid_honest in
+    let same = seen_same (g.met.D.Disk.sound c.loop-place.disk mid_honest) mid_synced read in
+    let place : c.loop-place.place ≡ header.in_front = omega (arith, c.loop-place-test.false) in
+    let held = subst (λ (n : ℕ). AreHeldSoFar before header n c.loop-place.plans.items c.loop-place.next) place (so_far.held honest synced) in
+    let index : c.area_behind-last.result ≡ last_area header =
+    c.area_behind-last.ensures.area ∙ ap (λ (size : Geometry). behind (areas_in size) header.in_front header.first_area) c.of-regions.ensures in
+    all_held header c.loop-place.plans.items before after c.loop-place.next held same (still_synced mid_synced read) c.in_ok-area.area
+    (subst (λ (i : ℕ). IsPlaced c.in_ok-area.area header.geometry i) index call.placed) (call.read mid_honest mid_synced)

@@ -45,19 +45,19 @@ returns-in_err-map-clause-read g c honest synced =
     let reading = refused_there seen _ (map_at c.in_ok-header.header.geometry c.in_ok-header.header.map_slot) _ c.in_ok-header.header.geometry.blocks fault (second.reading one_honest) (search (rules, c.of.ensures)) (search (rules, c.of.ensures)) in
     at_refusal _ _ _ _ c.from_residual-in_err-map.ensures.1 (map_refused _ c.in_ok-header.header c.in_ok-header.slot c.in_err-map.field-0.0 held reading)
 
-pub returns-in_err-plan-clause-only_read : goal.returns-in_err-plan-clause-only_read
-returns-in_err-plan-clause-only_read g c honest =
+pub returns-in_err-plans-clause-only_read : goal.returns-in_err-plans-clause-only_read
+returns-in_err-plans-clause-only_read g c honest =
     let first = c.in_ok-header.ensures in
     let second = c.in_ok-map.ensures in
     let one_honest = first.honest.1 honest in
     reads_on (g.met.D.Disk.sound c.args.disk.now honest) (one_read (first.kept honest) (first.any_moment honest))
-    (reads_on (g.met.D.Disk.sound c.read_current.new.disk one_honest) (one_read (second.kept one_honest) (second.any_moment one_honest)) (c.in_err-plan.ensures.only_read (second.honest.1 one_honest)))
+    (reads_on (g.met.D.Disk.sound c.read_current.new.disk one_honest) (one_read (second.kept one_honest) (second.any_moment one_honest)) (c.in_err-plans.ensures.only_read (second.honest.1 one_honest)))
 
-pub returns-in_err-plan-clause-read : goal.returns-in_err-plan-clause-read
-returns-in_err-plan-clause-read g c honest synced =
+pub returns-in_err-plans-clause-read : goal.returns-in_err-plans-clause-read
+returns-in_err-plans-clause-read g c honest synced =
     let first = c.in_ok-header.ensures in
     let second = c.in_ok-map.ensures in
-    let third = c.in_err-plan.ensures in
+    let third = c.in_err-plans.ensures in
     let one_honest = first.honest.1 honest in
     let two_honest = second.honest.1 one_honest in
     let header = c.in_ok-header.header in
@@ -72,8 +72,8 @@ returns-in_err-plan-clause-read g c honest synced =
     (header_read _ _ header c.in_ok-header.slot (sym first.extent ∙ sym sound.size) (first.reading honest)) in
     let map = map_stays one two three sound also one_synced map_read (third.only_read two_honest) header c.in_ok-header.slot c.in_ok-map.map
     (map_there (second.reading one_honest) (search (rules, c.of.ensures)) (search (rules, c.of.ensures))) in
-    at_refusal _ _ _ _ c.from_residual-in_err-plan.ensures.1
-    (groups_refused three.seen header c.in_ok-header.slot c.in_ok-map.map c.in_err-plan.field-0.0 held map (third.read two_honest (still_synced one_synced map_read)))
+    at_refusal _ _ _ _ c.from_residual-in_err-plans.ensures.1
+    (groups_refused three.seen header c.in_ok-header.slot c.in_ok-map.map c.in_err-plans.field-0.0 held map (third.read two_honest (still_synced one_synced map_read)))
 
 pub returns-clause-only_read : goal.returns-clause-only_read
 returns-clause-only_read g c honest =
@@ -81,13 +81,13 @@ returns-clause-only_read g c honest =
     let second = c.in_ok-map.ensures in
     let one_honest = first.honest.1 honest in
     reads_on (g.met.D.Disk.sound c.args.disk.now honest) (one_read (first.kept honest) (first.any_moment honest))
-    (reads_on (g.met.D.Disk.sound c.read_current.new.disk one_honest) (one_read (second.kept one_honest) (second.any_moment one_honest)) (c.in_ok-plan.ensures.only_read (second.honest.1 one_honest)))
+    (reads_on (g.met.D.Disk.sound c.read_current.new.disk one_honest) (one_read (second.kept one_honest) (second.any_moment one_honest)) (c.in_ok-plans.ensures.only_read (second.honest.1 one_honest)))
 
 pub returns-clause-read : goal.returns-clause-read
 returns-clause-read g c honest synced =
     let first = c.in_ok-header.ensures in
     let second = c.in_ok-map.ensures in
-    let third = c.in_ok-plan.ensures in
+    let third = c.in_ok-plans.ensures in
     let one_honest = first.honest.1 honest in
     let two_honest = second.honest.1 one_honest in
     let header = c.in_ok-header.header in
@@ -118,16 +118,16 @@ returns-in_err-map-clause-honest g c =
     let second = c.in_err-map.ensures in
     (λ honest. first.honest.0 (second.honest.0 honest), λ honest. second.honest.1 (first.honest.1 honest))
 
-pub returns-in_err-plan-clause-honest : goal.returns-in_err-plan-clause-honest
-returns-in_err-plan-clause-honest g c =
+pub returns-in_err-plans-clause-honest : goal.returns-in_err-plans-clause-honest
+returns-in_err-plans-clause-honest g c =
     let first = c.in_ok-header.ensures in
     let second = c.in_ok-map.ensures in
-    let third = c.in_err-plan.ensures in
+    let third = c.in_err-plans.ensures in
     (λ honest. first.honest.0 (second.honest.0 (third.honest.0 honest)), λ honest. third.honest.1 (second.honest.1 (first.honest.1 honest)))
 
 pub returns-clause-honest : goal.returns-clause-honest
 returns-clause-honest g c =
     let first = c.in_ok-header.ensures in
     let second = c.in_ok-map.ensures in
-    let third = c.in_ok-plan.ensures in
+    let third = c.in_ok-plans.ensures in
     (λ honest. first.honest.0 (second.honest.0 (third.honest.0 honest)), λ honest. third.honest.1 (second.honest.1 (first.honest.1 honest)))

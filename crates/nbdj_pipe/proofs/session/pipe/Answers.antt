@@ -5,6 +5,16 @@ use Rattle.byte_streams.specs.laws.Bytes.{keeps_same}
 use Rattle.nbdj_pipe.proofs.Lives.{starved_opening}
 use Rattle.nbdj_pipe.proofs.session.pipe.Goals as goal
 
+pub returns-in-Ok-new-clause-dialog : goal.returns-in-Ok-new-clause-dialog
+returns-in-Ok-new-clause-dialog g c =
+    let opened = c.in-Ok.ensures in
+    c.pipe_over.ensures.dialog c.args.disk (record { recovered = opened.recovered; counted = opened.faults; stays = opened.honest.1; found = opened.found })
+
+pub returns-in-Ok-new-clause-device : goal.returns-in-Ok-new-clause-device
+returns-in-Ok-new-clause-device g c =
+    let opened = c.in-Ok.ensures in
+    c.pipe_over.ensures.device c.args.disk (record { recovered = opened.recovered; counted = opened.faults; stays = opened.honest.1; found = opened.found })
+
 pub returns-in-Err-new-clause-dialog : goal.returns-in-Err-new-clause-dialog
 returns-in-Err-new-clause-dialog g c = inl (record {
   unread = keeps_same (g.R.Read.remaining c.args.input.now);

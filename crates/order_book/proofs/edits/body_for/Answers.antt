@@ -1,4 +1,4 @@
-use Rattle.std.proofs.Common.{◌≡◌, ◌∙◌, ap, arith}
+use Rattle.std.proofs.Common.{◌∙◌, ap, arith}
 use Rattle.image_model.specs.Edit.{blocks_met}
 use Rattle.order_book.specs.Edits.{image_in}
 use Rattle.order_book.proofs.Small.{two_edges}

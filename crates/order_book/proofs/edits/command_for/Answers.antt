@@ -1,5 +1,4 @@
 use Rattle.std.proofs.Common.{◌/◌}
-use Rattle.image_model.specs.Edit.{edit_of, offset_of}
 use Rattle.order_book.specs.Edits.{image_with}
 use Rattle.order_book.proofs.edits.command_for.Goals as goal
 

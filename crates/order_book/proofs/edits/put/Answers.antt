@@ -1,4 +1,4 @@
-use Rattle.std.proofs.Common.{◌≡◌, ◌∙◌, ◌+◌, ◌-◌, ◌/◌, ap, nat_eq, if◌then◌else◌, List, ℕ}
+use Rattle.std.proofs.Common.{◌∙◌, ◌+◌, ◌-◌, ◌/◌, ap, nat_eq, if◌then◌else◌, List, ℕ}
 use Rattle.image_model.specs.Change.{Written}
 use Rattle.order_book.specs.Edits.{bytes_or}
 use Rattle.shared_cache.specs.Cache.{bytes_seen}

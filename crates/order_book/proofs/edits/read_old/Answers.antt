@@ -1,4 +1,5 @@
-use Rattle.std.proofs.Common.{◌≡◌, ◌≢◌, ◌∙◌, ap, sym, Bool, true, false, subst, ◌<◌, ℕ}
+use Rattle.std.proofs.Common.{◌≡◌, ◌∙◌, ap, sym, Bool, true, false, subst}
+use Rattle.device_image.specs.Holds.{joined}
 use Rattle.std.specs.Bool.{IsTrue}
 use Rattle.std.proofs.lemmas.Bool.{true≢false}
 use Rattle.device_image.specs.Keeper.{KeeperState}
@@ -11,19 +12,19 @@ not_both : (failed : Bool) → IsTrue failed → failed ≡ false → ⊥
 not_both failed is never = true≢false (sym is ∙ never)
 
 pub returns-then-last-first-clause-bytes : goal.returns-then-last-first-clause-bytes
-returns-then-last-first-clause-bytes g c honest base front last holds =
-    read_ends (edit_of c.args.edit.now) c.args.cache.now base front c.ends_of-first.result.0 c.ends_of-first.result.1 _ _ c.requires.edit.some c.ends_of-first.ensures.first c.ends_of-first.ensures.last
-    (c.in_ok-read_part.ensures.bytes honest base front last holds)
+returns-then-last-first-clause-bytes g c honest base fronts last holds =
+    read_ends (edit_of c.args.edit.now) c.args.cache.now base (joined fronts) c.ends_of-first.result.0 c.ends_of-first.result.1 _ _ c.requires.edit.some c.ends_of-first.ensures.first c.ends_of-first.ensures.last
+    (c.in_ok-read_part.ensures.bytes honest base fronts last holds)
     (λ apart. absurd (apart c.if-last-first.true))
 
 pub returns-clause-bytes : goal.returns-clause-bytes
-returns-clause-bytes g c honest base front last holds =
+returns-clause-bytes g c honest base fronts last holds =
     map_ok c.read_part-2.result
-    (λ read. read_ends (edit_of c.args.edit.now) c.args.cache.now base front c.ends_of-first.result.0 c.ends_of-first.result.1 _ _ c.requires.edit.some
+    (λ read. read_ends (edit_of c.args.edit.now) c.args.cache.now base (joined fronts) c.ends_of-first.result.0 c.ends_of-first.result.1 _ _ c.requires.edit.some
     c.ends_of-first.ensures.first c.ends_of-first.ensures.last
-    (c.in_ok-read_part.ensures.bytes honest base front last holds)
+    (c.in_ok-read_part.ensures.bytes honest base fronts last holds)
     (λ apart. read))
-    (c.read_part-2.ensures.bytes (c.in_ok-read_part.ensures.honest.1 honest) base front last (c.in_ok-read_part.ensures.holds honest base front last holds))
+    (c.read_part-2.ensures.bytes (c.in_ok-read_part.ensures.honest.1 honest) base fronts last (c.in_ok-read_part.ensures.holds honest base fronts last holds))
 
 pub returns-clause-err : goal.returns-clause-err
 returns-clause-err g c =
@@ -39,5 +40,5 @@ returns-clause-only_read g c honest =
     (c.read_part-2.ensures.only_read (c.in_ok-read_part.ensures.honest.1 honest))
 
 pub returns-clause-holds : goal.returns-clause-holds
-returns-clause-holds g c honest base front last holds =
-    c.read_part-2.ensures.holds (c.in_ok-read_part.ensures.honest.1 honest) base front last (c.in_ok-read_part.ensures.holds honest base front last holds)
+returns-clause-holds g c honest base fronts last holds =
+    c.read_part-2.ensures.holds (c.in_ok-read_part.ensures.honest.1 honest) base fronts last (c.in_ok-read_part.ensures.holds honest base fronts last holds)

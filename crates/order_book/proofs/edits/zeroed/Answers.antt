@@ -1,4 +1,4 @@
-use Rattle.std.proofs.Common.{◌≡◌, ◌∙◌, ◌/◌, ap, ℕ}
+use Rattle.std.proofs.Common.{◌∙◌, ◌/◌, ap, ℕ}
 use Rattle.image_model.specs.Change.{Cleared, Edged}
 use Rattle.order_book.specs.Edits.{image_with}
 use Rattle.order_book.proofs.Taking.{edged, unedged, zeroed_made}

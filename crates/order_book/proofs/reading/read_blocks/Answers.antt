@@ -4,7 +4,7 @@ use Rattle.std.specs.Result.{IsErrAnd, OnErr}
 use Rattle.checkpoint.specs.declared.fault.KeeperFault.{KeeperFault}
 use Rattle.device_image.specs.Keeper.{KeeperState}
 use Rattle.std.proofs.lemmas.Bool.{cases_lt, true≢false}
-use Rattle.journal_format.specs.laws.Chained.{reads_on}
+use Rattle.journal_format.specs.laws.Chained.{none_read, reads_on}
 use Rattle.shared_cache.specs.laws.Views.{seen_missing}
 use Rattle.order_book.proofs.Missing.{lacks_at}
 use Rattle.order_book.proofs.reading.read_blocks.Goals as goal
@@ -37,6 +37,24 @@ on_err : {X : Type 0} {P : Type 0} (result : Result X KeeperFault) → P → OnE
 on_err (Ok value) holds = tt
 on_err (Err given) holds = holds
 
+pub loop-done-init : goal.loop-done-init
+loop-done-init g c =
+    let held = c.read_held-held.ensures in
+    record {
+      size = held.size;
+      inside = held.inside;
+      missing = held.missing;
+      only = refl;
+      begun = inl (refl, refl);
+      extent = refl;
+      faults = refl;
+      honest = (λ h. h, λ h. h);
+      only_read = λ honest. none_read (g.met.D.Disk.sound c.args.keeper.now.disk honest);
+      holds = λ honest base fronts last holds. holds;
+      in_memory = λ j k bytes below less seen. held.held j k bytes (omega arith) below less seen;
+      from_base = λ honest base fronts last holds j k below less none kind unwritten. absurd (held.there j (omega arith) below none);
+    }
+
 pub returns-clause-all_held : goal.returns-clause-all_held
 returns-clause-all_held g c = λ all.
     let held = c.read_held-held.result in
@@ -64,8 +82,8 @@ returns-clause-failed g c = (
 )
 
 pub returns-clause-from_base : goal.returns-clause-from_base
-returns-clause-from_base g c = λ honest base front last holds j k below less.
-    c.loop-done.invariant.from_base honest base front last holds j k (omega (arith, below, c.loop-done-test.false, c.loop-done.invariant.size, c.requires.whole)) less
+returns-clause-from_base g c = λ honest base fronts last holds j k below less.
+    c.loop-done.invariant.from_base honest base fronts last holds j k (omega (arith, below, c.loop-done-test.false, c.loop-done.invariant.size, c.requires.whole)) less
 
 pub returns-in_err-read_run-clause-failed : goal.returns-in_err-read_run-clause-failed
 returns-in_err-read_run-clause-failed g c =
@@ -109,7 +127,7 @@ loop-done-preserved g c =
       faults = run.faults_ok ∙ old.faults;
       honest = (λ h. old.honest.0 (run.honest.0 h), λ h. run.honest.1 (old.honest.1 h));
       only_read = λ honest. reads_on (g.met.D.Disk.sound c.args.keeper.now.disk honest) (old.only_read honest) (run.only_read (old.honest.1 honest));
-      holds = λ honest base front last holds. run.holds (old.honest.1 honest) base front last (old.holds honest base front last holds);
+      holds = λ honest base fronts last holds. run.holds (old.honest.1 honest) base fronts last (old.holds honest base fronts last holds);
       in_memory = λ j k bytes below less seen. elim (cases_lt j end) [
         | inl l ↦ elim (cases_lt j c.loop-done.done) [
           | inl early ↦ held.kept (4096 * j + k) (omega (arith, l, less)) ∙ run.kept (4096 * j + k) (omega (arith, early, less)) ∙ old.in_memory j k bytes early less seen
@@ -117,10 +135,10 @@ loop-done-preserved g c =
         ]
         | inr m ↦ held.held j k bytes m below less seen
       ];
-      from_base = λ honest base front last holds j k below less none kind unwritten. elim (cases_lt j end) [
+      from_base = λ honest base fronts last holds j k below less none kind unwritten. elim (cases_lt j end) [
         | inl l ↦ held.kept (4096 * j + k) (omega (arith, l, less)) ∙ elim (cases_lt j c.loop-done.done) [
-          | inl early ↦ run.kept (4096 * j + k) (omega (arith, early, less)) ∙ old.from_base honest base front last holds j k early less none kind unwritten
-          | inr late ↦ run.bytes (old.honest.1 honest) base front last (old.holds honest base front last holds) j k late l less kind unwritten
+          | inl early ↦ run.kept (4096 * j + k) (omega (arith, early, less)) ∙ old.from_base honest base fronts last holds j k early less none kind unwritten
+          | inr late ↦ run.bytes (old.honest.1 honest) base fronts last (old.holds honest base fronts last holds) j k late l less kind unwritten
         ]
         | inr m ↦ absurd (held.there j m below none)
       ];

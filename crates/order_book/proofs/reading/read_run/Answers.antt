@@ -2,7 +2,7 @@ use Rattle.std.proofs.Common.{◌≡◌, ◌≤◌, ◌<◌, ◌+◌, ◌*◌, �
 use Rattle.std.proofs.lemmas.List.{places}
 use Rattle.std.proofs.lemmas.Result.{on_ok_weaker}
 use borrow.Rule.Slice.PartMut.{put_mid}
-use Rattle.device_image.specs.Holds.{is_written}
+use Rattle.device_image.specs.Holds.{is_written, joined}
 use Rattle.image_model.specs.Change.{Change}
 use Rattle.image_model.specs.Image.{Image}
 use Rattle.image_model.specs.declared.command.Kind.TheVariants.{Data}
@@ -28,8 +28,8 @@ moved first from to xs ys base front some inside long read j k above below_to le
     ∙ ap base.byte place
 
 pub returns-clause-bytes : goal.returns-clause-bytes
-returns-clause-bytes g c honest base front last holds =
+returns-clause-bytes g c honest base fronts last holds =
     on_ok_weaker c.read_base.result
     (λ read j k above below less kind unwritten.
-    moved c.args.first c.args.from c.args.to c.args.into.now c.read_base.new.into base front c.requires.some c.requires.inside (c.read_base.auto.into ∙ search (rules, places)) read j k above below less kind unwritten)
-    (c.read_base.ensures.bytes honest base front last holds)
+    moved c.args.first c.args.from c.args.to c.args.into.now c.read_base.new.into base (joined fronts) c.requires.some c.requires.inside (c.read_base.auto.into ∙ search (rules, places)) read j k above below less kind unwritten)
+    (c.read_base.ensures.bytes honest base fronts last holds)

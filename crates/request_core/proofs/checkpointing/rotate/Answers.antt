@@ -11,7 +11,7 @@ returns-in-Ok-clause-world g c = λ world within of kept.
     let call = c.in-Ok.ensures in
     let works = not_true_is old.failed (λ is. ok_unlike c.in-Ok.field-0 fault.Failed (call.failed.1 is)) in
     rotate_done g.D.Disk.state g.D.Disk.faults g.D.Disk.extent g.D.Disk.honest g.met.D.Disk.sound world c.args.order.now c.args.hand.now old within of kept new
-    c.keeper_laws.ensures.left works call.faults_ok call.any_moment call.ok call.fresh call.left call.held
+    c.keeper_laws.ensures.left works call.faults_ok call.any_moment call.ok call.fresh call.left call.phase call.held
     (λ late. ok_unlike c.in-Ok.field-0 fault.NotNow (call.not_now.1 (works, late))) (λ now full. ok_unlike c.in-Ok.field-0 fault.NumbersFull (call.full.1 (works, now, full)))
 
 pub returns-in-Err-clause-world : goal.returns-in-Err-clause-world

@@ -1,6 +1,6 @@
 use Rattle.std.proofs.Common.{◌≡◌, ◌≢◌, ◌+◌, ◌-◌, ◌*◌, ◌/◌, ◌%◌, ℕ, false, inl, inr, List, drop, take, get_or, length, None, Some, sym, ◌∙◌, ap, refl, arith}
 use Rattle.alloc_map.specs.Codes.{state_at}
-use Rattle.device_image.specs.Holds.{is_written}
+use Rattle.device_image.specs.Holds.{is_written, joined}
 use Rattle.image_model.specs.Edit.{blocks_met}
 use Rattle.image_model.specs.Image.{Image}
 use Rattle.image_model.specs.declared.command.Kind.{Kind}
@@ -50,22 +50,22 @@ returns-clause-read g c =
       kinds = λ block. refl;
       in_memory = λ k bytes below is. at k ∙ part_holds head.offset head.length into items part long (λ block r byte. (bytes : List ℕ) → bytes_seen old.cache block ≡ Some bytes → byte ≡ get_or bytes r 0)
           (λ j r under inside bytes is. read.in_memory j r bytes under inside (seen j ∙ is)) k below bytes is;
-      from_base = λ honest base front last holds k below none is_data unwritten. at k ∙ part_holds head.offset head.length into items part long
-          (λ block r byte. bytes_seen old.cache block ≡ None → base.kind block ≡ Data → is_written block front ≡ false → byte ≡ base.byte (4096 * block + r))
-          (λ j r under inside none is_data unwritten. read.from_base honest base front last holds j r under inside (seen j ∙ none)
-          (ap (λ (n : ℕ). base.kind (n + j)) first ∙ is_data) (ap (λ (n : ℕ). is_written (n + j) front) first ∙ unwritten)
+      from_base = λ honest base fronts last holds k below none is_data unwritten. at k ∙ part_holds head.offset head.length into items part long
+          (λ block r byte. bytes_seen old.cache block ≡ None → base.kind block ≡ Data → is_written block (joined fronts) ≡ false → byte ≡ base.byte (4096 * block + r))
+          (λ j r under inside none is_data unwritten. read.from_base honest base fronts last holds j r under inside (seen j ∙ none)
+          (ap (λ (n : ℕ). base.kind (n + j)) first ∙ is_data) (ap (λ (n : ℕ). is_written (n + j) (joined fronts)) first ∙ unwritten)
           ∙ ap (λ (n : ℕ). base.byte (4096 * (n + j) + r)) first) k below none is_data unwritten ∙ ap base.byte (place k);
-      own = λ honest base image front last holds shows clean k below. at k ∙ part_holds head.offset head.length into items part long (λ block r byte. byte ≡ image.byte (4096 * block + r))
-          (λ j r under inside. read.image honest base image front last holds shows clean j r under inside ∙ ap (λ (n : ℕ). image.byte (4096 * (n + j) + r)) first) k below
+      own = λ honest base image fronts last holds shows clean k below. at k ∙ part_holds head.offset head.length into items part long (λ block r byte. byte ≡ image.byte (4096 * block + r))
+          (λ j r under inside. read.image honest base image fronts last holds shows clean j r under inside ∙ ap (λ (n : ℕ). image.byte (4096 * (n + j) + r)) first) k below
           ∙ ap image.byte (place k);
-      shows = λ honest base image front last holds shows clean. read.shown honest base image front last holds shows clean;
+      shows = λ honest base image fronts last holds shows clean. read.shown honest base image fronts last holds shows clean;
       answer = ap (λ (a : Answer). ready_for head.cookie a) answer_is;
       order = read.new;
       states = states;
       keeper_is = read.keeper_ok;
       level = read.faults_ok;
       only_read = read.only_read;
-      holds = λ honest base front last holds. read.holds honest base front last holds;
+      holds = λ honest base fronts last holds. read.holds honest base fronts last holds;
       in_frames = λ failed. (read.hit (λ lacks. let wrong = read.failed.1 (failed, lacks) in cc)).0;
       there = λ failed. part_holds head.offset head.length into items part long (λ block r byte. bytes_seen old.cache block ≢ None)
           (λ j r under inside none. let wrong = read.failed.1 (failed, lacks_at old.cache c.of-blocks.result.first (length c.deref_mut.result.now / 4096) j (let size = read.size in omega (arith, under, size)) (seen j ∙ none)) in cc);

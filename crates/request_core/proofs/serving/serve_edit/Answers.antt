@@ -42,7 +42,7 @@ returns-in-Ok-clause-asked g c =
         image,
         inr (inr (
           taken_over request geometry (IsKnownBy state honest keeper old) old new c.args.pass.now c.accept_edit.new.pass image shows takes room (asked image own)
-              (λ given known. asked given (c.in-Ok.ensures.image known.sure known.base given known.front known.last known.holds known.shows known.clean)),
+              (λ given known. asked given (c.in-Ok.ensures.image known.sure known.base given known.fronts known.last known.holds known.shows known.clean)),
           c.accepted.ensures ∙ ap (λ (b : Bool). served_after b head.cookie c.in-Ok.number) (waits_same c.args.terms.mode head request head_is)
               ∙ ap (λ (h : RequestHead). served_after waits h.cookie c.in-Ok.number) head_is ∙ ap (λ (n : ℕ). served_after waits request.head.cookie n) c.in-Ok.ensures.number,
         )),
@@ -51,7 +51,7 @@ returns-in-Ok-clause-asked g c =
       keeper_is = c.in-Ok.ensures.keeper_ok;
       level = c.in-Ok.ensures.faults_ok;
       only_read = c.in-Ok.ensures.only_read;
-      holds = λ sure base front last holds. c.in-Ok.ensures.holds sure base front last holds (λ none. none);
+      holds = λ sure base fronts last holds. c.in-Ok.ensures.holds sure base fronts last holds (λ none. none);
     })
 
 pub returns-in-Ok-clause-pass : goal.returns-in-Ok-clause-pass
@@ -99,7 +99,7 @@ returns-in-Err-NoMemory-default-clause-asked g c =
       keeper_is = c.in-Err-NoMemory-default.ensures.keeper_err ∙ ap (λ (f : OrderFault). keeper_after f keeper c.accept_edit.new.keeper.disk) fault_is;
       level = c.in-Err-NoMemory-default.ensures.faults_err ∙ ap (λ (f : OrderFault). faults_after f (g.D.Disk.faults keeper.disk)) fault_is;
       only_read = c.in-Err-NoMemory-default.ensures.only_read;
-      holds = λ sure base front last holds. c.in-Err-NoMemory-default.ensures.holds sure base front last holds (λ is. faults_apart.2 (sym fault_is ∙ is));
+      holds = λ sure base fronts last holds. c.in-Err-NoMemory-default.ensures.holds sure base fronts last holds (λ is. faults_apart.2 (sym fault_is ∙ is));
     })
 
 pub returns-in-Err-DeviceFault-default-clause-asked : goal.returns-in-Err-DeviceFault-default-clause-asked

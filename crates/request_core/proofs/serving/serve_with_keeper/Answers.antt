@@ -1,15 +1,17 @@
-use Rattle.std.proofs.Common.{◌≡◌, ◌⊎◌, ◌∙◌, inl, inr, ap, refl, sym, subst, arith}
+use Rattle.std.proofs.Common.{◌≡◌, ◌⊎◌, ◌∙◌, Ok, inl, inr, ap, refl, sym, subst, arith}
 use Rattle.journal_format.specs.laws.Chained.{none_read}
 use Rattle.marks.specs.Known.{PassState}
 use Rattle.nbd_wire.specs.Request.{Message}
 use Rattle.nbd_wire.specs.declared.head.RequestHead.{RequestHead}
 use Rattle.order_book.specs.Edits.{NeedsDevice as NeedsOld}
 use Rattle.order_book.specs.Order.{OrderState}
+use Rattle.request_core.specs.Reading.{IsReadServed}
 use Rattle.request_core.specs.Serving.{IsPassServed}
 use Rattle.request_core.proofs.Here.{read_leaves, read_mark, read_passes, served_here}
 use Rattle.request_core.proofs.serving.serve_with_keeper.Goals as goal
 use Rattle.export_model.specs.Log.{edit_asked}
 use Rattle.export_model.specs.Verdict.{verdict}
+use Rattle.export_model.specs.declared.action.Action.TheVariants.{Serve}
 
 pub returns-in-Ok-clause-serves : goal.returns-in-Ok-clause-serves
 returns-in-Ok-clause-serves g c = (
@@ -24,6 +26,23 @@ returns-in-Ok-clause-hit g c = λ kind held. (
   read_leaves (verdict c.args.request.head c.args.terms.geometry c.args.terms.flags) c.args.request c.args.terms.geometry c.args.terms.mode c.args.order.now c.serve_held.new.order c.in-Ok.served kind c.in-Ok.ensures.serves,
   refl,
 )
+
+pub returns-in-Err-clause-serves : goal.returns-in-Err-clause-serves
+returns-in-Err-clause-serves g c =
+    let needs = c.in-Err.ensures.needs.0 refl in
+    let back = c.in-Err.ensures.handed_back in
+    let asked : c.head.result ≡ c.args.request.head = c.head.ensures ∙ ap (λ (r : Message). r.head) back in
+    let read_for : c.head-in-Err.result ≡ c.args.request.head = c.head-in-Err.ensures ∙ ap (λ (r : Message). r.head) back in (
+      Ok Serve,
+      sym needs.0,
+      inr (inl (
+        needs.1,
+        sym (ap (λ (h : RequestHead). h.kind) asked) ∙ c.if-head-eq-READ.true,
+        subst (λ (h : RequestHead). IsReadServed g.D.Disk.state g.D.Disk.faults g.D.Disk.honest h c.args.order.now c.serve_read.new.order c.args.keeper.now c.serve_read.new.keeper c.serve_read.result) read_for
+            (subst (λ (o : OrderState). IsReadServed g.D.Disk.state g.D.Disk.faults g.D.Disk.honest c.head-in-Err.result o c.serve_read.new.order c.args.keeper.now c.serve_read.new.keeper c.serve_read.result)
+            c.in-Err.ensures.unchanged.0 c.serve_read.ensures.read),
+      )),
+    )
 
 pub returns-in-Err-clause-pass : goal.returns-in-Err-clause-pass
 returns-in-Err-clause-pass g c =

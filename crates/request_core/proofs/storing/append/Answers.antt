@@ -3,6 +3,7 @@ use Rattle.std.proofs.lemmas.Bool.{cases_lt}
 use Rattle.checkpoint.specs.Keeper.{end_after}
 use Rattle.journal_format.specs.Group.{Numbered}
 use Rattle.order_book.specs.Order.{OrderState}
+use Rattle.regions.specs.Layout.{area_size}
 use Rattle.request_core.specs.inner.Steps.{IsAppended}
 use Rattle.request_core.specs.Parts.{IsOrderOf}
 use Rattle.request_core.specs.inner.Storing.{event_of, hand_after, order_after}
@@ -46,7 +47,7 @@ returns-in-Ok-clause-world g c = λ world within of kept.
     let group = c.in-Some.group in
     let has : c.args.hand.now ≡ Some group = sym c.take.ensures.value ∙ c.in-Some.is in
     let works = not_true_is old.failed (λ is. c.in-Ok.ensures.failed.1 is) in
-    let fit = fits old.geometry.area (end_after old group) (λ over. c.in-Ok.ensures.full.1 (works, over)) in (
+    let fit = fits (area_size old.geometry) (end_after old group) (λ over. c.in-Ok.ensures.full.1 (works, over)) in (
       Nothing,
       subst (λ (hand : Option Numbered). IsAppended world (append Nothing world) Took order hand old new (g.D.Disk.faults new.disk) (g.D.Disk.honest old.disk) (g.D.Disk.state old.disk) (g.D.Disk.state new.disk))
           (sym c.take.ensures.after)

@@ -6,6 +6,7 @@ use Rattle.image_model.specs.Change.{AreChanges, change_of}
 use Rattle.image_model.specs.Image.{Image, apply_all}
 use Rattle.image_model.specs.declared.geometry.Geometry.{Geometry}
 use Rattle.journal_format.specs.Area.{AreaState}
+use Rattle.regions.specs.Layout.{area_size}
 use Rattle.journal_format.specs.Group.{IsGroup, Numbered}
 use Rattle.journal_format.specs.GroupList.{IsHeld, LeavesEither}
 use Rattle.journal_format.specs.Spelling.{StoredGroup, stored_of}
@@ -17,7 +18,7 @@ use Rattle.device_image.specs.Stands.{StandsFor}
 use Rattle.device_image.specs.laws.Kept.{first}
 use Rattle.checkpoint.proofs.Added.{more_held, leaves_either, count_below, count_above, count_on, is_next, ordered}
 use Rattle.checkpoint.proofs.keeper.Keeper.append.Goals as goal
-use Rattle.device_image.specs.Holds.{Holds}
+use Rattle.device_image.specs.Holds.{Holds, joined}
 use Rattle.device_image.specs.Remembers.{Remembers}
 use Rattle.device_image.specs.laws.Counted.{remembers_more}
 
@@ -43,10 +44,10 @@ any_moment {D} state honest inside now group after image number same clause =
     (λ content left. leaves_either inside (state inside.disk) image number keeps (stored_of group) (number + length group.commands) content (omega (arith, long)) left))
 
 pub returns-in-Ok-clause-held : goal.returns-in-Ok-clause-held
-returns-in-Ok-clause-held g c honest base front last holds changes =
+returns-in-Ok-clause-held g c honest base fronts last holds changes =
     let keeper = c.self.inside in
     let group = c.args.group in
-    let inside = subst (λ (k : KeeperState g.row.D.Denot). Holds k (g.D.Disk.state k.disk) base front last) (sym c.self.view_is) holds in
+    let inside = subst (λ (k : KeeperState g.row.D.Denot). Holds k (g.D.Disk.state k.disk) base fronts last) (sym c.self.view_is) holds in
     let sound = subst (λ (k : KeeperState g.row.D.Denot). g.D.Disk.honest k.disk) (sym c.self.view_is) honest in
     let sizes = subst (λ (k : KeeperState g.row.D.Denot). AreChanges k.geometry.blocks (map change_of group.commands)) (sym c.self.view_is) changes in
     let long : length (map change_of group.commands) ≡ length group.commands = length-map group.commands change_of in
@@ -55,13 +56,13 @@ returns-in-Ok-clause-held g c honest base front last holds changes =
     let full = c.in-Ok.ensures.full in
     let next = is_next keeper.area.next group.first (λ not. c.in-Ok.ensures.out_of_order.1 (omega (arith, full.1), not)) in
     let honest_after = c.in-Ok.ensures.honest.1 sound in
-    more_held _ (g.D.Disk.state keeper.disk) base front last inside (stored_of group) (g.D.Disk.state c.append.new.disk) _ (keeper.header.base + length front + length last + length group.commands)
+    more_held _ (g.D.Disk.state keeper.disk) base fronts last inside (stored_of group) (g.D.Disk.state c.append.new.disk) _ (keeper.header.base + length (joined fronts) + length last + length group.commands)
     (g.met.D.Disk.sound c.append.new.disk honest_after)
     (omega (arith, long))
     (c.in-Ok.ensures.stored sound (first _ (g.D.Disk.state keeper.disk) _ _ inside.keeps) inside.keeps.areas.groups inside.keeps.areas.held (taken _ _ _ _ group inside.keeps sizes))
     (ap (λ (area : AreaState). area.from) grown_is) (ap (λ (area : AreaState). area.bytes) grown_is) (ap (λ (area : AreaState). area.blocks) grown_is)
     refl refl refl refl refl refl refl refl
-    (count_on keeper.area.next group.first (length group.commands) keeper.count (keeper.header.base + length front + length last) c.next.result c.self.invariant.4 (omega arith) next whole.some whole.numbers (c.next.ensures ∙ ap (λ (area : AreaState). area.next) grown_is) inside.keeps.counted)
+    (count_on keeper.area.next group.first (length group.commands) keeper.count (keeper.header.base + length (joined fronts) + length last) c.next.result c.self.invariant.7 (omega arith) next whole.some whole.numbers (c.next.ensures ∙ ap (λ (area : AreaState). area.next) grown_is) inside.keeps.counted)
     (omega (arith, ap (λ (area : AreaState). area.gate) grown_is, size-stored group)) refl
 
 pub returns-in-Ok-clause-any_moment : goal.returns-in-Ok-clause-any_moment
@@ -76,13 +77,13 @@ returns-in-Err-clause-out_of_order g c =
     let working : c.args.self.now.failed ≡ false = sym (ap (λ (k : KeeperState g.row.D.Denot). k.failed) c.self.view_is) ∙ c.if-self.false in
     let count : keeper.count ≡ c.args.self.now.count = ap (λ (k : KeeperState g.row.D.Denot). k.count) c.self.view_is in
     let used : keeper.area.gate ≡ c.args.self.now.used = ap (λ (k : KeeperState g.row.D.Denot). k.used) c.self.view_is in
-    let size : keeper.header.geometry.area ≡ c.args.self.now.geometry.area = ap (λ (k : KeeperState g.row.D.Denot). k.geometry.area) c.self.view_is in
+    let size : area_size keeper.header.geometry ≡ area_size c.args.self.now.geometry = ap (λ (k : KeeperState g.row.D.Denot). area_size k.geometry) c.self.view_is in
     let invariant = c.self.invariant in (
       λ is.
           let given = c.in-Err.ensures.out_of_order.0 (ordered c.in-Err.fault (sym c.from-fault.ensures ∙ is)) in
-          (working, omega (arith, given.0, used, size, invariant.3.bytes), λ same. given.1 (count_below keeper.area.next group.first c.self.inside.count invariant.4 (omega (arith, whole.some, whole.numbers)) (same ∙ ap (λ (n : ℕ). n + 1) (sym count)))),
+          (working, omega (arith, given.0, used, size, invariant.6.bytes), λ same. given.1 (count_below keeper.area.next group.first c.self.inside.count invariant.7 (omega (arith, whole.some, whole.numbers)) (same ∙ ap (λ (n : ℕ). n + 1) (sym count)))),
       λ given.
-          let fault = c.in-Err.ensures.out_of_order.1 (omega (arith, given.1, used, size, invariant.3.bytes), λ follows. given.2 (count_above keeper.area.next group.first keeper.count invariant.4 (omega arith) follows ∙ ap (λ (n : ℕ). n + 1) count)) in
+          let fault = c.in-Err.ensures.out_of_order.1 (omega (arith, given.1, used, size, invariant.6.bytes), λ follows. given.2 (count_above keeper.area.next group.first keeper.count invariant.7 (omega arith) follows ∙ ap (λ (n : ℕ). n + 1) count)) in
           c.from-fault.ensures ∙ ap of_journal fault,
     )
 

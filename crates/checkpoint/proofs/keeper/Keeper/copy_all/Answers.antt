@@ -2,11 +2,12 @@ use Rattle.device_image.specs.Keeper.{KeeperState}
 use Rattle.std.proofs.Common.{ap, ◌∙◌, refl, arith}
 use Rattle.disk_model.specs.laws.Moments.{begins, goes_on}
 use Rattle.device_image.specs.laws.Kept.{kept_content}
-use Rattle.checkpoint.proofs.Recovered.{copied_first, copied_last, copied_next, keeps_by}
+use Rattle.checkpoint.proofs.Recovered.{copied_first, copied_last, copied_next, keeps_by, left_next}
 use Rattle.checkpoint.proofs.keeper.Keeper.copy_all.Goals as goal
 
 pub loop-self-init : goal.loop-self-init
 loop-self-init g c = record {
+  below = omega arith;
   copied = copied_first c.args.self.now c.requires.begun;
   extent = refl;
   faults = refl;
@@ -27,7 +28,8 @@ loop-self-preserved g c =
     let so_far = c.loop-self.invariant in
     let call = c.in_ok-_blocks.ensures in
     record {
-      copied = copied_next c.args.self.now c.loop-self.self c.copy_some.new.self c.in_ok-_blocks._blocks so_far.copied call.ok.2;
+      below = omega (arith, so_far.below, left_next c.loop-self.self c.copy_some.new.self c.in_ok-_blocks._blocks call.ok.2);
+      copied = copied_next c.args.self.now c.loop-self.self c.copy_some.new.self c.in_ok-_blocks._blocks so_far.below call.left so_far.copied call.ok.2;
       extent = call.extent ∙ so_far.extent;
       faults = call.faults_ok ∙ so_far.faults;
       honest = (λ honest. so_far.honest.0 (call.honest.0 honest), λ honest. call.honest.1 (so_far.honest.1 honest));

@@ -1,9 +1,9 @@
-use Rattle.std.proofs.Common.{◌≡◌, ◌↔◌, ℕ, List}
+use Rattle.std.proofs.Common.{◌≡◌, ◌↔◌, ◌-◌, ◌≤◌, ℕ, List}
 use Rattle.disk_model.specs.Disk.{LeavesOnly}
 use Rattle.image_model.specs.Image.{Image}
 use Rattle.device_image.specs.Keeps.{Keeps}
 use Rattle.device_image.specs.Stands.{StandsFor}
-use Rattle.checkpoint.specs.Steps.{left_in}
+use Rattle.checkpoint.specs.Steps.{fewer, left_in}
 use Rattle.checkpoint.proofs.Recovered.{copied_to}
 use Rattle.checkpoint.proofs.keeper.Keeper.copy_all.Given as goal
 use Rattle.device_image.specs.Remembers.{Remembers}
@@ -11,7 +11,8 @@ use Rattle.image_model.specs.Change.{Change}
 
 abbrev pub invariant-loop-self : goal.invariant-loop-self
 invariant-loop-self g l = record {
-  copied : l.self ≡ copied_to l.fn.self l.self.disk (left_in l.self.phase) l.self.memory;
+  below : left_in l.self.phase ≤ left_in l.fn.self.phase;
+  copied : l.self ≡ copied_to l.fn.self l.self.disk (left_in l.self.phase) (fewer (left_in l.fn.self.phase - left_in l.self.phase) l.fn.self.lefts) l.self.memory;
   extent : g.D.Disk.extent l.self.disk ≡ g.D.Disk.extent l.fn.self.disk;
   faults : g.D.Disk.faults l.self.disk ≡ g.D.Disk.faults l.fn.self.disk;
   honest : g.D.Disk.honest l.self.disk ↔ g.D.Disk.honest l.fn.self.disk;

@@ -1,8 +1,9 @@
-use Rattle.std.proofs.Common.{◌≡◌, ◌*◌, length, refl, rules, sym, ◌∙◌, ap, subst, arith}
+use Rattle.std.proofs.Common.{◌≡◌, ◌*◌, Option, length, refl, rules, sym, ◌∙◌, ap, subst, arith}
 use Rattle.disk_model.specs.Disk.{LeavesOnly}
 use Rattle.disk_model.specs.laws.Moments.{begins, weakens}
 use Rattle.image_model.specs.declared.geometry.Geometry.{Geometry}
-use Rattle.device_image.specs.Keeper.{KeeperState}
+use Rattle.checkpoint.specs.Keeper.{plans_of}
+use Rattle.device_image.specs.Keeper.{KeeperState, PlanState}
 use Rattle.device_image.specs.Keeps.{Keeps}
 use Rattle.device_image.specs.Stands.{StandsFor}
 use Rattle.device_image.specs.laws.Kept.{kept_content}
@@ -31,13 +32,13 @@ returns-in_err-buffer-clause-any_moment g c honest image number keeps =
 
 -- That the bytes are read from the area that the plan copies is searched for: of another place it is found nowhere.
 pub returns-in-Ok-clause-held : goal.returns-in-Ok-clause-held
-returns-in-Ok-clause-held g c honest base first last holds =
-    let inside = subst (λ (k : KeeperState g.row.D.Denot). Holds k (g.D.Disk.state k.disk) base first last) (sym c.self.view_is) holds in
+returns-in-Ok-clause-held g c honest base fronts last holds =
+    let inside = subst (λ (k : KeeperState g.row.D.Denot). Holds k (g.D.Disk.state k.disk) base fronts last) (sym c.self.view_is) holds in
     let sound = subst (λ (k : KeeperState g.row.D.Denot). g.D.Disk.honest k.disk) (sym c.self.view_is) honest in
     let put = c.in-Some-next_copy.put in
     let place : block_at c.of-regions.result.geometry put.first ≡ block_at inside.keeps.stands.header.geometry put.first = ap (λ (size : Geometry). block_at size put.first) (c.of-regions.ensures ∙ inside.keeps.sizes) in
     let count : length c.deref_mut.result.now ≡ 4096 * put.blocks = omega (arith, c.deref_mut.ensures.len, c.in_ok-buffer.ensures.len) in
-    copy_held _ (g.D.Disk.state c.self.inside.disk) base first last inside c.in-Some.plan c.in-Some.is put c.args.most c.in-Some-next_copy.ensures.some c.in-Some-next_copy.ensures.unmapped
+    copy_held _ (g.D.Disk.state c.self.inside.disk) base fronts last inside c.in-Some.plan c.self.inside.waiting.items (ap (λ (p : Option PlanState). plans_of p c.self.inside.waiting.items) c.in-Some.is) put c.args.most c.in-Some-next_copy.ensures.some c.in-Some-next_copy.ensures.unmapped
     (g.D.Disk.state c.copy_over.new.disk) _ _ _ _ c.advance.new.self place count (search rules)
     (c.in-Ok.ensures.copied sound inside.keeps.steady) c.advance.ensures refl
 
@@ -49,7 +50,7 @@ returns-in-Ok-clause-any_moment g c honest image number keeps =
     let place : block_at c.of-regions.result.geometry put.first ≡ block_at inside.stands.header.geometry put.first = ap (λ (size : Geometry). block_at size put.first) (c.of-regions.ensures ∙ inside.sizes) in
     let count : length c.deref_mut.result.now ≡ 4096 * put.blocks = omega (arith, c.deref_mut.ensures.len, c.in_ok-buffer.ensures.len) in
     weakens (c.copy_over.ensures.any_moment sound)
-    (copy_left _ (g.D.Disk.state c.self.inside.disk) image number inside c.in-Some.plan c.in-Some.is put c.args.most c.in-Some-next_copy.ensures.some c.in-Some-next_copy.ensures.unmapped _ _ place count))
+    (copy_left _ (g.D.Disk.state c.self.inside.disk) image number inside c.in-Some.plan c.self.inside.waiting.items (ap (λ (p : Option PlanState). plans_of p c.self.inside.waiting.items) c.in-Some.is) put c.args.most c.in-Some-next_copy.ensures.some c.in-Some-next_copy.ensures.unmapped _ _ place count))
     honest keeps
 
 pub returns-clause-any_moment : goal.returns-clause-any_moment
@@ -60,5 +61,5 @@ returns-clause-any_moment g c honest image number keeps =
     let place : block_at c.of-regions.result.geometry put.first ≡ block_at inside.stands.header.geometry put.first = ap (λ (size : Geometry). block_at size put.first) (c.of-regions.ensures ∙ inside.sizes) in
     let count : length c.deref_mut.result.now ≡ 4096 * put.blocks = omega (arith, c.deref_mut.ensures.len, c.in_ok-buffer.ensures.len) in
     weakens (c.copy_over.ensures.any_moment sound)
-    (copy_left _ (g.D.Disk.state c.self.inside.disk) image number inside c.in-Some.plan c.in-Some.is put c.args.most c.in-Some-next_copy.ensures.some c.in-Some-next_copy.ensures.unmapped _ _ place count))
+    (copy_left _ (g.D.Disk.state c.self.inside.disk) image number inside c.in-Some.plan c.self.inside.waiting.items (ap (λ (p : Option PlanState). plans_of p c.self.inside.waiting.items) c.in-Some.is) put c.args.most c.in-Some-next_copy.ensures.some c.in-Some-next_copy.ensures.unmapped _ _ place count))
     honest keeps

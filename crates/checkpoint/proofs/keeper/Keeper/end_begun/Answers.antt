@@ -1,7 +1,42 @@
-use Rattle.disk_model.specs.laws.Moments.{begins}
+use Rattle.std.proofs.Common.{refl, sym, ◌∙◌, ap, subst}
+use Rattle.disk_model.specs.laws.Moments.{begins, goes_on}
+use Rattle.device_image.specs.Keeper.{KeeperState}
 use Rattle.device_image.specs.laws.Kept.{kept_content}
+use Rattle.checkpoint.specs.Recovery.{IsBegun}
+use Rattle.checkpoint.proofs.Recovered.{begun_left}
 use Rattle.checkpoint.proofs.keeper.Keeper.end_begun.Goals as goal
 
-pub returns-then-not-is_turning-clause-any_moment : goal.returns-then-not-is_turning-clause-any_moment
-returns-then-not-is_turning-clause-any_moment g c honest image number keeps =
-    begins (g.met.D.Disk.sound c.args.self.now.disk honest) (λ content left. kept_content _ _ image number keeps content left)
+pub loop-self-init : goal.loop-self-init
+loop-self-init g c = record {
+  works = c.requires.works;
+  begun = c.requires.begun;
+  idle = λ one. refl;
+  extent = refl;
+  faults = refl;
+  honest = (λ honest. honest, λ honest. honest);
+  kept = λ honest image number keeps. keeps;
+  any_moment = λ honest image number keeps. begins (g.met.D.Disk.sound c.args.self.now.disk honest) (λ content left. kept_content _ _ image number keeps content left);
+}
+
+pub loop-self-preserved : goal.loop-self-preserved
+loop-self-preserved g c =
+    let so_far = c.loop-self.invariant in
+    let call = c.in_ok-end_checkpoint.ensures in
+    let mid = c.loop-self.self in
+    record {
+      works = ap (λ (k : KeeperState g.row.D.Denot). k.failed) call.ok ∙ so_far.works;
+      begun = subst IsBegun (sym (ap (λ (k : KeeperState g.row.D.Denot). k.phase) call.ok)) (begun_left mid.lefts);
+      idle = λ one. absurd ((c.loop-self-test.ensures.turning refl).0 (ap (λ (k : KeeperState g.row.D.Denot). k.phase) (so_far.idle one) ∙ one));
+      extent = call.extent ∙ so_far.extent;
+      faults = call.faults_ok ∙ so_far.faults;
+      honest = (λ honest. so_far.honest.0 (call.honest.0 honest), λ honest. call.honest.1 (so_far.honest.1 honest));
+      kept = λ honest image number keeps. call.kept (so_far.honest.1 honest) image number (so_far.kept honest image number keeps);
+      any_moment = λ honest image number keeps. goes_on (so_far.any_moment honest image number keeps)
+          (call.any_moment (so_far.honest.1 honest) image number (so_far.kept honest image number keeps)) (λ content stands. stands);
+    }
+
+pub returns-in_err-end_checkpoint-clause-any_moment : goal.returns-in_err-end_checkpoint-clause-any_moment
+returns-in_err-end_checkpoint-clause-any_moment g c honest image number keeps =
+    let so_far = c.loop-self.invariant in
+    goes_on (so_far.any_moment honest image number keeps)
+    (c.in_err-end_checkpoint.ensures.any_moment (so_far.honest.1 honest) image number (so_far.kept honest image number keeps)) (λ content stands. stands)

@@ -1,7 +1,7 @@
 use Rattle.std.proofs.Common.{ap}
 use Rattle.device_image.specs.Keeper.{KeeperState}
 use Rattle.disk_model.specs.laws.Moments.{goes_on}
-use Rattle.checkpoint.proofs.Recovered.{count_ended, keeps_by, keeps_ended, still_kept}
+use Rattle.checkpoint.proofs.Recovered.{count_ended, keeps_by, keeps_ended, never_one, still_kept}
 use Rattle.checkpoint.proofs.keeper.Keeper.end_checkpoint.Goals as goal
 
 pub returns-in_err-write_map-clause-any_moment : goal.returns-in_err-write_map-clause-any_moment
@@ -32,7 +32,7 @@ returns-clause-kept g c honest image number keeps =
     let second = c.in_ok-write_map.ensures in
     let first_honest = first.honest.1 honest in
     let mapped = keeps_by c.copy_all.new.self c.write_map.new.self _ _ image number (first.kept honest image number keeps) (ap (λ (k : KeeperState g.row.D.Denot). k.count) second.ok) (second.held first_honest) in
-    keeps_ended c.finish.result c.write_map.new.self c.finish.new.self _ _ image number mapped (count_ended c.finish.result c.write_map.new.self c.finish.new.self c.finish.ensures.ok)
+    keeps_ended c.finish.result c.write_map.new.self c.finish.new.self _ _ image number mapped (never_one c.write_map.new.self (ap (λ (k : KeeperState g.row.D.Denot). k.phase) second.ok)) (count_ended c.finish.result c.write_map.new.self c.finish.new.self c.finish.ensures.ok)
     (c.finish.ensures.held (second.honest.1 first_honest))
 
 pub returns-clause-remembered : goal.returns-clause-remembered

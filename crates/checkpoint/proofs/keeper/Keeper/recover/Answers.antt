@@ -1,5 +1,5 @@
-use Rattle.std.proofs.Common.{ap, [], ◌∙◌, ◌≡◌, arith, ℕ, true, ◌==◌, sym}
-use Rattle.device_image.specs.Keeper.{KeeperState}
+use Rattle.std.proofs.Common.{ap, List, [], ◌∷◌, ◌++◌, ◌∙◌, ◌≡◌, arith, ℕ, true, ◌==◌, sym}
+use Rattle.device_image.specs.Keeper.{KeeperState, count_puts, last_turned}
 use Rattle.checkpoint.proofs.Recovered.{keeps_begun, recovered_by}
 use Rattle.disk_model.specs.laws.Moments.{goes_on}
 use Rattle.checkpoint.proofs.keeper.Keeper.recover.Goals as goal
@@ -19,21 +19,21 @@ returns-clause-any_moment g c honest image number keeps =
     let first_honest = first.honest.1 honest in
     let first_kept = first.kept honest image number keeps in
     goes_on (goes_on (first.any_moment honest image number keeps) (second.any_moment first_honest image number first_kept) (λ content stands. stands))
-    (c.end_checkpoint.ensures.any_moment (second.honest.1 first_honest) image number (keeps_begun c.end_begun.new.self c.rotate.new.self _ _ image number first_kept first.ok.1 (ap (λ (k : KeeperState g.row.D.Denot). k.count) second.ok) (second.held first_honest))) (λ content stands. stands)
+    (c.end_checkpoint.ensures.any_moment (second.honest.1 first_honest) image number (keeps_begun c.end_begun.new.self c.rotate.new.self _ _ image number first_kept (ap (λ (k : KeeperState g.row.D.Denot). k.count) second.ok) (second.held first_honest))) (λ content stands. stands)
 
 pub returns-clause-kept : goal.returns-clause-kept
 returns-clause-kept g c honest image number keeps =
     let first = c.in_ok-end_begun.ensures in
     let second = c.in_ok-rotate.ensures in
     let first_honest = first.honest.1 honest in
-    c.end_checkpoint.ensures.kept (second.honest.1 first_honest) image number (keeps_begun c.end_begun.new.self c.rotate.new.self _ _ image number (first.kept honest image number keeps) first.ok.1 (ap (λ (k : KeeperState g.row.D.Denot). k.count) second.ok) (second.held first_honest))
+    c.end_checkpoint.ensures.kept (second.honest.1 first_honest) image number (keeps_begun c.end_begun.new.self c.rotate.new.self _ _ image number (first.kept honest image number keeps) (ap (λ (k : KeeperState g.row.D.Denot). k.count) second.ok) (second.held first_honest))
 
 pub returns-clause-kept_still : goal.returns-clause-kept_still
 returns-clause-kept_still g c honest image number keeps =
     let first = c.in_ok-end_begun.ensures in
     let second = c.in_ok-rotate.ensures in
     let first_honest = first.honest.1 honest in
-    c.end_checkpoint.ensures.kept_still (second.honest.1 first_honest) image number (keeps_begun c.end_begun.new.self c.rotate.new.self _ _ image number (first.kept honest image number keeps) first.ok.1 (ap (λ (k : KeeperState g.row.D.Denot). k.count) second.ok) (second.held first_honest))
+    c.end_checkpoint.ensures.kept_still (second.honest.1 first_honest) image number (keeps_begun c.end_begun.new.self c.rotate.new.self _ _ image number (first.kept honest image number keeps) (ap (λ (k : KeeperState g.row.D.Denot). k.count) second.ok) (second.held first_honest))
 
 zero_is : (n : ℕ) → true ≡ (n == 0) → n ≡ 0
 zero_is n is = grind (arith, nat_tests)
@@ -42,13 +42,15 @@ pub returns-then-is_empty-clause-ok : goal.returns-then-is_empty-clause-ok
 returns-then-is_empty-clause-ok g c =
     let first = c.in_ok-end_begun.ensures in
     let none = zero_is c.end_begun.new.self.used (sym c.if-is_empty.true ∙ c.is_empty.ensures.empty) in
-    record { works = first.ok.0; phase = first.ok.1; used = none; turned = first.ok.2; base = sym (c.is_empty.ensures.counted none ∙ first.ok.2); remembers = remembers_none _ (c.is_empty.ensures.untouched none) }
+    record { works = first.ok.0; phase = first.ok.1; used = none; turned = first.ok.2; lefts = first.ok.3; base = sym (c.is_empty.ensures.counted none ∙ ap (last_turned c.end_begun.new.self.base) first.ok.2); remembers = remembers_none _ (c.is_empty.ensures.untouched none) }
 
 pub returns-clause-ok : goal.returns-clause-ok
 returns-clause-ok g c =
     let first = c.in_ok-end_begun.ensures in
     let second = c.in_ok-rotate.ensures in
-    recovered_by c.end_checkpoint.result c.rotate.new.self c.end_checkpoint.new.self c.end_checkpoint.ensures.ok
+    let begun = c.end_begun.new.self in
+    recovered_by c.end_checkpoint.result c.rotate.new.self c.end_checkpoint.new.self (count_puts begun.geometry.blocks begun.memory.area.touched) c.end_checkpoint.ensures.ok
     (ap (λ (k : KeeperState g.row.D.Denot). k.failed) second.ok ∙ first.ok.0) (ap (λ (k : KeeperState g.row.D.Denot). k.used) second.ok)
-    (ap (λ (k : KeeperState g.row.D.Denot). k.turned) second.ok ∙ sym (ap (λ (k : KeeperState g.row.D.Denot). k.count) second.ok))
+    (ap (λ (k : KeeperState g.row.D.Denot). k.turned) second.ok ∙ ap (λ (turned : List ℕ). turned ++ begun.count ∷ []) first.ok.2 ∙ ap (λ (n : ℕ). n ∷ []) (sym (ap (λ (k : KeeperState g.row.D.Denot). k.count) second.ok)))
+    (ap (λ (k : KeeperState g.row.D.Denot). k.lefts) second.ok ∙ ap (λ (lefts : List ℕ). lefts ++ count_puts begun.geometry.blocks begun.memory.area.touched ∷ []) first.ok.3)
     (c.end_checkpoint.ensures.remembered [] second.fresh)

@@ -1,22 +1,30 @@
-use Rattle.std.proofs.Common.{◌≡◌, ℕ, None, [], refl, sym, ◌∙◌, ap, subst}
+use Rattle.std.proofs.Common.{◌≡◌, ◌<◌, ◌+◌, ℕ, suc, None, Some, List, [], ◌∷◌, ◌++◌, refl, sym, ◌∙◌, ap, subst, arith}
+use Rattle.std.specs.FinMap.{len}
+use Rattle.std.specs.Prelude.{IfSome}
 use Rattle.disk_model.specs.Disk.{IsSound, LeavesOnly}
 use Rattle.disk_model.specs.laws.Moments.{begins, weakens}
-use Rattle.image_model.specs.Side.{other_of}
-use Rattle.device_image.specs.Keeper.{KeeperState, PlanState, count_puts}
+use Rattle.header_slots.specs.Change.{IsRenewed}
+use Rattle.header_slots.specs.declared.change.HeaderChange.{HeaderChange}
+use Rattle.image_model.specs.Dirty.{dirty_blocks}
+use Rattle.image_model.specs.Geometry.{device_bytes_of}
+use Rattle.image_model.specs.declared.geometry.Geometry.{Geometry}
+use Rattle.journal_format.specs.Area.{AreaState}
+use Rattle.regions.specs.Layout.{area_at, area_size, areas_in, behind}
+use Rattle.device_image.specs.CheckpointHeader.{with_next}
+use Rattle.device_image.specs.Holds.{Holds}
+use Rattle.device_image.specs.Keeper.{KeeperState, PlanState, count_puts, last_number, last_turned, lefts_of, phase_of, turned_of}
 use Rattle.device_image.specs.Keeps.{Keeps}
+use Rattle.device_image.specs.Remembers.{Remembers}
 use Rattle.device_image.specs.Stands.{StandsFor}
 use Rattle.device_image.specs.laws.Kept.{kept_content}
-use Rattle.regions.specs.Layout.{area_at}
-use Rattle.journal_format.specs.Area.{AreaState}
-use Rattle.device_image.specs.CheckpointHeader.{begun, with_both}
-use Rattle.header_slots.specs.Change.{renewed}
-use Rattle.checkpoint.proofs.Rotating.{rotate_held, comes_next, current_held, from_above, none_of, rotate_left, synced_before, rotated_left}
+use Rattle.checkpoint.specs.Keeper.{IsSized, plans_of}
+use Rattle.checkpoint.specs.Steps.{phase_with}
+use Rattle.checkpoint.proofs.Areas.{last-push}
+use Rattle.checkpoint.proofs.Rotating.{ArePlansSized, added, comes_next, current_held, from_above, last_counted, lefts-push, next_sized, phase-push, rotate_held, rotate_left, rotated_left, sized_after, slots_synced}
 use Rattle.checkpoint.proofs.keeper.Keeper.rotate.Goals as goal
-use Rattle.device_image.specs.Holds.{Holds}
-use Rattle.device_image.specs.Remembers.{Remembers}
 
-pub returns-then-is_some-clause-any_moment : goal.returns-then-is_some-clause-any_moment
-returns-then-is_some-clause-any_moment g c honest image number keeps =
+pub returns-then-not-has_spare_area-clause-any_moment : goal.returns-then-not-has_spare_area-clause-any_moment
+returns-then-not-has_spare_area-clause-any_moment g c honest image number keeps =
     begins (g.met.D.Disk.sound c.args.self.now.disk honest) (λ content left. kept_content _ _ image number keeps content left)
 
 pub returns-in_default-clause-any_moment : goal.returns-in_default-clause-any_moment
@@ -27,30 +35,147 @@ pub returns-in_err-touches-clause-any_moment : goal.returns-in_err-touches-claus
 returns-in_err-touches-clause-any_moment g c honest image number keeps =
     begins (g.met.D.Disk.sound c.args.self.now.disk honest) (λ content left. kept_content _ _ image number keeps content left)
 
+pub returns-in_err-reserve-clause-any_moment : goal.returns-in_err-reserve-clause-any_moment
+returns-in_err-reserve-clause-any_moment g c honest image number keeps =
+    let same = ap (λ (k : KeeperState g.row.D.Denot). k.disk) (sym c.self.view_is) in
+    subst (λ (disk : g.row.D.Denot). LeavesOnly (g.D.Disk.state c.args.self.now.disk) (g.D.Disk.state disk) (λ content. StandsFor content image number)) same
+    (begins (g.met.D.Disk.sound c.args.self.now.disk honest) (λ content left. kept_content _ _ image number keeps content left))
+
+pub invariant_of-self-in-Ok : goal.invariant_of-self-in-Ok
+invariant_of-self-in-Ok g c =
+    let inside_header = c.self.inside.header in
+    let header_is : IsRenewed inside_header (with_next inside_header) c.in-Some.header =
+    subst (λ (change : HeaderChange). IsRenewed inside_header change c.in-Some.header) (c.with_next.ensures ∙ ap (λ (k : KeeperState g.row.D.Denot). with_next k.memory.header) (sym c.self.view_is)) c.in-Some.ensures.some in
+    let room : inside_header.in_front + 1 < areas_in inside_header.geometry =
+    subst (λ (k : KeeperState g.row.D.Denot). k.memory.header.in_front + 1 < areas_in k.memory.header.geometry) (sym c.self.view_is) (c.if-not-has_spare_area.ensures.room refl) in
+    let from = c.next_area-next.result.from in
+    let from_is : from ≡ area_at inside_header.geometry (behind (areas_in inside_header.geometry) (suc inside_header.in_front) inside_header.first_area) =
+    ap (λ (a : AreaState). a.from) c.next_area-next.ensures in
+    let old = c.self.inside.plan in
+    let new = c.add_plan.new.plan in
+    let waiting = c.self.inside.waiting.items in
+    let more = c.add_plan.new.waiting.items in
+    let last = c.of.result in
+    let some : IfSome old (λ first. (new ≡ Some first) × (more ≡ waiting ++ last ∷ [])) =
+    subst (λ (w : List PlanState). IfSome old (λ first. (new ≡ Some first) × (more ≡ w ++ last ∷ []))) c.reserve.ensures.items c.add_plan.ensures.behind in
+    let added_is : plans_of new more ≡ plans_of old waiting ++ last ∷ [] = added old new waiting more last c.add_plan.ensures.first some in
+    let last_is : last ≡ record { first = c.self.inside.area; copied = 0; left = count_puts c.self.inside.area.blocks c.self.inside.area.touched; mapped = None } =
+    c.of.ensures ∙ ap (λ (a : AreaState). let plan : PlanState = record { first = a; copied = 0; left = count_puts a.blocks a.touched; mapped = None } in plan) c.replace-first.ensures.value in
+    let area_is : c.replace-first.new.dest ≡ record { from = from; bytes = area_size inside_header.geometry; blocks = inside_header.geometry.blocks; next = c.self.inside.area.next; gate = 0; touched = [] } =
+    c.replace-first.ensures.after ∙ c.in-Ok.ensures.ok
+    ∙ ap (λ (a : AreaState). let area : AreaState = record { from = from; bytes = a.bytes; blocks = a.blocks; next = a.next; gate = 0; touched = [] } in area) c.next_area-next.ensures in
+    let extent = g.D.Disk.extent c.self.inside.disk in
+    let now = g.D.Disk.extent c.begin_turn.new.disk in
+    let header = c.in-Some.header in
+    let is = c.self.invariant in
+    let sized : ArePlansSized old waiting inside_header.geometry extent inside_header.in_front = record { first = is.2; behind = is.3; none = is.4; many = is.5 } in
+    let first : last.first ≡ c.self.inside.area = ap (λ (p : PlanState). p.first) last_is in
+    let last_sized : IsSized last.first inside_header.geometry extent = subst (λ (a : AreaState). IsSized a inside_header.geometry extent) (sym first) is.6 in
+    let after = sized_after old new waiting more last inside_header.geometry extent inside_header.in_front c.add_plan.ensures.first some sized last_sized in
+    let same : extent ≡ now = sym c.in-Ok.ensures.extent in
+    let there = subst (λ (n : ℕ). ArePlansSized new more header.geometry now n) (sym header_is.in_front)
+    (subst (λ (e : ℕ). ArePlansSized new more header.geometry e (inside_header.in_front + 1)) same
+    (subst (λ (size : Geometry). ArePlansSized new more size extent (inside_header.in_front + 1)) (sym header_is.geometry) after)) in
+    let area = next_sized c.replace-first.new.dest inside_header.geometry (suc inside_header.in_front) inside_header.first_area extent inside_header.first_inside
+    (ap (λ (a : AreaState). a.from) area_is ∙ from_is) (ap (λ (a : AreaState). a.bytes) area_is) (ap (λ (a : AreaState). a.blocks) area_is) is.0 in
+    let fits : c.self.inside.count < 18446744073709551616 = omega arith in (
+      sym same ∙ is.0 ∙ ap (λ (size : Geometry). device_bytes_of size.blocks size.area) (sym header_is.geometry),
+      is.1 ∙ ap (λ (size : Geometry). size.blocks) (sym header_is.geometry),
+      there.first,
+      there.behind,
+      there.none,
+      there.many,
+      subst (λ (e : ℕ). IsSized c.replace-first.new.dest header.geometry e) same (subst (λ (size : Geometry). IsSized c.replace-first.new.dest size extent) (sym header_is.geometry) area),
+      ap (λ (a : AreaState). a.next) area_is ∙ is.7,
+      λ none. (
+        ap (λ (a : AreaState). a.touched) area_is,
+        sym (ap (λ (all : List PlanState). last_turned header.base (turned_of all)) added_is ∙ last-push header.base (plans_of old waiting) last ∙ ap last_number first
+            ∙ last_counted c.self.inside.area c.self.inside.count is.7 fits),
+      ),
+    )
+
+pub returns-in-Ok-clause-left : goal.returns-in-Ok-clause-left
+returns-in-Ok-clause-left g c commands remembers =
+    let old = c.self.inside.plan in
+    let new = c.add_plan.new.plan in
+    let waiting = c.self.inside.waiting.items in
+    let more = c.add_plan.new.waiting.items in
+    let last = c.of.result in
+    let some : IfSome old (λ first. (new ≡ Some first) × (more ≡ waiting ++ last ∷ [])) =
+    subst (λ (w : List PlanState). IfSome old (λ first. (new ≡ Some first) × (more ≡ w ++ last ∷ []))) c.reserve.ensures.items c.add_plan.ensures.behind in
+    let added_is : plans_of new more ≡ plans_of old waiting ++ last ∷ [] = added old new waiting more last c.add_plan.ensures.first some in
+    let last_is : last ≡ record { first = c.self.inside.area; copied = 0; left = count_puts c.self.inside.area.blocks c.self.inside.area.touched; mapped = None } =
+    c.of.ensures ∙ ap (λ (a : AreaState). let plan : PlanState = record { first = a; copied = 0; left = count_puts a.blocks a.touched; mapped = None } in plan) c.replace-first.ensures.value in
+    let inside = subst (λ (k : KeeperState g.row.D.Denot). Remembers k commands) (sym c.self.view_is) remembers in
+    let left = rotated_left _ last commands c.self.invariant.6.blocks last_is inside in
+    ap lefts_of added_is ∙ lefts-push (plans_of old waiting) last ∙ ap (λ (n : ℕ). lefts_of (plans_of old waiting) ++ n ∷ []) left
+    ∙ ap (λ (k : KeeperState g.row.D.Denot). k.lefts ++ len (dirty_blocks 0 commands) ∷ []) c.self.view_is
+
+pub returns-in-Ok-clause-phase : goal.returns-in-Ok-clause-phase
+returns-in-Ok-clause-phase g c commands remembers =
+    let old = c.self.inside.plan in
+    let new = c.add_plan.new.plan in
+    let waiting = c.self.inside.waiting.items in
+    let more = c.add_plan.new.waiting.items in
+    let last = c.of.result in
+    let some : IfSome old (λ first. (new ≡ Some first) × (more ≡ waiting ++ last ∷ [])) =
+    subst (λ (w : List PlanState). IfSome old (λ first. (new ≡ Some first) × (more ≡ w ++ last ∷ []))) c.reserve.ensures.items c.add_plan.ensures.behind in
+    let added_is : plans_of new more ≡ plans_of old waiting ++ last ∷ [] = added old new waiting more last c.add_plan.ensures.first some in
+    let last_is : last ≡ record { first = c.self.inside.area; copied = 0; left = count_puts c.self.inside.area.blocks c.self.inside.area.touched; mapped = None } =
+    c.of.ensures ∙ ap (λ (a : AreaState). let plan : PlanState = record { first = a; copied = 0; left = count_puts a.blocks a.touched; mapped = None } in plan) c.replace-first.ensures.value in
+    let inside = subst (λ (k : KeeperState g.row.D.Denot). Remembers k commands) (sym c.self.view_is) remembers in
+    let left = rotated_left _ last commands c.self.invariant.6.blocks last_is inside in
+    ap phase_of added_is ∙ phase-push (plans_of old waiting) last (ap (λ (p : PlanState). p.mapped) last_is) ∙ ap (phase_with (phase_of (plans_of old waiting))) left
+    ∙ ap (λ (k : KeeperState g.row.D.Denot). phase_with k.phase (len (dirty_blocks 0 commands))) c.self.view_is
+
 pub returns-in-Ok-clause-held : goal.returns-in-Ok-clause-held
-returns-in-Ok-clause-held g c honest base last holds =
-    let inside = subst (λ (k : KeeperState g.row.D.Denot). Holds k (g.D.Disk.state k.disk) base [] last) (sym c.self.view_is) holds in
+returns-in-Ok-clause-held g c honest base fronts last_commands holds =
+    let inside = subst (λ (k : KeeperState g.row.D.Denot). Holds k (g.D.Disk.state k.disk) base fronts last_commands) (sym c.self.view_is) holds in
     let trusted = subst (λ (k : KeeperState g.row.D.Denot). g.D.Disk.honest k.disk) (sym c.self.view_is) honest in
     let before = g.D.Disk.state c.self.inside.disk in
     let sound = g.met.D.Disk.sound c.self.inside.disk trusted in
     let call = c.in-Ok.ensures in
-    let none = none_of c.self.inside.plan (sym c.is_some.ensures ∙ c.if-is_some.false) in
-    let header_is : c.in-Some.header ≡ begun c.self.inside.header = c.in-Some.ensures.some ∙ ap (renewed c.self.inside.header)
-    (c.with_both.ensures ∙ ap (λ (k : KeeperState g.row.D.Denot). with_both k.memory.header) (sym c.self.view_is)) in
-    let from_is : c.other_area-next.result.from ≡ area_at c.self.inside.header.geometry (other_of c.self.inside.header.first_area) =
-    ap (λ (a : AreaState). a.from) c.other_area-next.ensures ∙ ap (λ (k : KeeperState g.row.D.Denot). area_at k.geometry (other_of k.memory.header.first_area)) (sym c.self.view_is) in
-    let from = c.other_area-next.result.from in
-    let turn = call.begun trusted (synced_before _ before _ _ inside.keeps sound none c.in-Some.header header_is from from_is)
-    (from_above _ before _ _ inside.keeps sound none c.in-Some.header header_is from from_is) c.self.inside.header (current_held _ before _ _ inside.keeps sound)
-    (comes_next _ before _ _ inside.keeps sound none c.in-Some.header header_is from from_is) in
+    let inside_header = c.self.inside.header in
+    let header_is : IsRenewed inside_header (with_next inside_header) c.in-Some.header =
+    subst (λ (change : HeaderChange). IsRenewed inside_header change c.in-Some.header) (c.with_next.ensures ∙ ap (λ (k : KeeperState g.row.D.Denot). with_next k.memory.header) (sym c.self.view_is)) c.in-Some.ensures.some in
+    let room : inside_header.in_front + 1 < areas_in inside_header.geometry =
+    subst (λ (k : KeeperState g.row.D.Denot). k.memory.header.in_front + 1 < areas_in k.memory.header.geometry) (sym c.self.view_is) (c.if-not-has_spare_area.ensures.room refl) in
+    let from = c.next_area-next.result.from in
+    let from_is : from ≡ area_at inside_header.geometry (behind (areas_in inside_header.geometry) (suc inside_header.in_front) inside_header.first_area) =
+    ap (λ (a : AreaState). a.from) c.next_area-next.ensures in
+    let old = c.self.inside.plan in
+    let new = c.add_plan.new.plan in
+    let waiting = c.self.inside.waiting.items in
+    let more = c.add_plan.new.waiting.items in
+    let last = c.of.result in
+    let some : IfSome old (λ first. (new ≡ Some first) × (more ≡ waiting ++ last ∷ [])) =
+    subst (λ (w : List PlanState). IfSome old (λ first. (new ≡ Some first) × (more ≡ w ++ last ∷ []))) c.reserve.ensures.items c.add_plan.ensures.behind in
+    let added_is : plans_of new more ≡ plans_of old waiting ++ last ∷ [] = added old new waiting more last c.add_plan.ensures.first some in
+    let last_is : last ≡ record { first = c.self.inside.area; copied = 0; left = count_puts c.self.inside.area.blocks c.self.inside.area.touched; mapped = None } =
+    c.of.ensures ∙ ap (λ (a : AreaState). let plan : PlanState = record { first = a; copied = 0; left = count_puts a.blocks a.touched; mapped = None } in plan) c.replace-first.ensures.value in
+    let area_is : c.replace-first.new.dest ≡ record { from = from; bytes = area_size inside_header.geometry; blocks = inside_header.geometry.blocks; next = c.self.inside.area.next; gate = 0; touched = [] } =
+    c.replace-first.ensures.after ∙ c.in-Ok.ensures.ok
+    ∙ ap (λ (a : AreaState). let area : AreaState = record { from = from; bytes = a.bytes; blocks = a.blocks; next = a.next; gate = 0; touched = [] } in area) c.next_area-next.ensures in
+    let turn = call.begun trusted inside.keeps.steady (slots_synced _ before _ _ inside.keeps sound)
+    (from_above _ before _ _ inside.keeps sound c.in-Some.header header_is room from from_is) inside_header (current_held _ before _ _ inside.keeps sound)
+    (comes_next _ before _ _ inside.keeps sound c.in-Some.header header_is room from from_is) in
     let after = g.D.Disk.state c.begin_turn.new.disk in
     let after_sound = subst (λ (e : ℕ). IsSound e after) call.extent (g.met.D.Disk.sound c.begin_turn.new.disk (call.honest.1 trusted)) in
-    let next : record c.other_area-next.result { gate = 0; touched = [] } ≡ record { from = from; bytes = c.self.inside.header.geometry.area; blocks = c.self.inside.header.geometry.blocks; next = c.self.inside.area.next; gate = 0; touched = [] } =
-    ap (λ (a : AreaState). let area : AreaState = record { from = from; bytes = a.bytes; blocks = a.blocks; next = a.next; gate = 0; touched = [] } in area)
-    (c.other_area-next.ensures ∙ ap (λ (k : KeeperState g.row.D.Denot). let area : AreaState = record { from = area_at k.geometry (other_of k.memory.header.first_area); bytes = k.geometry.area; blocks = k.geometry.blocks; next = k.memory.area.next; gate = 0; touched = [] } in area) (sym c.self.view_is)) in
-    rotate_held _ before base last inside sound none c.in-Some.header header_is from from_is after after_sound _ c.other-self-inside.result c.replace-first.new.dest c.of.result
-    c.other-self-inside.ensures turn (c.replace-first.ensures.after ∙ call.ok ∙ next)
-    (c.of.ensures ∙ ap (λ (a : AreaState). let plan : PlanState = record { first = a; copied = 0; left = count_puts a.blocks a.touched; mapped = None } in plan) c.replace-first.ensures.value) refl
+    let made : List PlanState → KeeperState g.row.D.Denot = λ all. record {
+      disk = c.begin_turn.new.disk;
+      geometry = c.in-Some.header.geometry;
+      generation = c.in-Some.header.generation;
+      count = c.self.inside.count;
+      base = c.in-Some.header.base;
+      turned = turned_of (plans_of new more);
+      lefts = lefts_of (plans_of new more);
+      used = c.replace-first.new.dest.gate;
+      phase = phase_of all;
+      failed = c.self.inside.failed;
+      memory = record { header = c.in-Some.header; slot = c.other-self-inside.result; map = c.self.inside.map; plans = all; area = c.replace-first.new.dest };
+    } in
+    rotate_held _ before base fronts last_commands inside sound c.in-Some.header header_is room from from_is after after_sound (made (plans_of new more)) c.other-self-inside.result c.replace-first.new.dest last
+    c.other-self-inside.ensures turn area_is last_is (ap made added_is)
 
 pub returns-in-Ok-clause-any_moment : goal.returns-in-Ok-clause-any_moment
 returns-in-Ok-clause-any_moment g c honest image number keeps =
@@ -58,16 +183,18 @@ returns-in-Ok-clause-any_moment g c honest image number keeps =
     (λ trusted inside.
     let before = g.D.Disk.state c.self.inside.disk in
     let sound = g.met.D.Disk.sound c.self.inside.disk trusted in
-    let none = none_of c.self.inside.plan (sym c.is_some.ensures ∙ c.if-is_some.false) in
-    let header_is : c.in-Some.header ≡ begun c.self.inside.header = c.in-Some.ensures.some ∙ ap (renewed c.self.inside.header)
-    (c.with_both.ensures ∙ ap (λ (k : KeeperState g.row.D.Denot). with_both k.memory.header) (sym c.self.view_is)) in
-    let from_is : c.other_area-next.result.from ≡ area_at c.self.inside.header.geometry (other_of c.self.inside.header.first_area) =
-    ap (λ (a : AreaState). a.from) c.other_area-next.ensures ∙ ap (λ (k : KeeperState g.row.D.Denot). area_at k.geometry (other_of k.memory.header.first_area)) (sym c.self.view_is) in
-    let from = c.other_area-next.result.from in
-    weakens (c.begin_turn.ensures.any_moment trusted (synced_before _ before image number inside sound none c.in-Some.header header_is from from_is)
-    (from_above _ before image number inside sound none c.in-Some.header header_is from from_is) c.self.inside.header (current_held _ before image number inside sound)
-    (comes_next _ before image number inside sound none c.in-Some.header header_is from from_is))
-    (rotate_left _ before image number inside sound none c.in-Some.header header_is from from_is))
+    let inside_header = c.self.inside.header in
+    let header_is : IsRenewed inside_header (with_next inside_header) c.in-Some.header =
+    subst (λ (change : HeaderChange). IsRenewed inside_header change c.in-Some.header) (c.with_next.ensures ∙ ap (λ (k : KeeperState g.row.D.Denot). with_next k.memory.header) (sym c.self.view_is)) c.in-Some.ensures.some in
+    let room : inside_header.in_front + 1 < areas_in inside_header.geometry =
+    subst (λ (k : KeeperState g.row.D.Denot). k.memory.header.in_front + 1 < areas_in k.memory.header.geometry) (sym c.self.view_is) (c.if-not-has_spare_area.ensures.room refl) in
+    let from = c.next_area-next.result.from in
+    let from_is : from ≡ area_at inside_header.geometry (behind (areas_in inside_header.geometry) (suc inside_header.in_front) inside_header.first_area) =
+    ap (λ (a : AreaState). a.from) c.next_area-next.ensures in
+    weakens (c.begin_turn.ensures.any_moment trusted inside.steady (slots_synced _ before image number inside sound)
+    (from_above _ before image number inside sound c.in-Some.header header_is room from from_is) inside_header (current_held _ before image number inside sound)
+    (comes_next _ before image number inside sound c.in-Some.header header_is room from from_is))
+    (rotate_left _ before image number inside sound c.in-Some.header header_is room from from_is))
     honest keeps
 
 pub returns-in-Err-clause-any_moment : goal.returns-in-Err-clause-any_moment
@@ -76,20 +203,16 @@ returns-in-Err-clause-any_moment g c honest image number keeps =
     (λ trusted inside.
     let before = g.D.Disk.state c.self.inside.disk in
     let sound = g.met.D.Disk.sound c.self.inside.disk trusted in
-    let none = none_of c.self.inside.plan (sym c.is_some.ensures ∙ c.if-is_some.false) in
-    let header_is : c.in-Some.header ≡ begun c.self.inside.header = c.in-Some.ensures.some ∙ ap (renewed c.self.inside.header)
-    (c.with_both.ensures ∙ ap (λ (k : KeeperState g.row.D.Denot). with_both k.memory.header) (sym c.self.view_is)) in
-    let from_is : c.other_area-next.result.from ≡ area_at c.self.inside.header.geometry (other_of c.self.inside.header.first_area) =
-    ap (λ (a : AreaState). a.from) c.other_area-next.ensures ∙ ap (λ (k : KeeperState g.row.D.Denot). area_at k.geometry (other_of k.memory.header.first_area)) (sym c.self.view_is) in
-    let from = c.other_area-next.result.from in
-    weakens (c.begin_turn.ensures.any_moment trusted (synced_before _ before image number inside sound none c.in-Some.header header_is from from_is)
-    (from_above _ before image number inside sound none c.in-Some.header header_is from from_is) c.self.inside.header (current_held _ before image number inside sound)
-    (comes_next _ before image number inside sound none c.in-Some.header header_is from from_is))
-    (rotate_left _ before image number inside sound none c.in-Some.header header_is from from_is))
+    let inside_header = c.self.inside.header in
+    let header_is : IsRenewed inside_header (with_next inside_header) c.in-Some.header =
+    subst (λ (change : HeaderChange). IsRenewed inside_header change c.in-Some.header) (c.with_next.ensures ∙ ap (λ (k : KeeperState g.row.D.Denot). with_next k.memory.header) (sym c.self.view_is)) c.in-Some.ensures.some in
+    let room : inside_header.in_front + 1 < areas_in inside_header.geometry =
+    subst (λ (k : KeeperState g.row.D.Denot). k.memory.header.in_front + 1 < areas_in k.memory.header.geometry) (sym c.self.view_is) (c.if-not-has_spare_area.ensures.room refl) in
+    let from = c.next_area-next.result.from in
+    let from_is : from ≡ area_at inside_header.geometry (behind (areas_in inside_header.geometry) (suc inside_header.in_front) inside_header.first_area) =
+    ap (λ (a : AreaState). a.from) c.next_area-next.ensures in
+    weakens (c.begin_turn.ensures.any_moment trusted inside.steady (slots_synced _ before image number inside sound)
+    (from_above _ before image number inside sound c.in-Some.header header_is room from from_is) inside_header (current_held _ before image number inside sound)
+    (comes_next _ before image number inside sound c.in-Some.header header_is room from from_is))
+    (rotate_left _ before image number inside sound c.in-Some.header header_is room from from_is))
     honest keeps
-
-pub returns-in-Ok-clause-left : goal.returns-in-Ok-clause-left
-returns-in-Ok-clause-left g c commands remembers =
-    let inside = subst (λ (k : KeeperState g.row.D.Denot). Remembers k commands) (sym c.self.view_is) remembers in
-    rotated_left _ c.of.result commands c.self.invariant.3.blocks
-    (c.of.ensures ∙ ap (λ (a : AreaState). let plan : PlanState = record { first = a; copied = 0; left = count_puts a.blocks a.touched; mapped = None } in plan) c.replace-first.ensures.value) inside

@@ -1,4 +1,4 @@
-use Rattle.std.proofs.Common.{◌≡◌, List, refl, rules, sym, ◌∙◌, ap, subst, arith}
+use Rattle.std.proofs.Common.{◌≡◌, List, Option, refl, rules, sym, ◌∙◌, ap, subst, arith}
 use Rattle.disk_model.specs.Disk.{LeavesOnly, State}
 use Rattle.disk_model.specs.laws.Moments.{begins, weakens}
 use Rattle.image_model.specs.Side.{other_of}
@@ -6,7 +6,8 @@ use Rattle.image_model.specs.declared.command.Kind.{Kind}
 use Rattle.image_model.specs.declared.geometry.Geometry.{Geometry}
 use Rattle.image_model.specs.declared.side.Side.{Side}
 use Rattle.header_slots.specs.declared.header.Header.{Header}
-use Rattle.device_image.specs.Keeper.{KeeperState}
+use Rattle.checkpoint.specs.Keeper.{plans_of}
+use Rattle.device_image.specs.Keeper.{KeeperState, PlanState}
 use Rattle.device_image.specs.Keeps.{Keeps}
 use Rattle.device_image.specs.Stands.{StandsFor}
 use Rattle.device_image.specs.laws.Kept.{kept_content}
@@ -51,8 +52,8 @@ returns-in_err-map-clause-any_moment g c honest image number keeps =
     (begins (g.met.D.Disk.sound c.args.self.now.disk honest) (λ content left. kept_content _ _ image number keeps content left))
 
 pub returns-in-Ok-clause-held : goal.returns-in-Ok-clause-held
-returns-in-Ok-clause-held g c honest base first last holds =
-    let inside = subst (λ (k : KeeperState g.row.D.Denot). Holds k (g.D.Disk.state k.disk) base first last) (sym c.self.view_is) holds in
+returns-in-Ok-clause-held g c honest base fronts last holds =
+    let inside = subst (λ (k : KeeperState g.row.D.Denot). Holds k (g.D.Disk.state k.disk) base fronts last) (sym c.self.view_is) holds in
     let sound = subst (λ (k : KeeperState g.row.D.Denot). g.D.Disk.honest k.disk) (sym c.self.view_is) honest in
     let call = c.in-Ok.ensures in
     let geometry : c.of.result.geometry ≡ inside.keeps.stands.header.geometry = c.of.ensures ∙ inside.keeps.sizes in
@@ -60,7 +61,7 @@ returns-in-Ok-clause-held g c honest base first last holds =
     let after = g.D.Disk.state c.store_map.new.disk in
     let stored : IsMapStored before (map_at inside.keeps.stands.header.geometry (other_of inside.keeps.stands.header.map_slot)) inside.keeps.stands.header.geometry.blocks c.in_ok-map.map after =
     stored_there (call.stored sound inside.keeps.steady) geometry (search rules) (ap (λ (h : Header). other_of h.map_slot) inside.keeps.headed) in
-    map_held _ before base first last inside c.in-Some.plan c.in-Some.is (omega (arith, c.if-left-gt0.false, c.left.ensures)) after (g.met.D.Disk.sound c.store_map.new.disk (call.honest.1 sound)) c.in_ok-map.map stored
+    map_held _ before base fronts last inside c.in-Some.plan c.self.inside.waiting.items (ap (λ (p : Option PlanState). plans_of p c.self.inside.waiting.items) c.in-Some.is) (omega (arith, c.if-left-gt0.false, c.left.ensures)) after (g.met.D.Disk.sound c.store_map.new.disk (call.honest.1 sound)) c.in_ok-map.map stored
     c.in_ok-map.ensures _ c.set_map.new.self c.set_map.ensures refl
 
 pub returns-in-Ok-clause-any_moment : goal.returns-in-Ok-clause-any_moment

@@ -1,4 +1,4 @@
-use Rattle.std.proofs.Common.{◌≡◌, ◌∙◌, ◌/◌, sym}
+use Rattle.std.proofs.Common.{◌∙◌, ◌/◌, sym}
 use Rattle.image_model.specs.Edit.{edit_of, offset_of}
 use Rattle.order_book.specs.Edits.{LacksOld}
 use Rattle.order_book.specs.laws.Edited.{same_becomes, same_takes}

@@ -1,4 +1,4 @@
-use Rattle.std.proofs.Common.{◌≡◌, ◌∙◌, length, subst, sym}
+use Rattle.std.proofs.Common.{◌∙◌, length, subst, sym}
 use Rattle.image_model.specs.Change.{IsChange}
 use Rattle.image_model.specs.Edit.{edit_of}
 use Rattle.order_book.specs.Edits.{image_in}

@@ -11,7 +11,7 @@ invariant_of-self g c =
     let i = c.self.inside in let call = c.rotate.ensures in let next = c.rotate.new.self in
     passing_by g.D.Disk.state g.D.Disk.honest g.B.BoardName.opening g.B.ImageName.image g.B.ImageName.start g.B.ImageName.trusted i.seat i.keeper c.self.invariant i.seat next
     (turned g.D.Disk.state g.D.Disk.honest g.B.BoardName.opening g.B.ImageName.image g.B.ImageName.trusted i.seat i.keeper c.self.invariant.stored (g.D.Disk.extent next.disk) next (g.met.D.Disk.sound next.disk) call.honest.1
-    c.rotate.result call.ok call.err call.failed call.not_now call.held call.any_moment)
+    c.rotate.result call.ok call.err call.failed call.held call.any_moment)
     refl (leaves_step g.D.Disk.state g.D.Disk.honest g.B.BoardName.opening g.B.ImageName.image g.B.ImageName.trusted i.seat i.keeper c.self.invariant.stored (g.D.Disk.extent i.keeper.disk) next (g.met.D.Disk.sound i.keeper.disk) c.rotate.result call.err call.failed call.any_moment)
 
 pub returns-clause-any_moment : goal.returns-clause-any_moment

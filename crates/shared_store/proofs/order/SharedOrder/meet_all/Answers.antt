@@ -3,7 +3,7 @@ use Rattle.device_image.specs.Keeper.{KeeperState}
 use Rattle.disk_model.specs.Disk.{MayLeave}
 use Rattle.image_model.specs.Change.{Change}
 use Rattle.marks.specs.Known.{PassState}
-use Rattle.marks.specs.laws.Beginnings.{prefix_self, prefix_trans}
+use Rattle.marks.specs.laws.Beginnings.{prefix_self}
 use Rattle.order_book.specs.Order.{OrderState}
 use Rattle.shared_store.specs.Parts.{StandsWithin}
 use Rattle.shared_store.proofs.Keeping.{stands_less}

@@ -1,0 +1,31 @@
+ghost use Rattle.std.specs.Prelude.{◌≡◌, ◌<◌, [], ◌∷◌, ◌++◌, IfNone, IfSome, None, Some, vec_len};
+ghost use Rattle.checkpoint.specs.Keeper.{plans_of};
+ghost use Rattle.std.specs.Vec.{vec_capacity};
+
+use copy_plan::CopyPlan;
+
+// Lets the checkpoint of another area follow the one that is under way and those behind it, for which there is room.
+pub fn add_plan(plan: &mut Option<CopyPlan>, waiting: &mut Vec<CopyPlan>, last: CopyPlan)
+    requires room { vec_len waiting.old < vec_capacity waiting.old }
+    requires none { plan.old ≡ None → waiting.old.items ≡ [] }
+    ensures first { IfNone plan.old ((plan.new ≡ Some last) × (waiting.new.items ≡ [])) }
+    ensures behind { IfSome plan.old (λ first. (plan.new ≡ Some first) × (waiting.new.items ≡ waiting.old.items ++ last ∷ [])) }
+{
+    match plan {
+        None => *plan = Some(last),
+        Some(_) => {
+            let _ = waiting.push(last);
+        }
+    }
+}
+
+// Takes the first of the checkpoints that wait.
+pub fn take_first(waiting: &mut Vec<CopyPlan>) -> Option<CopyPlan>
+    ensures plans { plans_of result waiting.new.items ≡ waiting.old.items }
+    ensures none { result ≡ None → waiting.new.items ≡ [] }
+{
+    if waiting.is_empty() {
+        return None;
+    }
+    Some(waiting.remove(0))
+}

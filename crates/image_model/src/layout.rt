@@ -1,0 +1,29 @@
+ghost use Rattle.std.specs.Prelude.{◌≡◌};
+ghost use Rattle.image_model.specs.Layout.{area_size_of, areas_of};
+
+/// How the journal areas of a device lie: a ring of them has twice the bytes of a geometry's area.
+#[derive(Clone, Copy, Debug, PartialEq, Eq)]
+pub enum Layout {
+    /// Two areas of that size.
+    One,
+}
+
+impl Layout {
+    /// The journal areas of a device.
+    pub const fn areas(self) -> u8
+        ensures { result ≡ areas_of self }
+    {
+        match self {
+            Layout::One => 2,
+        }
+    }
+
+    /// The bytes of each of them, where a geometry's area has so many.
+    pub const fn area_size(self, area: u32) -> u32
+        ensures { result ≡ area_size_of self area }
+    {
+        match self {
+            Layout::One => area,
+        }
+    }
+}
