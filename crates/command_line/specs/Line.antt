@@ -13,9 +13,9 @@ use Rattle.subcommands.specs.declared.plan.Address.TheVariants.{Tcp, Unix}
 use Rattle.subcommands.specs.declared.plan.Course.{Course}
 use Rattle.subcommands.specs.declared.plan.Course.TheVariants.{Once, Sweep, Faults}
 use Rattle.subcommands.specs.declared.plan.Plan.TheVariants.{Format, Pipe, Serve, Recover, Check, Rehearse}
-use Rattle.server.specs.declared.options.Limits.{Limits}
-use Rattle.server.specs.declared.options.OnFault.{OnFault}
-use Rattle.server.specs.declared.options.OnFault.TheVariants.{Exit, Stay}
+use Rattle.front_end.specs.declared.options.Limits.{Limits}
+use Rattle.front_end.specs.declared.options.OnFault.{OnFault}
+use Rattle.front_end.specs.declared.options.OnFault.TheVariants.{Exit, Stay}
 
 -- the option was given this number, in decimal digits
 pub record IsGiven (rows : List Row) (name : Text) (number : ℕ) : Type 0 where

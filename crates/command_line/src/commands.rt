@@ -4,8 +4,7 @@ ghost use Rattle.command_line.specs.Commands.{area_rule, bare_app, block_count_r
 
 use clap::builder::ValueParser;
 use clap::{Arg, ArgAction, Command, value_parser};
-use front_end::{LEAST_FRAMES, MOST_FRAMES};
-use server::MOST_WORKERS;
+use front_end::{LEAST_FRAMES, MOST_FRAMES, MOST_WORKERS};
 use std::alloc::{AllocError, Global};
 
 // The whole command line; the modes are the values that `--cache` takes, of `pipe` and of `serve`.

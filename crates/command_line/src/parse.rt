@@ -10,9 +10,9 @@ use crate::size::bytes_of;
 use clap::error::ErrorKind;
 use clap::{ArgMatches, Command, Error};
 use export_model::Mode;
+use front_end::{Limits, OnFault, ServeOptions};
 use image_model::{BLOCK_BYTES, Geometry, LEAST_AREA_BYTES, MOST_AREA_BYTES, MOST_BLOCKS};
 use nbdj_pipe::PipeOptions;
-use server::{Limits, OnFault, ServeOptions};
 use std::alloc::{AllocError, Global};
 use subcommands::{Address, Course, Invocation, Plan};
 

@@ -22,9 +22,9 @@ use Rattle.export.specs.Submits.{IsAccepted, IsSubmitted}
 use Rattle.export.specs.inner.Submits.{IsServedFor, IsShownFor, IsWaitedFor, is_of_image}
 
 -- The pass is shown all of the history behind what was served for it.
-module _ (opening : ℕ) (first : Image) (trusted : Type 0) (request : Message) (kept : Mode) (old mid new : PassState) (history : List Change) (mark : ℕ) where
-  shown_behind : (answer : Answer) → answer ≢ Done → ((errno : Errno) → answer ≢ Refused errno) → IsSubmitted opening first trusted request kept old mid answer → IsPrefix mid.history new.history
-      → new ≡ record mid { history = history; accepted = mark } → IsSubmitted opening first trusted request kept old new answer
+module _ (opening : ℕ) (first : Image) (Sure : Type 0 → Type 0) (request : Message) (kept : Mode) (old mid new : PassState) (history : List Change) (mark : ℕ) where
+  shown_behind : (answer : Answer) → answer ≢ Done → ((errno : Errno) → answer ≢ Refused errno) → IsSubmitted opening first Sure request kept old mid answer → IsPrefix mid.history new.history
+      → new ≡ record mid { history = history; accepted = mark } → IsSubmitted opening first Sure request kept old new answer
   shown_behind answer undone answered is knew shown = record {
     knew = prefix_trans old.history mid.history new.history is.knew knew;
     written = λ done. absurd (undone done);
@@ -37,8 +37,8 @@ module _ (opening : ℕ) (first : Image) (trusted : Type 0) (request : Message) 
       same : new.own ≡ mid.own
       same = ap (λ (p : PassState). p.own) shown
 
-      by : (mid.own ≡ old.own) ⊎ ((is_write request ≡ true) × (number : ℕ) × IsAccepted opening first trusted request number old mid)
-          → (new.own ≡ old.own) ⊎ ((is_write request ≡ true) × (number : ℕ) × IsAccepted opening first trusted request number old new)
+      by : (mid.own ≡ old.own) ⊎ ((is_write request ≡ true) × (number : ℕ) × IsAccepted opening first Sure request number old mid)
+          → (new.own ≡ old.own) ⊎ ((is_write request ≡ true) × (number : ℕ) × IsAccepted opening first Sure request number old new)
       by (inl kept) = inl (same ∙ kept)
       by (inr (write, number, own)) = inr (
         write,
@@ -55,18 +55,18 @@ module _ (opening : ℕ) (first : Image) (trusted : Type 0) (request : Message) 
         },
       )
 
-  by_answer : (answer : Answer) → IsSubmitted opening first trusted request kept old mid answer → IsPrefix mid.history new.history
+  by_answer : (answer : Answer) → IsSubmitted opening first Sure request kept old mid answer → IsPrefix mid.history new.history
       → (is_of_image answer ≡ true → new ≡ record mid { history = history; accepted = mark }) → (is_of_image answer ≡ false → new ≡ mid)
-      → IsSubmitted opening first trusted request kept old new answer
-  by_answer Done is knew shown left = subst (λ (p : PassState). IsSubmitted opening first trusted request kept old p Done) (sym (left refl)) is
-  by_answer (Refused errno) is knew shown left = subst (λ (p : PassState). IsSubmitted opening first trusted request kept old p (Refused errno)) (sym (left refl)) is
+      → IsSubmitted opening first Sure request kept old new answer
+  by_answer Done is knew shown left = subst (λ (p : PassState). IsSubmitted opening first Sure request kept old p Done) (sym (left refl)) is
+  by_answer (Refused errno) is knew shown left = subst (λ (p : PassState). IsSubmitted opening first Sure request kept old p (Refused errno)) (sym (left refl)) is
   by_answer (Bytes read) is knew shown left = shown_behind (Bytes read) (λ done. cc) (λ errno refused. cc) is knew (shown refl)
   by_answer (States runs) is knew shown left = shown_behind (States runs) (λ done. cc) (λ errno refused. cc) is knew (shown refl)
 
-  pub shown_for : (result : Served) → IsServedFor opening first trusted request kept old mid result → IsShownFor history mark result mid new → IsServedFor opening first trusted request kept old new result
+  pub shown_for : (result : Served) → IsServedFor opening first Sure request kept old mid result → IsShownFor history mark result mid new → IsServedFor opening first Sure request kept old new result
   shown_for (served.Ready reply) is shown = by_answer reply.answer is shown.knew shown.shown shown.kept
-  shown_for (served.Wait number) is shown = subst (λ (p : PassState). IsServedFor opening first trusted request kept old p (served.Wait number)) (sym (shown.kept refl)) is
-  shown_for (served.NoRoom back) is shown = subst (λ (p : PassState). IsServedFor opening first trusted request kept old p (served.NoRoom back)) (sym (shown.kept refl)) is
+  shown_for (served.Wait number) is shown = subst (λ (p : PassState). IsServedFor opening first Sure request kept old p (served.Wait number)) (sym (shown.kept refl)) is
+  shown_for (served.NoRoom back) is shown = subst (λ (p : PassState). IsServedFor opening first Sure request kept old p (served.NoRoom back)) (sym (shown.kept refl)) is
 
 -- What was served is the image's after the history that the pass then knows.
 module _ (first : Image) (head : RequestHead) (history : List Change) (mark : ℕ) (mid new : PassState) where

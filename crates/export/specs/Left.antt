@@ -1,8 +1,10 @@
 -- what a crash may leave of a device that was served
-use Rattle.std.specs.Prelude.{ℕ, List}
+use Rattle.std.specs.Prelude.{ℕ, ◌+◌, List, length}
+use mathlib.Core.List.{IsPrefix}
+use Rattle.device_image.specs.Stands.{StandsFor}
 use Rattle.disk_model.specs.Disk.{MayLeave, State}
 use Rattle.image_model.specs.Change.{Change}
-use Rattle.image_model.specs.Image.{Image}
+use Rattle.image_model.specs.Image.{Image, apply_all}
 use Rattle.shared_store.specs.Keepers.{HasLeft}
 use Rattle.shared_store.specs.Parts.{StandsWithin}
 
@@ -11,3 +13,10 @@ use Rattle.shared_store.specs.Parts.{StandsWithin}
 pub record LeavesHistory (start now : State) (opening : ℕ) (image : Image) (history : List Change) (least : ℕ) : Type 0 where
   pub passed : HasLeft start now opening image history
   pub left : (content : List ℕ) → MayLeave now content → StandsWithin opening image history least content
+
+-- The content of a device stands for the image after a beginning of a history, and that has all of these commands, which are its first.
+pub record HasStored (opening : ℕ) (image : Image) (history commands : List Change) (content : List ℕ) : Type 0 where
+  pub stored : List Change
+  pub begins : IsPrefix stored history
+  pub has : IsPrefix commands stored
+  pub stands : StandsFor content (apply_all stored image) (opening + length stored)

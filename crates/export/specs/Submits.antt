@@ -16,18 +16,18 @@ use Rattle.export_model.specs.declared.action.Action.{Action}
 use Rattle.export_model.specs.declared.action.Action.TheVariants.{End, Serve}
 use Rattle.export_model.specs.declared.step.Mode.{Mode}
 
--- The pass's own command is what the request's edit becomes over an image, under a number above all that it knew before. In the
--- history that it then knows that stands at its number, behind all that it knew before and commands of others; where the device is
--- trusted it is what the edit becomes over the image of the opening after just these.
-pub record IsAccepted (opening : ℕ) (first : Image) (trusted : Type 0) (request : Message) (number : ℕ) (old new : PassState) : Type 0 where
+-- The pass has one command more of its own, which is what the request's edit becomes over an image, under a number above all that it
+-- knew before. In the history that it then knows that stands at its number, behind all that it knew before and commands of others;
+-- and it is what the edit becomes over the image of the opening after just these, as surely as what memory shows of an image.
+pub record IsAccepted (opening : ℕ) (first : Image) (Sure : Type 0 → Type 0) (request : Message) (number : ℕ) (old new : PassState) : Type 0 where
   pub above : known old < number
   pub image : Image
-  pub own : new.own ≡ Some (record { number = number; change = becomes (edit_asked request) image })
+  pub own : new.own ≡ record { count = old.own.count + 1; last = Some (record { number = number; change = becomes (edit_asked request) image }) }
   pub earlier : List Change
   pub knew : IsPrefix old.history earlier
   pub place : number ≡ opening + length earlier + 1
   pub within : IsPrefix (earlier ++ becomes (edit_asked request) image ∷ []) new.history
-  pub over : trusted → becomes (edit_asked request) image ≡ becomes (edit_asked request) (apply_all earlier first)
+  pub over : Sure (becomes (edit_asked request) image ≡ becomes (edit_asked request) (apply_all earlier first))
 
 -- All of the history that a pass knew is durable, as it then knows.
 pub record IsCovered (opening : ℕ) (old new : PassState) : Type 0 where
@@ -38,15 +38,15 @@ pub record IsCovered (opening : ℕ) (old new : PassState) : Type 0 where
 
 -- A write command that is answered Ok has a number above all that its pass knew, and it is durable where the answer waits for that.
 -- A FLUSH that is answered Ok: all that its pass knew before is durable, whichever connection's it was. An error other than EIO
--- leaves the pass as it was. Whatever the answer is, the last command of the pass is the one that it was, or the request's, and the
--- history that it knows then begins with the one that it knew.
-pub record IsSubmitted (opening : ℕ) (first : Image) (trusted : Type 0) (request : Message) (kept : Mode) (old new : PassState) (answer : Answer) : Type 0 where
+-- leaves the pass as it was. Whatever the answer is, the pass has the commands that it had or the request's more, and the history
+-- that it knows then begins with the one that it knew.
+pub record IsSubmitted (opening : ℕ) (first : Image) (Sure : Type 0 → Type 0) (request : Message) (kept : Mode) (old new : PassState) (answer : Answer) : Type 0 where
   pub knew : IsPrefix old.history new.history
-  pub written : answer ≡ Done → is_write request ≡ true → (number : ℕ) × IsAccepted opening first trusted request number old new × (waits_for_store kept request ≡ true → number ≤ new.durable)
+  pub written : answer ≡ Done → is_write request ≡ true → (number : ℕ) × IsAccepted opening first Sure request number old new × (waits_for_store kept request ≡ true → number ≤ new.durable)
   pub flushed : answer ≡ Done → is_flush request ≡ true → known old ≤ new.durable
   pub covered : answer ≡ Done → is_flush request ≡ true → IsCovered opening old new
   pub refused : (errno : Errno) → answer ≡ Refused errno → errno ≢ Io → new ≡ old
-  pub own : (new.own ≡ old.own) ⊎ ((is_write request ≡ true) × (number : ℕ) × IsAccepted opening first trusted request number old new)
+  pub own : (new.own ≡ old.own) ⊎ ((is_write request ≡ true) × (number : ℕ) × IsAccepted opening first Sure request number old new)
 
 -- The answers to a request on which this is the verdict: its error; else EIO, an error of want that its type may meet, Done to a
 -- FLUSH or a write command, and to a READ or a BLOCK_STATUS what some image shows in the range that was asked for.
@@ -60,8 +60,10 @@ IsJudged (Ok Serve) request answer =
     ⊎ ((request.head.kind ≢ 0) × (request.head.kind ≢ 7) × (answer ≡ Done))
     ⊎ (((request.head.kind ≡ 0) ⊎ (request.head.kind ≡ 7)) × (image : Image) × (answer ≡ shown_by image request.head))
 
--- Who has waited for all that was accepted is answered Ok once all that its pass knew before is durable, or EIO.
+-- Who has waited for all that was accepted is answered Ok once all that its pass knew before is durable, or EIO; and its pass has no
+-- command more.
 pub record IsSettled (old new : PassState) (answer : Answer) : Type 0 where
   pub answered : (answer ≡ Done) ⊎ (answer ≡ Refused Io)
   pub done : answer ≡ Done → known old ≤ new.durable
   pub own : new.own ≡ old.own
+  pub knew : IsPrefix old.history new.history

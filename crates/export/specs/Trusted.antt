@@ -1,18 +1,10 @@
 -- what is trusted of a device that is served
-use Rattle.std.specs.Prelude.{ℕ, List, []}
+use Rattle.std.specs.Prelude.{[]}
 use Rattle.device_image.specs.Holds.{Holds}
 use Rattle.device_image.specs.Keeper.{KeeperState}
 use Rattle.device_image.specs.Stands.{stored_image}
 use Rattle.disk_model.specs.Disk.{State}
-use Rattle.image_model.specs.Image.{Image, apply_all}
-use Rattle.order_book.specs.Order.{OrderState}
-use Rattle.order_book.specs.declared.span.Span.{Span}
-use Rattle.shared_store.specs.Orders.{GivesImage}
-
--- Whatever bytes of blocks a second handle vouches for are those of the image after the order over which they are served.
-abbrev pub VouchesTruly : (ℕ → Span → List ℕ → OrderState → Type 0) → Image → Type 0
-VouchesTruly vouches image =
-    (first : ℕ) (span : Span) (bytes : List ℕ) (order : OrderState) → vouches first span bytes order → GivesImage first span bytes order.cache (apply_all order.history image)
+use Rattle.image_model.specs.Image.{Image}
 
 -- The device of a keeper that has just opened it is honest, and holds this image.
 pub record IsTrusted {D : Type 0} (state : D → State) (honest : D → Type 0) (keeper : KeeperState D) (image : Image) : Type 0 where

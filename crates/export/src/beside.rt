@@ -1,8 +1,7 @@
 //! Reads of a device beside the locks.
-ghost use Rattle.std.specs.Prelude.{ℕ, ◌*◌, ◌-◌, List, IsTrue, OnOk, slice_range};
-ghost use Rattle.order_book.specs.Order.{OrderState};
-ghost use Rattle.order_book.specs.declared.span.Span.{Span as Blocks};
+ghost use Rattle.std.specs.Prelude.{ℕ, ◌≡◌, ◌*◌, ◌-◌, List, IsTrue, OnOk, slice_range};
 ghost use Rattle.regions.specs.Layout.{block_at};
+ghost use Rattle.shared_store.specs.Orders.{SpanRead};
 
 use disk_model::DeviceFault;
 use image_model::Geometry;
@@ -14,9 +13,9 @@ pub trait ReadBeside: Drop {
     /// The bytes that it may give from a place of the device on.
     ghost gives: { Self → ℕ → List ℕ → Type 0 };
 
-    /// What it vouches for: bytes of blocks from the first one on, of which it gave those in a span, and an order over which they
-    /// are served.
-    ghost vouches: { Self → ℕ → Blocks → List ℕ → OrderState → Type 0 };
+    /// What it vouches for: bytes of blocks, of which it gave those in a span, and an order over which they are served. Whose image a
+    /// READ shows, and memory, rests on that these are the base's, which is trusted of each.
+    ghost vouches: { Self → SpanRead → Type 0 };
 
     /// Reads the bytes from `offset` on. Those that nobody writes meanwhile are what the device holds; others may be any.
     /// After a fault `into` holds any bytes.
@@ -24,17 +23,19 @@ pub trait ReadBeside: Drop {
         ensures { OnOk result (gives self.now offset into.new) };
 
     /// Whether it vouches for bytes of blocks from the first one on, of which it gave those in a span, that are about to be served over
-    /// an order: since they were asked for no frame was let go. Without that they aren't served.
+    /// an order. It has noted the same base as when they were asked for. Without that they aren't served.
     fn vouch<B: BoardName>(
         &self,
         geometry: &Geometry,
         first: u64,
         span: Span,
         bytes: &[u8],
+        asked: u64,
         order: &Order<B>,
     ) -> bool
+        requires noted { asked ≡ order.now.base }
         requires given { gives self.now (block_at geometry.now span.first) (slice_range bytes.now (4096 * (span.first - first)) (4096 * (span.end - first))) }
-        ensures { IsTrue result → vouches self.now first span bytes.now order.now };
+        ensures { IsTrue result → vouches self.now (record { first = first; span = span; bytes = bytes.now; order = order.now }) };
 }
 
 /// Reads nothing: for a device that has no second handle.
@@ -42,7 +43,7 @@ impl ReadBeside for () {
     // It never reads, so this is said of nothing.
     ghost gives = { λ handle offset bytes. Unit {0} };
 
-    ghost vouches = { λ handle first span bytes order. ⊥ };
+    ghost vouches = { λ handle read. ⊥ };
 
     fn read_beside(&self, _offset: u64, _into: &mut [u8]) -> Result<(), DeviceFault> {
         Err(DeviceFault)
@@ -54,6 +55,7 @@ impl ReadBeside for () {
         _first: u64,
         _span: Span,
         _bytes: &[u8],
+        _asked: u64,
         _order: &Order<B>,
     ) -> bool {
         false

@@ -80,9 +80,8 @@ impl<B: ExportName, D: Disk, H: ReadBeside> Export<B, D, H> {
         unreachable!()
     }
 
-    // Carries out a step in one hold of the keeper's lock, and the clean behind the last one too. So no other checkpoint begins,
-    // which would write the data of blocks, before the order knows the base that the last one has left: who reads beside the
-    // locks rests on it.
+    // Carries out a step in one hold of the keeper's lock, and the clean behind the last one too: so the order knows the base that a
+    // checkpoint has left before another one begins.
     fn take_step<R: Wait>(&self, rt: &R, stage: Stage, copied: &mut u64) -> NextStep {
         let mut store = self.store.lock(rt);
         match store.take(&self.board, stage, copied) {

@@ -7,10 +7,10 @@ ghost use Rattle.image_model.specs.Edit.{blocks_met};
 ghost use Rattle.image_model.specs.Image.{apply_all};
 ghost use Rattle.order_book.specs.Order.{with_clean};
 ghost use Rattle.request_core.specs.Reading.{IsPlanned, IsReadOverServed};
-ghost use Rattle.export.specs.Trusted.{VouchesTruly};
 ghost use Rattle.regions.specs.Layout.{block_at};
 ghost use Rattle.shared_store.specs.Keepers.{HasLeft};
 ghost use Rattle.shared_store.specs.Answers.{ServesImage};
+ghost use Rattle.shared_store.specs.Orders.{SpanRead, Trusting};
 ghost use Rattle.shared_store.specs.Parts.{StandsWithin};
 
 use crate::beside::ReadBeside;
@@ -34,14 +34,14 @@ const MOST_PENDING_BYTES: u64 = 4_194_304;
 pub(crate) struct Planned {
     /// The blocks.
     pub span: Span,
-    /// The base of the last clean, as it was when they were found missing.
+    /// The base that the order had noted when they were found missing.
     pub settled: u64,
 }
 
 /// The order of an export, and what its threads ask of one another.
 pub(crate) struct CommitQueue<B: ExportName> {
     order: SharedOrder<B>,
-    // The base of the last clean: the number up to which the frames of written blocks were let go.
+    // The base that the order has noted: the number up to which the frames of written blocks were let go.
     pub(crate) settled: u64,
     // The frames for blocks.
     frames: u32,
@@ -61,6 +61,7 @@ pub(crate) struct CommitQueue<B: ExportName> {
     // How long what is pending may wait.
     interval: FlushInterval,
     ghost blocks: { length order.cache.states ≡ B.geometry.blocks },
+    ghost noted: { settled ≡ order.base },
 }
 
 impl<B: ExportName> Drop for CommitQueue<B> {
@@ -116,7 +117,8 @@ impl<B: ExportName> CommitQueue<B> {
         passes: usize,
         settled: u64,
     ) -> CommitQueue<B>
-        requires { length order.cache.states ≡ B.geometry.blocks }
+        requires blocks { length order.cache.states ≡ B.geometry.blocks }
+        requires noted { settled ≡ order.base }
         ensures order { result.order ≡ order }
         ensures settled { result.settled ≡ settled }
     {
@@ -146,12 +148,12 @@ impl<B: ExportName> CommitQueue<B> {
     ) -> Result<Served, NeedsKeeper>
         requires kind { request.head.kind ≢ 2 }
         requires geometry { terms.geometry ≡ B.geometry }
-        ensures served { IfOk result (λ served. IsServedFor B.opening B.image (B.trusted × B.shown) request terms.mode pass.old pass.new served) }
+        ensures served { IfOk result (λ served. IsServedFor B.opening B.image (Trusting B.opening B.image B.vouches B.trusted) request terms.mode pass.old pass.new served) }
         ensures fits { IfOk result (λ served. FitsServed terms.geometry terms.flags request served) }
         ensures handed_back { IfErr result (λ back. back.0 ≡ request) }
         ensures unchanged { OnErr result (pass.new ≡ pass.old) }
         ensures settled { self.new.settled ≡ self.old.settled }
-        ensures tells { IfOk result (λ served. B.trusted → B.shown → ServesImage (apply_all pass.new.history B.image) request.head served) }
+        ensures tells { IfOk result (λ served. Trusting B.opening B.image B.vouches B.trusted (ServesImage (apply_all pass.new.history B.image) request.head served)) }
     {
         let served = self.order.serve(alloc, request, board, pass, terms)?;
         show(&mut self.order, board, pass, &served);
@@ -174,10 +176,10 @@ impl<B: ExportName> CommitQueue<B> {
     /// Serves a READ with bytes that were read of the device with no lock held. They come back where they may be others than
     /// those that the blocks have now, or where another block is needed.
     ///
-    /// They may be others only where frames were let go meanwhile. For while the base of the last clean is the same, no command
-    /// above it has touched a block that isn't in memory now: had the last one cleared it, it would be no data, and had the last
-    /// one written it, its frame would be dirty until a clean. So the block is as at that base; and a checkpoint writes the
-    /// places of such blocks alone as a command above it touches.
+    /// They may be others only where the order has noted another base, and frames were let go with that. For while it is the same, no
+    /// command behind it has touched a block that is data now and isn't in memory: had the last one cleared it, it would be no data,
+    /// and had the last one written it, its frame would be dirty until a clean. So the block is as at that base; and a checkpoint
+    /// writes the places of such blocks alone as a command behind it writes.
     pub(crate) fn serve_over<H: ReadBeside>(
         &mut self,
         alloc: Global,
@@ -191,12 +193,12 @@ impl<B: ExportName> CommitQueue<B> {
     ) -> Result<Served, Vec<u8>>
         requires planned { IsPlanned request.now.head terms.now.geometry terms.now.flags planned.span }
         requires geometry { terms.now.geometry ≡ B.geometry }
-        requires vouched { B.shown → VouchesTruly (H.vouches handle.now) B.image }
+        requires vouched { (read : SpanRead) → H.vouches handle.now read → ∥ B.vouches read ∥₁ }
         requires given { H.gives handle.now (block_at terms.now.geometry planned.span.first)
             (slice_range bytes.items (4096 * (planned.span.first - request.now.head.offset / 4096)) (4096 * (planned.span.end - request.now.head.offset / 4096))) }
         requires size { vec_len bytes ≡ 4096 * blocks_met request.now.head.offset request.now.head.length }
-        ensures served { IfOk result (λ served. IsServedFor B.opening B.image (B.trusted × B.shown) request.now terms.now.mode pass.old pass.new served) }
-        ensures tells { IfOk result (λ served. B.trusted → B.shown → ServesImage (apply_all pass.new.history B.image) request.now.head served) }
+        ensures served { IfOk result (λ served. IsServedFor B.opening B.image (Trusting B.opening B.image B.vouches B.trusted) request.now terms.now.mode pass.old pass.new served) }
+        ensures tells { IfOk result (λ served. Trusting B.opening B.image B.vouches B.trusted (ServesImage (apply_all pass.new.history B.image) request.now.head served)) }
         ensures fits { IfOk result (λ served. FitsServed terms.now.geometry terms.now.flags request.now served) }
         ensures size { IfErr result (λ back. vec_len back ≡ 4096 * blocks_met request.now.head.offset request.now.head.length) }
         ensures settled { self.new.settled ≡ self.old.settled }
@@ -220,6 +222,7 @@ impl<B: ExportName> CommitQueue<B> {
             Blocks::of(&head).first,
             planned.span,
             &bytes,
+            planned.settled,
             self.order.order(),
         );
         if !is_vouched {
@@ -245,12 +248,12 @@ impl<B: ExportName> CommitQueue<B> {
         requires kind { request.head.kind ≢ 2 }
         requires geometry { terms.geometry ≡ B.geometry }
         requires device { keeper.old.keeper.geometry ≡ B.geometry }
-        ensures served { IsServedFor B.opening B.image (B.trusted × B.shown) request terms.mode pass.old pass.new result }
+        ensures served { IsServedFor B.opening B.image (Trusting B.opening B.image B.vouches B.trusted) request terms.mode pass.old pass.new result }
         ensures fits { FitsServed terms.geometry terms.flags request result }
         ensures geometry { keeper.new.keeper.geometry ≡ keeper.old.keeper.geometry }
         ensures count { keeper.new.keeper.count ≡ keeper.old.keeper.count }
         ensures settled { self.new.settled ≡ self.old.settled }
-        ensures tells { B.trusted → B.shown → ServesImage (apply_all pass.new.history B.image) request.head result }
+        ensures tells { Trusting B.opening B.image B.vouches B.trusted (ServesImage (apply_all pass.new.history B.image) request.head result) }
     {
         let served = self
             .order
@@ -467,10 +470,12 @@ impl<B: ExportName> CommitQueue<B> {
         ensures mark { result ≡ B.opening + length pass.new.history }
         ensures keeper { keeper.new.keeper ≡ keeper.old.keeper }
         ensures durable { pass.new.durable ≡ pass.old.durable }
+        ensures own { pass.new.own ≡ pass.old.own }
         ensures knew { IsPrefix pass.old.history pass.new.history }
         ensures left { B.trusted → (content : List ℕ) → MayLeave (D.state keeper.old.keeper.disk) content
             → StandsWithin B.opening B.image pass.new.history pass.old.durable content }
         ensures passed { B.trusted → HasLeft B.start (D.state keeper.old.keeper.disk) B.opening B.image pass.new.history }
+        ensures honest { B.trusted → D.honest keeper.old.keeper.disk }
     {
         self.order.meet_all(board, keeper, pass)
     }

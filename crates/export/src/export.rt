@@ -8,9 +8,10 @@ ghost use Rattle.device_image.specs.Stands.{StandsFor};
 ghost use Rattle.disk_model.specs.Disk.{IsAllSynced, LeavesOnly};
 ghost use Rattle.export.specs.Left.{LeavesHistory};
 ghost use Rattle.export.specs.Opened.{keeper_part};
-ghost use Rattle.export.specs.Trusted.{IsTrusted, VouchesTruly, image_found};
+ghost use Rattle.export.specs.Trusted.{IsTrusted, image_found};
 ghost use Rattle.image_model.specs.Image.{Image};
 ghost use Rattle.marks.specs.Known.{new_pass};
+ghost use Rattle.shared_store.specs.Orders.{SpanRead};
 
 use crate::beside::ReadBeside;
 use crate::buffer_pool::BufferPool;
@@ -35,8 +36,11 @@ pub struct OpenDevice<D: Disk, H: ReadBeside> {
     pub keeper: Keeper<D>,
     /// By which it is read with no lock held, where there is one.
     pub beside: Option<H>,
+    /// How many calls of the device had failed.
+    pub failures: u64,
     pub ghost opening: { blank.opening ≡ keeper.count },
     pub ghost recovered: { IsRecovered keeper },
+    pub ghost counted: { failures ≡ D.faults keeper.disk },
 }
 
 impl<D: Disk, H: ReadBeside> OpenDevice<D, H> {
@@ -73,6 +77,7 @@ impl<D: Disk, H: ReadBeside> OpenDevice<D, H> {
             → LeavesOnly (D.state disk) (D.state (disk_after (keeper_part result (λ opened. opened.keeper)))) (λ content. content ≡ (D.state disk).seen) }
     {
         keeper_laws::<D>();
+        let failures = disk.failures();
         let keeper = match Keeper::open(alloc, disk) {
             Ok(keeper) => keeper,
             Err(refused) => return Err(refused),
@@ -82,6 +87,7 @@ impl<D: Disk, H: ReadBeside> OpenDevice<D, H> {
                 blank,
                 keeper,
                 beside,
+                failures,
             }),
             Err(_) => Err((KeeperFault::NoMemory, keeper.into_disk())),
         }
@@ -109,7 +115,7 @@ pub struct Export<B: ExportName, D: Disk, H: ReadBeside> {
     pub(crate) work: Condvar,
     pub(crate) checkpoint_due: Condvar,
     ghost sized: { geometry ≡ B.geometry },
-    ghost vouched: { B.shown → (handle : H) → beside ≡ Some handle → VouchesTruly (H.vouches handle) B.image },
+    ghost vouched: { (handle : H) → beside ≡ Some handle → (read : SpanRead) → H.vouches handle read → ∥ B.vouches read ∥₁ },
 }
 
 // Written out, it is proved once, and not again in each function that lets an export go.
@@ -147,7 +153,7 @@ impl<B: ExportName, D: Disk, H: ReadBeside> Export<B, D, H> {
         requires image { device.keeper.geometry.blocks ≡ B.image.blocks }
         requires trusted { B.trusted → IsTrusted D.state D.honest device.keeper B.image }
         requires start { B.trusted → LeavesOnly B.start (D.state device.keeper.disk) (λ content. StandsFor content B.image B.opening) }
-        requires shown { B.shown → (handle : H) → device.beside ≡ Some handle → VouchesTruly (H.vouches handle) B.image }
+        requires vouches { (handle : H) → device.beside ≡ Some handle → (read : SpanRead) → H.vouches handle read → B.vouches read }
         requires frames { frames ≤ 65536 }
         ensures mode { IfOk result (λ made. made.0.mode ≡ mode) }
         ensures passes { IfOk result (λ made. vec_len made.1 ≡ workers) }
@@ -159,6 +165,7 @@ impl<B: ExportName, D: Disk, H: ReadBeside> Export<B, D, H> {
             blank,
             keeper,
             beside,
+            failures: _,
         } = device;
         match open_parts::<B, D>(alloc, blank, &keeper, frames, workers) {
             Ok((board, seat, order, passes, last)) => {
@@ -187,15 +194,17 @@ impl<B: ExportName, D: Disk, H: ReadBeside> Export<B, D, H> {
         self.queue.lock(rt).stopped()
     }
 
-    /// The device, as it is, and whether all is stored that was accepted. What is pending is lost.
+    /// The device, as it is, and whether all is stored of the history that the pass then knows. What is pending is lost.
     ///
-    /// The pass then knows the one history of all that was accepted, which begins with what it knew. Whatever a crash may leave of the
-    /// device stands for the image as the opening found it after a beginning of that history, with all that the pass knows to be
-    /// durable; and so did whatever one may have left since.
+    /// It meets the order for that: its history begins with what the pass knew, and with what those passes knew that it has joined.
+    /// Whatever a crash may leave of the device stands for the image as the opening found it after a beginning of that history, with
+    /// all that the pass knows to be durable; and whatever one may have left at any moment since, for it after a beginning.
     pub fn close(self, pass: &mut RetiredPass<B>) -> (D, bool)
         ensures knew { IsPrefix pass.old.history pass.new.history }
         ensures durable { pass.old.durable ≤ pass.new.durable }
+        ensures own { pass.new.own ≡ pass.old.own }
         ensures left { B.trusted → LeavesHistory B.start (D.state result.0) B.opening B.image pass.new.history pass.new.durable }
+        ensures honest { B.trusted → D.honest result.0 }
         ensures stored { IsTrue result.1 ↔ (B.opening + length pass.new.history ≤ pass.new.durable) }
     {
         let Export {
@@ -244,6 +253,7 @@ fn open_parts<B: ExportName, D: Disk>(
     requires frames { frames ≤ 65536 }
     ensures seat { IfOk result (λ parts. parts.1 ≡ record { history = []; accepted = keeper.now.count; durable = keeper.now.count; base = keeper.now.count }) }
     ensures blocks { IfOk result (λ parts. length parts.2.cache.states ≡ keeper.now.geometry.blocks) }
+    ensures noted { IfOk result (λ parts. parts.2.base ≡ keeper.now.count) }
     ensures passes { IfOk result (λ parts. vec_len parts.3 ≡ workers) }
     ensures known { IfOk result (λ parts. parts.3.items ≡ replicate workers (new_pass keeper.now.count)) }
     ensures last { IfOk result (λ parts. parts.4 ≡ new_pass keeper.now.count) }

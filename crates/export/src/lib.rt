@@ -19,7 +19,7 @@ mod sync_points;
 
 pub use beside::ReadBeside;
 pub use export::{Export, OpenDevice};
-pub use laws::opened_device_law;
+pub use laws::{answer_law, opened_device_law};
 pub use name::ExportName;
 pub use retired::RetiredPass;
 pub use sync_points::{Point, SyncPoints};

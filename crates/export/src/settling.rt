@@ -61,7 +61,8 @@ impl<B: ExportName, D: Disk, H: ReadBeside> Export<B, D, H> {
         self.queue.lock(rt).interval().limit = Some(limit);
     }
 
-    /// Stores what was accepted by now, as a FLUSH does. It waits until that is durable, or never will be.
+    /// Asks for what was accepted by now, as a FLUSH does, and waits until that is durable, or never will be. Said is of it what its
+    /// pass knew before.
     pub fn settle<R: Wait>(&self, rt: &R, pass: &mut Pass<B>) -> Answer
         ensures { IsSettled pass.old pass.new result }
     {

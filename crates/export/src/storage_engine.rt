@@ -7,6 +7,7 @@ ghost use Rattle.image_model.specs.Image.{apply_all};
 ghost use Rattle.order_book.specs.Order.{with_durable};
 ghost use Rattle.shared_store.specs.Keepers.{HasLeft};
 ghost use Rattle.shared_store.specs.Answers.{ServesImage};
+ghost use Rattle.shared_store.specs.Orders.{Trusting};
 ghost use Rattle.shared_store.specs.Parts.{StandsWithin};
 
 use crate::commit_queue::CommitQueue;
@@ -156,9 +157,9 @@ impl<B: ExportName, D: Disk> StorageEngine<B, D> {
     ) -> Served
         requires kind { request.head.kind ≢ 2 }
         requires geometry { terms.geometry ≡ B.geometry }
-        ensures served { IsServedFor B.opening B.image (B.trusted × B.shown) request terms.mode pass.old pass.new result }
+        ensures served { IsServedFor B.opening B.image (Trusting B.opening B.image B.vouches B.trusted) request terms.mode pass.old pass.new result }
         ensures fits { FitsServed terms.geometry terms.flags request result }
-        ensures tells { B.trusted → B.shown → ServesImage (apply_all pass.new.history B.image) request.head result }
+        ensures tells { Trusting B.opening B.image B.vouches B.trusted (ServesImage (apply_all pass.new.history B.image) request.head result) }
     {
         queue.serve_with(alloc, request, &mut self.shared, board, pass, terms)
     }
@@ -181,10 +182,12 @@ impl<B: ExportName, D: Disk> StorageEngine<B, D> {
         ensures mark { result ≡ B.opening + length pass.new.history }
         ensures same { self.new.shared.keeper ≡ self.old.shared.keeper }
         ensures durable { pass.new.durable ≡ pass.old.durable }
+        ensures own { pass.new.own ≡ pass.old.own }
         ensures knew { IsPrefix pass.old.history pass.new.history }
         ensures left { B.trusted → (content : List ℕ) → MayLeave (D.state self.old.shared.keeper.disk) content
             → StandsWithin B.opening B.image pass.new.history pass.old.durable content }
         ensures passed { B.trusted → HasLeft B.start (D.state self.old.shared.keeper.disk) B.opening B.image pass.new.history }
+        ensures honest { B.trusted → D.honest self.old.shared.keeper.disk }
     {
         queue.meet_all(board, &mut self.shared, pass)
     }

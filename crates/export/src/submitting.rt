@@ -11,6 +11,7 @@ ghost use Rattle.regions.specs.Layout.{block_at};
 ghost use Rattle.request_core.specs.Reading.{IsPlanned};
 ghost use Rattle.shared_store.specs.Answers.{ServesImage, TellsImage};
 ghost use Rattle.export_model.specs.Verdict.{verdict};
+ghost use Rattle.shared_store.specs.Orders.{Trusting};
 
 use crate::beside::ReadBeside;
 use crate::buffer_pool::LEAST_KEPT;
@@ -72,7 +73,8 @@ impl<B: ExportName, D: Disk, H: ReadBeside> Export<B, D, H> {
     /// Serves a request that isn't a DISC, for a pass, to its reply. It may wait: for room, and until what it says is durable.
     ///
     /// A request that is refused by the rules on requests is answered with their error, and any other one with EIO after a
-    /// device fault, ENOMEM where memory is refused, ENOSPC where no number is left, or what was asked for.
+    /// device fault, ENOMEM where memory is refused, ENOSPC where no number is left, or what was asked for. When one of these comes
+    /// isn't said.
     pub fn submit<R: Wait>(
         &self,
         rt: &R,
@@ -82,12 +84,12 @@ impl<B: ExportName, D: Disk, H: ReadBeside> Export<B, D, H> {
     ) -> Reply
         requires { request.head.kind ≢ 2 }
         ensures cookie { result.cookie ≡ request.head.cookie }
-        ensures submitted { IsSubmitted B.opening B.image (B.trusted × B.shown) request self.now.mode pass.old pass.new result.answer }
+        ensures submitted { IsSubmitted B.opening B.image (Trusting B.opening B.image B.vouches B.trusted) request self.now.mode pass.old pass.new result.answer }
         ensures kind { IsAnswerTo flags.now request.head.kind result.answer }
         ensures judged { IsJudged (verdict request.head self.now.geometry flags.now) request result.answer }
 
         // A READ and a BLOCK_STATUS show what the image of the opening is after the history that the pass then knows.
-        ensures tells { B.trusted → B.shown → TellsImage (apply_all pass.new.history B.image) request.head result.answer }
+        ensures tells { Trusting B.opening B.image B.vouches B.trusted (TellsImage (apply_all pass.new.history B.image) request.head result.answer) }
     {
         let cookie = request.head().cookie;
         let terms = Terms {
@@ -123,9 +125,9 @@ impl<B: ExportName, D: Disk, H: ReadBeside> Export<B, D, H> {
     fn serve<R: Wait>(&self, rt: &R, pass: &mut Pass<B>, request: Request, terms: Terms) -> Outcome
         requires kind { request.head.kind ≢ 2 }
         requires geometry { terms.geometry ≡ B.geometry }
-        ensures outcome { IsOutcomeFor B.opening B.image (B.trusted × B.shown) request terms.mode pass.old pass.new result }
+        ensures outcome { IsOutcomeFor B.opening B.image (Trusting B.opening B.image B.vouches B.trusted) request terms.mode pass.old pass.new result }
         ensures fits { FitsOutcome terms.geometry terms.flags request result }
-        ensures tells { B.trusted → B.shown → ComesToImage (apply_all pass.new.history B.image) request.head result }
+        ensures tells { Trusting B.opening B.image B.vouches B.trusted (ComesToImage (apply_all pass.new.history B.image) request.head result) }
     {
         let mut request = request;
         for _ in rt.forever() {
@@ -189,9 +191,9 @@ impl<B: ExportName, D: Disk, H: ReadBeside> Export<B, D, H> {
         requires kind { request.head.kind ≢ 2 }
         requires geometry { terms.geometry ≡ B.geometry }
         requires planned { IfSome planned (λ planned. IsPlanned request.head terms.geometry terms.flags planned.span) }
-        ensures served { IsServedFor B.opening B.image (B.trusted × B.shown) request terms.mode pass.old pass.new result }
+        ensures served { IsServedFor B.opening B.image (Trusting B.opening B.image B.vouches B.trusted) request terms.mode pass.old pass.new result }
         ensures fits { FitsServed terms.geometry terms.flags request result }
-        ensures tells { B.trusted → B.shown → ServesImage (apply_all pass.new.history B.image) request.head result }
+        ensures tells { Trusting B.opening B.image B.vouches B.trusted (ServesImage (apply_all pass.new.history B.image) request.head result) }
     {
         let Some(planned) = planned else {
             return self.serve_locked(rt, pass, request, terms);
@@ -214,9 +216,9 @@ impl<B: ExportName, D: Disk, H: ReadBeside> Export<B, D, H> {
     ) -> Option<Served>
         requires geometry { terms.now.geometry ≡ B.geometry }
         requires planned { IsPlanned request.now.head terms.now.geometry terms.now.flags planned.span }
-        ensures served { IfSome result (λ served. IsServedFor B.opening B.image (B.trusted × B.shown) request.now terms.now.mode pass.old pass.new served) }
+        ensures served { IfSome result (λ served. IsServedFor B.opening B.image (Trusting B.opening B.image B.vouches B.trusted) request.now terms.now.mode pass.old pass.new served) }
         ensures fits { IfSome result (λ served. FitsServed terms.now.geometry terms.now.flags request.now served) }
-        ensures tells { IfSome result (λ served. B.trusted → B.shown → ServesImage (apply_all pass.new.history B.image) request.now.head served) }
+        ensures tells { IfSome result (λ served. Trusting B.opening B.image B.vouches B.trusted (ServesImage (apply_all pass.new.history B.image) request.now.head served)) }
         ensures unchanged { IfNone result (pass.new ≡ pass.old) }
     {
         let handle = self.beside.as_ref()?;
@@ -293,9 +295,9 @@ impl<B: ExportName, D: Disk, H: ReadBeside> Export<B, D, H> {
     ) -> Served
         requires kind { request.head.kind ≢ 2 }
         requires geometry { terms.geometry ≡ B.geometry }
-        ensures served { IsServedFor B.opening B.image (B.trusted × B.shown) request terms.mode pass.old pass.new result }
+        ensures served { IsServedFor B.opening B.image (Trusting B.opening B.image B.vouches B.trusted) request terms.mode pass.old pass.new result }
         ensures fits { FitsServed terms.geometry terms.flags request result }
-        ensures tells { B.trusted → B.shown → ServesImage (apply_all pass.new.history B.image) request.head result }
+        ensures tells { Trusting B.opening B.image B.vouches B.trusted (ServesImage (apply_all pass.new.history B.image) request.head result) }
     {
         let mut store = self.store.lock(rt);
         let mut queue = self.queue.lock(rt);
@@ -344,6 +346,19 @@ impl<B: ExportName, D: Disk, H: ReadBeside> Export<B, D, H> {
         self.queue.lock(rt).leave();
         self.work.notify_one();
         RetiredPass { pass }
+    }
+
+    /// A pass that has left learns what another one knew: what it knows then begins with both histories, and it knows to be durable
+    /// what one of them did.
+    pub fn join(&self, pass: &mut RetiredPass<B>, other: RetiredPass<B>)
+        ensures knew { IsPrefix pass.old.history pass.new.history }
+        ensures other { IsPrefix other.history pass.new.history }
+        ensures durable { pass.new.durable ≡ max pass.old.durable other.durable }
+        ensures own { pass.new.own ≡ pass.old.own }
+    {
+        let RetiredPass { pass: mut other } = other;
+        let told = self.tell(&mut other);
+        self.learn(&mut pass.pass, told);
     }
 }
 

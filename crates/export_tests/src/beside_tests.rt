@@ -1,5 +1,6 @@
 //! Reads beside the locks that are held while all else goes on: writes, clears, checkpoints, and frames that are let go.
 ghost use Rattle.std.specs.Prelude.{◌≡◌, ◌+◌, ◌*◌, ◌<◌, ◌≤◌, ◌^◌};
+ghost use Rattle.shared_store.specs.Orders.{SpanRead};
 
 use crate::memory_file::{HeldHandle, Latch, MemoryFile, wait_for_turn};
 use crate::requests::{flush, reads_back, trim_block, write_block};
@@ -184,7 +185,7 @@ fn run_over<
     requires named { device.blank.opening ≡ B.opening }
     requires image { device.keeper.geometry.blocks ≡ B.image.blocks }
     requires trusted { B.trusted → ⊥ }
-    requires shown { B.shown → ⊥ }
+    requires vouches { (read : SpanRead) → B.vouches read }
     requires geometry { device.keeper.geometry ≡ B.geometry }
 {
     let (export, passes, _last) = Export::<B, D, H>::open(

@@ -1,5 +1,6 @@
 //! A device that fails amid eight threads: each call returns, and what a FLUSH confirmed is there when it is opened again.
 ghost use Rattle.std.specs.Prelude.{◌≡◌, ◌*◌, ◌+◌, ◌<◌, ◌≤◌, ◌^◌};
+ghost use Rattle.shared_store.specs.Orders.{SpanRead};
 
 use crate::requests::{flush, fresh_that_stops, has_block, write_block};
 use crate::threads::{Task, serve_all};
@@ -107,7 +108,7 @@ fn run<B: ExportName + Send + Sync, R: Threads + Wait + Clock + Sync>(
     requires named { device.blank.opening ≡ B.opening }
     requires image { device.keeper.geometry.blocks ≡ B.image.blocks }
     requires trusted { B.trusted → ⊥ }
-    requires shown { B.shown → ⊥ }
+    requires vouches { (read : SpanRead) → B.vouches read }
     requires geometry { device.keeper.geometry ≡ B.geometry }
 {
     let (export, passes, mut last) = Export::<B, SimDisk, ()>::open(

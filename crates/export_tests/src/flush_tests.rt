@@ -1,5 +1,6 @@
 //! What a FLUSH of one pass covers, and what is there once it was answered; and a pass that goes on by itself.
 ghost use Rattle.std.specs.Prelude.{◌≡◌, ◌+◌, ◌<◌, ◌^◌};
+ghost use Rattle.shared_store.specs.Orders.{SpanRead};
 
 use crate::requests::{flush, fresh, has_block, reads_back, write_block};
 use crate::threads::start_storing;
@@ -147,7 +148,7 @@ fn run<B: ExportName + Send + Sync, D: Disk + Send + Drop, R: Threads + Wait + C
     requires named { device.blank.opening ≡ B.opening }
     requires image { device.keeper.geometry.blocks ≡ B.image.blocks }
     requires trusted { B.trusted → ⊥ }
-    requires shown { B.shown → ⊥ }
+    requires vouches { (read : SpanRead) → B.vouches read }
     requires geometry { device.keeper.geometry ≡ B.geometry }
 {
     let (export, mut passes, mut last) = Export::<B, D, ()>::open(

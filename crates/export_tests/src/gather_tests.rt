@@ -1,5 +1,6 @@
 //! Groups that wait for more where storing takes long.
 ghost use Rattle.std.specs.Prelude.{◌≡◌, ◌+◌, ◌<◌, ◌^◌};
+ghost use Rattle.shared_store.specs.Orders.{SpanRead};
 
 use crate::requests::{flush, fresh, write_block};
 use disk_model::SimDisk;
@@ -118,7 +119,7 @@ fn run<B: ExportName + Send + Sync, R: Threads + Wait + Clock + Sync>(
     requires named { device.blank.opening ≡ B.opening }
     requires image { device.keeper.geometry.blocks ≡ B.image.blocks }
     requires trusted { B.trusted → ⊥ }
-    requires shown { B.shown → ⊥ }
+    requires vouches { (read : SpanRead) → B.vouches read }
     requires geometry { device.keeper.geometry ≡ B.geometry }
 {
     let (export, passes, _last) = Export::<B, SimDisk, ()>::open(

@@ -123,7 +123,7 @@ pub struct HeldHandle<'a, R: Wait + Clock> {
 impl<'a, R: Wait + Clock> ReadBeside for HeldHandle<'a, R> {
     ghost gives = { λ handle offset bytes. Unit {0} };
 
-    ghost vouches = { λ handle first span bytes order. Unit {0} };
+    ghost vouches = { λ handle read. Unit {0} };
 
     fn read_beside(&self, offset: u64, into: &mut [u8]) -> Result<(), DeviceFault> {
         let Ok(()) = self.file.read_exact_at(into, offset) else {
@@ -143,6 +143,7 @@ impl<'a, R: Wait + Clock> ReadBeside for HeldHandle<'a, R> {
         _first: u64,
         _span: Span,
         _bytes: &[u8],
+        _asked: u64,
         _order: &Order<B>,
     ) -> bool {
         true

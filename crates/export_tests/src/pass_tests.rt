@@ -1,5 +1,6 @@
 //! What passes of one export know of one another, and what they read.
 ghost use Rattle.std.specs.Prelude.{◌≡◌, ◌+◌, ◌<◌, ◌^◌};
+ghost use Rattle.shared_store.specs.Orders.{SpanRead};
 
 use crate::requests::{flush, fresh, has_block, reads_back, write_block};
 use checkpoint::Keeper;
@@ -24,7 +25,7 @@ fn tell_and_read<B: ExportName, R: Wait>(
     requires named { device.blank.opening ≡ B.opening }
     requires image { device.keeper.geometry.blocks ≡ B.image.blocks }
     requires trusted { B.trusted → ⊥ }
-    requires shown { B.shown → ⊥ }
+    requires vouches { (read : SpanRead) → B.vouches read }
     requires geometry { device.keeper.geometry ≡ B.geometry }
 {
     let (export, mut passes, mut last) = Export::<B, SimDisk, ()>::open(
@@ -123,7 +124,7 @@ fn ask_beside_a_flusher<B: ExportName + Send + Sync, R: Threads + Wait + Clock +
     requires named { device.blank.opening ≡ B.opening }
     requires image { device.keeper.geometry.blocks ≡ B.image.blocks }
     requires trusted { B.trusted → ⊥ }
-    requires shown { B.shown → ⊥ }
+    requires vouches { (read : SpanRead) → B.vouches read }
     requires geometry { device.keeper.geometry ≡ B.geometry }
 {
     let (export, mut passes, _last) = Export::<B, SimDisk, ()>::open(
@@ -199,7 +200,7 @@ fn share<B: ExportName + Send + Sync, R: Threads + Wait + Clock + Sync>(
     requires named { device.blank.opening ≡ B.opening }
     requires image { device.keeper.geometry.blocks ≡ B.image.blocks }
     requires trusted { B.trusted → ⊥ }
-    requires shown { B.shown → ⊥ }
+    requires vouches { (read : SpanRead) → B.vouches read }
     requires geometry { device.keeper.geometry ≡ B.geometry }
 {
     let (export, passes, mut last) = Export::<B, SimDisk, ()>::open(

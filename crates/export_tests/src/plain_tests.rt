@@ -1,6 +1,7 @@
 //! Eight threads for some seconds, each against a plain image of its own blocks, over an area so small that checkpoints go on all
 //! the time.
 ghost use Rattle.std.specs.Prelude.{◌≡◌, ◌*◌, ◌+◌, ◌<◌, ◌≤◌, ◌^◌};
+ghost use Rattle.shared_store.specs.Orders.{SpanRead};
 
 use crate::requests::{flush, fresh, reads_back, trim_block, write_block};
 use crate::threads::{Task, serve_all};
@@ -142,7 +143,7 @@ fn run<B: ExportName + Send + Sync, R: Threads + Wait + Clock + Sync>(
     requires named { device.blank.opening ≡ B.opening }
     requires image { device.keeper.geometry.blocks ≡ B.image.blocks }
     requires trusted { B.trusted → ⊥ }
-    requires shown { B.shown → ⊥ }
+    requires vouches { (read : SpanRead) → B.vouches read }
     requires geometry { device.keeper.geometry ≡ B.geometry }
 {
     let (export, passes, mut last) = Export::<B, SimDisk, ()>::open(
@@ -167,7 +168,7 @@ fn reads_as<B: ExportName, R: Wait>(
     requires named { device.blank.opening ≡ B.opening }
     requires image { device.keeper.geometry.blocks ≡ B.image.blocks }
     requires trusted { B.trusted → ⊥ }
-    requires shown { B.shown → ⊥ }
+    requires vouches { (read : SpanRead) → B.vouches read }
     requires geometry { device.keeper.geometry ≡ B.geometry }
 {
     let (export, mut passes, _last) = Export::<B, SimDisk, ()>::open(

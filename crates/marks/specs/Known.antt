@@ -28,27 +28,32 @@ pub record Numbered : Type 0 where
   pub number : ℕ
   pub change : Change
 
+-- the commands that were accepted for a pass: how many they are, and the last of them
+pub record OwnCommands : Type 0 where
+  pub count : ℕ
+  pub last : Option Numbered
+
 -- a pass: the beginning of the history that it has seen or was told, the number of its last change, the greatest durable number that
--- it has seen or was told, and its own last number
+-- it has seen or was told, and its own commands
 pub record PassState : Type 0 where
   pub history : List Change
   pub accepted : ℕ
   pub durable : ℕ
-  pub own : Option Numbered
+  pub own : OwnCommands
 
 -- a board that has no name yet: the table, and the number with which it opens
 pub record BlankState : Type 0 where
   pub board : TableId
   pub opening : ℕ
 
-abbrev pub own_number : Option Numbered → ℕ
-own_number None = 0
-own_number (Some own) = own.number
+abbrev pub number_of : Option Numbered → ℕ
+number_of None = 0
+number_of (Some last) = last.number
 
 -- what a pass knows: the greatest of its numbers
 abbrev pub known : PassState → ℕ
-known pass = max (max pass.accepted pass.durable) (own_number pass.own)
+known pass = max (max pass.accepted pass.durable) (number_of pass.own.last)
 
 -- a pass that knows the number with which the board opened, and has none of its own
 abbrev pub new_pass : ℕ → PassState
-new_pass number = record { history = []; accepted = number; durable = number; own = None }
+new_pass number = record { history = []; accepted = number; durable = number; own = record { count = 0; last = None } }

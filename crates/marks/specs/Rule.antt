@@ -50,5 +50,6 @@ first_view number = record {
   told = [];
   told_durable = 0;
   told_base = 0;
+  commands = 0;
   own = None;
 }

@@ -6,7 +6,7 @@ use Rattle.image_model.specs.declared.command.Command.{Command}
 use Rattle.image_model.specs.Change.{Change, change_of}
 use Rattle.marks.specs.declared.view.View.{View}
 use Rattle.marks.specs.declared.view.Own.{Own}
-use Rattle.marks.specs.Known.{KeeperKnows, Marks, Numbered, OrderKnows, PassState, own_number}
+use Rattle.marks.specs.Known.{KeeperKnows, Marks, Numbered, OrderKnows, OwnCommands, PassState, number_of}
 
 abbrev pub numbered : Option Own → Option Numbered
 numbered None = None
@@ -29,8 +29,11 @@ order_of view = record { history = changes_of view.seen; accepted = last_number 
 abbrev pub keeper_of : View → KeeperKnows
 keeper_of view = record { history = changes_of view.seen; accepted = last_number view; durable = view.durable; base = view.base }
 
+abbrev pub own_of : View → OwnCommands
+own_of view = record { count = view.commands; last = numbered view.own }
+
 abbrev pub pass_of : View → PassState
-pass_of view = record { history = changes_of view.seen; accepted = last_number view; durable = view.durable; own = numbered view.own }
+pass_of view = record { history = changes_of view.seen; accepted = last_number view; durable = view.durable; own = own_of view }
 
 -- the seat is of this board, which opened with this number
 pub record IsSeat (board : TableId) (opening : ℕ) (seat : Seat Command View) : Type 0 where
@@ -45,7 +48,7 @@ pub record IsPass (board : TableId) (opening : ℕ) (seat : Seat Command View) :
   pub no_order : seat.me.0.raises_accepted ≡ false
   pub no_keeper : seat.me.0.raises_durable ≡ false
   pub durable : seat.me.0.durable ≤ last_number seat.me.0
-  pub own : own_number (numbered seat.me.0.own) ≤ last_number seat.me.0
+  pub own : number_of (numbered seat.me.0.own) ≤ last_number seat.me.0
 
 -- it raises the accepted number, and knows nothing of the durable one
 pub record IsOrderSeat (board : TableId) (opening : ℕ) (seat : Seat Command View) : Type 0 where
@@ -59,7 +62,7 @@ pub record IsKeeperSeat (board : TableId) (opening : ℕ) (seat : Seat Command V
   pub sits : IsSeat board opening seat
   pub right : seat.me.0.raises_durable ≡ true
   pub no_order : seat.me.0.raises_accepted ≡ false
-  pub own : seat.me.0.own ≡ None
+  pub own : own_of seat.me.0 ≡ record { count = 0; last = None }
 
 -- what is told to be durable is told to be accepted
 pub record IsTold (board : TableId) (opening : ℕ) (seat : Seat Command View) : Type 0 where

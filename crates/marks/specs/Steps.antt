@@ -82,6 +82,7 @@ nothing = record {
   told = [];
   told_durable = 0;
   told_base = 0;
+  commands = 0;
   own = None;
 }
 
@@ -92,7 +93,7 @@ abbrev pub taking_history : View → View → View
 taking_history view other = record view { seen = other.seen }
 
 abbrev pub taking_over : View → View → View
-taking_over view other = record view { seen = other.seen; own = other.own }
+taking_over view other = record view { seen = other.seen; commands = view.commands + 1; own = other.own }
 
 abbrev pub learning_base : View → View → View
 learning_base view other = record view { base = max view.base other.base }

@@ -109,7 +109,11 @@ impl<B: BoardName> Board<B> {
         ensures known { known pass.old < result }
         ensures seen { IsPrefix pass.old.history order.old.history }
         ensures pass { pass.new
-            ≡ record pass.old { history = order.new.history; accepted = result; own = Some (record { number = result; change = change_of command.now }) } }
+            ≡ record pass.old {
+              history = order.new.history;
+              accepted = result;
+              own = record { count = pass.old.own.count + 1; last = Some (record { number = result; change = change_of command.now }) };
+            } }
     {
         let told = self.cut(&mut pass.seat);
         self.hear(&mut order.seat, told);
@@ -216,7 +220,7 @@ impl<B: BoardName> Board<B> {
         requires { keeper.old.durable ≤ keeper.old.accepted }
         ensures same { keeper.new ≡ keeper.old }
         ensures passes { IfOk result (λ passes. passes.items
-            ≡ replicate count (record { history = keeper.old.history; accepted = keeper.old.accepted; durable = keeper.old.durable; own = None })) }
+            ≡ replicate count (record { history = keeper.old.history; accepted = keeper.old.accepted; durable = keeper.old.durable; own = record { count = 0; last = None } })) }
     {
         let mut passes = Vec::with_capacity(alloc, count)?;
         for _ in 0..count {
@@ -229,7 +233,7 @@ impl<B: BoardName> Board<B> {
     fn new_pass(&self, keeper: &mut KeeperSeat<B>) -> Pass<B>
         requires { keeper.old.durable ≤ keeper.old.accepted }
         ensures same { keeper.new ≡ keeper.old }
-        ensures pass { result ≡ record { history = keeper.old.history; accepted = keeper.old.accepted; durable = keeper.old.durable; own = None } }
+        ensures pass { result ≡ record { history = keeper.old.history; accepted = keeper.old.accepted; durable = keeper.old.durable; own = record { count = 0; last = None } } }
     {
         let seat = self.cut(&mut keeper.seat);
         Pass {

@@ -25,6 +25,7 @@ pub struct View {
     pub told: LinkedList<Command>,
     pub told_durable: u64,
     pub told_base: u64,
-    /// Its own last number with that command.
+    /// How many commands were accepted for it, and its own last number with that command.
+    pub commands: u64,
     pub own: Option<Own>,
 }

@@ -24,7 +24,7 @@ impl ReadBeside for SecondHandle {
     // Nothing is claimed of what a file holds.
     ghost gives = { λ handle offset bytes. Unit {0} };
 
-    ghost vouches = { λ handle first span bytes order. Unit {0} };
+    ghost vouches = { λ handle read. Unit {0} };
 
     fn read_beside(&self, offset: u64, into: &mut [u8]) -> Result<(), DeviceFault> {
         self.0.read_exact_at(into, offset).map_err(|_| DeviceFault)
@@ -36,6 +36,7 @@ impl ReadBeside for SecondHandle {
         _first: u64,
         _span: Span,
         _bytes: &[u8],
+        _asked: u64,
         _order: &Order<B>,
     ) -> bool {
         true

@@ -40,13 +40,13 @@ use Rattle.order_book.proofs.Frames.{finds_frames}
 pub makes_take : (edit : ByteEdit) (image : Image) (old new : OrderState) (before after : PassState) (command : Command) (number : ℕ)
     → change_of command ≡ becomes edit image → number ≡ old.mark + 1 → new ≡ with_command old command → ShowsCommand (change_of command) old.cache new.cache
     → ((given : Image) → ShowsImage given old.cache → ShowsImage (apply (change_of command) given) new.cache)
-    → after ≡ record before { history = new.history; accepted = number; own = Some (record { number = number; change = change_of command }) }
+    → after ≡ record before { history = new.history; accepted = number; own = record { count = before.own.count + 1; last = Some (record { number = number; change = change_of command }) } }
     → TakesEdit edit image old new before after
 makes_take edit image old new before after command number is next taken seen shown pass = record {
   command = command;
   is = is;
   taken = taken;
-  pass = pass ∙ (λ i. record before { history = new.history; accepted = next i; own = Some (record { number = next i; change = is i }) });
+  pass = pass ∙ (λ i. record before { history = new.history; accepted = next i; own = record { count = before.own.count + 1; last = Some (record { number = next i; change = is i }) } });
   seen = subst (λ (change : Change). ShowsCommand change old.cache new.cache) is seen;
   shown = subst (λ (change : Change). (given : Image) → ShowsImage given old.cache → ShowsImage (apply change given) new.cache) is shown;
 }

@@ -57,12 +57,12 @@ pub record NeedsDevice (order : OrderState) (edit : ByteEdit) : Type 0 where
   pub accepted : refusal_for order (becomes edit (image_in order.cache)) ≡ None
   pub lacks : LacksOld edit order.cache
 
--- The edit is the last command of the order, as what it becomes over this image, and a pass has it as its own.
+-- The edit is the last command of the order, as what it becomes over this image, and a pass has it as its own, one more than before.
 pub record TakesEdit (edit : ByteEdit) (image : Image) (old new : OrderState) (before after : PassState) : Type 0 where
   pub command : Command
   pub is : change_of command ≡ becomes edit image
   pub taken : new ≡ with_command old command
-  pub pass : after ≡ record before { history = new.history; accepted = old.mark + 1; own = Some (record { number = old.mark + 1; change = becomes edit image }) }
+  pub pass : after ≡ record before { history = new.history; accepted = old.mark + 1; own = record { count = before.own.count + 1; last = Some (record { number = old.mark + 1; change = becomes edit image }) } }
   -- what is known then of the image, block by block and as a whole
   pub seen : ShowsCommand (becomes edit image) old.cache new.cache
   pub shown : (other : Image) → ShowsImage other old.cache → ShowsImage (apply (becomes edit image) other) new.cache

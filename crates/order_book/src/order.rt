@@ -304,7 +304,11 @@ impl<B: BoardName> Order<B> {
         ensures known { IfOk result (λ number. known pass.old < number) }
         ensures knew { OnOk result (IsPrefix pass.old.history self.old.history) }
         ensures pass { IfOk result (λ number. pass.new
-            ≡ record pass.old { history = self.new.history; accepted = number; own = Some (record { number = number; change = change_of command }) }) }
+            ≡ record pass.old {
+              history = self.new.history;
+              accepted = number;
+              own = record { count = pass.old.own.count + 1; last = Some (record { number = number; change = change_of command }) };
+            }) }
         ensures pass_unchanged { OnErr result (pass.new ≡ pass.old) }
 
         // Each refusal comes exactly where it is due and none before it is.
@@ -340,7 +344,11 @@ impl<B: BoardName> Order<B> {
         ensures known { IfOk result (λ number. known pass.old < number) }
         ensures knew { OnOk result (IsPrefix pass.old.history self.old.history) }
         ensures pass { IfOk result (λ number. pass.new
-            ≡ record pass.old { history = self.new.history; accepted = number; own = Some (record { number = number; change = change_of command }) }) }
+            ≡ record pass.old {
+              history = self.new.history;
+              accepted = number;
+              own = record { count = pass.old.own.count + 1; last = Some (record { number = number; change = change_of command }) };
+            }) }
         ensures pass_unchanged { OnErr result (pass.new ≡ pass.old) }
         ensures memory { IfErr result (λ refused. refused.0 ≡ OrderFault.NoMemory) }
     {

@@ -33,7 +33,7 @@ use Rattle.export_model.specs.declared.step.Mode.{Mode}
 -- what an order took over two images is one change
 takes_same : (edit : ByteEdit) (one other : Image) (old new : OrderState) (before after : PassState)
     → TakesEdit edit one old new before after → TakesEdit edit other old new before after → becomes edit one ≡ becomes edit other
-takes_same edit one other old new before after first second = ap (λ (p : PassState). own_change p.own) (sym first.pass ∙ second.pass)
+takes_same edit one other old new before after first second = ap (λ (p : PassState). own_change p.own.last) (sym first.pass ∙ second.pass)
   where
     own_change : Option Numbered → Change
     own_change None = becomes edit one
@@ -127,7 +127,7 @@ module _ (opening : ℕ) (request : Message) (kept : Mode) (old new : OrderState
         earlier = old.history;
         knew = knew;
         place = omega (arith, place);
-        pass = taken.pass ∙ ap (λ (h : List Change). record before { history = h; accepted = old.mark + 1; own = Some (record { number = old.mark + 1; change = becomes (edit_asked request) image }) }) history;
+        pass = taken.pass ∙ ap (λ (h : List Change). record before { history = h; accepted = old.mark + 1; own = record { count = before.own.count + 1; last = Some (record { number = old.mark + 1; change = becomes (edit_asked request) image }) } }) history;
       }
 
   by_waits : (waits : Bool) → IsPassServed opening request old.mark new.mark (served_after waits request.head.cookie (old.mark + 1)) before after

@@ -60,7 +60,7 @@ IsWriteServed request geometry kept own old new result =
     ⊎ (IsTaken request geometry own old new image × (result ≡ served_after (waits_for_store kept request) request.head.cookie (old.mark + 1)))))
 
 -- A command was accepted for a pass under a number above all that the pass knew: it is what the request's edit becomes over an image,
--- and the pass's own. The history that the pass then knows has it as its last, at its number, behind all that the pass knew.
+-- and the pass's own, one more than before. The history that the pass then knows has it as its last, at its number, behind all that the pass knew.
 pub record IsAcceptedFor (opening : ℕ) (request : Message) (number : ℕ) (old new : PassState) : Type 0 where
   pub above : known old < number
   pub image : Image
@@ -70,7 +70,7 @@ pub record IsAcceptedFor (opening : ℕ) (request : Message) (number : ℕ) (old
   pub pass : new ≡ record old {
     history = earlier ++ becomes (edit_asked request) image ∷ [];
     accepted = number;
-    own = Some (record { number = number; change = becomes (edit_asked request) image });
+    own = record { count = old.own.count + 1; last = Some (record { number = number; change = becomes (edit_asked request) image }) };
   }
 
 -- All up to a number was shown to a pass, which knew no more: what it knew begins what it knows then.

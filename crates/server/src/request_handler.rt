@@ -2,6 +2,7 @@ ghost use Rattle.export.specs.Submits.{IsJudged, IsSubmitted};
 ghost use Rattle.export_model.specs.Verdict.{verdict};
 ghost use Rattle.image_model.specs.Image.{apply_all};
 ghost use Rattle.shared_store.specs.Answers.{TellsImage};
+ghost use Rattle.shared_store.specs.Orders.{Trusting};
 
 use crate::client::Client;
 use crate::log::{Event, Log, Traffic};
@@ -38,9 +39,9 @@ pub struct RequestHandler<'a, B: ExportName, D: Disk, H: ReadBeside, R: Wait, L:
 
 impl<'a, B: ExportName, D: Disk, H: ReadBeside, R: Wait, L: Log> Serve<Pass<B>>
     for RequestHandler<'a, B, D, H, R, L> {
-    ghost allows = { λ handler pass request flags next reply. IsSubmitted B.opening B.image (B.trusted × B.shown) request handler.export.now.mode pass next reply.answer
+    ghost allows = { λ handler pass request flags next reply. IsSubmitted B.opening B.image (Trusting B.opening B.image B.vouches B.trusted) request handler.export.now.mode pass next reply.answer
         × IsJudged (verdict request.head handler.export.now.geometry flags) request reply.answer
-        × (B.trusted → B.shown → TellsImage (apply_all next.history B.image) request.head reply.answer) };
+        × (Trusting B.opening B.image B.vouches B.trusted (TellsImage (apply_all next.history B.image) request.head reply.answer)) };
 
     ghost extent = { λ handler. handler.export.now.geometry };
 

@@ -1,21 +1,21 @@
-ghost use Rattle.std.specs.Prelude.{◌≡◌, ◌+◌, IfErr, IfOk, IsTrue, List, OnOk, Some, length, vec_len};
+ghost use Rattle.std.specs.Prelude.{◌≡◌, ◌+◌, false, IfErr, IfOk, IsTrue, List, OnOk, Some, length, vec_len};
 ghost use Rattle.device_image.specs.Stands.{StandsFor};
 ghost use Rattle.disk_model.specs.Disk.{LeavesOnly};
 ghost use Rattle.export.specs.Left.{LeavesHistory};
-ghost use Rattle.export.specs.Trusted.{IsTrusted, VouchesTruly, image_found};
+ghost use Rattle.export.specs.Trusted.{IsTrusted, image_found};
 ghost use Rattle.image_model.specs.Change.{Change};
 ghost use Rattle.marks.specs.Known.{new_pass};
+ghost use Rattle.shared_store.specs.Orders.{SpanRead};
 
 use crate::client_registry::ClientRegistry;
 use crate::listener::Listener;
 use crate::log::Log;
-use crate::options::{OnFault, ServeOptions};
 use crate::worker::{WorkerPool, worker};
 use disk_model::Disk;
 use export::{
     Export, ExportName, OpenDevice, ReadBeside, RetiredPass, SyncPoints, opened_device_law,
 };
-use front_end::Refusal;
+use front_end::{OnFault, Refusal, ServeOptions};
 use marks::Pass;
 use std::alloc::Global;
 use std::io::{ErrorKind, Read};
@@ -25,12 +25,13 @@ use std::sync::{Arc, Wait};
 use std::thread::{self, Scope, Threads};
 
 /// Serves the clients that arrive at a socket from a device that was opened, and gives the device back once the server has come
-/// to its end and all is stored: as many sessions have ended as the options say, `input` has ended where they say so, or a call
-/// of the device has failed. `watch` is told what happens, and may hold the threads. Refusals 0 (no memory, and nobody was served),
-/// 1 (device fault, or not all is stored) and 21 (the socket).
+/// to its end: as many sessions have ended as the options say, `input` has ended where they say so, or a call of the device has
+/// failed. `watch` is told what happens, and may hold the threads. Refusals 0 (no memory, and nobody was served), 1 (device fault, or
+/// not all is stored) and 21 (the socket). When it ends, and with which of them, isn't said.
 ///
 /// Where the device is trusted, whatever a crash at some moment of it may have left stands for the image that was found after a
-/// beginning of one history of write commands; and at Ok whatever one may leave then stands for the image after all of that.
+/// beginning of one history of write commands; and at Ok whatever one may leave then stands for the image after all of that. At Ok
+/// the device has counted no fault since it was opened; a failed read by its second handle is none.
 pub fn serve<D, H, R, I, G>(
     rt: &R,
     alloc: Global,
@@ -50,6 +51,8 @@ where
         × LeavesHistory (D.state device.keeper.disk) (D.state result.1) device.keeper.count (image_found D.state device.keeper) history device.keeper.count }
     ensures stored { OnOk result.0 (IsTrusted D.state D.honest device.keeper (image_found D.state device.keeper) → (history : List Change)
         × LeavesHistory (D.state device.keeper.disk) (D.state result.1) device.keeper.count (image_found D.state device.keeper) history (device.keeper.count + length history)) }
+    ensures honest { IsTrusted D.state D.honest device.keeper (image_found D.state device.keeper) → D.honest result.1 }
+    ensures faults { OnOk result.0 (D.faults result.1 ≡ D.faults device.keeper.disk) }
 {
     opened_device_law::<D>();
     let registry = match open_registry(alloc, listener, options.workers) {
@@ -121,23 +124,25 @@ where
     requires image { device.keeper.geometry.blocks ≡ B.image.blocks }
     requires trusted { B.trusted → IsTrusted D.state D.honest device.keeper B.image }
     requires start { B.trusted → LeavesOnly B.start (D.state device.keeper.disk) (λ content. StandsFor content B.image B.opening) }
-    requires shown { B.shown → (handle : H) → device.beside ≡ Some handle → VouchesTruly (H.vouches handle) B.image }
+    requires vouches { (handle : H) → device.beside ≡ Some handle → (read : SpanRead) → H.vouches handle read → B.vouches read }
     requires geometry { device.keeper.geometry ≡ B.geometry }
     ensures left { B.trusted → (history : List Change) × LeavesHistory B.start (D.state result.1) B.opening B.image history B.opening }
     ensures stored { OnOk result.0 (B.trusted → (history : List Change) × LeavesHistory B.start (D.state result.1) B.opening B.image history (B.opening + length history)) }
+    ensures honest { B.trusted → D.honest result.1 }
+    ensures faults { OnOk result.0 (D.faults result.1 ≡ D.faults device.keeper.disk) }
 {
     opened_device_law::<D>();
+    let failures = device.failures;
     match open_export::<B, D, H>(alloc, device, &options) {
         Ok((export, passes, last)) => {
             if let Some(limit) = options.limits.pending() {
                 export.store_within(rt, limit);
             }
-            let pool = WorkerPool::new(alloc, registry, passes, &options);
+            let pool = WorkerPool::new(alloc, registry, passes, last, &options);
             let has_served = run_threads(rt, &pool, &export, options, watch);
-            let has_failed = export.stopped(rt);
-            drop(pool);
-            let mut last = last;
+            let mut last = pool.into_last();
             let (disk, is_stored) = export.close(&mut last);
+            let has_failed = disk.failures() != failures;
             (end_of(has_served, has_failed, is_stored), disk)
         }
         Err(disk) => (Err(Refusal::NoMemory), disk),
@@ -146,7 +151,8 @@ where
 
 // What a server has come to: whether there was a worker, whether a call of the device has failed, and whether all is stored.
 fn end_of(has_served: bool, has_failed: bool, is_stored: bool) -> Result<(), Refusal>
-    ensures { OnOk result (IsTrue is_stored) }
+    ensures stored { OnOk result (IsTrue is_stored) }
+    ensures works { OnOk result (has_failed ≡ false) }
 {
     if !has_served {
         return Err(Refusal::NoMemory);
@@ -172,7 +178,7 @@ where
     requires image { device.keeper.geometry.blocks ≡ B.image.blocks }
     requires trusted { B.trusted → IsTrusted D.state D.honest device.keeper B.image }
     requires start { B.trusted → LeavesOnly B.start (D.state device.keeper.disk) (λ content. StandsFor content B.image B.opening) }
-    requires shown { B.shown → (handle : H) → device.beside ≡ Some handle → VouchesTruly (H.vouches handle) B.image }
+    requires vouches { (handle : H) → device.beside ≡ Some handle → (read : SpanRead) → H.vouches handle read → B.vouches read }
     requires geometry { device.keeper.geometry ≡ B.geometry }
     ensures mode { IfOk result (λ made. made.0.mode ≡ options.now.mode) }
     ensures passes { IfOk result (λ made. vec_len made.1 ≡ options.now.workers) }
@@ -211,7 +217,7 @@ where
         // The flusher ends once all passes have left.
         for _ in started..options.workers {
             if let Some((_slot, pass)) = pool.take_pass(rt) {
-                export.leave(rt, pass);
+                pool.retire(rt, export, pass);
             }
         }
         started > 0

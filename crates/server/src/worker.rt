@@ -4,10 +4,10 @@ ghost use Rattle.server.specs.declared.worker.Sessions.TheVariants as Sessions;
 use crate::client::{Client, Input, Output, WatchedOutput};
 use crate::client_registry::ClientRegistry;
 use crate::log::{Event, Log, Traffic};
-use crate::options::{Limits, ServeOptions};
 use crate::request_handler::RequestHandler;
 use disk_model::Disk;
-use export::{Export, ExportName, ReadBeside, SyncPoints};
+use export::{Export, ExportName, ReadBeside, RetiredPass, SyncPoints};
+use front_end::{Limits, ServeOptions};
 use marks::Pass;
 use negotiation::End;
 use session::serve_session;
@@ -53,6 +53,8 @@ pub(crate) struct WorkerPool<'a, B: ExportName> {
     alloc: Global,
     registry: &'a ClientRegistry,
     passes: Mutex<Vec<Pass<B>>>,
+    // That of the end, which the others join.
+    last: Mutex<RetiredPass<B>>,
     sessions: Mutex<Sessions>,
     limits: Limits,
     workers: u32,
@@ -63,6 +65,7 @@ impl<'a, B: ExportName> WorkerPool<'a, B> {
         alloc: Global,
         registry: &'a ClientRegistry,
         passes: Vec<Pass<B>>,
+        last: RetiredPass<B>,
         options: &ServeOptions,
     ) -> WorkerPool<'a, B> {
         let limits = options.limits;
@@ -75,6 +78,7 @@ impl<'a, B: ExportName> WorkerPool<'a, B> {
             alloc,
             registry,
             passes: Mutex::new(passes),
+            last: Mutex::new(last),
             sessions: Mutex::new(sessions),
             limits,
             workers: options.workers,
@@ -91,6 +95,22 @@ impl<'a, B: ExportName> WorkerPool<'a, B> {
         let mut passes = self.passes.lock(rt);
         let pass = passes.pop()?;
         Some((passes.len(), pass))
+    }
+
+    /// Takes a pass for good.
+    pub(crate) fn retire<D: Disk, H: ReadBeside, R: Wait>(
+        &self,
+        rt: &R,
+        export: &Export<B, D, H>,
+        pass: Pass<B>,
+    ) {
+        let left = export.leave(rt, pass);
+        export.join(&mut self.last.lock(rt), left);
+    }
+
+    /// The pass of the end.
+    pub(crate) fn into_last(self) -> RetiredPass<B> {
+        self.last.into_inner()
     }
 
     // Whether another session may begin, which does.
@@ -123,7 +143,7 @@ pub(crate) fn worker<
             Err(_) => break,
         }
     }
-    export.leave(rt, pass);
+    pool.retire(rt, export, pass);
 }
 
 // Serves a client in a slot, and stores what is pending before the client is let go.

@@ -31,9 +31,10 @@ use Rattle.export_model.specs.declared.action.Action.TheVariants.{End, Serve}
 use Rattle.export_model.specs.declared.step.Mode.{Mode}
 use Rattle.shared_store.specs.Answers.{ServesImage, TellsImage}
 use Rattle.shared_store.specs.Keepers.{IsOfHistory}
-use Rattle.shared_store.specs.Orders.{GivesImage, IsOrderOfHistory}
-use Rattle.shared_store.proofs.Ordering.{clean_at}
-use Rattle.shared_store.proofs.Serving.{clean_itself, gives_base}
+use Rattle.shared_store.specs.Orders.{AreRight, IsOrderOfHistory, KeepsImage, SpanRead, Trusting, behind_noted, noted_base}
+use Rattle.shared_store.proofs.Ordering.{clean_at, noted_clean}
+use Rattle.shared_store.proofs.Resting.{told_by}
+use Rattle.shared_store.proofs.Serving.{gives_base, read_for}
 
 bytes_same : (one other : Image) (place count : ℕ) → ((k : ℕ) → k < count → one.byte (place + k) ≡ other.byte (place + k)) → bytes_from one place count ≡ bytes_from other place count
 unfolding bytes_from
@@ -216,25 +217,37 @@ module _ (opening : ℕ) (image : Image) (trusted : Type 0) (request : Message) 
     with_over (Err errno) by = as_it_was by.1
 
 -- the same of a request that may need the keeper
-module _ {E : Type 0} (opening : ℕ) (image : Image) (trusted others : Type 0) (old new : OrderState) (is : IsOrderOfHistory opening image (trusted × others) old) where
-  pub if_tells : (request : Message) (geometry : Geometry) (kept : Mode) (given : Result Action Errno) (result : Result Served E) → IfOk result (λ served. IsServedHere given request geometry kept old new served)
-      → IfOk result (λ served. trusted → others → ServesImage (apply_all new.history image) request.head served)
-  if_tells request geometry kept given (Ok served) by = λ sure so. here opening image (trusted × others) request geometry kept old new is served (sure, so) given by
+module _ (opening : ℕ) (image : Image) (vouches : SpanRead → Type 0) (trusted : Type 0) (old new : OrderState) (is : KeepsImage opening image vouches trusted old) where
+  abbrev Sure : Type 0
+  Sure = trusted × AreRight opening image is.reads
+
+  abbrev Trusts : Type 0 → Type 0
+  Trusts = Trusting opening image vouches trusted
+
+  pub if_tells : {E : Type 0} (request : Message) (geometry : Geometry) (kept : Mode) (given : Result Action Errno) (result : Result Served E) → IfOk result (λ served. IsServedHere given request geometry kept old new served)
+      → IfOk result (λ served. Trusts (ServesImage (apply_all new.history image) request.head served))
+  if_tells request geometry kept given (Ok served) by = told_by opening image vouches trusted old is (λ sure. here opening image Sure request geometry kept old new is.is served sure given by)
   if_tells request geometry kept given (Err back) by = tt
 
-  pub if_accepts : (X : Type 0) (request : Message) (geometry : Geometry) (kept : Mode) (given : Result Action Errno) (result : Result Served E) → IfOk result (λ served. IsServedHere given request geometry kept old new served)
-      → OnErr result ((new ≡ old) × X) → trusted → others → old.mark < new.mark → new.history ≡ old.history ++ becomes (edit_asked request) (apply_all old.history image) ∷ []
-  if_accepts X request geometry kept given (Ok served) by unchanged sure so = here_over opening image (trusted × others) request geometry kept old new is served (sure, so) given by
-  if_accepts X request geometry kept given (Err back) by unchanged sure so = λ more. absurd (let same = ap (λ (o : OrderState). o.mark) unchanged.0 in omega (arith, same, more))
+  pub if_accepts : {E : Type 0} (X : Type 0) (request : Message) (geometry : Geometry) (kept : Mode) (given : Result Action Errno) (result : Result Served E) → IfOk result (λ served. IsServedHere given request geometry kept old new served)
+      → OnErr result ((new ≡ old) × X) → Trusts (old.mark < new.mark → new.history ≡ old.history ++ becomes (edit_asked request) (apply_all old.history image) ∷ [])
+  if_accepts X request geometry kept given (Ok served) by unchanged = told_by opening image vouches trusted old is (λ sure. here_over opening image Sure request geometry kept old new is.is served sure given by)
+  if_accepts X request geometry kept given (Err back) by unchanged = told_by opening image vouches trusted old is (λ sure more. absurd (let same = ap (λ (o : OrderState). o.mark) unchanged.0 in omega (arith, same, more)))
 
-  -- bytes that were read before, and that are the image's where they were needed
-  pub if_over_tells : (head : RequestHead) (span : Span) (bytes : List ℕ) → 0 < head.length → length bytes ≡ 4096 * blocks_met head.offset head.length
-      → (trusted × others → GivesImage (head.offset / 4096) span bytes old.cache (apply_all old.history image)) → (result : Result Served E)
+  -- bytes that were read before, which are the base's where they were needed
+  pub if_over_tells : {E : Type 0} (head : RequestHead) (span : Span) (bytes : List ℕ) → 0 < head.length → length bytes ≡ 4096 * blocks_met head.offset head.length
+      → ∥ vouches (read_for head span bytes old) ∥₁ → (result : Result Served E)
       → IfOk result (λ served. IsReadOverServed head span bytes old new served)
-      → IfOk result (λ served. trusted → others → ServesImage (apply_all new.history image) head served)
-  if_over_tells head span bytes some size gives (Ok served) (inl none) = λ sure so. refused_tells image head old new served head.cookie _ none.1
-  if_over_tells head span bytes some size gives (Ok served) (inr read) = λ sure so.
-      let after : Image = apply_all old.history image in
-      shown_tells image head old new served read.image head.cookie (ap (λ (o : OrderState). o.history) read.order) (λ block. read.kinds block ∙ (is.shows (sure, so)).states block)
-      (read.own after after [] (gives_base head.offset head.length some span bytes old.cache size read.inside after (gives (sure, so))) (is.shows (sure, so)) (clean_itself after old)) read.answer
-  if_over_tells head span bytes some size gives (Err back) over = tt
+      → IfOk result (λ served. Trusts (ServesImage (apply_all new.history image) head served))
+  if_over_tells head span bytes some size vouched (Ok served) (inl none) = told_by opening image vouches trusted old is (λ sure. refused_tells image head old new served head.cookie _ none.1)
+  if_over_tells head span bytes some size vouched (Ok served) (inr read) =
+      let after : Image = apply_all old.history image in record {
+        reads = read_for head span bytes old ∷ is.reads;
+        vouched = (vouched, is.vouched);
+        so = λ sure right.
+            let shows = is.is.shows (sure, right.1) in
+            shown_tells image head old new served read.image head.cookie (ap (λ (o : OrderState). o.history) read.order) (λ block. read.kinds block ∙ shows.states block)
+            (read.own (noted_base opening image old) after (behind_noted opening old) (gives_base head.offset head.length some span bytes old size read.inside opening image right.0) shows
+            (noted_clean opening image Sure old is.is)) read.answer;
+      }
+  if_over_tells head span bytes some size vouched (Err back) over = tt

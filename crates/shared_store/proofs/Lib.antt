@@ -1,5 +1,7 @@
 mod Answering
 mod CleanBlocks
 mod Keeping
+mod Noting
 mod Ordering
+mod Resting
 mod Serving

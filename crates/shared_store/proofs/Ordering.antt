@@ -1,6 +1,6 @@
 -- What the order knows of the history stays true.
 use Rattle.std.proofs.Common.{◌≡◌, ℕ, ◌+◌, ◌-◌, ◌≤◌, max, Bool, true, false, if◌then◌else◌, List, [], ◌∷◌, ◌++◌, length, map, take, drop, refl, ap, sym, ◌∙◌, subst, arith, append_assoc, length-append, take-append-drop}
-use Rattle.std.proofs.lemmas.List.{length-take-le, map-append}
+use Rattle.std.proofs.lemmas.List.{append-nil, length-take-le, map-append}
 use mathlib.Core.List.{IsPrefix, append_cancel_left}
 use Rattle.image_model.specs.Change.{AreChanges, Change, IsChange, change_of}
 use Rattle.image_model.specs.Dirty.{Dirty, clean_through, dirty_after, dirty_blocks}
@@ -21,7 +21,7 @@ use Rattle.order_book.specs.Reading.{IsCleanAt}
 use Rattle.order_book.specs.Shown.{ShowsImage}
 use Rattle.request_core.specs.laws.Lives.{all_behind, all_both, all_front, apply_append}
 use Rattle.request_core.specs.laws.Orders.{commands_length}
-use Rattle.shared_store.specs.Orders.{IsOrderOfHistory}
+use Rattle.shared_store.specs.Orders.{IsOrderOfHistory, behind_noted, noted_base}
 use Rattle.shared_store.specs.Parts.{IsPartOf, IsSealed, SealedState}
 use Rattle.shared_store.proofs.CleanBlocks.{clean_behind}
 use Rattle.shared_store.proofs.Keeping.{prefix_front, prefix_same}
@@ -45,6 +45,7 @@ module _ (opening : ℕ) (image : Image) (trusted : Type 0) where
     all_clean = refl;
     dirty = refl;
     settled = omega arith;
+    noted = omega arith;
   }
 
   module _ (order : OrderState) (is : Of order) where
@@ -64,6 +65,7 @@ module _ (opening : ℕ) (image : Image) (trusted : Type 0) where
       all_clean = history ∙ is.all_clean;
       dirty = dirty ∙ is.dirty;
       settled = omega (arith, base, is.settled);
+      noted = omega (arith, base, mark, is.noted);
     }
 
     pub cached : (new : OrderState) → new ≡ record order { cache = new.cache } → length new.cache.states ≡ length order.cache.states → (trusted → ShowsImage (apply_all order.history image) new.cache) → Of new
@@ -104,6 +106,7 @@ module _ (opening : ℕ) (image : Image) (trusted : Type 0) where
               dirty ∙ (ap (λ (d : Dirty). dirty_after d (order.mark + 1) change) is.dirty
               ∙ (ap (λ (n : ℕ). dirty_after (dirty_blocks (opening + length is.clean) is.behind) n change) last ∙ sym (dirty_blocks-push (opening + length is.clean) is.behind change)));
           settled = omega (arith, base, is.settled);
+          noted = omega (arith, base, mark, is.noted);
         }
 
     -- a group was sealed: it stands in the history
@@ -144,6 +147,7 @@ module _ (opening : ℕ) (image : Image) (trusted : Type 0) where
             all_clean = history ∙ is.all_clean;
             dirty = ap (λ (o : OrderState). o.dirty) e ∙ is.dirty;
             settled = omega (arith, ap (λ (o : OrderState). o.base) e, is.settled);
+            noted = omega (arith, ap (λ (o : OrderState). o.base) e, ap (λ (o : OrderState). o.mark) e, is.noted);
           }
 
     -- the group that was sealed last is pending again
@@ -171,6 +175,7 @@ module _ (opening : ℕ) (image : Image) (trusted : Type 0) where
           all_clean = is.all_clean;
           dirty = is.dirty;
           settled = is.settled;
+          noted = is.noted;
         }
 
     -- the same of a sealed group, once it is known to be the one in hand
@@ -190,9 +195,9 @@ module _ (opening : ℕ) (image : Image) (trusted : Type 0) where
         by_published true = kept (record order { durable = count; bodies = drop (count - order.durable) order.bodies }) refl refl refl refl refl refl refl is.shows
         by_published false = is
 
-    -- the base is known to the order, which it reaches
-    pub based : (base : ℕ) → Of (record order { base = max order.base base })
-    based base = record {
+    -- the order notes a base, which it reaches
+    pub based : (base : ℕ) → base ≤ order.mark → Of (record order { base = max order.base base })
+    based base within = record {
       mark = is.mark;
       blocks = is.blocks;
       takes = is.takes;
@@ -205,6 +210,7 @@ module _ (opening : ℕ) (image : Image) (trusted : Type 0) where
       all_clean = is.all_clean;
       dirty = is.dirty;
       settled = omega (arith, is.settled);
+      noted = omega (arith, within, is.noted);
     }
 
     -- blocks up to a base were made clean
@@ -234,6 +240,7 @@ module _ (opening : ℕ) (image : Image) (trusted : Type 0) where
               ∙ (cleaned-blocks (opening + length is.clean) (take k is.behind) (drop k is.behind)
               ∙ ap (λ (n : ℕ). dirty_blocks n (drop k is.behind)) (number ∙ sym longer))));
           settled = omega (arith, longer, known, ap (λ (o : OrderState). o.base) e);
+          noted = omega (arith, ap (λ (o : OrderState). o.base) e, ap (λ (o : OrderState). o.mark) e, is.noted);
         }
 
   -- (the same of any order)
@@ -266,17 +273,25 @@ module _ (opening : ℕ) (image : Image) (trusted : Type 0) where
         (subst (λ (d : Dirty). IsCleanAt (apply_all between start) front (apply_all (between ++ (front ++ (last ++ rest))) start) d) dirty_is
         (clean_behind image.blocks (opening + length is.clean) start between front (last ++ rest) takes)))
 
+    -- and so does the base that the order has noted
+    pub noted_clean : IsCleanAt (noted_base opening image order) (behind_noted opening order) (apply_all order.history image) order.dirty
+    noted_clean =
+        let count : ℕ = order.base - opening in
+        let all : take count order.history ++ drop count order.history ≡ order.history = take-append-drop count order.history in
+        let size : length (take count order.history) ≡ count = length-take-le count order.history (omega (arith, is.noted, is.mark)) in
+        clean_at (take count order.history) (drop count order.history) [] ([], append-nil _ ∙ (append-nil _ ∙ all)) (omega (arith, size))
+
     -- what the keeper has in map and data was made clean, once the order had met it and learned its base
     pub cleaned_by : {D : Type 0} (sure : Type 0) (state : D → State) (honest : D → Type 0) (met : OrderState) → met ≡ order → (told : OrderState) (seat : KeeperKnows) (keeper : KeeperState D)
         → told ≡ record met { base = max met.base keeper.base } → IsOfHistory state honest opening image sure seat keeper → seat.history ≡ order.history → order.base ≤ keeper.base
         → (number : ℕ) → number ≡ keeper.base → (new : OrderState) → new ≡ with_clean told number → ((given : Image) → ShowsImage given told.cache → ShowsImage given new.cache) → Of new
     cleaned_by sure state honest met met_is told seat keeper told_is stored history base number number_is new new_is shows =
         let same : told ≡ record order { base = max order.base keeper.base } = told_is ∙ ap (λ (o : OrderState). record o { base = max o.base keeper.base }) met_is in
-        let known : Of told = subst Of (sym same) (based order is keeper.base) in
         let told_base : told.base ≡ max order.base keeper.base = ap (λ (o : OrderState). o.base) same in
         let told_mark : told.mark ≡ order.mark = ap (λ (o : OrderState). o.mark) same in
         let within = prefix_length stored.copied seat.history (prefix_front stored.copied (joined stored.fronts ++ stored.last) seat.history
         (subst (λ (l : List Change). IsPrefix l seat.history) (append_assoc stored.copied (joined stored.fronts) stored.last) stored.within)) in
+        let known : Of told = subst Of (sym same) (based order is keeper.base (omega (arith, stored.base, within, ap length history, is.mark))) in
         cleaned_to told known number new new_is (omega (arith, known.settled, told_base, base, number_is))
         (omega (arith, number_is, stored.base, within, ap length history, is.mark, told_mark)) (omega (arith, told_base, number_is))
         (ap (λ (o : OrderState). length o.cache.states) new_is) shows

@@ -1,6 +1,6 @@
 -- Serving keeps what the order and the keeper know of the history.
 use Rattle.std.specs.Prelude.{IfOk, OnErr}
-use Rattle.std.proofs.Common.{◌≡◌, ◌⊎◌, inl, inr, ℕ, ◌+◌, ◌-◌, ◌*◌, ◌/◌, ◌%◌, ◌<◌, ◌≤◌, true, false, None, List, [], ◌++◌, length, Result, Ok, Err, refl, ap, sym, ◌∙◌, subst, arith}
+use Rattle.std.proofs.Common.{◌≡◌, ◌⊎◌, inl, inr, ℕ, ◌+◌, ◌-◌, ◌*◌, ◌/◌, ◌%◌, ◌<◌, ◌≤◌, true, false, None, List, [], ◌∷◌, ◌++◌, length, Result, Ok, Err, ap, sym, ◌∙◌, subst, arith}
 use Rattle.std.proofs.lemmas.Bool.{cases_Bool}
 use mathlib.Core.List.{IsPrefix}
 use Rattle.device_image.specs.Holds.{joined}
@@ -16,7 +16,7 @@ use Rattle.nbd_wire.specs.Request.{Message}
 use Rattle.nbd_wire.specs.declared.error.Errno.{Errno}
 use Rattle.nbd_wire.specs.declared.head.RequestHead.{RequestHead}
 use Rattle.order_book.specs.Order.{OrderState}
-use Rattle.order_book.specs.Reading.{GivesBase, IsCleanAt, LiesIn}
+use Rattle.order_book.specs.Reading.{GivesBase, LiesIn}
 use Rattle.order_book.specs.Shown.{ShowsImage}
 use Rattle.order_book.specs.declared.span.Span.{Span}
 use Rattle.request_core.specs.Outcomes.{IsPassed, IsServedBy, IsServedHere}
@@ -28,11 +28,12 @@ use Rattle.export_model.specs.declared.action.Action.{Action}
 use Rattle.export_model.specs.declared.action.Action.TheVariants.{End, Serve}
 use Rattle.export_model.specs.declared.step.Mode.{Mode}
 use Rattle.shared_store.specs.Keepers.{IsOfHistory}
-use Rattle.shared_cache.specs.Cache.{CacheState, bytes_seen}
-use Rattle.shared_store.specs.Orders.{GivesImage, IsOrderOfHistory}
+use Rattle.shared_cache.specs.Cache.{bytes_seen}
+use Rattle.shared_store.specs.Orders.{AreRight, IsOrderOfHistory, IsRight, KeepsImage, SpanRead, behind_noted, noted_base}
 use Rattle.shared_store.specs.Parts.{StandsWithin}
 use Rattle.shared_store.proofs.Keeping.{leaves_read, leaves_still, read_by, unread_by}
-use Rattle.shared_store.proofs.Ordering.{cached, clean_at, more, stopped}
+use Rattle.shared_store.proofs.Ordering.{cached, clean_at, more, noted_clean, stopped}
+use Rattle.shared_store.proofs.Resting.{weaker}
 
 module _ (opening : ℕ) (image : Image) (trusted : Type 0) (request : Message) (geometry : Geometry) (kept : Mode) (old new : OrderState) (is : IsOrderOfHistory opening image trusted old)
     (result : Served) (blocks : geometry.blocks ≡ image.blocks) (sizes : length new.cache.states ≡ length old.cache.states) where
@@ -138,33 +139,37 @@ pub if_here : {E : Type 0} (X : Type 0) (opening : ℕ) (image : Image) (trusted
 if_here X opening image trusted request geometry kept old new is given (Ok served) blocks sizes by unchanged = here opening image trusted request geometry kept old new is served blocks sizes given by
 if_here X opening image trusted request geometry kept old new is given (Err back) blocks sizes by unchanged = subst (λ (o : OrderState). IsOrderOfHistory opening image trusted o) (sym unchanged.0) is
 
--- each block that is data and not in memory is at the base as the image has it, where the base is the image
-pub clean_itself : (image : Image) (order : OrderState) → IsCleanAt image [] image order.dirty
-clean_itself image order = record {
-  kinds = λ block is_data clean. is_data;
-  unwritten = λ block is_data clean. refl;
-  bytes = λ block is_data clean k inside. refl;
-}
-
 -- a READ with bytes that were read before: each block that it needs and that isn't in memory lies in the span
-module _ (offset count : ℕ) (some : 0 < count) (span : Span) (bytes : List ℕ) (cache : CacheState) (size : length bytes ≡ 4096 * blocks_met offset count)
-    (inside : (k : ℕ) → k < count → bytes_seen cache ((offset + k) / 4096) ≡ None → LiesIn ((offset + k) / 4096) span) where
-  lies_in : (j : ℕ) → 4096 * j < length bytes → bytes_seen cache (offset / 4096 + j) ≡ None → LiesIn (offset / 4096 + j) span
+module _ (offset count : ℕ) (some : 0 < count) (span : Span) (bytes : List ℕ) (order : OrderState) (size : length bytes ≡ 4096 * blocks_met offset count)
+    (inside : (k : ℕ) → k < count → bytes_seen order.cache ((offset + k) / 4096) ≡ None → LiesIn ((offset + k) / 4096) span) where
+  lies_in : (j : ℕ) → 4096 * j < length bytes → bytes_seen order.cache (offset / 4096 + j) ≡ None → LiesIn (offset / 4096 + j) span
   lies_in j below none = at (4096 * j - offset % 4096) (omega (arith, below, size, some)) (omega (arith, below, size, some))
     where
       at : (k : ℕ) → k < count → (offset + k) / 4096 ≡ offset / 4096 + j → LiesIn (offset / 4096 + j) span
-      at k under same = subst (λ (b : ℕ). LiesIn b span) same (inside k under (ap (bytes_seen cache) same ∙ none))
+      at k under same = subst (λ (b : ℕ). LiesIn b span) same (inside k under (ap (bytes_seen order.cache) same ∙ none))
 
-  pub gives_base : (image : Image) → GivesImage (offset / 4096) span bytes cache image → GivesBase (offset / 4096) bytes cache image []
-  gives_base image gives = λ j k below within none is_data unwritten. gives j k below within (lies_in j below none) none is_data
+  pub gives_base : (opening : ℕ) (image : Image) → IsRight opening image (record { first = offset / 4096; span = span; bytes = bytes; order = order })
+      → GivesBase (offset / 4096) bytes order.cache (noted_base opening image order) (behind_noted opening order)
+  gives_base opening image gives = λ j k below within none is_data unwritten. gives j k below within (lies_in j below none) none is_data unwritten
 
-pub if_over : {E : Type 0} (opening : ℕ) (image : Image) (trusted : Type 0) (head : RequestHead) (span : Span) (bytes : List ℕ) (old new : OrderState) → IsOrderOfHistory opening image trusted old
-    → 0 < head.length → length bytes ≡ 4096 * blocks_met head.offset head.length
-    → (trusted → GivesImage (head.offset / 4096) span bytes old.cache (apply_all old.history image)) → (result : Result Served E)
-    → IfOk result (λ served. IsReadOverServed head span bytes old new served) → OnErr result (new ≡ old) → IsOrderOfHistory opening image trusted new
-if_over opening image trusted head span bytes old new is some size gives (Ok served) (inl none) unchanged = subst (λ (o : OrderState). IsOrderOfHistory opening image trusted o) (sym none.0) is
-if_over opening image trusted head span bytes old new is some size gives (Ok served) (inr read) unchanged =
-    cached opening image trusted old is new read.order (ap (λ (l : List Kind). length l) read.states)
-    (λ sure. read.shows (apply_all old.history image) (apply_all old.history image) []
-    (gives_base head.offset head.length some span bytes old.cache size read.inside (apply_all old.history image) (gives sure)) (is.shows sure) (clean_itself (apply_all old.history image) old))
-if_over opening image trusted head span bytes old new is some size gives (Err back) over unchanged = subst (λ (o : OrderState). IsOrderOfHistory opening image trusted o) (sym unchanged) is
+-- what a READ reads with no lock held
+abbrev pub read_for : RequestHead → Span → List ℕ → OrderState → SpanRead
+read_for head span bytes order = record { first = head.offset / 4096; span = span; bytes = bytes; order = order }
+
+pub if_over : {E : Type 0} (opening : ℕ) (image : Image) (vouches : SpanRead → Type 0) (trusted : Type 0) (head : RequestHead) (span : Span) (bytes : List ℕ) (old new : OrderState)
+    → KeepsImage opening image vouches trusted old → 0 < head.length → length bytes ≡ 4096 * blocks_met head.offset head.length
+    → ∥ vouches (read_for head span bytes old) ∥₁ → (result : Result Served E)
+    → IfOk result (λ served. IsReadOverServed head span bytes old new served) → OnErr result (new ≡ old) → KeepsImage opening image vouches trusted new
+if_over opening image vouches trusted head span bytes old new is some size vouched (Ok served) (inl none) unchanged = subst (KeepsImage opening image vouches trusted) (sym none.0) is
+if_over opening image vouches trusted head span bytes old new is some size vouched (Ok served) (inr read) unchanged =
+    let reads : List SpanRead = read_for head span bytes old ∷ is.reads in
+    let before : IsOrderOfHistory opening image (trusted × AreRight opening image reads) old =
+    weaker opening image (trusted × AreRight opening image is.reads) (trusted × AreRight opening image reads) old (λ sure. (sure.0, sure.1.1)) is.is in
+    record {
+      reads = reads;
+      vouched = (vouched, is.vouched);
+      is = cached opening image (trusted × AreRight opening image reads) old before new read.order (ap (λ (l : List Kind). length l) read.states)
+          (λ sure. read.shows (noted_base opening image old) (apply_all old.history image) (behind_noted opening old)
+          (gives_base head.offset head.length some span bytes old size read.inside opening image sure.1.0) (before.shows sure) (noted_clean opening image (trusted × AreRight opening image reads) old before));
+    }
+if_over opening image vouches trusted head span bytes old new is some size vouched (Err back) over unchanged = subst (KeepsImage opening image vouches trusted) (sym unchanged) is

@@ -3,3 +3,4 @@ pub mod Back
 pub mod Keepers
 pub mod Orders
 pub mod Parts
+pub mod laws

@@ -1,5 +1,6 @@
 -- what lies under the order's lock
-use Rattle.std.specs.Prelude.{ℕ, ◌≡◌, ◌+◌, ◌*◌, ◌<◌, ◌≤◌, List, ◌++◌, length, map, None, slice_index}
+use Rattle.std.specs.Prelude.{ℕ, ◌≡◌, ◌+◌, ◌-◌, ◌*◌, ◌<◌, ◌≤◌, false, List, [], ◌∷◌, ◌++◌, length, map, drop, take, None, slice_index}
+use Rattle.device_image.specs.Holds.{is_written}
 use Rattle.image_model.specs.Change.{AreChanges, Change, change_of}
 use Rattle.image_model.specs.Dirty.{dirty_blocks}
 use Rattle.image_model.specs.Image.{Image, apply_all}
@@ -8,11 +9,11 @@ use Rattle.order_book.specs.Order.{OrderState}
 use Rattle.order_book.specs.Reading.{LiesIn}
 use Rattle.order_book.specs.Shown.{ShowsImage}
 use Rattle.order_book.specs.declared.span.Span.{Span}
-use Rattle.shared_cache.specs.Cache.{CacheState, bytes_seen}
+use Rattle.shared_cache.specs.Cache.{bytes_seen}
 
 -- The order's history begins with what was sealed, and what is pending is its end; what memory shows is the image as it was at the
 -- opening after all of it, where the device is trusted. The dirty blocks are those of the commands behind a number, up to which map
--- and data have all.
+-- and data have all, and which the base that it has noted reaches.
 pub record IsOrderOfHistory (opening : ℕ) (image : Image) (trusted : Type 0) (order : OrderState) : Type 0 where
   pub mark : order.mark ≡ opening + length order.history
   pub blocks : length order.cache.states ≡ image.blocks
@@ -26,10 +27,47 @@ pub record IsOrderOfHistory (opening : ℕ) (image : Image) (trusted : Type 0) (
   pub all_clean : order.history ≡ clean ++ behind
   pub dirty : order.dirty ≡ dirty_blocks (opening + length clean) behind
   pub settled : opening + length clean ≤ order.base
+  pub noted : order.base ≤ order.mark
 
--- Of bytes of blocks from the first one on those in a span were read with no lock held. Those of each block that is data and isn't in
--- memory are the image's: of a second handle of a device this is what is trusted, and all.
-abbrev pub GivesImage : ℕ → Span → List ℕ → CacheState → Image → Type 0
-GivesImage first span bytes cache image =
-    (j k : ℕ) → 4096 * j < length bytes → k < 4096 → LiesIn (first + j) span → bytes_seen cache (first + j) ≡ None → image.kind (first + j) ≡ Data
-    → slice_index bytes (4096 * j + k) ≡ image.byte (4096 * (first + j) + k)
+-- The base that an order has noted: the image of the opening after the commands up to its number. And the commands behind that.
+abbrev pub noted_base : ℕ → Image → OrderState → Image
+noted_base opening image order = apply_all (take (order.base - opening) order.history) image
+
+abbrev pub behind_noted : ℕ → OrderState → List Change
+behind_noted opening order = drop (order.base - opening) order.history
+
+-- Bytes of blocks from the first one on, of which those in a span were read with no lock held, and an order over which they are served
+pub record SpanRead : Type 0 where
+  pub first : ℕ
+  pub span : Span
+  pub bytes : List ℕ
+  pub order : OrderState
+
+-- Those of each block that isn't in memory, is data at the base that the order has noted, and that no command behind that writes, are
+-- that base's. Of what a second handle of a device vouches for this is what is trusted, and all.
+abbrev pub IsRight : ℕ → Image → SpanRead → Type 0
+IsRight opening image read =
+    (j k : ℕ) → 4096 * j < length read.bytes → k < 4096 → LiesIn (read.first + j) read.span → bytes_seen read.order.cache (read.first + j) ≡ None
+    → (noted_base opening image read.order).kind (read.first + j) ≡ Data → is_written (read.first + j) (behind_noted opening read.order) ≡ false
+    → slice_index read.bytes (4096 * j + k) ≡ (noted_base opening image read.order).byte (4096 * (read.first + j) + k)
+
+abbrev pub AreRight : ℕ → Image → List SpanRead → Type 0
+AreRight opening image [] = Unit {0}
+AreRight opening image (read ∷ reads) = IsRight opening image read × AreRight opening image reads
+
+abbrev pub AreVouched : (SpanRead → Type 0) → List SpanRead → Type 0
+AreVouched vouches [] = Unit {0}
+AreVouched vouches (read ∷ reads) = ∥ vouches read ∥₁ × AreVouched vouches reads
+
+-- A fact of what memory shows: where the device is trusted, it holds as soon as reads with no lock held are right, each of which a second
+-- handle has vouched for.
+pub record Trusting (opening : ℕ) (image : Image) (vouches : SpanRead → Type 0) (trusted P : Type 0) : Type 0 where
+  pub reads : List SpanRead
+  pub vouched : AreVouched vouches reads
+  pub so : trusted → AreRight opening image reads → P
+
+-- What lies under the order's lock: all this, as soon as such reads are right.
+pub record KeepsImage (opening : ℕ) (image : Image) (vouches : SpanRead → Type 0) (trusted : Type 0) (order : OrderState) : Type 0 where
+  pub reads : List SpanRead
+  pub vouched : AreVouched vouches reads
+  pub is : IsOrderOfHistory opening image (trusted × AreRight opening image reads) order

@@ -7,6 +7,7 @@ use std::marker::Brand;
 pub trait ImageName: BoardName {
     ghost use Rattle.disk_model.specs.Disk.{State};
     ghost use Rattle.image_model.specs.Image.{Image};
+    ghost use Rattle.shared_store.specs.Orders.{SpanRead};
 
     /// The image as the opening found it.
     ghost image: { Image };
@@ -17,8 +18,8 @@ pub trait ImageName: BoardName {
     /// What is trusted of the device: that it is honest, and holds the image.
     ghost trusted: { Type 0 };
 
-    /// What is trusted of a second handle, by which blocks are read with no lock held.
-    ghost shown: { Type 0 };
+    /// What a second handle vouches for, by which blocks are read with no lock held.
+    ghost vouches: { SpanRead → Type 0 };
 }
 
 /// The members that stand here are the ones that nobody picked.
@@ -32,5 +33,5 @@ impl ImageName for Brand {
 
     ghost trusted = { ⊥ };
 
-    ghost shown = { ⊥ };
+    ghost vouches = { λ read. ⊥ };
 }

@@ -17,7 +17,7 @@ ghost use Rattle.request_core.specs.Serving.{IsPassServed};
 ghost use Rattle.order_book.specs.declared.fault.OrderFault.TheVariants as OrderFault;
 ghost use Rattle.shared_store.specs.Keepers.{HasLeft};
 ghost use Rattle.shared_store.specs.Answers.{ServesImage};
-ghost use Rattle.shared_store.specs.Orders.{GivesImage};
+ghost use Rattle.shared_store.specs.Orders.{Trusting};
 ghost use Rattle.shared_store.specs.Parts.{StandsWithin};
 
 use crate::group::SealedGroup;
@@ -49,7 +49,7 @@ impl<B: ImageName> Model for SharedOrder<B> {
     ghost use Rattle.std.specs.Ordering.{nat_cmp};
     ghost use Rattle.std.specs.FinMap as map;
     ghost use Rattle.order_book.specs.Order.{OrderState};
-    ghost use Rattle.shared_store.specs.Orders.{IsOrderOfHistory};
+    ghost use Rattle.shared_store.specs.Orders.{KeepsImage};
 
     ghost Value = { OrderState };
 
@@ -57,7 +57,7 @@ impl<B: ImageName> Model for SharedOrder<B> {
 
     ghost view = { λ shared. shared.order };
 
-    ghost invariant = { λ shared. IsOrderOfHistory B.opening B.image (B.trusted × B.shown) shared.order };
+    ghost invariant = { λ shared. KeepsImage B.opening B.image B.vouches B.trusted shared.order };
 }
 
 impl<B: ImageName> SharedOrder<B> {
@@ -93,7 +93,7 @@ impl<B: ImageName> SharedOrder<B> {
         ensures known { known pass.old ≤ result }
         ensures knew { IsPrefix pass.old.history self.old.history }
         ensures pass { pass.new ≡ record pass.old { history = self.old.history; accepted = result } }
-        ensures shows { B.trusted → B.shown → ShowsImage (apply_all pass.new.history B.image) self.old.cache }
+        ensures shows { Trusting B.opening B.image B.vouches B.trusted (ShowsImage (apply_all pass.new.history B.image) self.old.cache) }
     {
         self.order.show_mark(board, pass)
     }
@@ -112,25 +112,26 @@ impl<B: ImageName> SharedOrder<B> {
         requires kind { request.head.kind ≢ 2 }
         requires blocks { length self.old.cache.states ≡ terms.geometry.blocks }
         ensures blocks { length self.new.cache.states ≡ length self.old.cache.states }
+        ensures noted { self.new.base ≡ self.old.base }
         ensures serves { IfOk result (λ served. IsServedHere (verdict request.head terms.geometry terms.flags) request terms.geometry terms.mode self.old self.new served) }
         ensures needs { IsErr result ↔ NeedsDevice (verdict request.head terms.geometry terms.flags) request self.old }
         ensures handed_back { IfErr result (λ back. back.0 ≡ request) }
         ensures unchanged { OnErr result ((self.new ≡ self.old) × (pass.new ≡ pass.old)) }
         ensures pass { IfOk result (λ served. IsPassServed B.opening request self.old.mark self.new.mark served pass.old pass.new) }
-        ensures shows { B.trusted → B.shown → ShowsImage (apply_all self.old.history B.image) self.old.cache }
+        ensures shows { Trusting B.opening B.image B.vouches B.trusted (ShowsImage (apply_all self.old.history B.image) self.old.cache) }
 
         // Bytes and states are those of the image after the history. A command that was accepted is what the request's edit becomes
         // over the image after the history before it, and its pass knows both.
-        ensures tells { IfOk result (λ served. B.trusted → B.shown → ServesImage (apply_all self.new.history B.image) request.head served) }
-        ensures over { B.trusted → B.shown → self.old.mark < self.new.mark
-            → pass.new.history ≡ self.old.history ++ becomes (edit_asked request) (apply_all self.old.history B.image) ∷ [] }
+        ensures tells { IfOk result (λ served. Trusting B.opening B.image B.vouches B.trusted (ServesImage (apply_all self.new.history B.image) request.head served)) }
+        ensures over { Trusting B.opening B.image B.vouches B.trusted (self.old.mark < self.new.mark
+            → pass.new.history ≡ self.old.history ++ becomes (edit_asked request) (apply_all self.old.history B.image) ∷ []) }
     {
         serve_held(alloc, request, &mut self.order, board, pass, terms)
     }
 
     /// Serves a READ with bytes that were read before, with no lock held. They come back where that isn't enough.
     ///
-    /// That those of blocks which aren't in memory are the image's is the caller's to know, where the device is trusted.
+    /// That those of blocks which aren't in memory are the base's isn't looked at: what memory shows rests on that from then on.
     pub fn serve_over(
         &mut self,
         alloc: Global,
@@ -142,14 +143,15 @@ impl<B: ImageName> SharedOrder<B> {
         requires planned { IsPlanned head.now terms.now.geometry terms.now.flags span }
         requires blocks { length self.old.cache.states ≡ terms.now.geometry.blocks }
         requires size { vec_len bytes ≡ 4096 * blocks_met head.now.offset head.now.length }
-        requires given { B.trusted → B.shown → GivesImage (head.now.offset / 4096) span bytes.items self.old.cache (apply_all self.old.history B.image) }
+        requires vouched { ∥ B.vouches (record { first = head.now.offset / 4096; span = span; bytes = bytes.items; order = self.old }) ∥₁ }
         ensures read { IfOk result (λ served. IsReadOverServed head.now span bytes.items self.old self.new served) }
         ensures blocks { length self.new.cache.states ≡ length self.old.cache.states }
+        ensures noted { self.new.base ≡ self.old.base }
         ensures stopped { self.old.stopped ≡ true → IsErr result }
         ensures size { IfErr result (λ back. vec_len back ≡ 4096 * blocks_met head.now.offset head.now.length) }
         ensures unchanged { OnErr result (self.new ≡ self.old) }
-        ensures shows { B.trusted → B.shown → ShowsImage (apply_all self.old.history B.image) self.old.cache }
-        ensures tells { IfOk result (λ served. B.trusted → B.shown → ServesImage (apply_all self.new.history B.image) head.now served) }
+        ensures shows { Trusting B.opening B.image B.vouches B.trusted (ShowsImage (apply_all self.old.history B.image) self.old.cache) }
+        ensures tells { IfOk result (λ served. Trusting B.opening B.image B.vouches B.trusted (ServesImage (apply_all self.new.history B.image) head.now served)) }
     {
         serve_read_over(alloc, head, &mut self.order, span, bytes, terms)
     }
@@ -168,14 +170,15 @@ impl<B: ImageName> SharedOrder<B> {
         requires blocks { length self.old.cache.states ≡ terms.geometry.blocks }
         requires device { terms.geometry ≡ keeper.old.keeper.geometry }
         ensures blocks { length self.new.cache.states ≡ length self.old.cache.states }
+        ensures noted { self.new.base ≡ self.old.base }
         ensures geometry { keeper.new.keeper.geometry ≡ keeper.old.keeper.geometry }
         ensures count { keeper.new.keeper.count ≡ keeper.old.keeper.count }
         ensures serves { (given : Result Action Errno) × (given ≡ verdict request.head terms.geometry terms.flags)
             × IsServedBy D.state D.faults D.honest given request terms.geometry terms.mode self.old self.new keeper.old.keeper keeper.new.keeper result }
         ensures pass { IsPassServed B.opening request self.old.mark self.new.mark result pass.old pass.new }
-        ensures tells { B.trusted → B.shown → ServesImage (apply_all self.new.history B.image) request.head result }
-        ensures over { B.trusted → B.shown → self.old.mark < self.new.mark
-            → pass.new.history ≡ self.old.history ++ becomes (edit_asked request) (apply_all self.old.history B.image) ∷ [] }
+        ensures tells { Trusting B.opening B.image B.vouches B.trusted (ServesImage (apply_all self.new.history B.image) request.head result) }
+        ensures over { Trusting B.opening B.image B.vouches B.trusted (self.old.mark < self.new.mark
+            → pass.new.history ≡ self.old.history ++ becomes (edit_asked request) (apply_all self.old.history B.image) ∷ []) }
         ensures any_moment { B.trusted → LeavesOnly (D.state keeper.old.keeper.disk) (D.state keeper.new.keeper.disk)
             (StandsWithin B.opening B.image self.old.history keeper.old.keeper.count) }
     {
@@ -223,6 +226,7 @@ impl<B: ImageName> SharedOrder<B> {
     /// Makes durable what the keeper has stored.
     pub fn publish<D: Disk>(&mut self, board: &Board<B>, keeper: &mut SharedKeeper<B, D>)
         ensures order { self.new ≡ with_durable self.old keeper.old.keeper.count }
+        ensures noted { self.new.base ≡ self.old.base }
         ensures keeper { keeper.new.keeper ≡ keeper.old.keeper }
     {
         keeper.publish(board, &mut self.order);
@@ -246,6 +250,7 @@ impl<B: ImageName> SharedOrder<B> {
         ensures left { B.trusted → (content : List ℕ) → MayLeave (D.state keeper.old.keeper.disk) content
             → StandsWithin B.opening B.image pass.new.history pass.old.durable content }
         ensures passed { B.trusted → HasLeft B.start (D.state keeper.old.keeper.disk) B.opening B.image pass.new.history }
+        ensures honest { B.trusted → D.honest keeper.old.keeper.disk }
     {
         keeper.meet_pass(board, pass);
         keeper.meet(board, &mut self.order);
@@ -255,6 +260,7 @@ impl<B: ImageName> SharedOrder<B> {
     /// Makes the dirty blocks clean that map and data hold: their frames can be let go.
     pub fn clean<D: Disk>(&mut self, board: &Board<B>, keeper: &mut SharedKeeper<B, D>)
         ensures order { self.new ≡ with_clean (record self.old { base = max self.old.base keeper.old.keeper.base }) keeper.old.keeper.base }
+        ensures noted { self.new.base ≡ keeper.old.keeper.base }
         ensures keeper { keeper.new.keeper ≡ keeper.old.keeper }
     {
         keeper.meet(board, &mut self.order);

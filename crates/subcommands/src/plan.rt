@@ -1,6 +1,6 @@
+use front_end::ServeOptions;
 use image_model::Geometry;
 use nbdj_pipe::PipeOptions;
-use server::ServeOptions;
 
 /// Where clients arrive.
 #[derive(Clone, Copy, Debug)]

@@ -18,11 +18,11 @@ use Rattle.export.specs.declared.submitting.Outcome.{Outcome}
 use Rattle.export.specs.declared.submitting.Outcome.TheVariants.{Answered, Waits}
 
 -- it is answered, or waits for a number
-abbrev pub IsOutcomeFor : ℕ → Image → Type 0 → Message → Mode → PassState → PassState → Outcome → Type 0
-IsOutcomeFor opening first trusted request kept old new (Answered answer) = IsSubmitted opening first trusted request kept old new answer
-IsOutcomeFor opening first trusted request kept old new (Waits number) =
+abbrev pub IsOutcomeFor : ℕ → Image → (Type 0 → Type 0) → Message → Mode → PassState → PassState → Outcome → Type 0
+IsOutcomeFor opening first Sure request kept old new (Answered answer) = IsSubmitted opening first Sure request kept old new answer
+IsOutcomeFor opening first Sure request kept old new (Waits number) =
     (is_flush request ≡ true → (known old ≤ number) × (new.own ≡ old.own) × IsPrefix old.history new.history × (number ≡ opening + length new.history))
-    × (is_flush request ≡ false → (is_write request ≡ true) × IsAccepted opening first trusted request number old new)
+    × (is_flush request ≡ false → (is_write request ≡ true) × IsAccepted opening first Sure request number old new)
 
 -- its answer is one of its type, which the verdict on it allows
 abbrev pub FitsOutcome : Geometry → SessionFlags → Message → Outcome → Type 0

@@ -20,12 +20,12 @@ use Rattle.export_model.specs.declared.step.Mode.{Mode}
 use Rattle.export.specs.Submits.{IsAccepted, IsSubmitted, IsJudged}
 
 -- What a request comes to when it is served: it is answered, or waits for a number, or has no room and comes back.
-abbrev pub IsServedFor : ℕ → Image → Type 0 → Message → Mode → PassState → PassState → Served → Type 0
-IsServedFor opening first trusted request kept old new (served.Ready reply) = IsSubmitted opening first trusted request kept old new reply.answer
-IsServedFor opening first trusted request kept old new (served.Wait number) =
+abbrev pub IsServedFor : ℕ → Image → (Type 0 → Type 0) → Message → Mode → PassState → PassState → Served → Type 0
+IsServedFor opening first Sure request kept old new (served.Ready reply) = IsSubmitted opening first Sure request kept old new reply.answer
+IsServedFor opening first Sure request kept old new (served.Wait number) =
     (is_flush request ≡ true → (known old ≤ number) × (new.own ≡ old.own) × IsPrefix old.history new.history × (number ≡ opening + length new.history))
-    × (is_flush request ≡ false → (is_write request ≡ true) × IsAccepted opening first trusted request number old new)
-IsServedFor opening first trusted request kept old new (served.NoRoom back) = (new ≡ old) × (back ≡ request)
+    × (is_flush request ≡ false → (is_write request ≡ true) × IsAccepted opening first Sure request number old new)
+IsServedFor opening first Sure request kept old new (served.NoRoom back) = (new ≡ old) × (back ≡ request)
 
 -- whether bytes or states were answered, which are an image's
 abbrev pub is_of_image : Answer → Bool

@@ -12,4 +12,4 @@ ghosts-measure_over-B-ExportName g a = record { geometry = a.device.keeper.geome
 
 -- an image of as many blocks, and nothing that is trusted
 abbrev pub ghosts-measure_over-B-ImageName : goal.ghosts-measure_over-B-ImageName
-ghosts-measure_over-B-ImageName g a = record { image = holes a.device.keeper.geometry.blocks; start = empty_device; trusted = ⊥; shown = ⊥ }
+ghosts-measure_over-B-ImageName g a = record { image = holes a.device.keeper.geometry.blocks; start = empty_device; trusted = ⊥; vouches = λ read. Unit {0} }

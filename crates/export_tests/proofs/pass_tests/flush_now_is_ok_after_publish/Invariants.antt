@@ -12,4 +12,4 @@ ghosts-ask_beside_a_flusher-B-ExportName g a = record { geometry = a.device.keep
 
 -- an image of as many blocks, and nothing that is trusted
 abbrev pub ghosts-ask_beside_a_flusher-B-ImageName : goal.ghosts-ask_beside_a_flusher-B-ImageName
-ghosts-ask_beside_a_flusher-B-ImageName g a = record { image = holes a.device.keeper.geometry.blocks; start = empty_device; trusted = ⊥; shown = ⊥ }
+ghosts-ask_beside_a_flusher-B-ImageName g a = record { image = holes a.device.keeper.geometry.blocks; start = empty_device; trusted = ⊥; vouches = λ read. Unit {0} }

@@ -12,4 +12,4 @@ ghosts-tell_and_read-B-ExportName g a = record { geometry = a.device.keeper.geom
 
 -- an image of as many blocks, and nothing that is trusted
 abbrev pub ghosts-tell_and_read-B-ImageName : goal.ghosts-tell_and_read-B-ImageName
-ghosts-tell_and_read-B-ImageName g a = record { image = holes a.device.keeper.geometry.blocks; start = empty_device; trusted = ⊥; shown = ⊥ }
+ghosts-tell_and_read-B-ImageName g a = record { image = holes a.device.keeper.geometry.blocks; start = empty_device; trusted = ⊥; vouches = λ read. Unit {0} }

@@ -19,7 +19,7 @@ ghosts-reads_as-B-ExportName g a = record { geometry = a.device.keeper.geometry 
 
 -- an image of as many blocks, and nothing that is trusted
 abbrev pub ghosts-run-B-ImageName : goal.ghosts-run-B-ImageName
-ghosts-run-B-ImageName g a = record { image = holes a.device.keeper.geometry.blocks; start = empty_device; trusted = ⊥; shown = ⊥ }
+ghosts-run-B-ImageName g a = record { image = holes a.device.keeper.geometry.blocks; start = empty_device; trusted = ⊥; vouches = λ read. Unit {0} }
 
 abbrev pub ghosts-reads_as-B-ImageName : goal.ghosts-reads_as-B-ImageName
-ghosts-reads_as-B-ImageName g a = record { image = holes a.device.keeper.geometry.blocks; start = empty_device; trusted = ⊥; shown = ⊥ }
+ghosts-reads_as-B-ImageName g a = record { image = holes a.device.keeper.geometry.blocks; start = empty_device; trusted = ⊥; vouches = λ read. Unit {0} }

@@ -1,5 +1,5 @@
 use Rattle.std.specs.Prelude.{◌≡◌, Some}
-use Rattle.export.specs.Trusted.{IsTrusted, VouchesTruly, image_found}
+use Rattle.export.specs.Trusted.{IsTrusted, image_found}
 use Rattle.server.proofs.serving.serve.Given as goal
 
 -- the board that was just made
@@ -10,11 +10,11 @@ ghosts-serve_over-B-BoardName g a = record { board = a.device.blank.board; openi
 abbrev pub ghosts-serve_over-B-ExportName : goal.ghosts-serve_over-B-ExportName
 ghosts-serve_over-B-ExportName g a = record { geometry = a.device.keeper.geometry }
 
--- the image that was found, and what is trusted of the device and of its second handle
+-- the image that was found, what is trusted of the device, and what its second handle vouches for
 abbrev pub ghosts-serve_over-B-ImageName : goal.ghosts-serve_over-B-ImageName
 ghosts-serve_over-B-ImageName g a = record {
   image = image_found g.D.Disk.state a.device.keeper;
   start = g.D.Disk.state a.device.keeper.disk;
   trusted = IsTrusted g.D.Disk.state g.D.Disk.honest a.device.keeper (image_found g.D.Disk.state a.device.keeper);
-  shown = (handle : g.row.H.Denot) → a.device.beside ≡ Some handle → VouchesTruly (g.H.ReadBeside.vouches handle) (image_found g.D.Disk.state a.device.keeper);
+  vouches = λ read. (handle : g.row.H.Denot) × (a.device.beside ≡ Some handle) × g.H.ReadBeside.vouches handle read;
 }

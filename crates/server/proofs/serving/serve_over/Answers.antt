@@ -9,7 +9,7 @@ returns-after-pending-clause-left g c = λ sure.
     (pass.history, reaching g.B.ImageName.start (g.D.Disk.state c.close-disk.result.0) g.B.BoardName.opening g.B.ImageName.image pass.history pass.durable g.B.BoardName.opening (λ content is. omega arith) (c.close-disk.ensures.left sure))
 
 pub returns-after-pending-clause-stored : goal.returns-after-pending-clause-stored
-returns-after-pending-clause-stored g c = on_ok c.end_of.result c.end_of.ensures (λ stored sure.
+returns-after-pending-clause-stored g c = on_ok c.end_of.result c.end_of.ensures.stored (λ stored sure.
     let pass = c.close-disk.new.pass in let all = c.close-disk.ensures.stored.0 stored in (
       pass.history,
       reaching g.B.ImageName.start (g.D.Disk.state c.close-disk.result.0) g.B.BoardName.opening g.B.ImageName.image pass.history pass.durable (g.B.BoardName.opening + length pass.history)

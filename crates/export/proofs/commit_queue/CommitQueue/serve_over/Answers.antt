@@ -4,7 +4,8 @@ use Rattle.nbd_wire.specs.declared.head.RequestHead.{RequestHead}
 use Rattle.order_book.specs.Order.{OrderState}
 use Rattle.request_core.specs.Reading.{IsReadOverServed}
 use Rattle.shared_store.specs.Answers.{ServesImage}
-use Rattle.shared_store.specs.Orders.{GivesImage}
+use Rattle.shared_store.specs.Orders.{Trusting}
+use Rattle.shared_store.specs.laws.Trust.{trusting}
 use Rattle.export.proofs.Fits.{over_fits}
 use Rattle.export.proofs.Submits.{over_served_for}
 use Rattle.export.proofs.Told.{shown_for, told}
@@ -14,15 +15,17 @@ pub returns-clause-served : goal.returns-clause-served
 returns-clause-served g c =
     let request = c.args.request.now in let opening = g.B.BoardName.opening in let image = g.B.ImageName.image in
     let served = c.in_ok-served.served in let order = c.serve_over.new.self in let pass = c.args.pass.now in
-    shown_for opening image (g.B.ImageName.trusted × g.B.ImageName.shown) request c.args.terms.now.mode pass pass c.show.new.pass order.history order.mark served
-    (over_served_for opening image (g.B.ImageName.trusted × g.B.ImageName.shown) request c.args.terms.now.mode pass c.args.planned.span c.args.bytes.items c.args.self.now.order order served
+    shown_for opening image (Trusting g.B.BoardName.opening g.B.ImageName.image g.B.ImageName.vouches g.B.ImageName.trusted) request c.args.terms.now.mode pass pass c.show.new.pass order.history order.mark served
+    (over_served_for opening image (Trusting g.B.BoardName.opening g.B.ImageName.image g.B.ImageName.vouches g.B.ImageName.trusted) request c.args.terms.now.mode pass c.args.planned.span c.args.bytes.items c.args.self.now.order order served
     (subst (λ (head : RequestHead). IsReadOverServed head c.args.planned.span c.args.bytes.items c.args.self.now.order order served) c.head-head.ensures c.in_ok-served.ensures.read)) c.show.ensures.pass
 
 pub returns-clause-tells : goal.returns-clause-tells
-returns-clause-tells g c = λ sure so.
+returns-clause-tells g c =
     let order = c.serve_over.new.self in let served = c.in_ok-served.served in let image = g.B.ImageName.image in
+    trusting g.B.BoardName.opening image g.B.ImageName.vouches g.B.ImageName.trusted
+    (λ (is : ServesImage (apply_all order.history image) c.head-head.result served).
     told image c.args.request.now.head order.history order.mark c.args.pass.now c.show.new.pass served c.show.ensures.pass
-    (subst (λ (head : RequestHead). ServesImage (apply_all order.history image) head served) c.head-head.ensures (c.in_ok-served.ensures.tells sure so))
+    (subst (λ (head : RequestHead). ServesImage (apply_all order.history image) head served) c.head-head.ensures is)) c.in_ok-served.ensures.tells
 
 pub returns-clause-fits : goal.returns-clause-fits
 returns-clause-fits g c =
@@ -37,10 +40,10 @@ returns-clause-over g c =
     subst (λ (o : OrderState). IsReadOverServed c.args.request.now.head c.args.planned.span c.args.bytes.items c.args.self.now.order o served) (sym c.show.ensures.order)
     (subst (λ (head : RequestHead). IsReadOverServed head c.args.planned.span c.args.bytes.items c.args.self.now.order order served) c.head-head.ensures c.in_ok-served.ensures.read)
 
-pub serve_over-requires-clause-given : goal.serve_over-requires-clause-given
-serve_over-requires-clause-given g c = λ sure shown.
-    let order = c.args.self.now.order in let span = c.args.planned.span in let image = g.B.ImageName.image in
-    subst (λ (n : ℕ). GivesImage n span c.args.bytes.items order.cache (apply_all order.history image)) c.of.ensures.first
-    (subst (λ (l : List ℕ). GivesImage c.of.result.first span l order.cache (apply_all order.history image)) c.deref.ensures.value
-    (subst (λ (o : OrderState). GivesImage c.of.result.first span c.deref.result.now o.cache (apply_all o.history image)) c.order.ensures
-    (c.requires.vouched shown c.of.result.first span c.deref.result.now c.order.result.now (c.vouch-is_vouched.ensures c.if-not-is_vouched.false))))
+pub serve_over-requires-clause-vouched : goal.serve_over-requires-clause-vouched
+serve_over-requires-clause-vouched g c =
+    let vouched : ℕ → List ℕ → OrderState → Type 0 = λ first bytes order. ∥ g.B.ImageName.vouches (record { first = first; span = c.args.planned.span; bytes = bytes; order = order }) ∥₁ in
+    subst (λ (n : ℕ). vouched n c.args.bytes.items c.args.self.now.order) c.of.ensures.first
+    (subst (λ (l : List ℕ). vouched c.of.result.first l c.args.self.now.order) c.deref.ensures.value
+    (subst (λ (o : OrderState). vouched c.of.result.first c.deref.result.now o) c.order.ensures
+    (c.requires.vouched _ (c.vouch-is_vouched.ensures c.if-not-is_vouched.false))))

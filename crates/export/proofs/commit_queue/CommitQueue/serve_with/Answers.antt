@@ -2,6 +2,8 @@ use Rattle.std.proofs.Common.{◌∙◌, sym}
 use Rattle.export.proofs.Fits.{with_fits, writes}
 use Rattle.export.proofs.Submits.{served_with}
 use Rattle.export.proofs.Told.{shown_for, told}
+use Rattle.shared_store.specs.Orders.{Trusting}
+use Rattle.shared_store.specs.laws.Trust.{trusting}
 use Rattle.export.proofs.commit_queue.CommitQueue.serve_with.Goals as goal
 
 pub returns-clause-served : goal.returns-clause-served
@@ -9,8 +11,8 @@ returns-clause-served g c =
     let (given, given_is, by) = c.serve_with-served.ensures.serves in
     let request = c.args.request in let terms = c.args.terms in let opening = g.B.BoardName.opening in let image = g.B.ImageName.image in
     let served = c.serve_with-served.result in let order = c.serve_with-served.new.self in let mid = c.serve_with-served.new.pass in let call = c.serve_with-served.ensures in
-    shown_for opening image (g.B.ImageName.trusted × g.B.ImageName.shown) request terms.mode c.args.pass.now mid c.show.new.pass order.history order.mark served
-    (served_with opening image (g.B.ImageName.trusted × g.B.ImageName.shown) request terms.mode c.args.pass.now mid terms.geometry c.args.self.now.order order served call.pass (λ both. call.over both.0 both.1)
+    shown_for opening image (Trusting g.B.BoardName.opening g.B.ImageName.image g.B.ImageName.vouches g.B.ImageName.trusted) request terms.mode c.args.pass.now mid c.show.new.pass order.history order.mark served
+    (served_with opening image (Trusting g.B.BoardName.opening g.B.ImageName.image g.B.ImageName.vouches g.B.ImageName.trusted) (λ P Q step is. trusting g.B.BoardName.opening g.B.ImageName.image g.B.ImageName.vouches g.B.ImageName.trusted step is) request terms.mode c.args.pass.now mid terms.geometry c.args.self.now.order order served call.pass call.over
     g.D.Disk.state g.D.Disk.faults g.D.Disk.honest c.args.keeper.now.keeper c.serve_with-served.new.keeper.keeper given (λ passes. writes request terms.geometry terms.flags (sym given_is ∙ passes)) by) c.show.ensures.pass
 
 pub returns-clause-fits : goal.returns-clause-fits
@@ -20,6 +22,7 @@ returns-clause-fits g c =
     g.D.Disk.state g.D.Disk.faults g.D.Disk.honest c.args.keeper.now.keeper c.serve_with-served.new.keeper.keeper given (sym given_is) by
 
 pub returns-clause-tells : goal.returns-clause-tells
-returns-clause-tells g c = λ sure so.
+returns-clause-tells g c =
     let order = c.serve_with-served.new.self in
-    told g.B.ImageName.image c.args.request.head order.history order.mark c.serve_with-served.new.pass c.show.new.pass c.serve_with-served.result c.show.ensures.pass (c.serve_with-served.ensures.tells sure so)
+    trusting g.B.BoardName.opening g.B.ImageName.image g.B.ImageName.vouches g.B.ImageName.trusted (told g.B.ImageName.image c.args.request.head order.history order.mark c.serve_with-served.new.pass c.show.new.pass c.serve_with-served.result c.show.ensures.pass)
+    c.serve_with-served.ensures.tells

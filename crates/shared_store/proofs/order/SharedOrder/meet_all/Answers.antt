@@ -19,3 +19,7 @@ returns-clause-left g c = λ sure content left.
     subst (λ (h : List Change). StandsWithin g.B.BoardName.opening g.B.ImageName.image h c.args.pass.now.durable content) history
     (stands_less g.D.Disk.state g.D.Disk.honest g.B.BoardName.opening g.B.ImageName.image g.B.ImageName.trusted met.seat met.keeper c.meet.ensures.stored met.seat c.args.pass.now.durable (prefix_self met.seat.history) less sure content
     (subst (λ (k : KeeperState g.row.D.Denot). MayLeave (g.D.Disk.state k.disk) content) (sym same) left))
+
+pub returns-clause-honest : goal.returns-clause-honest
+returns-clause-honest g c = λ sure.
+    subst (λ (k : KeeperState g.row.D.Denot). g.D.Disk.honest k.disk) (c.meet.ensures.keeper ∙ c.meet_pass.ensures.keeper) (c.meet.ensures.stored.sure sure)

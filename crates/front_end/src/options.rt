@@ -1,7 +1,7 @@
 ghost use Rattle.std.specs.Prelude.{◌≡◌, ◌<◌, ◌≤◌, MatchOption};
 
+use crate::limits::{LEAST_FRAMES, MOST_FRAMES};
 use export_model::Mode;
-use front_end::{LEAST_FRAMES, MOST_FRAMES};
 use std::time::Duration;
 
 /// The most clients that are served at a time.
@@ -30,15 +30,18 @@ pub struct Limits {
 }
 
 impl Limits {
-    pub(crate) fn handshake(&self) -> Option<Duration> {
+    /// How long a handshake may take.
+    pub fn handshake(&self) -> Option<Duration> {
         seconds(self.handshake_seconds)
     }
 
-    pub(crate) fn idle(&self) -> Option<Duration> {
+    /// How long a client may say nothing; none for no end.
+    pub fn idle(&self) -> Option<Duration> {
         seconds(self.idle_seconds)
     }
 
-    pub(crate) fn pending(&self) -> Option<Duration> {
+    /// How long what is pending may wait; none for no end.
+    pub fn pending(&self) -> Option<Duration> {
         seconds(self.flush_seconds)
     }
 }

@@ -1,0 +1,13 @@
+use Rattle.std.proofs.Common.{◌∙◌, ap, arith}
+use Rattle.marks.specs.Known.{PassState}
+use Rattle.marks.specs.laws.Beginnings.{prefix_trans}
+use Rattle.export.proofs.export.Export.settle.Goals as goal
+
+pub returns : goal.returns
+returns g c =
+    let looked = c.look_accepted-accepted.ensures in let waited = c.wait_for.ensures in record {
+      answered = waited.answered;
+      done = λ done. let reached = waited.done done in let known = looked.known in omega (arith, reached, known);
+      own = waited.own ∙ ap (λ (p : PassState). p.own) looked.pass;
+      knew = prefix_trans c.args.pass.now.history c.look_accepted-accepted.new.pass.history c.wait_for.new.pass.history looked.seen waited.knew;
+    }
