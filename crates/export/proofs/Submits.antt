@@ -78,7 +78,7 @@ module _ (opening : ℕ) (first : Image) (Sure : Type 0 → Type 0) (request : M
   unanswered : (cookie : ℕ) (answer : Answer) (result : Served) → answer ≢ Done → next ≡ pass → result ≡ ready_for cookie answer → IsServedFor opening first Sure request kept pass next result
   unanswered cookie answer result undone left is =
       subst (λ (r : Served). IsServedFor opening first Sure request kept pass next r) (sym is)
-      (record { knew = subst (λ (p : PassState). IsPrefix pass.history p.history) (sym left) (prefix_self pass.history); written = λ done. absurd (undone done); flushed = λ done. absurd (undone done); covered = λ done. absurd (undone done); refused = λ errno is_errno other. left; own = inl (ap (λ (p : PassState). p.own) left) })
+      (record { knew = subst (λ (p : PassState). IsPrefix pass.history p.history) (sym left) (prefix_self pass.history); written = λ done. absurd (undone done); flushed = λ done. absurd (undone done); covered = λ done. absurd (undone done); refused = λ errno is_errno other. left; own = inl (ap (λ (p : PassState). p.own) left); lasts = let same = ap (λ (p : PassState). p.durable) left in omega (arith, same) })
 
 -- what a request comes to of a board that opened with this number
 module _ (opening : ℕ) (first : Image) (Sure : Type 0 → Type 0) (sure : (P Q : Type 0) → (P → Q) → Sure P → Sure Q) (request : Message) (kept : Mode) (pass next : PassState) where
@@ -104,7 +104,7 @@ module _ (opening : ℕ) (first : Image) (Sure : Type 0 → Type 0) (sure : (P Q
       → IsServedFor opening first Sure request kept pass next result
   flush_served before after number result flush is passed =
       let at = subst (λ (b : Bool). MatchBool b (IsShownTo opening number pass next) (IsAcceptedFor opening request number pass next)) flush (waiting before after number result is passed) in
-      subst (λ (r : Served). IsServedFor opening first Sure request kept pass next r) (sym is) (λ same. (at.known_is, ap (λ (p : PassState). p.own) at.pass, at.knew, at.place), λ other. absurd (true≢false (sym flush ∙ other)))
+      subst (λ (r : Served). IsServedFor opening first Sure request kept pass next r) (sym is) (λ same. (at.known_is, ap (λ (p : PassState). p.own) at.pass, at.knew, at.place), λ other. absurd (true≢false (sym flush ∙ other)), let same = ap (λ (p : PassState). p.durable) at.pass in omega (arith, same))
 
   -- the history that the pass then knows, where a command was accepted over this one
   abbrev IsOver : List Change → Type 0
@@ -130,7 +130,7 @@ module _ (opening : ℕ) (first : Image) (Sure : Type 0 → Type 0) (sure : (P Q
       → result ≡ served_after waits cookie (before + 1) → IsPassServed opening request before after result pass next → IsServedFor opening first Sure request kept pass next result
   numbered before after cookie result history over true waits other write grown is passed =
       let at = subst (λ (b : Bool). MatchBool b (IsShownTo opening (before + 1) pass next) (IsAcceptedFor opening request (before + 1) pass next)) other (waiting before after (before + 1) result is passed) in
-      subst (λ (r : Served). IsServedFor opening first Sure request kept pass next r) (sym is) (λ flush. absurd (true≢false (sym flush ∙ other)), λ same. (write, own_of (before + 1) history over at))
+      subst (λ (r : Served). IsServedFor opening first Sure request kept pass next r) (sym is) (λ flush. absurd (true≢false (sym flush ∙ other)), λ same. (write, own_of (before + 1) history over at), let same = ap (λ (p : PassState). p.durable) at.pass in omega (arith, same))
   numbered before after cookie result history over false waits other write grown is passed =
       let at : IsPassServed opening request before after (ready_for cookie Done) pass next = subst (λ (r : Served). IsPassServed opening request before after r pass next) is passed in
       let more : nat_lt before after ≡ true = ap (nat_lt before) grown ∙ less_next before in
@@ -143,6 +143,7 @@ module _ (opening : ℕ) (first : Image) (Sure : Type 0 → Type 0) (sure : (P Q
         covered = λ done flush. absurd (true≢false (sym flush ∙ other));
         refused = λ errno is_errno. absurd (refused_undone errno (sym is_errno));
         own = inr (write, after, own_of after history over own);
+        lasts = let same = ap (λ (p : PassState). p.durable) own.pass in omega (arith, same);
       })
 
   module _ (geometry : Geometry) (old new : OrderState) (result : Served) (passed : IsPassServed opening request old.mark new.mark result pass next) (over : Sure (old.mark < new.mark → next.history ≡ old.history ++ becomes (edit_asked request) (apply_all old.history first) ∷ [])) where
@@ -200,7 +201,8 @@ over_served_for opening first Sure request kept pass span bytes old new result (
 -- what a request is answered that has waited for its number
 module _ (opening : ℕ) (first : Image) (Sure : Type 0 → Type 0) (request : Message) (kept : Mode) (old mid new : PassState) (number : ℕ) (answer : Answer)
     (served : (is_flush request ≡ true → (known old ≤ number) × (mid.own ≡ old.own) × IsPrefix old.history mid.history × (number ≡ opening + length mid.history))
-    × (is_flush request ≡ false → (is_write request ≡ true) × IsAccepted opening first Sure request number old mid))
+    × (is_flush request ≡ false → (is_write request ≡ true) × IsAccepted opening first Sure request number old mid)
+    × (old.durable ≤ mid.durable))
     (waited : IsWaitedFor number mid new answer) where
   accepted : is_flush request ≡ false → IsAccepted opening first Sure request number old new
   accepted other =
@@ -233,6 +235,7 @@ module _ (opening : ℕ) (first : Image) (Sure : Type 0 → Type 0) (request : M
   pub waited_for : IsSubmitted opening first Sure request kept old new answer
   waited_for = record {
     knew = knew_by (is_flush request) refl;
+    lasts = let first = served.2 in let rest = waited.lasts in omega (arith, first, rest);
     written = λ done write. (number, accepted (write_flushes_none request.head.kind write), λ stored. waited.done done);
     flushed = λ done flush. let less = (served.0 flush).0 in let more = waited.done done in omega arith;
     covered = λ done flush. record {

@@ -1,5 +1,5 @@
 -- what was served is shown to its pass
-use Rattle.std.proofs.Common.{◌≡◌, ◌≢◌, ◌⊎◌, ◌∙◌, inl, inr, ℕ, false, true, List, [], ◌∷◌, ◌++◌, ap, refl, sym, subst}
+use Rattle.std.proofs.Common.{◌≡◌, ◌≢◌, ◌⊎◌, ◌∙◌, inl, inr, ℕ, false, true, List, [], ◌∷◌, ◌++◌, ap, refl, sym, subst, arith}
 use mathlib.Core.List.{IsPrefix}
 use Rattle.image_model.specs.Change.{Change}
 use Rattle.image_model.specs.Edit.{becomes}
@@ -27,6 +27,7 @@ module _ (opening : ℕ) (first : Image) (Sure : Type 0 → Type 0) (request : M
       → new ≡ record mid { history = history; accepted = mark } → IsSubmitted opening first Sure request kept old new answer
   shown_behind answer undone answered is knew shown = record {
     knew = prefix_trans old.history mid.history new.history is.knew knew;
+    lasts = let first = is.lasts in let same = ap (λ (p : PassState). p.durable) shown in omega (arith, first, same);
     written = λ done. absurd (undone done);
     flushed = λ done. absurd (undone done);
     covered = λ done. absurd (undone done);

@@ -38,10 +38,11 @@ pub record IsCovered (opening : ℕ) (old new : PassState) : Type 0 where
 
 -- A write command that is answered Ok has a number above all that its pass knew, and it is durable where the answer waits for that.
 -- A FLUSH that is answered Ok: all that its pass knew before is durable, whichever connection's it was. An error other than EIO
--- leaves the pass as it was. Whatever the answer is, the pass has the commands that it had or the request's more, and the history
--- that it knows then begins with the one that it knew.
+-- leaves the pass as it was. Whatever the answer is, the pass has the commands that it had or the request's more, the history
+-- that it knows then begins with the one that it knew, and all is durable still that it knew to be.
 pub record IsSubmitted (opening : ℕ) (first : Image) (Sure : Type 0 → Type 0) (request : Message) (kept : Mode) (old new : PassState) (answer : Answer) : Type 0 where
   pub knew : IsPrefix old.history new.history
+  pub lasts : old.durable ≤ new.durable
   pub written : answer ≡ Done → is_write request ≡ true → (number : ℕ) × IsAccepted opening first Sure request number old new × (waits_for_store kept request ≡ true → number ≤ new.durable)
   pub flushed : answer ≡ Done → is_flush request ≡ true → known old ≤ new.durable
   pub covered : answer ≡ Done → is_flush request ≡ true → IsCovered opening old new
@@ -67,3 +68,4 @@ pub record IsSettled (old new : PassState) (answer : Answer) : Type 0 where
   pub done : answer ≡ Done → known old ≤ new.durable
   pub own : new.own ≡ old.own
   pub knew : IsPrefix old.history new.history
+  pub lasts : old.durable ≤ new.durable

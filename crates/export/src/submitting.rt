@@ -39,6 +39,7 @@ impl<B: ExportName, D: Disk, H: ReadBeside> Export<B, D, H> {
         ensures none { IfNone result (pass.new.durable < pass.new.accepted) }
         ensures knew { IsPrefix pass.old.history pass.new.history }
         ensures covered { IfSome result (λ answer. IsCovered B.opening pass.old pass.new) }
+        ensures lasts { pass.old.durable ≤ pass.new.durable }
         ensures own { pass.new.own ≡ pass.old.own }
     {
         let accepted = self.board.look_accepted(pass);

@@ -23,6 +23,7 @@ IsOutcomeFor opening first Sure request kept old new (Answered answer) = IsSubmi
 IsOutcomeFor opening first Sure request kept old new (Waits number) =
     (is_flush request ≡ true → (known old ≤ number) × (new.own ≡ old.own) × IsPrefix old.history new.history × (number ≡ opening + length new.history))
     × (is_flush request ≡ false → (is_write request ≡ true) × IsAccepted opening first Sure request number old new)
+    × (old.durable ≤ new.durable)
 
 -- its answer is one of its type, which the verdict on it allows
 abbrev pub FitsOutcome : Geometry → SessionFlags → Message → Outcome → Type 0

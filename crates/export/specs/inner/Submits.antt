@@ -25,6 +25,7 @@ IsServedFor opening first Sure request kept old new (served.Ready reply) = IsSub
 IsServedFor opening first Sure request kept old new (served.Wait number) =
     (is_flush request ≡ true → (known old ≤ number) × (new.own ≡ old.own) × IsPrefix old.history new.history × (number ≡ opening + length new.history))
     × (is_flush request ≡ false → (is_write request ≡ true) × IsAccepted opening first Sure request number old new)
+    × (old.durable ≤ new.durable)
 IsServedFor opening first Sure request kept old new (served.NoRoom back) = (new ≡ old) × (back ≡ request)
 
 -- whether bytes or states were answered, which are an image's
@@ -64,3 +65,4 @@ pub record IsWaitedFor (number : ℕ) (old new : PassState) (answer : Answer) : 
   pub done : answer ≡ Done → number ≤ new.durable
   pub own : new.own ≡ old.own
   pub knew : IsPrefix old.history new.history
+  pub lasts : old.durable ≤ new.durable

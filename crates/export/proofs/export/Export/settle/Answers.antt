@@ -9,5 +9,6 @@ returns g c =
       answered = waited.answered;
       done = λ done. let reached = waited.done done in let known = looked.known in omega (arith, reached, known);
       own = waited.own ∙ ap (λ (p : PassState). p.own) looked.pass;
+      lasts = let same = ap (λ (p : PassState). p.durable) looked.pass in let rest = waited.lasts in omega (arith, same, rest);
       knew = prefix_trans c.args.pass.now.history c.look_accepted-accepted.new.pass.history c.wait_for.new.pass.history looked.seen waited.knew;
     }

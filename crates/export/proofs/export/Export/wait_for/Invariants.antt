@@ -1,4 +1,4 @@
-use Rattle.std.proofs.Common.{◌≡◌}
+use Rattle.std.proofs.Common.{◌≡◌, ◌≤◌}
 use mathlib.Core.List.{IsPrefix}
 use Rattle.export.proofs.export.Export.wait_for.Given as goal
 
@@ -7,4 +7,5 @@ invariant-loop g l = record {
   iterates : (goal.iterator-loop g).can_next l.iterator' × (goal.iterator-loop g).is_finite l.iterator';
   own : l.pass.own ≡ l.fn.pass.own;
   knew : IsPrefix l.fn.pass.history l.pass.history;
+  lasts : l.fn.pass.durable ≤ l.pass.durable;
 }
