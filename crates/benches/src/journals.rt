@@ -53,7 +53,8 @@ pub fn measure_scans(rt: &HostRuntime, alloc: Global, path: &str) -> Result<()> 
     scanning::measure_scan(rt, alloc, path, 7, 256)
 }
 
-/// Openings of a new file at the path with a full journal, of 4 KiB puts and of 1 MiB puts, beside copies to the other path.
+/// Openings of a new file at the path with a full area, of 4 KiB puts and of 1 MiB puts, beside copies to the other path, and
+/// with all areas full, in both layouts.
 pub fn measure_openings(
     rt: &HostRuntime,
     alloc: Global,
@@ -61,5 +62,7 @@ pub fn measure_openings(
     copy_path: &str,
 ) -> Result<()> {
     opening::measure_opening(rt, alloc, path, copy_path, 2_000, 1)?;
-    opening::measure_opening(rt, alloc, path, copy_path, 7, 256)
+    opening::measure_opening(rt, alloc, path, copy_path, 7, 256)?;
+    opening::measure_layouts(rt, alloc, path, 2_000, 1)?;
+    opening::measure_layouts(rt, alloc, path, 7, 256)
 }

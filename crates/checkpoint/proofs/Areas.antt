@@ -12,7 +12,7 @@ use Rattle.journal_format.specs.declared.fault.JournalFault.{JournalFault}
 use Rattle.journal_format.specs.declared.fault.JournalFault.TheVariants as journals
 use Rattle.checkpoint.specs.Faults.{of_journal}
 use Rattle.device_image.specs.Keeper.{PlanState, earlier_of, last_number, last_turned, turned_of}
-use Rattle.device_image.specs.Keeps.{AreHeld, HoldsAreas, IsPlaced, behind_lists}
+use Rattle.device_image.specs.Keeps.{AreHeld, HoldsAreas, HoldsListed, IsListed, IsPlaced, behind_lists}
 use Rattle.device_image.specs.Damage.{IsAreaDamaged, IsOneDamaged}
 use Rattle.checkpoint.specs.inner.Opening.{IsGroupsRefused}
 use Rattle.device_image.specs.Stands.{HoldLists, area_of, last_area, next_number}
@@ -60,9 +60,9 @@ module _ (header : Header) (n : ℕ) (plans : List PlanState) (before after : St
       (ring_inside header.geometry n header.first_area header.first_inside) same synced so_far.held
 
   -- one more area was read
-  pub more_held : (plan : PlanState) (now : ℕ) → IsPlaced plan.first header.geometry index → HoldsList plan.first next after → now ≡ plan.first.next → AreHeldSoFar after header (suc n) (plans ++ plan ∷ []) now
+  pub more_held : (plan : PlanState) (now : ℕ) → IsPlaced plan.first header.geometry index → HoldsListed plan.first next after → now ≡ plan.first.next → AreHeldSoFar after header (suc n) (plans ++ plan ∷ []) now
   more_held plan now placed holds now_is =
-      let here : IsHeld plan.first (behind_lists (next_number header.base) so_far.lists) holds.groups after = subst (λ (first : ℕ). IsHeld plan.first first holds.groups after) so_far.next_is holds.held in
+      let here : IsListed plan.first (behind_lists (next_number header.base) so_far.lists) holds.groups after = subst (λ (first : ℕ). IsListed plan.first first holds.groups after) so_far.next_is holds.listed in
       record {
         lists = so_far.lists ++ holds.groups ∷ [];
         held = subst (λ (areas : List ℕ). AreHeld areas header.geometry (next_number header.base) (so_far.lists ++ holds.groups ∷ []) (earlier_of (plans ++ plan ∷ [])) after) (sym (ring-last (areas_in header.geometry) n header.first_area))

@@ -7,12 +7,11 @@ use Rattle.journal_format.specs.Area.{AreaState}
 use Rattle.journal_format.specs.Spelling.{StoredGroup}
 use Rattle.journal_format.specs.Touches.{last_touch, touched_by_groups}
 use Rattle.journal_format.specs.declared.touch.Touch.TheVariants.{Put}
-use Rattle.journal_format.specs.declared.touch.TouchedRange.{TouchedRange}
 use Rattle.latest_writes.specs.declared.range.PutRange.{PutRange}
 use Rattle.regions.specs.Layout.{areas_in, block_at, ring}
 use Rattle.device_image.specs.Copied.{IsCopiedOver}
 use Rattle.device_image.specs.Free.{to_be_copied}
-use Rattle.device_image.specs.Keeper.{AreUncopied, KeeperState, PlanState, count_puts, earlier_of, is_put, phase_of}
+use Rattle.device_image.specs.Keeper.{AreUncopied, KeeperState, PlanState, TellSame, count_puts, earlier_of, is_put, phase_of}
 use Rattle.device_image.specs.Keeps.{AreHeld, IsCopying, IsInPhase, IsPlaced, Keeps, touched_first}
 use Rattle.device_image.specs.Stands.{StandsFor, areas_in_front, next_number}
 use Rattle.device_image.specs.laws.Copied.{copy_places, keeps_copied}
@@ -27,7 +26,7 @@ use Rattle.device_image.specs.laws.AfterCall.{holds_still}
 -- the first area, where several are in use
 pub record IsFirst (area : AreaState) (header : Header) (front : List (List StoredGroup)) : Type 0 where
   pub placed : IsPlaced area header.geometry header.first_area
-  pub touched : area.touched ≡ touched_first header front
+  pub touched : TellSame header.geometry.blocks area.touched (touched_first header front)
 
 pub first_area : (count n : ℕ) (area : AreaState) (header : Header) (front : List (List StoredGroup)) (earlier : List AreaState) (state : State) (next : ℕ)
     → AreHeld (ring count n header.first_area) header.geometry next front (area ∷ earlier) state → IsFirst area header front
@@ -36,7 +35,7 @@ first_area count zero area header (groups ∷ front) earlier state next held = a
 first_area count (suc n) area header [] earlier state next held = absurd held
 first_area count (suc n) area header (groups ∷ front) earlier state next held = record {
   placed = held.0;
-  touched = held.1.touched ∙ ap (λ (place : ℕ). touched_by_groups place groups) held.0.from;
+  touched = λ block below. held.1.touched block (omega (arith, below, held.0.blocks)) ∙ ap (λ (place : ℕ). last_touch block (touched_by_groups place groups)) held.0.from;
 }
 
 not_both : true ≡ false → ⊥
@@ -57,12 +56,13 @@ module _ {D : Type 0} (keeper : KeeperState D) (state : State) (image : Image) (
     blocks_inside = omega (arith, next.inside, first.placed.blocks)
 
     none_before : (block : ℕ) → plan.copied ≤ block → block < put.first → is_put (last_touch block (touched_first keeps.stands.header keeps.areas.front)) ≡ false
-    none_before block low high = ap (λ (l : List TouchedRange). is_put (last_touch block l)) (sym first.touched) ∙ next.first block low high
+    none_before block low high = let inside = blocks_inside in ap is_put (sym (first.touched block (omega (arith, high, inside)))) ∙ next.first block low high
 
     each_put : (k : ℕ) → k < put.blocks → last_touch (put.first + k) (touched_first keeps.stands.header keeps.areas.front) ≡ Some (Put (plan.first.from + put.place + 4096 * k))
     each_put k below =
         let at : plan.first.from + (put.place + 4096 * k) ≡ plan.first.from + put.place + 4096 * k = omega arith in
-        ap (λ (l : List TouchedRange). last_touch (put.first + k) l) (sym first.touched) ∙ next.puts k below ∙ ap (λ (p : ℕ). Some (Put p)) at
+        let inside = blocks_inside in
+        sym (first.touched (put.first + k) (omega (arith, below, inside))) ∙ next.puts k below ∙ ap (λ (p : ℕ). Some (Put p)) at
 
     still_counted : plan.left - put.blocks + count_puts (put.first + put.blocks) (touched_first keeps.stands.header keeps.areas.front) ≡ count_puts keeps.stands.header.geometry.blocks (touched_first keeps.stands.header keeps.areas.front)
     still_counted =

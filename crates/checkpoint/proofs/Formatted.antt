@@ -10,7 +10,6 @@ use Rattle.header_slots.specs.Slots.{HoldsHeader, HoldsNone, IsBodyWritten, IsOp
 use Rattle.image_model.specs.declared.side.Side.{Side}
 use Rattle.image_model.specs.declared.side.Side.TheVariants.{Zero, One}
 use Rattle.header_slots.specs.laws.Frame.{moved_spelling}
-use Rattle.image_model.specs.laws.Layouts.{size_least}
 use Rattle.image_model.specs.Geometry.{device_bytes_of, map_bytes_of}
 use Rattle.image_model.specs.declared.command.Kind.TheVariants.{Hole}
 use Rattle.image_model.specs.declared.geometry.Geometry.{Geometry}
@@ -63,7 +62,7 @@ fresh_stands content geometry size zero_open one_closed fresh =
         count = length-replicate geometry.blocks Hole;
         map = own_states geometry.blocks zeroes (replicate geometry.blocks Hole) (map_of_zeroes geometry.blocks geometry.not_too_many) (states_of-zeroes geometry.blocks (map_bytes_of geometry.blocks) zeroes refl);
       };
-      held = (record { stand = λ is_open. absurd (omega (arith, fresh.gate, is_open)); inside = omega (arith, size_least geometry.layout geometry.area geometry.area_not_too_small) }, tt);
+      held = (record { stand = λ is_open. absurd (omega (arith, fresh.gate, is_open)); inside = omega (arith, geometry.areas_not_too_small) }, tt);
       count = refl;
       shows = holes_stored content geometry;
     }

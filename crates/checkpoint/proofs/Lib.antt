@@ -13,3 +13,4 @@ mod Refused
 mod Reopened
 mod Reported
 mod Rotating
+mod Upgrading

@@ -1,15 +1,18 @@
 -- The keeper after the map was written.
-use Rattle.std.proofs.Common.{◌≡◌, ℕ, ◌+◌, Some, List, ◌∷◌, sym, ◌∙◌, ap, subst, arith}
+use Rattle.std.proofs.Common.{◌≡◌, ℕ, ◌+◌, Option, Some, List, ◌∷◌, length, sym, ◌∙◌, ap, subst, arith}
+use Rattle.alloc_map.specs.Codes.{state_at}
 use Rattle.disk_model.specs.Disk.{State, IsSound, MayLeaveTorn}
 use Rattle.image_model.specs.Geometry.{map_bytes_of}
 use Rattle.image_model.specs.Image.{Image}
 use Rattle.image_model.specs.Side.{other_of}
 use Rattle.image_model.specs.declared.command.Kind.{Kind}
+use Rattle.journal_format.specs.Touches.{kind_after}
+use Rattle.journal_format.specs.declared.touch.Touch.{Touch}
 use Rattle.journal_format.specs.declared.touch.TouchedRange.{TouchedRange}
 use Rattle.regions.specs.Layout.{block_at, map_at}
 use Rattle.device_image.specs.Copied.{IsMapStored}
 use Rattle.device_image.specs.Free.{in_spare_map}
-use Rattle.device_image.specs.Keeper.{AreStatesAfter, KeeperState, PlanState, earlier_of, phase_of}
+use Rattle.device_image.specs.Keeper.{AreStatesAfter, KeeperState, PlanState, TellSame, earlier_of, phase_of}
 use Rattle.device_image.specs.Keeps.{AreCopied, Keeps, touched_first}
 use Rattle.device_image.specs.Stands.{StandsFor}
 use Rattle.device_image.specs.laws.Copied.{first_puts}
@@ -21,6 +24,13 @@ use Rattle.device_image.specs.laws.Lists.{KeepsLists}
 use Rattle.image_model.specs.Change.{Change}
 use Rattle.device_image.specs.Holds.{Holds}
 use Rattle.device_image.specs.laws.AfterCall.{holds_still}
+
+-- the states after touches are those after others that tell the same
+states_same : (blocks : ℕ) (touched others : List TouchedRange) (before after : List Kind) → length before ≡ blocks → TellSame blocks touched others → AreStatesAfter touched before after → AreStatesAfter others before after
+states_same blocks touched others before after count same states = record {
+  count = states.count;
+  each = λ block below. states.each block below ∙ ap (λ (touch : Option Touch). kind_after touch (state_at before block)) (same block (omega (arith, below, count)));
+}
 
 module _ {D : Type 0} (keeper : KeeperState D) (state : State) (image : Image) (number : ℕ) (keeps : Keeps keeper state image number) where
   -- while the map slot that isn't in force is written
@@ -58,7 +68,8 @@ module _ {D : Type 0} (keeper : KeeperState D) (state : State) (image : Image) (
             are_copied = still_copied;
             map_written = (
               none_left,
-              subst (λ (map : List Kind). AreStatesAfter (touched_first keeps.stands.header keeps.areas.front) map states) keeps.mapped (subst (λ (l : List TouchedRange). AreStatesAfter l keeper.memory.map states) touched states_after),
+              states_same keeps.stands.header.geometry.blocks plan.first.touched (touched_first keeps.stands.header keeps.areas.front) keeps.stands.states states keeps.stands.map.count touched
+                  (subst (λ (map : List Kind). AreStatesAfter plan.first.touched map states) keeps.mapped states_after),
               done.map,
               done.synced,
             );

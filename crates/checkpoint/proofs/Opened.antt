@@ -20,7 +20,7 @@ use Rattle.checkpoint.specs.Opening.{IsOpened, IsPassing, IsRefused}
 use Rattle.checkpoint.specs.Recovery.{IsBegun}
 use Rattle.device_image.specs.Stands.{StandsFor, HoldLists, all_changes, area_of, areas_in_front, in_use, last_area, next_number, stored_image}
 use Rattle.checkpoint.specs.declared.fault.KeeperFault.{KeeperFault}
-use Rattle.checkpoint.specs.declared.fault.KeeperFault.TheVariants.{NoMemory, DeviceFault, BadMap, NoHeader, BadHeader, NumbersFull, AreaFull, OutOfOrder, DamagedGroup, NotNow, Failed}
+use Rattle.checkpoint.specs.declared.fault.KeeperFault.TheVariants.{NoMemory, DeviceFault, BadMap, NoHeader, BadHeader, NumbersFull, AreaFull, OutOfOrder, DamagedGroup, NotNow, Failed, AreaSmall}
 use Rattle.device_image.specs.laws.CheckpointBounds.{uncopied_phase}
 use Rattle.device_image.specs.laws.Frame.{all_changes-append, held_lists, moved_list, with_last}
 use Rattle.device_image.specs.laws.Sole.{one_image, one_number}
@@ -136,3 +136,4 @@ passes content image number OutOfOrder refused stands = refused
 passes content image number DamagedGroup refused stands = never_refused content image number stands DamagedGroup refused (λ passing. passing)
 passes content image number NotNow refused stands = refused
 passes content image number Failed refused stands = refused
+passes content image number AreaSmall refused stands = refused

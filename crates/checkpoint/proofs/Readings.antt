@@ -19,7 +19,7 @@ use Rattle.device_image.specs.Damage.{IsAreaDamaged}
 use Rattle.checkpoint.specs.Opening.{IsRefused}
 use Rattle.checkpoint.specs.inner.Opening.{IsGroupsRefused}
 use Rattle.checkpoint.specs.declared.fault.KeeperFault.{KeeperFault}
-use Rattle.checkpoint.specs.declared.fault.KeeperFault.TheVariants.{NoMemory, DeviceFault, BadMap, NoHeader, BadHeader, NumbersFull, AreaFull, OutOfOrder, DamagedGroup, NotNow, Failed}
+use Rattle.checkpoint.specs.declared.fault.KeeperFault.TheVariants.{NoMemory, DeviceFault, BadMap, NoHeader, BadHeader, NumbersFull, AreaFull, OutOfOrder, DamagedGroup, NotNow, Failed, AreaSmall}
 
 -- reads change nothing where no place is loose
 pub seen_steady : {before after : State} → IsSteady before → IsOnlyRead before after → before.seen ≡ after.seen
@@ -65,6 +65,7 @@ groups_refused content header slot states OutOfOrder in_force map refused = absu
 groups_refused content header slot states DamagedGroup in_force map refused = record { header = header; slot = slot; states = states; in_force = in_force; map = map; damaged = refused }
 groups_refused content header slot states NotNow in_force map refused = absurd refused
 groups_refused content header slot states Failed in_force map refused = absurd refused
+groups_refused content header slot states AreaSmall in_force map refused = absurd refused
 
 -- what a refusal says of damage, weakened
 pub damage_weaker : {P Q : Type 0} (fault : KeeperFault) → (P → Q) → IsGroupsRefused fault P → IsGroupsRefused fault Q
@@ -79,6 +80,7 @@ damage_weaker OutOfOrder implies refused = refused
 damage_weaker DamagedGroup implies refused = implies refused
 damage_weaker NotNow implies refused = refused
 damage_weaker Failed implies refused = refused
+damage_weaker AreaSmall implies refused = refused
 
 -- header and map still stand once more is read
 module _ {extent : ℕ} (one two three : State) (sound : IsSound extent one) (also : IsSound extent two) (synced : IsAllSynced one) (second : IsOnlyRead one two) (third : IsOnlyRead two three) (header : Header) (slot : Side) (states : List Kind) where

@@ -1,9 +1,10 @@
 -- A keeper while an opening recovers it.
-use Rattle.std.proofs.Common.{◌≡◌, ◌≢◌, ℕ, ◌+◌, ◌-◌, ◌≤◌, Result, Ok, Err, IfErr, OnOk, List, [], ◌∷◌, ◌++◌, ◌<◌, length, refl, sym, ◌∙◌, ap, subst, arith, false}
+use Rattle.std.proofs.Common.{◌≡◌, ◌≢◌, ℕ, ◌+◌, ◌-◌, ◌≤◌, Result, Ok, Err, IfErr, IsErrAnd, OnOk, List, [], ◌∷◌, ◌++◌, ◌<◌, length, refl, sym, ◌∙◌, ap, subst, arith, false}
 use Rattle.disk_model.specs.Disk.{State}
 use Rattle.device_image.specs.Keeper.{KeeperState, Memory, Phase, Copying, Mapped, One}
 use Rattle.device_image.specs.Keeps.{Keeps}
 use Rattle.image_model.specs.Image.{Image, apply_all}
+use Rattle.image_model.specs.declared.geometry.Geometry.{Geometry}
 use Rattle.checkpoint.specs.Keeper.{refused_by}
 use Rattle.checkpoint.specs.Steps.{behind_first, copied_by, fewer, finished_by, first_turned, left_in, mapped_by, phase_left}
 use Rattle.device_image.specs.Holds.{Holds, joined}
@@ -11,9 +12,14 @@ use Rattle.device_image.specs.laws.AfterCall.{held_as, joined-push, keeps_again}
 use Rattle.device_image.specs.laws.Frame.{apply_all-append}
 use Rattle.image_model.specs.Change.{Change}
 use Rattle.checkpoint.specs.declared.fault.KeeperFault.{KeeperFault}
-use Rattle.checkpoint.specs.declared.fault.KeeperFault.TheVariants.{NoMemory, DeviceFault, BadMap, NoHeader, BadHeader, NumbersFull, AreaFull, OutOfOrder, DamagedGroup, NotNow, Failed}
+use Rattle.checkpoint.specs.declared.fault.KeeperFault.TheVariants.{NoMemory, DeviceFault, BadMap, NoHeader, BadHeader, NumbersFull, AreaFull, OutOfOrder, DamagedGroup, NotNow, Failed, AreaSmall}
 use Rattle.device_image.specs.Remembers.{Remembers}
 use Rattle.checkpoint.specs.Recovery.{IsBegun, IsRecovered}
+
+-- what is said of a refusal that is handed on
+pub err_given : {X : Type 0} (P : KeeperFault → Type 0) (result : Result X KeeperFault) (fault : KeeperFault) → IsErrAnd result (λ given. given ≡ fault) → P fault → IfErr result P
+err_given P (Ok given) fault is holds = tt
+err_given P (Err given) fault is holds = subst P (sym is) holds
 
 -- a keeper of which some blocks more were copied
 abbrev pub copied_to : {D : Type 0} → KeeperState D → D → ℕ → List ℕ → Memory → KeeperState D
@@ -94,6 +100,7 @@ module _ {D : Type 0} where
   still_kept state (Err DamagedGroup) old new image number is keeps = λ other. subst (λ (k : KeeperState D). Keeps k (state k.disk) image number) (sym is) keeps
   still_kept state (Err NotNow) old new image number is keeps = λ other. subst (λ (k : KeeperState D). Keeps k (state k.disk) image number) (sym is) keeps
   still_kept state (Err Failed) old new image number is keeps = λ other. subst (λ (k : KeeperState D). Keeps k (state k.disk) image number) (sym is) keeps
+  still_kept state (Err AreaSmall) old new image number is keeps = λ other. subst (λ (k : KeeperState D). Keeps k (state k.disk) image number) (sym is) keeps
 
   -- what holds the same as a keeper that keeps an image keeps it
   pub keeps_by : (old new : KeeperState D) (before after : State) (image : Image) (number : ℕ) → Keeps old before image number → new.count ≡ old.count
@@ -129,6 +136,10 @@ module _ {D : Type 0} where
   pub count_ended : {T : Type 0} (result : Result T KeeperFault) (old new : KeeperState D) → OnOk result (new ≡ finished_by old new.disk new.memory) → OnOk result (new.count ≡ old.count)
   count_ended (Err fault) old new is = tt
   count_ended (Ok done) old new is = ap (λ (k : KeeperState D). k.count) is
+
+  pub sizes_ended : {T : Type 0} (result : Result T KeeperFault) (old new : KeeperState D) (geometry : Geometry) → old.geometry ≡ geometry → OnOk result (new ≡ finished_by old new.disk new.memory) → OnOk result (new.geometry ≡ geometry)
+  sizes_ended (Err fault) old new geometry same is = tt
+  sizes_ended (Ok done) old new geometry same is = ap (λ (k : KeeperState D). k.geometry) is ∙ same
 
   -- what an opening leaves once a checkpoint of the one area that was in use has ended
   pub recovered_by : {T : Type 0} (result : Result T KeeperFault) (old new : KeeperState D) (left : ℕ) → OnOk result (new ≡ finished_by old new.disk new.memory) → old.failed ≡ false → old.used ≡ 0 → old.turned ≡ old.count ∷ [] → old.lefts ≡ left ∷ []

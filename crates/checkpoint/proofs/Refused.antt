@@ -6,7 +6,7 @@ use Rattle.header_slots.specs.laws.Sole.{held_or_none, held_or_bad}
 use Rattle.image_model.specs.Image.{Image}
 use Rattle.checkpoint.specs.Opening.{IsPassing, IsRefused}
 use Rattle.checkpoint.specs.declared.fault.KeeperFault.{KeeperFault}
-use Rattle.checkpoint.specs.declared.fault.KeeperFault.TheVariants.{NoMemory, DeviceFault, BadMap, NoHeader, BadHeader, NumbersFull, AreaFull, OutOfOrder, DamagedGroup, NotNow, Failed}
+use Rattle.checkpoint.specs.declared.fault.KeeperFault.TheVariants.{NoMemory, DeviceFault, BadMap, NoHeader, BadHeader, NumbersFull, AreaFull, OutOfOrder, DamagedGroup, NotNow, Failed, AreaSmall}
 
 module _ (content : List ℕ) (image : Image) (number : ℕ) (stands : StandsFor content image number) where
   pub never_refused : (fault : KeeperFault) → IsRefused fault content → (IsPassing fault → ⊥) → ⊥
@@ -21,3 +21,4 @@ module _ (content : List ℕ) (image : Image) (number : ℕ) (stands : StandsFor
   never_refused DamagedGroup refused lasting = groups_sound content image number stands refused
   never_refused NotNow refused lasting = refused
   never_refused Failed refused lasting = refused
+  never_refused AreaSmall refused lasting = refused

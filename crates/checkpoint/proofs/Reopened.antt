@@ -9,19 +9,20 @@ use Rattle.image_model.specs.Image.{Image}
 use Rattle.image_model.specs.declared.command.Kind.{Kind}
 use Rattle.image_model.specs.declared.geometry.Geometry.{Geometry}
 use Rattle.journal_format.specs.Area.{AreaState}
-use Rattle.journal_format.specs.GroupList.{Stand, size_of, sizes_of}
+use Rattle.journal_format.specs.GroupList.{IsList, Stand, size_of, sizes_of}
 use Rattle.journal_format.specs.Spelling.{StoredGroup}
 use Rattle.journal_format.specs.laws.OneList.{one_list}
 use Rattle.regions.specs.Layout.{area_at, areas_in, behind}
 use Rattle.device_image.specs.Keeper.{KeeperState, One, PlanState, earlier_of, phase_in, phase_of}
 use Rattle.device_image.specs.Keeps.{AreHeld, Keeps, behind_lists}
-use Rattle.device_image.specs.Stands.{StandsFor, all_changes, areas_in_front, next_number}
+use Rattle.device_image.specs.Stands.{StandsFor, all_changes, area_of, areas_in_front, next_number}
 use Rattle.device_image.specs.laws.CheckpointBounds.{fronts_many}
+use Rattle.device_image.specs.laws.Frame.{moved_list}
 use Rattle.device_image.specs.laws.Sole.{same_header}
 use Rattle.checkpoint.specs.Opening.{HasLastGeneration, IsAtRest, IsOpeningRefused, IsRefused, StandsAs}
 use Rattle.checkpoint.specs.inner.Recovery.{IsRecoveryFault}
 use Rattle.checkpoint.specs.declared.fault.KeeperFault.{KeeperFault}
-use Rattle.checkpoint.specs.declared.fault.KeeperFault.TheVariants.{NoMemory, DeviceFault, BadMap, NoHeader, BadHeader, NumbersFull, AreaFull, OutOfOrder, DamagedGroup, NotNow, Failed}
+use Rattle.checkpoint.specs.declared.fault.KeeperFault.TheVariants.{NoMemory, DeviceFault, BadMap, NoHeader, BadHeader, NumbersFull, AreaFull, OutOfOrder, DamagedGroup, NotNow, Failed, AreaSmall}
 
 no_front : (sides : List ℕ) (geometry : Geometry) (next : ℕ) (front : List (List StoredGroup)) (state : State) → AreHeld sides geometry next front [] state → front ≡ []
 no_front [] geometry next [] state held = refl
@@ -33,7 +34,7 @@ no_groups : (groups : List StoredGroup) → sizes_of groups ≡ 0 → groups ≡
 no_groups [] none = refl
 no_groups (group ∷ groups) none = absurd (omega (arith, none, sum_by-cons size_of group groups))
 
-no_plan : (plans : List PlanState) → phase_of plans ≡ One → plans ≡ []
+pub no_plan : (plans : List PlanState) → phase_of plans ≡ One → plans ≡ []
 no_plan [] is = refl
 no_plan (plan ∷ plans) is = absurd (never plan.mapped is)
   where
@@ -82,6 +83,26 @@ module _ {D : Type 0} (keeper : KeeperState D) (state : State) (image : Image) (
       let groups = one_list header.geometry.blocks few state.seen (area_at header.geometry header.first_area) (next_number header.base) keeps.areas.groups [] here rested in
       (keeps.phase ∙ ap phase_of none, keeps.taken ∙ ap sizes_of groups)
 
+  -- and one area is in use and its list is empty where it is so
+  pub at_rest : keeper.phase ≡ One → keeper.used ≡ 0 → IsAtRest state.seen
+  at_rest one none =
+      let header = keeps.stands.header in
+      let plans = no_plan keeper.memory.plans (sym keeps.phase ∙ one) in
+      let front = front_empty plans in
+      let groups = no_groups keeps.areas.groups (sym keeps.taken ∙ none) in
+      let many = fronts_many (areas_in header.geometry) header.in_front header.first_area header.geometry (next_number header.base) keeps.areas.front keeper.memory.plans state keeps.areas.earlier_held in
+      let in_front : header.in_front ≡ 0 = many ∙ ap length plans in
+      let from = keeps.areas.placed.from ∙ ap (λ (n : ℕ). area_at header.geometry (behind (areas_in header.geometry) n header.first_area)) in_front in
+      let list = subst (λ (lists : List (List StoredGroup)). IsList keeper.memory.area (behind_lists (next_number header.base) lists) [] state.seen) front
+      (subst (λ (g : List StoredGroup). IsList keeper.memory.area (behind_lists (next_number header.base) keeps.areas.front) g state.seen) groups keeps.areas.held.list) in
+      record {
+        header = header;
+        slot = keeps.stands.slot;
+        in_force = keeps.stands.in_force;
+        one = in_front;
+        list = moved_list keeper.memory.area (area_of header.geometry header.first_area) (next_number header.base) [] state.seen from keeps.areas.placed.bytes keeps.areas.placed.blocks list;
+      }
+
 -- a refusal of reading a device, as one of an opening
 pub refused_opening : (fault : KeeperFault) (found after : List ℕ) → IsRefused fault found → IsOpeningRefused fault found after
 refused_opening NoMemory found after refused = tt
@@ -95,6 +116,7 @@ refused_opening OutOfOrder found after refused = refused
 refused_opening DamagedGroup found after refused = refused
 refused_opening NotNow found after refused = refused
 refused_opening Failed found after refused = refused
+refused_opening AreaSmall found after refused = refused
 
 -- and one of a recovery
 pub refused_recovery : (fault : KeeperFault) (found after : List ℕ) → IsRecoveryFault fault → (fault ≡ NumbersFull → StandsAs found after × HasLastGeneration after × (IsAtRest after → ⊥)) → IsOpeningRefused fault found after
@@ -109,6 +131,7 @@ refused_recovery OutOfOrder found after cause full = cause
 refused_recovery DamagedGroup found after cause full = absurd cause
 refused_recovery NotNow found after cause full = cause
 refused_recovery Failed found after cause full = cause
+refused_recovery AreaSmall found after cause full = cause
 
 -- the numbers are full of a keeper whose generation is the last one
 pub is_full : {D : Type 0} (keeper : KeeperState D) (state : State) (image : Image) (number : ℕ) → Keeps keeper state image number → keeper.generation ≡ 18446744073709551615 → HasLastGeneration state.seen

@@ -56,19 +56,19 @@ kind_later touch (Some (Put place)) kind = refl
 kind_later touch (Some (Clear cleared)) kind = refl
 
 -- the lists of the areas in front of the last
-front_kind : (sides : List ℕ) (geometry : Geometry) (next : ℕ) (lists : List (List StoredGroup)) (areas : List AreaState) (state : State) → AreHeld sides geometry next lists areas state → (image : Image) (block : ℕ)
+front_kind : (sides : List ℕ) (geometry : Geometry) (next : ℕ) (lists : List (List StoredGroup)) (areas : List AreaState) (state : State) → AreHeld sides geometry next lists areas state → (image : Image) (block : ℕ) → block < geometry.blocks
     → (apply_all (all_changes lists) image).kind block ≡ kind_after (last_touch_in block areas) (image.kind block)
-front_kind [] geometry next [] [] state held image block = refl
-front_kind [] geometry next [] (area ∷ areas) state held image block = absurd held
-front_kind [] geometry next (groups ∷ lists) areas state held image block = absurd held
-front_kind (side ∷ sides) geometry next [] areas state held image block = absurd held
-front_kind (side ∷ sides) geometry next (groups ∷ lists) [] state held image block = absurd held
-front_kind (side ∷ sides) geometry next (groups ∷ lists) (area ∷ areas) state held image block =
+front_kind [] geometry next [] [] state held image block below = refl
+front_kind [] geometry next [] (area ∷ areas) state held image block below = absurd held
+front_kind [] geometry next (groups ∷ lists) areas state held image block below = absurd held
+front_kind (side ∷ sides) geometry next [] areas state held image block below = absurd held
+front_kind (side ∷ sides) geometry next (groups ∷ lists) [] state held image block below = absurd held
+front_kind (side ∷ sides) geometry next (groups ∷ lists) (area ∷ areas) state held image block below =
     ap (λ (i : Image). i.kind block) (apply_all-append (changes_of groups) (all_changes lists) image)
-    ∙ front_kind sides geometry (next_behind next groups) lists areas state held.2 (apply_all (changes_of groups) image) block
+    ∙ front_kind sides geometry (next_behind next groups) lists areas state held.2 (apply_all (changes_of groups) image) block below
     ∙ ap (kind_after (last_touch_in block areas))
     (groups_kind area.blocks state.seen area.from next groups held.1.list.stand image block
-    ∙ ap (λ (touched : List TouchedRange). kind_after (last_touch block touched) (image.kind block)) (sym held.1.touched))
+    ∙ ap (λ (touch : Option Touch). kind_after touch (image.kind block)) (sym (held.1.touched block (omega (arith, below, held.0.blocks)))))
     ∙ kind_later (last_touch block area.touched) (last_touch_in block areas) (image.kind block)
 
 -- the states behind these areas, by what touched each block last
@@ -102,7 +102,7 @@ module _ (state : State) (header : Header) (slot : Side) (states : List Kind) (p
   front_states after count behind block below =
       behind.2.each block (omega (arith, below, count, turned_count plans states behind.0 behind.1))
       ∙ ap (kind_after (last_touch block area.touched)) (turned_states plans states behind.0 behind.1 block (omega (arith, below, count))
-      ∙ sym (front_kind _ header.geometry _ opened.areas.front (earlier_of plans) state opened.areas.earlier_held base block))
+      ∙ sym (front_kind _ header.geometry _ opened.areas.front (earlier_of plans) state opened.areas.earlier_held base block below))
 
   states_shown : (after : List Kind) → length states ≡ header.geometry.blocks → AreStatesBehind plans area states after → (block : ℕ) → block < header.geometry.blocks
       → state_at after block ≡ (opened_image state header slot states plans area opened fits).kind block
@@ -118,7 +118,7 @@ module _ (state : State) (header : Header) (slot : Side) (states : List Kind) (p
   pub is_report : (commands data_blocks zero_blocks hole_blocks : ℕ) (after : List Kind) → length states ≡ header.geometry.blocks → AreStatesBehind plans area states after
       → commands ≡ (area.next + 18446744073709551615) % 18446744073709551616
       → data_blocks ≡ count_by (is_state Data) after → zero_blocks ≡ count_by (is_state Zero) after → hole_blocks ≡ count_by (is_state Hole) after
-      → IsReport (record { blocks = header.geometry.blocks; in_front = header.in_front; base = header.base; commands = commands; data_blocks = data_blocks; zero_blocks = zero_blocks; hole_blocks = hole_blocks }) state.seen
+      → IsReport (record { layout = header.geometry.layout; blocks = header.geometry.blocks; in_front = header.in_front; base = header.base; commands = commands; data_blocks = data_blocks; zero_blocks = zero_blocks; hole_blocks = hole_blocks }) state.seen
   unfolding base
   is_report commands data_blocks zero_blocks hole_blocks after count behind counted data_is zero_is hole_is =
       let image = opened_image state header slot states plans area opened fits in
@@ -129,6 +129,7 @@ module _ (state : State) (header : Header) (slot : Side) (states : List Kind) (p
         image = image;
         stands = opened_stands state header slot states plans area opened fits commands (last_number state header slot states plans area opened fits commands counted);
         blocks = sym sized;
+        layout = refl;
         in_front = refl;
         base = refl;
         data_blocks = data_is ∙ blocks_counted Data image after long each;

@@ -21,17 +21,17 @@ use Rattle.regions.specs.laws.Ring.{area_high, area_low, behind_below}
 use Rattle.device_image.specs.CheckpointHeader.{with_next, without_first}
 use Rattle.device_image.specs.Copied.{IsTurnBegun, LeavesTurn}
 use Rattle.device_image.specs.Holds.{Holds}
-use Rattle.device_image.specs.Keeper.{KeeperState, PlanState, count_puts, last_number, last_turned, lefts_of, phase_in, phase_of, turned_of}
+use Rattle.device_image.specs.Keeper.{AreUncopied, IsPlanOf, IsUncopied, KeeperState, PlanState, count_puts, last_number, last_turned, lefts_of, phase_in, phase_of, turned_of}
 use Rattle.device_image.specs.Keeps.{Keeps}
 use Rattle.device_image.specs.Remembers.{Remembers}
 use Rattle.device_image.specs.Stands.{StandsFor, next_number}
 use Rattle.device_image.specs.laws.AfterCall.{holds_begun, holds_ended}
-use Rattle.device_image.specs.laws.CheckpointBounds.{base_is, begin_left, end_left, ended_header, keeps_begun, keeps_ended, many, parts}
+use Rattle.device_image.specs.laws.CheckpointBounds.{base_is, begin_left, end_left, ended_header, keeps_begun, keeps_ended, many, parts, plan_left, uncopied_more}
 use Rattle.device_image.specs.laws.Counted.{left_dirty}
 use Rattle.device_image.specs.laws.Headers.{begun}
 use Rattle.device_image.specs.laws.Lists.{KeepsLists}
 use Rattle.checkpoint.specs.Keeper.{AreSized, IsSized, plans_of}
-use Rattle.checkpoint.specs.Steps.{IsFinishTime, first_turned, map_after, map_in, phase_with}
+use Rattle.checkpoint.specs.Steps.{IsFinishTime, behind_first, first_turned, map_after, map_in, phase_left, phase_with, plans_behind}
 
 -- the checkpoints once another one is behind them
 pub added : (old new : Option PlanState) (waiting more : List PlanState) (last : PlanState) → IfNone old ((new ≡ Some last) × (more ≡ []))
@@ -54,6 +54,38 @@ phase_in-with left more (Some map) = refl
 pub phase-push : (plans : List PlanState) (plan : PlanState) → plan.mapped ≡ None → phase_of (plans ++ plan ∷ []) ≡ phase_with (phase_of plans) plan.left
 phase-push [] plan none = ap (phase_in plan.left) none
 phase-push (first ∷ plans) plan none = phase_in-with first.left plan.left first.mapped
+
+-- as many numbers as checkpoints
+pub turned-length : (plans : List PlanState) → length (turned_of plans) ≡ length plans
+turned-length [] = refl
+turned-length (plan ∷ plans) = ap suc (turned-length plans)
+
+-- what is told of the checkpoints behind the first
+pub turned-behind : (plans : List PlanState) → turned_of (plans_behind plans) ≡ behind_first (turned_of plans)
+turned-behind [] = refl
+turned-behind (plan ∷ plans) = refl
+
+pub lefts-behind : (plans : List PlanState) → lefts_of (plans_behind plans) ≡ behind_first (lefts_of plans)
+lefts-behind [] = refl
+lefts-behind (plan ∷ plans) = refl
+
+uncopied-left : (plans : List PlanState) → AreUncopied plans → phase_of plans ≡ phase_left (lefts_of plans)
+uncopied-left [] are = refl
+uncopied-left (plan ∷ plans) are = ap (phase_in plan.left) (ap (λ (p : PlanState). p.mapped) are.0)
+
+pub phase-behind : (plan : Option PlanState) (waiting : List PlanState) → AreUncopied waiting → phase_of (plans_behind (plans_of plan waiting)) ≡ phase_left (behind_first (lefts_of (plans_of plan waiting)))
+phase-behind None waiting are = refl
+phase-behind (Some plan) waiting are = uncopied-left waiting are
+
+-- nothing is copied of the areas behind the first
+pub uncopied_after : (old new : Option PlanState) (waiting more : List PlanState) (last : PlanState) → IfNone old ((new ≡ Some last) × (more ≡ []))
+    → IfSome old (λ first. (new ≡ Some first) × (more ≡ waiting ++ last ∷ [])) → AreUncopied waiting → IsUncopied last → AreUncopied more
+uncopied_after None new waiting more last none some are is = subst AreUncopied (sym none.1) tt
+uncopied_after (Some first) new waiting more last none some are is = subst AreUncopied (sym some.1) (uncopied_more waiting last are is)
+
+pub uncopied_behind : (new : Option PlanState) (waiting more : List PlanState) → plans_of new more ≡ waiting → (new ≡ None → more ≡ []) → AreUncopied waiting → AreUncopied more
+uncopied_behind None waiting more are none was = subst AreUncopied (sym (none refl)) tt
+uncopied_behind (Some first) waiting more are none was = let all : AreUncopied (first ∷ more) = subst AreUncopied (sym are) was in all.1
 
 -- the number of the last command in the area that groups go to
 pub last_counted : (area : AreaState) (count : ℕ) → area.next ≡ next_number count → count < 18446744073709551616 → last_number area ≡ count
@@ -129,7 +161,7 @@ module _ {D : Type 0} (keeper : KeeperState D) (state : State) (image : Image) (
 
     pub rotate_kept : (after : State) → IsSound extent after → (now : KeeperState D) (slot : Side) (next : AreaState) (plan : PlanState) → slot ≡ other_of keeper.memory.slot → IsTurnBegun state extent from header (other_of keeper.memory.slot) after
         → next ≡ record { from = from; bytes = area_size keeper.geometry; blocks = keeper.geometry.blocks; next = keeper.memory.area.next; gate = 0; touched = [] }
-        → plan ≡ record { first = keeper.memory.area; copied = 0; left = count_puts keeper.memory.area.blocks keeper.memory.area.touched; mapped = None }
+        → IsPlanOf keeper.memory.area plan
         → now ≡ record keeper {
           disk = now.disk;
           generation = header.generation;
@@ -259,7 +291,7 @@ pub rotate_held : {D : Type 0} (keeper : KeeperState D) (state : State) (base : 
     (from : ℕ) (from_is : from ≡ area_at keeper.geometry (behind (areas_in keeper.geometry) (suc keeper.memory.header.in_front) keeper.memory.header.first_area))
     (after : State) → IsSound extent after → (now : KeeperState D) (slot : Side) (next : AreaState) (plan : PlanState) → slot ≡ other_of keeper.memory.slot → IsTurnBegun state extent from header (other_of keeper.memory.slot) after
     → next ≡ record { from = from; bytes = area_size keeper.geometry; blocks = keeper.geometry.blocks; next = keeper.memory.area.next; gate = 0; touched = [] }
-    → plan ≡ record { first = keeper.memory.area; copied = 0; left = count_puts keeper.memory.area.blocks keeper.memory.area.touched; mapped = None }
+    → IsPlanOf keeper.memory.area plan
     → now ≡ record keeper {
       disk = now.disk;
       generation = header.generation;
@@ -435,10 +467,10 @@ next_sized area geometry n first extent inside from bytes blocks size = record {
 
 -- how many blocks the last area leaves to copy
 pub rotated_left : {D : Type 0} (keeper : KeeperState D) (plan : PlanState) (commands : List Change) → keeper.memory.area.blocks ≡ keeper.geometry.blocks
-    → plan ≡ record { first = keeper.memory.area; copied = 0; left = count_puts keeper.memory.area.blocks keeper.memory.area.touched; mapped = None } → Remembers keeper commands
+    → IsPlanOf keeper.memory.area plan → Remembers keeper commands
     → plan.left ≡ len (dirty_blocks 0 commands)
 rotated_left keeper plan commands blocks plan_is remembers =
-    ap (λ (p : PlanState). p.left) plan_is
+    plan_left keeper.memory.area plan plan_is
     ∙ ap (λ (b : ℕ). count_puts b keeper.memory.area.touched) blocks
     ∙ left_dirty keeper commands remembers
 

@@ -8,7 +8,7 @@ use Rattle.journal_format.specs.Area.{AreaState}
 use Rattle.journal_format.specs.Group.{Numbered}
 use Rattle.regions.specs.Layout.{area_size}
 use Rattle.checkpoint.specs.declared.fault.KeeperFault.{KeeperFault}
-use Rattle.checkpoint.specs.declared.fault.KeeperFault.TheVariants.{NoMemory, DeviceFault, BadMap, NoHeader, BadHeader, NumbersFull, AreaFull, OutOfOrder, DamagedGroup, NotNow, Failed}
+use Rattle.checkpoint.specs.declared.fault.KeeperFault.TheVariants.{NoMemory, DeviceFault, BadMap, NoHeader, BadHeader, NumbersFull, AreaFull, OutOfOrder, DamagedGroup, NotNow, Failed, AreaSmall}
 
 -- the area has the size of those of a device with these sizes, and lies in it
 pub record IsSized (area : AreaState) (geometry : Geometry) (extent : ℕ) : Type 0 where
@@ -52,6 +52,7 @@ refused_by OutOfOrder keeper disk = keeper
 refused_by DamagedGroup keeper disk = keeper
 refused_by NotNow keeper disk = keeper
 refused_by Failed keeper disk = keeper
+refused_by AreaSmall keeper disk = keeper
 
 -- the number of faults of the device after a refusal: only a device fault is counted
 abbrev pub faults_by : KeeperFault → ℕ → ℕ
@@ -66,6 +67,7 @@ faults_by OutOfOrder faults = faults
 faults_by DamagedGroup faults = faults
 faults_by NotNow faults = faults
 faults_by Failed faults = faults
+faults_by AreaSmall faults = faults
 
 -- the refusals that adding a group may give
 abbrev pub IsAppendFault : KeeperFault → Type 0
@@ -80,3 +82,4 @@ IsAppendFault OutOfOrder = Unit {0}
 IsAppendFault DamagedGroup = ⊥
 IsAppendFault NotNow = ⊥
 IsAppendFault Failed = Unit {0}
+IsAppendFault AreaSmall = ⊥

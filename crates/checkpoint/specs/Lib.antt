@@ -5,4 +5,5 @@ pub mod Opening
 pub mod Recovery
 pub mod Report
 pub mod Steps
+pub mod Upgrade
 pub mod inner

@@ -17,7 +17,7 @@ use Rattle.device_image.specs.Keeps.{HoldsAreas, Keeps}
 use Rattle.device_image.specs.Damage.{HasBadMap, HasDamagedGroup}
 use Rattle.device_image.specs.Stands.{StandsFor, area_of, next_number}
 use Rattle.checkpoint.specs.declared.fault.KeeperFault.{KeeperFault}
-use Rattle.checkpoint.specs.declared.fault.KeeperFault.TheVariants.{NoMemory, DeviceFault, BadMap, NoHeader, BadHeader, NumbersFull, AreaFull, OutOfOrder, DamagedGroup, NotNow, Failed}
+use Rattle.checkpoint.specs.declared.fault.KeeperFault.TheVariants.{NoMemory, DeviceFault, BadMap, NoHeader, BadHeader, NumbersFull, AreaFull, OutOfOrder, DamagedGroup, NotNow, Failed, AreaSmall}
 
 -- what a refusal of an opening says of the content; want of memory and a device fault say nothing of it
 abbrev pub IsRefused : KeeperFault → List ℕ → Type 0
@@ -32,6 +32,7 @@ IsRefused OutOfOrder content = ⊥
 IsRefused DamagedGroup content = HasDamagedGroup content
 IsRefused NotNow content = ⊥
 IsRefused Failed content = ⊥
+IsRefused AreaSmall content = ⊥
 
 -- A device that is good was read: this is its header and the slot of it, its map, what is to be copied of each area in use
 -- in front of the last, and the last one.
@@ -56,6 +57,7 @@ IsPassing OutOfOrder = ⊥
 IsPassing DamagedGroup = ⊥
 IsPassing NotNow = ⊥
 IsPassing Failed = ⊥
+IsPassing AreaSmall = ⊥
 
 -- the device after an opening, which a refusal hands back
 abbrev pub disk_after : {D : Type 0} → Result (KeeperState D) (KeeperFault × D) → D
@@ -100,10 +102,13 @@ IsOpeningRefused OutOfOrder found after = ⊥
 IsOpeningRefused DamagedGroup found after = HasDamagedGroup found
 IsOpeningRefused NotNow found after = ⊥
 IsOpeningRefused Failed found after = ⊥
+IsOpeningRefused AreaSmall found after = ⊥
 
--- what an outcome says of the content that was found
+-- what an outcome says of the content that was found: sizes and layout stay
 abbrev pub IsOutcome : {D : Type 0} → (D → State) → Result (KeeperState D) (KeeperFault × D) → List ℕ → Type 0
-IsOutcome state (Ok keeper) found = (image : Image) × StandsFor found image keeper.count × Keeps keeper (state keeper.disk) image keeper.count × (keeper.base ≡ keeper.count)
+IsOutcome state (Ok keeper) found =
+    (image : Image) × (stands : StandsFor found image keeper.count) × Keeps keeper (state keeper.disk) image keeper.count × (keeper.base ≡ keeper.count)
+    × (keeper.geometry ≡ stands.header.geometry)
 IsOutcome state (Err refused) found = IsOpeningRefused refused.0 found (state refused.1).seen
 
 -- A device in this state was opened, and this content was found, which its first sync fixes.

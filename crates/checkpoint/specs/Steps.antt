@@ -4,7 +4,7 @@ use Rattle.image_model.specs.declared.command.Kind.{Kind}
 use Rattle.regions.specs.Layout.{areas_in}
 use Rattle.device_image.specs.Keeper.{KeeperState, Memory, Phase, One, Copying, Mapped, PlanState, count_puts}
 use Rattle.checkpoint.specs.declared.fault.KeeperFault.{KeeperFault}
-use Rattle.checkpoint.specs.declared.fault.KeeperFault.TheVariants.{NoMemory, DeviceFault, BadMap, NoHeader, BadHeader, NumbersFull, AreaFull, OutOfOrder, DamagedGroup, NotNow, Failed}
+use Rattle.checkpoint.specs.declared.fault.KeeperFault.TheVariants.{NoMemory, DeviceFault, BadMap, NoHeader, BadHeader, NumbersFull, AreaFull, OutOfOrder, DamagedGroup, NotNow, Failed, AreaSmall}
 
 -- an area isn't in use, and the list of the last one that is isn't empty
 abbrev pub IsRotateTime : {D : Type 0} → KeeperState D → Type 0
@@ -120,3 +120,4 @@ IsStepFault OutOfOrder = ⊥
 IsStepFault DamagedGroup = ⊥
 IsStepFault NotNow = Unit {0}
 IsStepFault Failed = Unit {0}
+IsStepFault AreaSmall = ⊥

@@ -45,6 +45,9 @@ pub enum KeeperFault {
     /// 16: a call of the device has failed before; open the device again.
     #[error("failed")]
     Failed,
+    /// 22: layout 2 would have areas below their limit.
+    #[error("area too small")]
+    AreaSmall,
 }
 
 impl From<DeviceFault> for KeeperFault {

@@ -1,4 +1,4 @@
-ghost use Rattle.std.specs.Prelude.{◌≡◌, ◌+◌, ◌≤◌, ◌⊎◌, ◌↔◌, length, replicate, IfErr, OnOk};
+ghost use Rattle.std.specs.Prelude.{◌≡◌, ◌≤◌, ◌⊎◌, ◌↔◌, length, replicate, IfErr, OnOk};
 ghost use Rattle.checkpoint.specs.Format.{IsFormatted, LeavesButGates, LeavesFormat, first_header};
 ghost use Rattle.checkpoint.specs.inner.Format.{AreClosed, IsFresh};
 ghost use Rattle.checkpoint.specs.Keeper.{faults_by};

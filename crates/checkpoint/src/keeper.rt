@@ -1,11 +1,11 @@
-ghost use Rattle.std.specs.Prelude.{◌≡◌, ◌≢◌, ℕ, ◌+◌, ◌++◌, ◌≤◌, ◌<◌, ◌⊎◌, ◌↔◌, List, length, map, IfErr, IfOk, OnOk, IsErrAnd, IsTrue, false};
+ghost use Rattle.std.specs.Prelude.{◌≡◌, ◌≢◌, ℕ, ◌+◌, ◌++◌, ◌≤◌, ◌<◌, ◌⊎◌, ◌↔◌, List, length, map, IfErr, OnOk, IsErrAnd, IsTrue, false};
 ghost use Rattle.checkpoint.specs.Keeper.{end_after, faults_by, grown_by, refused_by, IsAppendFault};
 ghost use Rattle.device_image.specs.Holds.{Holds};
 ghost use Rattle.device_image.specs.Keeps.{Keeps};
 ghost use Rattle.device_image.specs.Remembers.{Remembers};
 ghost use Rattle.device_image.specs.Stands.{StandsFor};
 ghost use Rattle.checkpoint.specs.declared.fault.KeeperFault.TheVariants as KeeperFault;
-ghost use Rattle.disk_model.specs.Disk.{IsAllSynced, LeavesOnly, MayLeave};
+ghost use Rattle.disk_model.specs.Disk.{LeavesOnly};
 ghost use Rattle.image_model.specs.Change.{AreChanges, Change, change_of};
 ghost use Rattle.image_model.specs.Image.{Image, apply_all};
 ghost use Rattle.regions.specs.Layout.{area_size};
@@ -60,7 +60,7 @@ impl<D: Disk> Model for Keeper<D> {
     ghost use Rattle.std.specs.Prelude.{◌≡◌, length, IfSome, None, []};
     ghost use Rattle.checkpoint.specs.Keeper.{AreSized, IsSized, plans_of};
     ghost use Rattle.image_model.specs.Geometry.{device_bytes_of};
-    ghost use Rattle.device_image.specs.Keeper.{KeeperState, last_turned, lefts_of, phase_of, turned_of};
+    ghost use Rattle.device_image.specs.Keeper.{AreUncopied, KeeperState, last_turned, lefts_of, phase_of, turned_of};
     ghost use Rattle.device_image.specs.Stands.{next_number};
 
     ghost Value = { KeeperState D };
@@ -87,7 +87,8 @@ impl<D: Disk> Model for Keeper<D> {
         × (keeper.header.in_front ≡ length (plans_of keeper.plan keeper.waiting.items))
         × IsSized keeper.area keeper.header.geometry (D.extent keeper.disk)
         × (keeper.area.next ≡ next_number keeper.count)
-        × (keeper.area.gate ≡ 0 → (keeper.area.touched ≡ []) × (keeper.count ≡ last_turned keeper.header.base (turned_of (plans_of keeper.plan keeper.waiting.items)))) };
+        × (keeper.area.gate ≡ 0 → (keeper.area.touched ≡ []) × (keeper.count ≡ last_turned keeper.header.base (turned_of (plans_of keeper.plan keeper.waiting.items))))
+        × AreUncopied keeper.waiting.items };
 }
 
 impl<D: Disk> Keeper<D> {

@@ -14,6 +14,7 @@ mod recovery;
 mod report;
 mod simulated;
 mod steps;
+mod upgrade;
 
 pub use fault::KeeperFault;
 pub use keeper::Keeper;

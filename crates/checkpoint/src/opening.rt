@@ -1,6 +1,6 @@
-ghost use Rattle.std.specs.Prelude.{◌≡◌, ◌≢◌, ◌+◌, ◌<◌, ◌≤◌, ◌↔◌, List, [], length, false, IfErr, IfOk, IfSome, MatchResult, OnOk};
+ghost use Rattle.std.specs.Prelude.{◌≡◌, ◌≢◌, ◌<◌, ◌↔◌, List, [], length, false, IfErr, IfOk, MatchResult, OnOk};
 ghost use Rattle.checkpoint.specs.Keeper.{AreSized, faults_by};
-ghost use Rattle.device_image.specs.Keeps.{HoldsAreas, IsPlaced, Keeps};
+ghost use Rattle.device_image.specs.Keeps.{HoldsAreas, HoldsListed, IsPlaced, Keeps};
 ghost use Rattle.device_image.specs.Damage.{IsAreaDamaged};
 ghost use Rattle.checkpoint.specs.Opening.{IsOpened, IsRefused, disk_after, faults_after_opening};
 ghost use Rattle.checkpoint.specs.inner.Opening.{IsGroupsRefused};
@@ -172,7 +172,7 @@ fn read_areas<D: Disk>(
     for place in 0..header.in_front {
         let index = regions.area_behind(header.first_area, place);
         let plan = read_plan(alloc, disk, geometry, index, next)?;
-        next = plan.first().next();
+        next = plan.next();
         plans.push(plan).map_err(AllocError::from)?;
     }
     let last = regions.area_behind(header.first_area, header.in_front);
@@ -199,12 +199,12 @@ fn read_plan<D: Disk>(
 
     ensures only_read { D.honest disk.old → IsOnlyRead (D.state disk.old) (D.state disk.new) }
     ensures read { D.honest disk.old → IsAllSynced (D.state disk.old) → MatchResult result
-        (λ plan. HoldsList plan.first next (D.state disk.new))
+        (λ plan. HoldsListed plan.first next (D.state disk.new))
         (λ fault. IsGroupsRefused fault (IsDamaged (area_of geometry.now index) next (D.state disk.new).seen)) }
 {
     let area = read_area(alloc, disk, geometry, index, next)?;
     let touches = latest_writes(alloc, &area, geometry.blocks as u32)?;
-    Ok(CopyPlan::of(area, touches))
+    Ok(CopyPlan::of(&area, touches))
 }
 
 // Reads the groups of an area, whose first has to begin with `next`.

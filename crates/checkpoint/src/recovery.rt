@@ -1,4 +1,4 @@
-ghost use Rattle.std.specs.Prelude.{◌≡◌, ◌≢◌, ◌⊎◌, ◌==◌, ℕ, ◌<◌, ◌↔◌, List, [], length, false, IfErr, IfOk, IsTrue, OnOk, Err, Ok};
+ghost use Rattle.std.specs.Prelude.{◌≡◌, ◌≢◌, ◌==◌, ℕ, ◌<◌, ◌↔◌, List, [], length, false, IfErr, IfOk, IsTrue, OnOk, Err, Ok};
 ghost use Rattle.checkpoint.specs.Keeper.{faults_by};
 ghost use Rattle.checkpoint.specs.Opening.{IsAtRest, IsOpening, IsPassing, disk_after, faults_after_opening};
 ghost use Rattle.checkpoint.specs.Recovery.{IsBegun, IsRecovered};
@@ -10,7 +10,7 @@ ghost use Rattle.device_image.specs.Remembers.{Remembers};
 ghost use Rattle.image_model.specs.Change.{Change};
 ghost use Rattle.device_image.specs.Keeper.{Copying, One, last_turned};
 ghost use Rattle.device_image.specs.Stands.{StandsFor};
-ghost use Rattle.disk_model.specs.Disk.{IsAllSynced, LeavesOnly, MayLeave};
+ghost use Rattle.disk_model.specs.Disk.{IsAllSynced, LeavesOnly};
 ghost use Rattle.image_model.specs.Image.{Image};
 
 use crate::fault::KeeperFault;
@@ -74,6 +74,7 @@ impl<D: Disk> Keeper<D> {
         requires works { self.old.failed ≡ false }
         requires begun { IsBegun self.old.phase }
         ensures ok { OnOk result (IsRecovered self.new) }
+        ensures sizes { OnOk result (self.new.geometry ≡ self.old.geometry) }
         ensures idle { self.old.phase ≡ One → self.old.used ≡ 0 → (self.new ≡ self.old) × (result ≡ Ok tt) }
         ensures only { IfErr result IsRecoveryFault }
         ensures full { result ≡ Err KeeperFault.NumbersFull → self.new.generation ≡ 18446744073709551615 }
@@ -103,6 +104,7 @@ impl<D: Disk> Keeper<D> {
         requires works { self.old.failed ≡ false }
         requires begun { IsBegun self.old.phase }
         ensures ok { OnOk result ((self.new.failed ≡ false) × (self.new.phase ≡ One) × (self.new.turned ≡ []) × (self.new.lefts ≡ [])) }
+        ensures sizes { OnOk result (self.new.geometry ≡ self.old.geometry) }
         ensures idle { self.old.phase ≡ One → (self.new ≡ self.old) × (result ≡ Ok tt) }
         ensures only { IfErr result IsRecoveryFault }
         ensures full { result ≡ Err KeeperFault.NumbersFull → self.new.generation ≡ 18446744073709551615 }

@@ -12,13 +12,15 @@ use crate::opening::{Opened, read_parts};
 use alloc_map::AllocMap;
 use copy_plan::{CopyPlan, map_behind};
 use disk_model::Disk;
-use image_model::Kind;
+use image_model::{Kind, Layout};
 use journal::Area;
 use std::alloc::{AllocError, Global};
 
 /// What a device holds.
 #[derive(Clone, Copy, Debug, PartialEq, Eq)]
 pub struct Report {
+    /// How its areas lie.
+    pub layout: Layout,
     /// How many blocks its image has.
     pub blocks: u64,
     /// How many areas are in use in front of the last.
@@ -63,6 +65,7 @@ impl<D: Disk> Keeper<D> {
         } = read_parts(alloc, disk)?;
         let map = states_behind(alloc, map, &plans, &area)?;
         Ok(Report {
+            layout: header.geometry.layout,
             blocks: header.geometry.blocks,
             in_front: header.in_front,
             base: header.base,

@@ -26,7 +26,6 @@ use header_slots::{Header, HeaderChange, change_header};
 use image_model::BLOCK_BYTES;
 use journal::Area;
 use regions::Regions;
-use std::mem;
 
 impl<D: Disk> Keeper<D> {
     /// Copies the next blocks, at most `most`, that follow one another in the image and in the area, in one read and one
@@ -68,7 +67,7 @@ impl<D: Disk> Keeper<D> {
             return Err(KeeperFault::NotNow);
         };
         let mut buffer = vec![in self.alloc; 0; put.blocks as usize * BLOCK_BYTES as usize]?;
-        let from = plan.first().start() + put.place as u64;
+        let from = plan.start() + put.place as u64;
         let geometry = self.header.geometry;
         let regions = Regions::of(&geometry);
         match copy_over(
@@ -160,12 +159,9 @@ impl<D: Disk> Keeper<D> {
         let mut next = self.next_area();
         match begin_turn(&mut self.disk, &mut next, self.slot, &header) {
             Ok(()) => {
-                let first = mem::replace(&mut self.area, next);
-                add_plan(
-                    &mut self.plan,
-                    &mut self.waiting,
-                    CopyPlan::of(first, touches),
-                );
+                let last = CopyPlan::of(&self.area, touches);
+                self.area = next;
+                add_plan(&mut self.plan, &mut self.waiting, last);
                 self.header = header;
                 self.slot = self.slot.other();
                 Ok(())
@@ -377,7 +373,7 @@ impl<D: Disk> Keeper<D> {
         ensures none { IfNone result (IsFinishTime self.now.phase → ⊥) }
     {
         match &self.plan {
-            Some(plan) if plan.is_mapped() => Some(plan.first().next().wrapping_sub(1)),
+            Some(plan) if plan.is_mapped() => Some(plan.next().wrapping_sub(1)),
             _ => None,
         }
     }

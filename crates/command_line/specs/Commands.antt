@@ -43,10 +43,13 @@ frames_rule = record (option_rule (codes "frames")) { parser = Some (parser.Unsi
 abbrev pub cache_rule : ValueParser → Rule
 cache_rule modes = record (option_rule (codes "cache")) { parser = Some modes; defaults = codes "writeback" ∷ [] }
 
+abbrev pub layout_rule : Rule
+layout_rule = record (option_rule (codes "layout")) { parser = Some (parser.Unsigned 1 2); defaults = codes "1" ∷ [] }
+
 abbrev pub format_app : App
 format_app =
-    with_rule (with_rule (with_rule (with_rule (with_rule (with_rule (new_app (codes "format")) path_rule) size_rule) blocks_rule) area_rule)
-    (flag_rule (codes "preallocate"))) verbose_rule
+    with_rule (with_rule (with_rule (with_rule (with_rule (with_rule (with_rule (new_app (codes "format")) path_rule) size_rule) blocks_rule) area_rule)
+    layout_rule) (flag_rule (codes "preallocate"))) verbose_rule
 
 abbrev pub pipe_app : ValueParser → App
 pipe_app modes = with_rule (with_rule (with_rule (with_rule (new_app (codes "pipe")) path_rule) frames_rule) (cache_rule modes)) verbose_rule
@@ -91,6 +94,9 @@ serve_app modes = with_rule (with_rule (with_rule (timed_app modes) on_fault_rul
 abbrev pub recover_app : App
 recover_app = with_rule (with_rule (new_app (codes "recover")) path_rule) verbose_rule
 
+abbrev pub upgrade_app : App
+upgrade_app = with_rule (with_rule (new_app (codes "upgrade")) path_rule) verbose_rule
+
 abbrev pub check_app : App
 check_app = with_rule (with_rule (new_app (codes "check")) path_rule) verbose_rule
 
@@ -112,5 +118,5 @@ bare_app =
 -- the whole command line; the modes are the values that `--cache` takes, in `pipe` and in `serve`
 abbrev pub nbdj_app : ValueParser → ValueParser → App
 nbdj_app modes others =
-    with_subcommand (with_subcommand (with_subcommand (with_subcommand (with_subcommand (with_subcommand bare_app format_app.top) (serve_app others).top)
-    (pipe_app modes).top) recover_app.top) check_app.top) rehearse_app.top
+    with_subcommand (with_subcommand (with_subcommand (with_subcommand (with_subcommand (with_subcommand (with_subcommand bare_app format_app.top) (serve_app others).top)
+    (pipe_app modes).top) recover_app.top) upgrade_app.top) check_app.top) rehearse_app.top

@@ -1,9 +1,11 @@
 -- Which plan a command line asks for. The values that a subcommand was given are clap's: the words', and for an option
 -- that is left out its default.
-use Rattle.std.specs.Prelude.{ℕ, Bool, true, false, ◌≡◌, ◌≢◌, ◌⊎◌, ◌*◌, Option, Some, None, List, [], codes}
+use Rattle.std.specs.Prelude.{ℕ, Bool, true, false, ◌≡◌, ◌≢◌, ◌≤◌, ◌<◌, ◌%◌, ◌⊎◌, ◌*◌, Option, Some, None, List, [], codes}
 use Rattle.std.specs.Str.Parse.{IsNumeral, digits_value, without_leading_plus}
 use Rattle.clap.specs.Words.{Row, Text, first_of, one_of}
 use Rattle.command_line.specs.Size.{IsSize}
+use Rattle.image_model.specs.declared.layout.Layout.{Layout}
+use Rattle.image_model.specs.declared.layout.Layout.TheVariants.{One, Two}
 use Rattle.export_model.specs.declared.step.Mode.{Mode}
 use Rattle.export_model.specs.declared.step.Mode.TheVariants.{Writeback, Writethrough}
 use Rattle.subcommands.specs.declared.plan.Invocation.{Invocation}
@@ -12,7 +14,8 @@ use Rattle.subcommands.specs.declared.plan.Address.{Address}
 use Rattle.subcommands.specs.declared.plan.Address.TheVariants.{Tcp, Unix}
 use Rattle.subcommands.specs.declared.plan.Course.{Course}
 use Rattle.subcommands.specs.declared.plan.Course.TheVariants.{Once, Sweep, Faults}
-use Rattle.subcommands.specs.declared.plan.Plan.TheVariants.{Format, Pipe, Serve, Recover, Check, Rehearse}
+use Rattle.subcommands.specs.declared.plan.Plan.TheVariants.{Format, Pipe, Serve, Recover, Upgrade, Check, Rehearse, Refuse}
+use Rattle.front_end.specs.declared.refusal.Refusal.TheVariants.{AreaSmall}
 use Rattle.front_end.specs.declared.options.Limits.{Limits}
 use Rattle.front_end.specs.declared.options.OnFault.{OnFault}
 use Rattle.front_end.specs.declared.options.OnFault.TheVariants.{Exit, Stay}
@@ -49,6 +52,17 @@ SaysBlocks rows blocks =
 abbrev pub SaysArea : List Row → ℕ → Type 0
 SaysArea rows area = IsGivenSize rows (codes "area") area ⊎ (IsLeftOut rows (codes "area") × IsLeftOut rows (codes "blocks") × (area ≡ 67108864))
 
+-- the number of a layout
+abbrev pub layout_number : Layout → ℕ
+layout_number One = 1
+layout_number Two = 2
+
+-- Layout 2 is asked for, and its areas would be below their limit: the blocks and the bytes of an area are within those of layout 1.
+abbrev pub SaysSmallAreas : List Row → Type 0
+SaysSmallAreas rows =
+    (blocks area : ℕ) × SaysBlocks rows blocks × SaysArea rows area × IsGiven rows (codes "layout") 2
+    × (1 ≤ blocks) × (blocks ≤ 16777216) × (2097152 ≤ area) × (area % 8192 ≡ 0) × (area < 4194304)
+
 abbrev pub HasPath : List Row → Text → Type 0
 HasPath rows path = first_of (codes "path") rows ≡ Some path
 
@@ -82,7 +96,7 @@ abbrev pub IsAsked : Option (Text × List Row) → Plan → Type 0
 IsAsked None plan = ⊥
 IsAsked (Some (name, rows)) (Format path geometry preallocates) =
     (name ≡ codes "format") × HasPath rows path.now × SaysBlocks rows geometry.blocks × SaysArea rows geometry.area
-    × SaysFlag rows (codes "preallocate") preallocates
+    × IsGiven rows (codes "layout") (layout_number geometry.layout) × SaysFlag rows (codes "preallocate") preallocates
 IsAsked (Some (name, rows)) (Pipe path options) =
     (name ≡ codes "pipe") × HasPath rows path.now × IsGiven rows (codes "frames") options.frames
     × (first_of (codes "cache") rows ≡ Some (mode_name options.mode))
@@ -92,8 +106,10 @@ IsAsked (Some (name, rows)) (Serve path address options) =
     × SaysLimits rows options.limits × (first_of (codes "on-fault") rows ≡ Some (fault_name options.on_fault))
     × SaysFlag rows (codes "until-eof") options.until_eof
 IsAsked (Some (name, rows)) (Recover path) = (name ≡ codes "recover") × HasPath rows path.now
+IsAsked (Some (name, rows)) (Upgrade path) = (name ≡ codes "upgrade") × HasPath rows path.now
 IsAsked (Some (name, rows)) (Check path) = (name ≡ codes "check") × HasPath rows path.now
 IsAsked (Some (name, rows)) (Rehearse course) = (name ≡ codes "rehearse") × SaysScriptRuns rows course
+IsAsked (Some (name, rows)) (Refuse path refusal) = (name ≡ codes "format") × HasPath rows path.now × SaysSmallAreas rows × (refusal ≡ AreaSmall)
 
 -- the subcommand asks for this plan, and to tell of it or not
 abbrev pub IsInvocation : Option (Text × List Row) → Invocation → Type 0

@@ -1,6 +1,6 @@
 ghost use Rattle.std.specs.Prelude.{◌≡◌, codes, false, true, IfOk, IsOkAnd};
 ghost use Rattle.clap.specs.Words.{app_of, new_app, rule_of, with_rule, with_subcommand};
-ghost use Rattle.command_line.specs.Commands.{area_rule, bare_app, block_count_rule, blocks_rule, cache_rule, check_app, flag_rule, format_app, frames_rule, handshake_rule, interval_rule, listen_rule, loaded_app, nbdj_app, on_fault_rule, option_rule, path_rule, pipe_app, recover_app, rehearse_app, serve_app, served_app, sessions_rule, size_rule, timed_app, unix_rule, verbose_rule, workers_rule};
+ghost use Rattle.command_line.specs.Commands.{area_rule, bare_app, block_count_rule, blocks_rule, cache_rule, check_app, flag_rule, format_app, frames_rule, handshake_rule, interval_rule, layout_rule, listen_rule, loaded_app, nbdj_app, on_fault_rule, option_rule, path_rule, pipe_app, recover_app, rehearse_app, serve_app, served_app, sessions_rule, size_rule, timed_app, unix_rule, upgrade_app, verbose_rule, workers_rule};
 
 use clap::builder::ValueParser;
 use clap::{Arg, ArgAction, Command, value_parser};
@@ -19,6 +19,7 @@ pub fn program<'a>(
     let command = joined(command, serve(alloc, others))?;
     let command = joined(command, pipe(alloc, modes))?;
     let command = joined(command, recover(alloc))?;
+    let command = joined(command, upgrade(alloc))?;
     let command = joined(command, check(alloc))?;
     joined(command, rehearse(alloc))
 }
@@ -93,6 +94,7 @@ pub fn format<'a>(alloc: Global) -> Result<Command<'a>, AllocError>
     let command = with_argument(command, size(alloc))?;
     let command = with_argument(command, blocks(alloc))?;
     let command = command.arg(area(alloc))?;
+    let command = command.arg(layout(alloc))?;
     let command = command.arg(preallocate(alloc))?;
     command.arg(verbose(alloc))
 }
@@ -130,6 +132,18 @@ fn area<'a>(alloc: Global) -> Arg<'a>
     option(alloc, "area", "BYTES").help(
         "Bytes of each journal area, a multiple of 8192: 2M to 1G; with --size by default 64M",
     )
+}
+
+fn layout<'a>(alloc: Global) -> Arg<'a>
+    ensures local { result.global ≡ false }
+    ensures rule { rule_of result ≡ layout_rule }
+{
+    option(alloc, "layout", "L")
+        .default_value("1")
+        .value_parser(value_parser!(u64).range(1..=2))
+        .help(
+            "The layout: 1 has two journal areas, 2 has four of half the bytes, where --area is 4M or more",
+        )
 }
 
 fn preallocate<'a>(alloc: Global) -> Arg<'a>
@@ -353,6 +367,19 @@ fn recover<'a>(alloc: Global) -> Result<Command<'a>, AllocError>
         "recover",
         "Recovers the device and prints the number of its last command",
         "Example: nbdj recover d.img\n\nThe journal is copied into the image and is empty then. A kill or a power cut loses nothing.\n\nExit status: 0 done; 1 a fault of file, image, device or memory; 2 a refused command line.",
+    )
+    .arg(path(alloc))?
+    .arg(verbose(alloc))
+}
+
+fn upgrade<'a>(alloc: Global) -> Result<Command<'a>, AllocError>
+    ensures { IfOk result (λ command. app_of command ≡ upgrade_app) }
+{
+    described(
+        alloc,
+        "upgrade",
+        "Recovers the device, and gives it four journal areas in the place of two: layout 2",
+        "Example: nbdj upgrade d.img\n\nThe image stays. A kill or a power cut loses nothing: it leaves the one layout or the other.\n\nExit status: 0 done; 1 a fault of file, image, device or memory, or an area below 4M; 2 a refused command line.",
     )
     .arg(path(alloc))?
     .arg(verbose(alloc))

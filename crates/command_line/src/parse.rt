@@ -2,7 +2,7 @@ ghost use Rattle.std.specs.Prelude.{◌≡◌, ◌≤◌, ◌*◌, Some, IfOk, c
 ghost use Rattle.clap.specs.Words.{first_of, found_of, rows_of, subcommand_of};
 ghost use Rattle.clap.specs.declared.builder.value_parser.ValueParser.{ValueParser};
 ghost use Rattle.command_line.specs.Commands.{nbdj_app};
-ghost use Rattle.command_line.specs.Line.{fault_name, mode_name, HasPath, IsAsked, IsInvocation, IsGiven, SaysAddress, SaysArea, SaysBlocks, SaysScriptRuns, SaysFlag, SaysLimits};
+ghost use Rattle.command_line.specs.Line.{fault_name, layout_number, mode_name, HasPath, IsAsked, IsInvocation, IsGiven, SaysAddress, SaysArea, SaysBlocks, SaysScriptRuns, SaysFlag, SaysLimits};
 ghost use Rattle.command_line.specs.Size.{IsSize};
 
 use crate::commands::{self, modes, program};
@@ -10,8 +10,8 @@ use crate::size::bytes_of;
 use clap::error::ErrorKind;
 use clap::{ArgMatches, Command, Error};
 use export_model::Mode;
-use front_end::{Limits, OnFault, ServeOptions};
-use image_model::{BLOCK_BYTES, Geometry, LEAST_AREA_BYTES, MOST_AREA_BYTES, MOST_BLOCKS};
+use front_end::{Limits, OnFault, Refusal, ServeOptions};
+use image_model::{BLOCK_BYTES, Geometry, LEAST_AREA_BYTES, Layout, MOST_AREA_BYTES, MOST_BLOCKS};
 use nbdj_pipe::PipeOptions;
 use std::alloc::{AllocError, Global};
 use subcommands::{Address, Course, Invocation, Plan};
@@ -52,6 +52,9 @@ fn asked<'a>(alloc: Global, name: &str, matches: &ArgMatches<'a>) -> Result<Plan
         "recover" => Ok(Plan::Recover {
             path: path(alloc, matches)?,
         }),
+        "upgrade" => Ok(Plan::Upgrade {
+            path: path(alloc, matches)?,
+        }),
         "check" => Ok(Plan::Check {
             path: path(alloc, matches)?,
         }),
@@ -68,14 +71,37 @@ fn format<'a>(alloc: Global, matches: &ArgMatches<'a>) -> Result<Plan<'a>, Error
     let path = path(alloc, matches)?;
     let blocks = blocks(alloc, matches)?;
     let area = area(alloc, matches)?;
+    let layout = layout(alloc, matches)?;
     let preallocates = flag(matches, "preallocate");
-    match Geometry::new(blocks, area) {
-        Some(geometry) => Ok(Plan::Format {
-            path,
-            geometry,
-            preallocates,
-        }),
-        None => Err(format_fault(alloc, "--area: the bytes of an area are a multiple of 8192")),
+    let Some(geometry) = Geometry::new(blocks, area) else {
+        return Err(format_fault(alloc, "--area: the bytes of an area are a multiple of 8192"));
+    };
+    let geometry = match layout {
+        Layout::One => geometry,
+        Layout::Two => match geometry.with_layout_two() {
+            Some(halved) => halved,
+            None => {
+                return Ok(Plan::Refuse {
+                    path,
+                    refusal: Refusal::AreaSmall,
+                });
+            }
+        },
+    };
+    Ok(Plan::Format {
+        path,
+        geometry,
+        preallocates,
+    })
+}
+
+fn layout(alloc: Global, matches: &ArgMatches<'_>) -> Result<Layout, Error>
+    ensures { IfOk result (λ layout. IsGiven (rows_of (found_of matches.now)) (codes "layout") (layout_number layout)) }
+{
+    match number(alloc, matches, "layout")? {
+        1 => Ok(Layout::One),
+        2 => Ok(Layout::Two),
+        _ => Err(format_fault(alloc, "--layout: the layout is 1 or 2")),
     }
 }
 

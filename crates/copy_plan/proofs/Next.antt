@@ -5,7 +5,6 @@ use Rattle.std.specs.Prelude.{IfSome}
 use Rattle.image_model.specs.declared.command.Kind.{Kind}
 use Rattle.journal_format.specs.Touches.{last_touch}
 use Rattle.journal_format.specs.declared.touch.Touch.TheVariants as journal
-use Rattle.journal_format.specs.laws.Within.{last_put_within}
 use Rattle.latest_writes.specs.Resolved.{ResolvedTouches}
 use Rattle.latest_writes.specs.Touches.{touch_on_device}
 use Rattle.latest_writes.specs.Puts.{HasNoPut, IsNextPut}
@@ -53,7 +52,7 @@ module _ (plan : PlanState) (touches : ResolvedTouches) (is : IsPlan plan.first 
         let rest = plan.first.blocks - (put.first + n) in
         let end : put.first + n + rest ≡ plan.first.blocks = omega (arith, last, one) in
         let more = count_more (put.first + n) rest plan.first.touched in
-        let bytes = last_put_within plan.first.from (plan.first.from + plan.first.bytes) (put.first + (n - 1)) _ plan.first.touched is.puts_within (put_on_device (n - 1) (omega (arith, few, one))) in
+        let bytes = is.puts_within (put.first + (n - 1)) (plan.first.from + (put.place + 4096 * (n - 1))) (put_on_device (n - 1) (omega (arith, few, one))) in
         record {
           behind = next.behind;
           some = one;
@@ -63,7 +62,7 @@ module _ (plan : PlanState) (touches : ResolvedTouches) (is : IsPlan plan.first 
           first = λ block low high. is_put_at plan.first.from plan.first.blocks plan.first.touched touches.ranges is.last block (omega (arith, high, last)) ∙ next.first block low high;
           puts = λ k below. put_on_device k (omega (arith, below, few));
           left = omega (arith, is.counted, none, all, more, ap (λ (b : ℕ). count_puts b plan.first.touched) at, ap (λ (b : ℕ). count_puts b plan.first.touched) end);
-          bytes = omega (arith, bytes.1, one);
+          bytes = omega (arith, bytes, one);
         }
 
   -- after these blocks are copied

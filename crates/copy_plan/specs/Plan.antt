@@ -1,20 +1,32 @@
 -- A checkpoint that is under way, in memory: what is left of it, and what comes next.
-use Rattle.std.specs.Prelude.{ℕ, ◌≡◌, ◌+◌, ◌*◌, ◌<◌, ◌≤◌, false, List, length, Option, Some, IfSome}
+use Rattle.std.specs.Prelude.{ℕ, ◌≡◌, ◌+◌, ◌*◌, ◌<◌, ◌≤◌, false, List, [], ◌∷◌, length, Option, Some, IfSome}
 use Rattle.journal_format.specs.Area.{AreaState}
-use Rattle.journal_format.specs.Touches.{AreWithin, last_touch}
+use Rattle.journal_format.specs.Touches.{last_touch}
 use Rattle.image_model.specs.declared.command.Kind.{Kind}
 use Rattle.journal_format.specs.declared.touch.Touch.TheVariants.{Put}
+use Rattle.journal_format.specs.declared.touch.TouchedRange.{TouchedRange}
 use Rattle.latest_writes.specs.Ranges.{AreLastTouches}
 use Rattle.latest_writes.specs.Resolved.{ResolvedTouches}
+use Rattle.latest_writes.specs.Touches.{on_device}
+use Rattle.latest_writes.specs.declared.range.LastRange.{LastRange}
 use Rattle.latest_writes.specs.declared.range.PutRange.{PutRange}
 use Rattle.device_image.specs.Keeper.{PlanState, count_puts, is_put}
 
--- what is kept with the first area: the last touches of its blocks, and how many of them are left to copy
+-- the last touches of blocks by an area that begins at this place, as ranges of the device
+abbrev pub told_by : ℕ → List LastRange → List TouchedRange
+told_by from [] = []
+told_by from (range ∷ ranges) = record { first = range.first; blocks = range.blocks; touch = on_device from range.touch } ∷ told_by from ranges
+
+-- an area of so many bytes from this place on, by the number behind its list and its last touches
+abbrev pub remembered : ℕ → ℕ → ℕ → ResolvedTouches → AreaState
+remembered from bytes next touches = record { from = from; bytes = bytes; blocks = touches.blocks; next = next; gate = 0; touched = told_by from touches.ranges }
+
+-- what is kept of the area: the last touches of its blocks, and how many of them are left to copy
 pub record IsPlan (first : AreaState) (touches : ResolvedTouches) (copied left : ℕ) (mapped : Option (List Kind)) : Type 0 where
   pub blocks : touches.blocks ≡ first.blocks
   pub few : first.blocks ≤ 16777216
   pub last : AreLastTouches first.from first.blocks first.touched touches.ranges
-  pub puts_within : AreWithin first.from (first.from + first.bytes) first.touched
+  pub puts_within : (block place : ℕ) → last_touch block first.touched ≡ Some (Put place) → place + 4096 ≤ first.from + first.bytes
   pub within : copied ≤ first.blocks
   pub counted : left + count_puts copied first.touched ≡ count_puts first.blocks first.touched
   pub done : IfSome mapped (λ states. (left ≡ 0) × (length states ≡ first.blocks))

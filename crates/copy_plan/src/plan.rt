@@ -1,7 +1,7 @@
 ghost use Rattle.std.specs.Prelude.{◌≡◌, ℕ, ◌+◌, ◌-◌, ◌*◌, ◌≤◌, List, length, is_some, IfNone, IfOk, IfSome, None, Some};
 ghost use Rattle.copy_plan.specs.Plan.{IsNextCopy};
 ghost use Rattle.copy_plan.specs.inner.Plan.{kind_given};
-ghost use Rattle.device_image.specs.Keeper.{AreStatesAfter, count_puts};
+ghost use Rattle.device_image.specs.Keeper.{AreStatesAfter, IsPlanOf};
 ghost use Rattle.journal_format.specs.Touches.{AreWithin};
 ghost use Rattle.journal_format.specs.declared.touch.TouchedRange.{TouchedRange};
 ghost use Rattle.latest_writes.specs.Ranges.{AreLastTouches};
@@ -13,11 +13,13 @@ use latest_writes::{LastTouch, LastTouches, PutRange};
 use std::alloc::{AllocError, Global};
 use std::marker::Model;
 
-/// A checkpoint that is under way: the first area in use, what is left to copy of it, and the map after it, once that is
-/// written.
+/// A checkpoint of an area in use in front of the last: what is left to copy of it, and the map after it, once that is
+/// written. Of the area it keeps where it stands, the number behind its list, and the last touches of its blocks.
 #[derive(Drop)]
 pub struct CopyPlan {
-    first: Area,
+    start: u64,
+    bytes: u32,
+    next: u64,
     touches: LastTouches,
     copied: u32,
     left: u32,
@@ -25,14 +27,14 @@ pub struct CopyPlan {
 }
 
 impl Model for CopyPlan {
-    ghost use Rattle.copy_plan.specs.Plan.{IsPlan};
+    ghost use Rattle.copy_plan.specs.Plan.{IsPlan, remembered};
     ghost use Rattle.device_image.specs.Keeper.{PlanState};
 
     ghost Value = { PlanState };
 
-    ghost view = { λ plan. record { first = plan.first; copied = plan.copied; left = plan.left; mapped = plan.map } };
+    ghost view = { λ plan. record { first = remembered plan.start plan.bytes plan.next plan.touches; copied = plan.copied; left = plan.left; mapped = plan.map } };
 
-    ghost invariant = { λ plan. IsPlan plan.first plan.touches plan.copied plan.left plan.map };
+    ghost invariant = { λ plan. IsPlan (remembered plan.start plan.bytes plan.next plan.touches) plan.touches plan.copied plan.left plan.map };
 }
 
 /// The last touches of the blocks of an area. Refusal 0 (no memory).
@@ -92,16 +94,18 @@ fn laid_over(alloc: Global, touches: &LastTouches, map: &AllocMap) -> Result<All
 
 impl CopyPlan {
     /// A checkpoint of this area, with its last touches, of which nothing is copied.
-    pub fn of(first: Area, touches: LastTouches) -> CopyPlan
-        requires blocks { touches.blocks ≡ first.blocks }
-        requires few { first.blocks ≤ 16777216 }
-        requires last { AreLastTouches first.from first.blocks first.touched touches.ranges }
-        requires within { AreWithin first.from (first.from + first.bytes) first.touched }
-        ensures { result ≡ record { first = first; copied = 0; left = count_puts first.blocks first.touched; mapped = None } }
+    pub fn of(area: &Area, touches: LastTouches) -> CopyPlan
+        requires blocks { touches.blocks ≡ area.now.blocks }
+        requires few { area.now.blocks ≤ 16777216 }
+        requires last { AreLastTouches area.now.from area.now.blocks area.now.touched touches.ranges }
+        requires within { AreWithin area.now.from (area.now.from + area.now.bytes) area.now.touched }
+        ensures { IsPlanOf area.now result }
     {
         let left = touches.blocks_to_copy();
         CopyPlan {
-            first,
+            start: area.start(),
+            bytes: area.bytes(),
+            next: area.next(),
             touches,
             copied: 0,
             left,
@@ -116,11 +120,18 @@ impl CopyPlan {
         self.left
     }
 
-    /// The area that is copied.
-    pub fn first(&self) -> &Area
-        ensures { result.now ≡ self.now.first }
+    /// The first byte of the area that is copied.
+    pub fn start(&self) -> u64
+        ensures { result ≡ self.now.first.from }
     {
-        &self.first
+        self.start
+    }
+
+    /// The number behind the area's list; 0 where no number is left.
+    pub fn next(&self) -> u64
+        ensures { result ≡ self.now.first.next }
+    {
+        self.next
     }
 
     /// Whether the map is written.
@@ -169,7 +180,9 @@ impl CopyPlan {
         ensures count { IfSome result (λ map. length map ≡ self.first.blocks) }
     {
         let CopyPlan {
-            first: _,
+            start: _,
+            bytes: _,
+            next: _,
             touches: _,
             copied: _,
             left: _,

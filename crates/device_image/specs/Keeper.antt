@@ -20,8 +20,8 @@ pub data Phase : Type 0 where
   -- all are copied, and the map after the first area is written
   Mapped : Phase
 
--- A checkpoint of an area that stands in front of the last: that area, before which block all is copied that is to be copied, how
--- many blocks are left to copy, and, once it is written, the map after that area.
+-- A checkpoint of an area that stands in front of the last: what it remembers of that area, before which block all is copied that
+-- is to be copied, how many blocks are left to copy, and, once it is written, the map after that area.
 pub record PlanState : Type 0 where
   pub first : AreaState
   pub copied : ℕ
@@ -110,6 +110,24 @@ IsUncopied plan = plan ≡ record { first = plan.first; copied = 0; left = count
 abbrev pub AreUncopied : List PlanState → Type 0
 AreUncopied [] = Unit {0}
 AreUncopied (plan ∷ plans) = IsUncopied plan × AreUncopied plans
+
+-- ranges tell of each of so many blocks the same last touch
+abbrev pub TellSame : ℕ → List TouchedRange → List TouchedRange → Type 0
+TellSame blocks ranges others = (block : ℕ) → block < blocks → last_touch block ranges ≡ last_touch block others
+
+-- What a checkpoint remembers of an area: where it stands, and the number behind its list, but not where that list ends. What its
+-- commands touched it remembers by the last touch of each block alone.
+pub record IsRemembered (remembered area : AreaState) : Type 0 where
+  pub from : remembered.from ≡ area.from
+  pub bytes : remembered.bytes ≡ area.bytes
+  pub blocks : remembered.blocks ≡ area.blocks
+  pub next : remembered.next ≡ area.next
+  pub touched : TellSame area.blocks remembered.touched area.touched
+
+-- a checkpoint of this area, of which nothing is copied
+pub record IsPlanOf (area : AreaState) (plan : PlanState) : Type 0 where
+  pub remembered : IsRemembered plan.first area
+  pub uncopied : IsUncopied plan
 
 -- the states of the blocks after these touches, where these are the states before
 pub record AreStatesAfter (touched : List TouchedRange) (before after : List Kind) : Type 0 where

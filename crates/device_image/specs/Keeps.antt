@@ -1,20 +1,20 @@
 -- that a keeper keeps an image
 use Rattle.std.specs.Prelude.{ℕ, ◌≡◌, ◌+◌, ◌<◌, ◌≤◌, IsTrue, false, List, [], ◌∷◌, ◌++◌, slice_index, Option, Some, None}
-use Rattle.disk_model.specs.Disk.{State, InRange, IsAllSynced, IsSteady}
+use Rattle.disk_model.specs.Disk.{State, InRange, IsAllSynced, IsSteady, IsSyncedIn}
 use Rattle.header_slots.specs.declared.header.Header.{Header}
 use Rattle.image_model.specs.Side.{other_of}
 use Rattle.image_model.specs.declared.command.Kind.{Kind}
 use Rattle.image_model.specs.Image.{Image}
 use Rattle.image_model.specs.declared.geometry.Geometry.{Geometry}
 use Rattle.journal_format.specs.Area.{AreaState}
-use Rattle.journal_format.specs.GroupList.{IsHeld, next_behind, sizes_of}
+use Rattle.journal_format.specs.GroupList.{IsHeld, IsList, next_behind, sizes_of}
 use Rattle.journal_format.specs.Spelling.{StoredGroup}
 use Rattle.journal_format.specs.Touches.{last_touch, touched_by_groups}
 use Rattle.journal_format.specs.declared.touch.Touch.TheVariants.{Put}
 use Rattle.journal_format.specs.declared.touch.TouchedRange.{TouchedRange}
 use Rattle.regions.specs.Layout.{area_at, area_size, block_at, map_at}
 use Rattle.regions.specs.Map.{HoldsMap}
-use Rattle.device_image.specs.Keeper.{AreStatesAfter, AreUncopied, KeeperState, PlanState, count_puts, earlier_of, is_put, phase_of}
+use Rattle.device_image.specs.Keeper.{AreStatesAfter, AreUncopied, KeeperState, PlanState, TellSame, count_puts, earlier_of, is_put, phase_of}
 use Rattle.device_image.specs.Stands.{StandsFor, areas_in_front, last_area, next_number}
 
 -- the area is this one of a device with these sizes
@@ -23,8 +23,19 @@ pub record IsPlaced (area : AreaState) (geometry : Geometry) (index : ℕ) : Typ
   pub bytes : area.bytes ≡ area_size geometry
   pub blocks : area.blocks ≡ geometry.blocks
 
--- These areas hold these lists, the first with the number `next` on: each is at the end of its list and knows what its
--- commands touched, and nothing in it is unsynced.
+-- The area holds this list, and of what its commands touched the last touch of each block is known; nothing in it is unsynced.
+pub record IsListed (area : AreaState) (first : ℕ) (groups : List StoredGroup) (state : State) : Type 0 where
+  pub list : IsList area first groups state.seen
+  pub next : area.next ≡ next_behind first groups
+  pub touched : TellSame area.blocks area.touched (touched_by_groups area.from groups)
+  pub synced : IsSyncedIn state area.from area.bytes
+
+-- the same of some list
+pub record HoldsListed (area : AreaState) (first : ℕ) (state : State) : Type 0 where
+  pub groups : List StoredGroup
+  pub listed : IsListed area first groups state
+
+-- These areas hold these lists, the first with the number `next` on.
 abbrev pub AreHeld : List ℕ → Geometry → ℕ → List (List StoredGroup) → List AreaState → State → Type 0
 AreHeld [] geometry next [] [] state = Unit {0}
 AreHeld [] geometry next [] (area ∷ areas) state = ⊥
@@ -32,7 +43,7 @@ AreHeld [] geometry next (groups ∷ lists) areas state = ⊥
 AreHeld (index ∷ more) geometry next [] areas state = ⊥
 AreHeld (index ∷ more) geometry next (groups ∷ lists) [] state = ⊥
 AreHeld (index ∷ more) geometry next (groups ∷ lists) (area ∷ areas) state =
-    IsPlaced area geometry index × IsHeld area next groups state × AreHeld more geometry (next_behind next groups) lists areas state
+    IsPlaced area geometry index × IsListed area next groups state × AreHeld more geometry (next_behind next groups) lists areas state
 
 -- the number that follows lists of groups, where the first of them has to begin with `next`
 abbrev pub behind_lists : ℕ → List (List StoredGroup) → ℕ

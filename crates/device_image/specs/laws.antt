@@ -13,4 +13,5 @@ mod Touched
 pub mod HeaderReplaced
 pub mod Headers
 pub mod CheckpointBounds
+pub mod Upgraded
 pub mod Written

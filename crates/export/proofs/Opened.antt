@@ -14,7 +14,7 @@ module _ {D : Type 0} (before : State) (state : D → State) (keeper : KeeperSta
   pub handed_back : ((image : Image) (number : ℕ) (content : List ℕ) → Keeps keeper (state keeper.disk) image number → MayLeave (state keeper.disk) content → StandsFor content image number)
       → (disk : D) → disk ≡ keeper.disk → (found : List ℕ) → IsOpening before state (Ok keeper) found → IsOpening before state (Err (NoMemory, disk)) found
   handed_back left disk is found opening =
-      let (image, stands, keeps, base) = opening.outcome in
+      let (image, stands, keeps, base, sizes) = opening.outcome in
       subst (λ (d : D). IsOpening before state (Err (NoMemory, d)) found) (sym is)
       (record {
         fixed = opening.fixed;

@@ -57,21 +57,27 @@ impl<B: ExportName, D: Disk, H: ReadBeside> Export<B, D, H> {
         unreachable!()
     }
 
-    // Carries out a checkpoint; whether there may be another one.
+    // Carries out a checkpoint, and those of areas that come into use meanwhile; whether there may be another one.
     fn checkpoint<R: Wait + Clock, G: SyncPoints>(&self, rt: &R, points: &mut G) -> bool {
-        let began = Instant::now(rt).ok();
+        let mut began = Instant::now(rt).ok();
         let mut blocks = 0;
         let mut stage = Stage::Rotate;
         for _ in rt.forever() {
-            if stage == Stage::Done {
-                if let Some(took) = time_since(rt, began) {
-                    points.reach(Point::Copied { blocks, took });
-                }
-                return true;
-            }
             points.reach(Point::Step);
             match self.take_step(rt, stage, &mut blocks) {
-                NextStep::Next(next) => stage = next,
+                NextStep::Next(next) => {
+                    if stage == Stage::Finish {
+                        if let Some(took) = time_since(rt, began) {
+                            points.reach(Point::Copied { blocks, took });
+                        }
+                        began = Instant::now(rt).ok();
+                        blocks = 0;
+                    }
+                    if next == Stage::Done {
+                        return true;
+                    }
+                    stage = next;
+                }
                 NextStep::Idle => return true,
                 NextStep::Again => thread::yield_now(),
                 NextStep::Ended => return false,
@@ -81,23 +87,44 @@ impl<B: ExportName, D: Disk, H: ReadBeside> Export<B, D, H> {
     }
 
     // Carries out a step in one hold of the keeper's lock, and the clean behind the last one too: so the order knows the base that a
-    // checkpoint has left before another one begins.
+    // checkpoint has left before another one begins. Where the last area is nearly full another one comes first, if one is free: no
+    // write waits for the copy then.
     fn take_step<R: Wait>(&self, rt: &R, stage: Stage, copied: &mut u64) -> NextStep {
         let mut store = self.store.lock(rt);
+        if stage != Stage::Rotate && self.wants_area(rt, &*store) {
+            match store.rotate() {
+                Ok(()) => self.note(rt, Stage::Rotate, &mut *store),
+                // All are in use, or there is no memory for it now: the copy goes on, which frees some.
+                Err(KeeperFault::NotNow | KeeperFault::NoMemory) => {}
+                Err(fault) => return self.refused(rt, fault),
+            }
+        }
         match store.take(&self.board, stage, copied) {
             Ok(next) => {
-                self.note(rt, stage, next, &mut *store);
+                self.note(rt, stage, &mut *store);
                 NextStep::Next(next)
             }
-            Err(KeeperFault::NoMemory) => NextStep::Again,
             Err(KeeperFault::NotNow) => {
                 // Nothing was stored since the last one.
                 self.queue.lock(rt).forget_wish();
                 self.settled.notify_all();
                 NextStep::Idle
             }
-            Err(KeeperFault::NumbersFull) => NextStep::Ended,
-            Err(_) => {
+            Err(fault) => self.refused(rt, fault),
+        }
+    }
+
+    // Whether the last area is full, or soon will be.
+    fn wants_area<R: Wait>(&self, rt: &R, store: &StorageEngine<B, D>) -> bool {
+        store.is_nearly_full() || self.queue.lock(rt).is_full()
+    }
+
+    // What comes of a step that was refused.
+    fn refused<R: Wait>(&self, rt: &R, fault: KeeperFault) -> NextStep {
+        match fault {
+            KeeperFault::NoMemory => NextStep::Again,
+            KeeperFault::NumbersFull => NextStep::Ended,
+            _ => {
                 self.fail(rt);
                 NextStep::Ended
             }
@@ -105,12 +132,12 @@ impl<B: ExportName, D: Disk, H: ReadBeside> Export<B, D, H> {
     }
 
     // Notes in the order what a step has changed: the area is empty, or frames can be let go.
-    fn note<R: Wait>(&self, rt: &R, stage: Stage, next: Stage, store: &mut StorageEngine<B, D>) {
+    fn note<R: Wait>(&self, rt: &R, stage: Stage, store: &mut StorageEngine<B, D>) {
         if stage == Stage::Rotate {
             self.queue.lock(rt).find_empty();
             self.work.notify_one();
         }
-        if next == Stage::Done {
+        if stage == Stage::Finish {
             let mut queue = self.queue.lock(rt);
             store.clean(&mut queue, &self.board);
             drop(queue);

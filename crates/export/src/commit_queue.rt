@@ -445,6 +445,11 @@ impl<B: ExportName> CommitQueue<B> {
         self.wish_checkpoint();
     }
 
+    /// Whether a group didn't fit the area.
+    pub(crate) fn is_full(&self) -> bool {
+        self.is_full
+    }
+
     /// Another area has been taken into use.
     pub(crate) fn find_empty(&mut self)
         ensures { self.new.settled ≡ self.old.settled }

@@ -5,7 +5,7 @@ ghost use Rattle.device_image.specs.Keeper.{KeeperState};
 ghost use Rattle.device_image.specs.Stands.{StandsFor};
 ghost use Rattle.disk_model.specs.Disk.{LeavesOnly};
 ghost use Rattle.export.specs.Left.{HasStored, LeavesHistory};
-ghost use Rattle.export.specs.Submits.{IsAccepted, IsCovered, IsSubmitted};
+ghost use Rattle.export.specs.Submits.{IsAccepted, IsSubmitted};
 ghost use Rattle.export.specs.Trusted.{IsTrusted};
 ghost use Rattle.export_model.specs.Log.{edit_asked, is_flush, is_write, waits_for_store};
 ghost use Rattle.export_model.specs.declared.step.Mode.{Mode};

@@ -23,6 +23,7 @@ impl ExportName for Brand {
       some_blocks = lit≤ tt;
       not_too_many = lit≤ tt;
       area_not_too_small = lit≤ tt;
+      areas_not_too_small = lit≤ tt;
       area_not_too_large = lit≤ tt;
       area_whole = refl;
     } };

@@ -1,5 +1,4 @@
 //! What is stored though nobody waits for it: at the end of a session, and once it has been pending for a while.
-ghost use Rattle.std.specs.Prelude.{◌≡◌, ◌≤◌};
 ghost use Rattle.export.specs.Submits.{IsSettled};
 
 use crate::beside::ReadBeside;

@@ -1,5 +1,5 @@
 //! What lies under the keeper's lock.
-ghost use Rattle.std.specs.Prelude.{◌≡◌, ◌≢◌, ◌+◌, ◌≤◌, ◌<◌, ◌^◌, ℕ, List, length};
+ghost use Rattle.std.specs.Prelude.{◌≡◌, ◌≢◌, ◌+◌, ◌<◌, ℕ, List, length};
 ghost use mathlib.Core.List.{IsPrefix};
 ghost use Rattle.disk_model.specs.Disk.{MayLeave};
 ghost use Rattle.export.specs.inner.Submits.{FitsServed, IsServedFor};
@@ -41,21 +41,27 @@ pub(crate) enum Stage {
     Map,
     /// The first area is let go.
     Finish,
-    /// It is at its end.
+    /// No area waits to be copied.
     Done,
 }
 
-/// The keeper of an export with its seat, and how much of the area is used.
+/// The keeper of an export with its seat, and how much of its areas is used.
 pub(crate) struct StorageEngine<B: ExportName, D: Disk> {
     shared: SharedKeeper<B, D>,
-    // The bytes of the area that groups take.
+    // The bytes of the last area that groups take.
     used: u64,
+    // How many areas in front of it wait to be copied.
+    waiting: u8,
     ghost geometry: { shared.keeper.geometry ≡ B.geometry },
 }
 
 impl<B: ExportName, D: Disk + Drop> Drop for StorageEngine<B, D> {
     fn drop(self) {
-        let StorageEngine { shared: _, used: _ } = self;
+        let StorageEngine {
+            shared: _,
+            used: _,
+            waiting: _,
+        } = self;
     }
 }
 
@@ -72,20 +78,38 @@ impl<B: ExportName, D: Disk> StorageEngine<B, D> {
     pub(crate) fn new(shared: SharedKeeper<B, D>) -> StorageEngine<B, D>
         requires { shared.keeper.geometry ≡ B.geometry }
     {
-        StorageEngine { shared, used: 0 }
+        StorageEngine {
+            shared,
+            used: 0,
+            waiting: 0,
+        }
     }
 
     /// The keeper, as it is.
     pub(crate) fn into_keeper(self) -> Keeper<D>
         ensures { result ≡ self.shared.keeper }
     {
-        let StorageEngine { shared, used: _ } = self;
+        let StorageEngine {
+            shared,
+            used: _,
+            waiting: _,
+        } = self;
         shared.into_keeper()
     }
 
-    /// Whether half of the area is used.
+    // The bytes of each area.
+    fn area_bytes(&self) -> u64 {
+        u64::from(self.shared.keeper().geometry().area_size())
+    }
+
+    /// Whether half of the last area is used.
     pub(crate) fn is_filling(&self) -> bool {
-        self.used.saturating_mul(2) >= self.shared.keeper().geometry().area as u64
+        self.used.saturating_mul(2) >= self.area_bytes()
+    }
+
+    /// Whether seven eighths of the last area are used.
+    pub(crate) fn is_nearly_full(&self) -> bool {
+        self.used.saturating_mul(8) >= self.area_bytes().saturating_mul(7)
     }
 
     /// Stores a sealed group; one that may be stored later comes back.
@@ -100,7 +124,16 @@ impl<B: ExportName, D: Disk> StorageEngine<B, D> {
         Ok(())
     }
 
-    /// Carries out a step of a checkpoint, and gives the next one. The blocks that it copies are added to `copied`.
+    /// Takes the next area into use.
+    pub(crate) fn rotate(&mut self) -> Result<(), KeeperFault> {
+        self.shared.rotate()?;
+        self.used = 0;
+        self.waiting = self.waiting.saturating_add(1);
+        Ok(())
+    }
+
+    /// Carries out a step of a checkpoint, and gives the next one: behind the last that of the next area that waits. The blocks
+    /// that it copies are added to `copied`.
     pub(crate) fn take(
         &mut self,
         board: &Board<B>,
@@ -109,8 +142,7 @@ impl<B: ExportName, D: Disk> StorageEngine<B, D> {
     ) -> Result<Stage, KeeperFault> {
         match stage {
             Stage::Rotate => {
-                self.shared.rotate()?;
-                self.used = 0;
+                self.rotate()?;
                 Ok(Stage::Copy)
             }
             Stage::Copy => self.copy(copied),
@@ -120,7 +152,12 @@ impl<B: ExportName, D: Disk> StorageEngine<B, D> {
             }
             Stage::Finish => {
                 self.shared.finish(board)?;
-                Ok(Stage::Done)
+                self.waiting = self.waiting.saturating_sub(1);
+                Ok(if self.waiting > 0 {
+                    Stage::Copy
+                } else {
+                    Stage::Done
+                })
             }
             Stage::Done => Ok(Stage::Done),
         }

@@ -4,8 +4,7 @@ use Rattle.std.specs.Prelude.{ℕ, ◌+◌, ◌-◌, ◌&&◌, ◌==◌, Bool, t
 use Rattle.std.specs.FinMap.{len}
 use Rattle.image_model.specs.Change.{Change}
 use Rattle.image_model.specs.Dirty.{dirty_blocks}
-use Rattle.image_model.specs.Geometry.{area_count}
-use Rattle.export_model.specs.World.{Stage, dirty_behind}
+use Rattle.export_model.specs.World.{Stage, areas_at, dirty_behind}
 
 -- how many commands stand in front of the last area in use
 abbrev pub last_turned : ℕ → List ℕ → ℕ
@@ -28,7 +27,7 @@ is_turned (first ∷ rest) = true
 
 -- an area isn't in use, and the last one that is holds something
 abbrev pub can_rotate : Stage → Bool
-can_rotate stage = nat_lt (length stage.turned + 1) area_count && nat_lt (last_turned stage.base stage.turned) stage.stored
+can_rotate stage = nat_lt (length stage.turned + 1) (areas_at stage) && nat_lt (last_turned stage.base stage.turned) stage.stored
 
 -- a block of the first of several areas in use is left to copy
 abbrev pub can_copy : Stage → Bool

@@ -10,7 +10,7 @@ use Rattle.export_model.specs.declared.step.Step.{Step}
 use Rattle.export_model.specs.declared.step.Step.TheVariants.{Send, Serve, Answer, Seal, Append, Publish, Rotate, Copy, Map, Finish, Clean}
 use Rattle.export_model.specs.Checkpoint.{can_rotate, can_copy, can_map, can_finish, can_clean, is_full, rotated, finished}
 use Rattle.export_model.specs.Serve.{Failure, Nothing, OutOfMemory, DeviceFailure, Misread, logged, held, moved, staged, faulted, serve, answer}
-use Rattle.export_model.specs.World.{World, Stage, put, in_hand, fits}
+use Rattle.export_model.specs.World.{World, Stage, area_bytes, put, in_hand, fits}
 
 -- a growth of memory was refused, and nothing else has changed
 abbrev pub out_of_memory : World → World
@@ -35,7 +35,7 @@ send failure world connection request Closed = held world
 abbrev pub sealed_more : Failure → World → World
 sealed_more OutOfMemory world = out_of_memory world
 sealed_more _ world =
-    let count = longest (body_limit world.stage.setting.geometry.area) (drop world.stage.sealed world.stage.order) in
+    let count = longest (body_limit (area_bytes world.stage)) (drop world.stage.sealed world.stage.order) in
     logged (staged world (record world.stage { sealed = world.stage.sealed + count })) Took
 
 -- sealing, where something is pending and all that was sealed is durable

@@ -4,6 +4,7 @@ use Rattle.image_model.specs.Bodies.{body_bytes, bodies_bytes}
 use Rattle.image_model.specs.Change.{Change}
 use Rattle.image_model.specs.Dirty.{Dirty, dirty_blocks, frames_suffice}
 use Rattle.image_model.specs.Image.{Image, apply_all}
+use Rattle.image_model.specs.Layout.{area_size_of, areas_of}
 use Rattle.image_model.specs.declared.geometry.Geometry.{Geometry}
 use Rattle.nbd_wire.specs.declared.message.SessionFlags.{SessionFlags}
 use Rattle.export_model.specs.declared.connection.Connection.{Connection}
@@ -121,6 +122,13 @@ has_room world command =
     frames_suffice world.stage.setting.frames (dirty_behind world.stage.cleaned world.stage) (last_number world + 1) command
     && nat_le (bodies_bytes (drop world.stage.durable world.stage.order) + body_bytes command) 67108864
 
+-- how many journal areas there are, and the bytes of each
+abbrev pub areas_at : Stage → ℕ
+areas_at stage = areas_of stage.setting.geometry.layout
+
+abbrev pub area_bytes : Stage → ℕ
+area_bytes stage = area_size_of stage.setting.geometry.layout stage.setting.geometry.area
+
 -- whether the group in hand and the gate behind it fit the area
 abbrev pub fits : World → Bool
-fits world = nat_le (world.stage.at + 17 + bodies_bytes (in_hand world) + 1) world.stage.setting.geometry.area
+fits world = nat_le (world.stage.at + 17 + bodies_bytes (in_hand world) + 1) (area_bytes world.stage)

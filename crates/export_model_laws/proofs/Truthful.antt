@@ -29,7 +29,7 @@ use Rattle.export_model.specs.Step.{send, sent, sealed_more, put_back, written, 
 use Rattle.export_model.specs.Verdict.{verdict, first_of_rules, is_known, allowed_flags, past_end}
 use Rattle.image_model.specs.Image.{Image}
 use Rattle.export_model.specs.Shown.{shown_by}
-use Rattle.export_model.specs.World.{World, Stage, Setting, fresh, put, last_number, has_room, in_hand, fits}
+use Rattle.export_model.specs.World.{World, Stage, Setting, area_bytes, fresh, put, last_number, has_room, in_hand, fits}
 use Rattle.export_model_laws.specs.Law.{HasFailed, TellsFault, TellsTruth}
 use Rattle.export_model_laws.specs.laws.Events.{get_split}
 use Rattle.export_model_laws.specs.laws.Logged.{put_same, put_other}
@@ -299,7 +299,7 @@ module _ (world : World) (true_so_far : IsTruthful world) where
       calm (logged (staged world (record stage { setting = world.stage.setting; stopped = world.stage.stopped; faults = world.stage.faults })) event) event refl refl refl refl full backed true_so_far.due
 
   calm_grouped : IsTruthful (sealed_more Nothing world)
-  calm_grouped = calm_staged (record world.stage { sealed = world.stage.sealed + longest (body_limit world.stage.setting.geometry.area) (drop world.stage.sealed world.stage.order) }) Took (λ is. is) tt
+  calm_grouped = calm_staged (record world.stage { sealed = world.stage.sealed + longest (body_limit (area_bytes world.stage)) (drop world.stage.sealed world.stage.order) }) Took (λ is. is) tt
 
   calm_sealed : (failure : Failure) → IsTruthful (sealed_more failure world)
   calm_sealed OutOfMemory = calm_failed

@@ -2,7 +2,6 @@
 use Rattle.std.specs.Prelude.{ℕ, ◌≡◌, ◌<◌, ◌≤◌, ◌↔◌, true, false, List, [], ◌∷◌, ◌++◌, length}
 use Rattle.disk_model.specs.Faults.{HasRisen}
 use Rattle.image_model.specs.Change.{Change}
-use Rattle.image_model.specs.Geometry.{area_count}
 use Rattle.nbd_wire.specs.declared.error.Errno.TheVariants.{Io}
 use Rattle.export_model.specs.declared.event.Event.{Event}
 use Rattle.export_model.specs.declared.event.Event.TheVariants.{Sent, Answered, Numbered, Took, Held, Failed}
@@ -10,7 +9,7 @@ use Rattle.nbd_wire.specs.declared.message.Answer.TheVariants.{Refused}
 use Rattle.export_model.specs.declared.event.StepFault.TheVariants as fault
 use Rattle.export_model.specs.Checkpoint.{is_full, is_turned, last_turned, left_behind}
 use Rattle.export_model.specs.Log.{StandsAt}
-use Rattle.export_model.specs.World.{World, Stage}
+use Rattle.export_model.specs.World.{World, Stage, areas_at}
 
 -- Each area in use but the last holds something: behind the commands in map and data more were stored each time that the
 -- next one came into use, and all of these are stored.
@@ -27,7 +26,7 @@ pub record IsWithin (world : World) : Type 0 where
   pub cleaned : world.stage.cleaned ≤ world.stage.base
   pub rising : IsRising world.stage.base world.stage.turned world.stage.stored
   -- no more areas are in use than there are
-  pub areas : length world.stage.turned < area_count
+  pub areas : length world.stage.turned < areas_at world.stage
   -- the last area is empty exactly where its first gate is the next
   pub taken : (world.stage.at ≡ 0) ↔ (world.stage.stored ≡ last_turned world.stage.base world.stage.turned)
   -- no more is left to copy than goes into data, and nothing once the map behind it is written

@@ -2,7 +2,7 @@
 ghost use Rattle.std.specs.Prelude.{◌≡◌, ◌*◌, ◌+◌, ◌<◌, ◌≤◌, ◌^◌};
 ghost use Rattle.shared_store.specs.Orders.{SpanRead};
 
-use crate::requests::{flush, fresh, reads_back, write_block};
+use crate::requests::{flush, fresh, fresh_halved, reads_back, write_block};
 use crate::threads::{Task, serve_all};
 use checkpoint::Keeper;
 use disk_model::{Disk, SimDisk};
@@ -138,6 +138,14 @@ fn run<B: ExportName + Send + Sync, R: Threads + Wait + Clock + Sync>(
 #[test]
 fn eight_threads_write_through_a_small_area(rt: HostRuntime) {
     let device = fresh(rt.alloc(), 512, 2_097_152).expect(&rt, "a device over holes");
+    let ran = run::<Brand, _>(&rt, rt.alloc(), device).expect(&rt, "eight threads");
+    assert!(rt; ran.good);
+    assert_eq!(rt; ran.number, 1_280);
+}
+
+#[test]
+fn eight_threads_write_through_four_small_areas(rt: HostRuntime) {
+    let device = fresh_halved(rt.alloc(), 512, 4_194_304).expect(&rt, "a device over holes");
     let ran = run::<Brand, _>(&rt, rt.alloc(), device).expect(&rt, "eight threads");
     assert!(rt; ran.good);
     assert_eq!(rt; ran.number, 1_280);

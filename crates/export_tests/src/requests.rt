@@ -28,6 +28,14 @@ pub fn fresh(alloc: Global, blocks: u64, area: u32) -> Option<OpenDevice<SimDisk
     OpenDevice::open(alloc, formatted(alloc, blocks, area)?, None).ok()
 }
 
+// The like of a device of layout 2, whose areas have half of so many bytes.
+pub fn fresh_halved(alloc: Global, blocks: u64, area: u32) -> Option<OpenDevice<SimDisk, ()>> {
+    match Keeper::upgrade(alloc, formatted(alloc, blocks, area)?) {
+        Ok(keeper) => OpenDevice::open(alloc, keeper.into_disk(), None).ok(),
+        Err(_) => None,
+    }
+}
+
 // The like of a device that stops at its k-th call, those of the opening counted.
 pub fn fresh_that_stops(
     alloc: Global,

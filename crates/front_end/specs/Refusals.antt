@@ -5,7 +5,7 @@ use Rattle.checkpoint.specs.declared.fault.KeeperFault.TheVariants as keeper
 use Rattle.nbd_wire.specs.declared.error.WireFault.{WireFault}
 use Rattle.nbd_wire.specs.declared.error.WireFault.TheVariants as wire
 use Rattle.front_end.specs.declared.refusal.Refusal.{Refusal}
-use Rattle.front_end.specs.declared.refusal.Refusal.TheVariants.{NoMemory, DeviceFault, BadMap, NoHeader, BadHeader, NumbersFull, AreaFull, OutOfOrder, DamagedGroup, NotNow, Failed, NoRoom, PeerClosed, ProtocolEnd, StreamFault}
+use Rattle.front_end.specs.declared.refusal.Refusal.TheVariants.{NoMemory, DeviceFault, BadMap, NoHeader, BadHeader, NumbersFull, AreaFull, OutOfOrder, DamagedGroup, NotNow, Failed, NoRoom, PeerClosed, ProtocolEnd, StreamFault, AreaSmall}
 
 abbrev pub number_of : Refusal → ℕ
 number_of NoMemory = 0
@@ -23,6 +23,7 @@ number_of NoRoom = 17
 number_of PeerClosed = 19
 number_of ProtocolEnd = 20
 number_of StreamFault = 21
+number_of AreaSmall = 22
 
 abbrev pub of_keeper : KeeperFault → Refusal
 of_keeper keeper.NoMemory = NoMemory
@@ -36,6 +37,7 @@ of_keeper keeper.OutOfOrder = OutOfOrder
 of_keeper keeper.DamagedGroup = DamagedGroup
 of_keeper keeper.NotNow = NotNow
 of_keeper keeper.Failed = Failed
+of_keeper keeper.AreaSmall = AreaSmall
 
 abbrev pub of_wire : WireFault → Refusal
 of_wire wire.NoMemory = NoMemory

@@ -42,6 +42,8 @@ pub enum Refusal {
     ProtocolEnd,
     #[error("stream fault")]
     StreamFault,
+    #[error("area too small")]
+    AreaSmall,
 }
 
 impl Refusal {
@@ -65,6 +67,7 @@ impl Refusal {
             Refusal::PeerClosed => 19,
             Refusal::ProtocolEnd => 20,
             Refusal::StreamFault => 21,
+            Refusal::AreaSmall => 22,
         }
     }
 }
@@ -109,6 +112,7 @@ impl From<KeeperFault> for Refusal {
             KeeperFault::DamagedGroup => Refusal::DamagedGroup,
             KeeperFault::NotNow => Refusal::NotNow,
             KeeperFault::Failed => Refusal::Failed,
+            KeeperFault::AreaSmall => Refusal::AreaSmall,
         }
     }
 }

@@ -1,7 +1,8 @@
 -- how the header in force is changed for the next one, by docs/FORMATS.md, "Header slot"
-use Rattle.std.specs.Prelude.{ℕ, ◌≡◌, ◌≢◌, ◌+◌, ◌<◌, ◌≤◌, ◌⊎◌, List, length, slice_index}
+use Rattle.std.specs.Prelude.{ℕ, ◌≡◌, ◌≢◌, ◌+◌, ◌*◌, ◌<◌, ◌≤◌, ◌⊎◌, List, length, slice_index}
 use Rattle.disk_model.specs.Disk.{State, IsAllSynced, IsStored, MayLeave, MayLeaveTorn}
 use Rattle.image_model.specs.Side.{other_of}
+use Rattle.image_model.specs.declared.geometry.Geometry.{Geometry}
 use Rattle.image_model.specs.declared.side.Side.{Side}
 use Rattle.header_slots.specs.declared.change.HeaderChange.{HeaderChange}
 use Rattle.header_slots.specs.declared.header.Header.{Header}
@@ -16,6 +17,16 @@ pub record IsRenewed (header : Header) (change : HeaderChange) (next : Header) :
   pub first_area : next.first_area ≡ change.first_area
   pub map_slot : next.map_slot ≡ change.map_slot
   pub base : next.base ≡ change.base
+
+-- The next header in a geometry whose areas have half the bytes: its generation is one greater, one area is in use, which
+-- begins where the first one did, and map slot and base stay.
+pub record IsUpgraded (header : Header) (halved : Geometry) (next : Header) : Type 0 where
+  pub generation : next.generation ≡ header.generation + 1
+  pub geometry : next.geometry ≡ halved
+  pub in_front : next.in_front ≡ 0
+  pub first_area : next.first_area ≡ 2 * header.first_area
+  pub map_slot : next.map_slot ≡ header.map_slot
+  pub base : next.base ≡ header.base
 
 -- The gate of a slot is closed, and a read gives what it gave before at every other place.
 pub record IsGateClosed (before : State) (slot : Side) (after : State) : Type 0 where

@@ -1,19 +1,21 @@
 -- a header as bytes, by docs/FORMATS.md, "Header slot"
-use Rattle.std.specs.Prelude.{ℕ, ◌≡◌, ◌≢◌, ◌+◌, ◌%◌, ◌<◌, ◌≤◌, List, length, slice_index}
+use Rattle.std.specs.Prelude.{ℕ, ◌≡◌, ◌≢◌, ◌+◌, ◌<◌, ◌≤◌, List, length, slice_index}
 use Rattle.header_slots.specs.declared.header.Header.{Header}
 use Rattle.header_slots.specs.Number.{number_at}
-use Rattle.image_model.specs.Layout.{area_size_of, areas_of}
+use Rattle.image_model.specs.Layout.{AreSizesOf, area_size_of, areas_of}
 use Rattle.image_model.specs.Side.{index_of}
 use Rattle.image_model.specs.declared.layout.Layout.{Layout}
-use Rattle.image_model.specs.declared.layout.Layout.TheVariants.{One}
+use Rattle.image_model.specs.declared.layout.Layout.TheVariants.{One, Two}
 
--- `NBDJRNL1` as a number
+-- `NBDJRNL1` and `NBDJRNL2` as numbers
 abbrev pub magic_of : Layout → ℕ
 magic_of One = 0x4e42444a524e4c31
+magic_of Two = 0x4e42444a524e4c32
 
 -- the byte that tells how many areas are in use in front of the last
 abbrev pub mode_of : Layout → ℕ → ℕ
 mode_of One in_front = in_front
+mode_of Two in_front = in_front + 1
 
 -- The 39 bytes from this place on, behind a gate, spell this header.
 pub record SpellsAt (content : List ℕ) (place : ℕ) (header : Header) : Type 0 where
@@ -32,19 +34,11 @@ pub record IsBodyOf (header : Header) (bytes : List ℕ) : Type 0 where
   pub spelled : SpellsAt bytes 0 header
   pub rest : (k : ℕ) → 39 ≤ k → slice_index bytes k ≡ 0
 
--- blocks and area bytes within their limits
-abbrev pub AreSizes : ℕ → ℕ → Type 0
-AreSizes blocks area = (1 ≤ blocks) × (blocks ≤ 16777216) × (2097152 ≤ area) × (area ≤ 1073741824) × (area % 8192 ≡ 0)
-
--- the sizes that a layout spells by these numbers
-abbrev pub AreSpelledSizes : Layout → ℕ → ℕ → Type 0
-AreSpelledSizes One blocks area = AreSizes blocks area
-
 -- The 39 bytes from this place on spell no header: no layout has their magic, or one has, of which another field is bad.
 pub data IsBadAt (content : List ℕ) (place : ℕ) : Type 0 where
   another_magic : ((layout : Layout) → number_at place 8 content ≢ magic_of layout) → IsBadAt content place
   outside_limits : (layout : Layout) → number_at place 8 content ≡ magic_of layout
-      → ¬ (AreSpelledSizes layout (number_at (place + 16) 8 content) (number_at (place + 24) 4 content)) → IsBadAt content place
+      → ¬ (AreSizesOf layout (number_at (place + 16) 8 content) (number_at (place + 24) 4 content)) → IsBadAt content place
   no_mode : (layout : Layout) → number_at place 8 content ≡ magic_of layout
       → ((in_front : ℕ) → in_front < areas_of layout → slice_index content (place + 28) ≢ mode_of layout in_front) → IsBadAt content place
   no_first_area : (layout : Layout) → number_at place 8 content ≡ magic_of layout → areas_of layout ≤ slice_index content (place + 29) → IsBadAt content place

@@ -3,14 +3,15 @@ ghost use Rattle.disk_model.specs.Disk.{IsKept, IsStored, IsSyncedIn, LeavesOnly
 ghost use Rattle.disk_model.specs.Faults.{faults_after};
 ghost use Rattle.image_model.specs.Layout.{areas_of};
 ghost use Rattle.image_model.specs.Side.{other_of};
-ghost use Rattle.header_slots.specs.Change.{ComesNext, IsRenewed, IsBodyStored, IsGateClosed, IsInPlace, LeavesClosing, LeavesEither};
+ghost use Rattle.image_model.specs.declared.layout.Layout.TheVariants as Layout;
+ghost use Rattle.header_slots.specs.Change.{ComesNext, IsRenewed, IsUpgraded, IsBodyStored, IsGateClosed, IsInPlace, LeavesClosing, LeavesEither};
 ghost use Rattle.header_slots.specs.Slots.{slot_at, HoldsHeader, IsOpen};
 ghost use Rattle.header_slots.specs.declared.header.Header.{Header};
 
 use crate::header::Header;
 use crate::slots::slot_from;
 use disk_model::{DeviceFault, Disk, write_synced};
-use image_model::{CLOSED, OPEN, Side};
+use image_model::{CLOSED, Geometry, OPEN, Side};
 
 /// What a new header says anew. Its generation is one greater than that of the header in force, and the sizes stay.
 #[derive(Clone, Copy, Debug, PartialEq, Eq)]
@@ -38,6 +39,27 @@ impl Header {
             first_area: change.first_area,
             map_slot: change.map_slot,
             base: change.base,
+        })
+    }
+
+    /// The next header, with a geometry of layout 2 in the place of one of layout 1: one area is in use, which begins where
+    /// the first one did, and map slot and base stay. None where no generation is greater: refusal 9 (numbers full).
+    pub fn upgraded(&self, geometry: Geometry) -> Option<Header>
+        requires one { self.now.geometry.layout ≡ Layout.One }
+        requires two { geometry.layout ≡ Layout.Two }
+        ensures some { IfSome result (IsUpgraded self.now geometry) }
+        ensures none { (result ≡ None) ↔ (self.now.generation ≡ 18446744073709551615) }
+    {
+        if self.generation == u64::MAX {
+            return None;
+        }
+        Some(Header {
+            generation: self.generation + 1,
+            geometry,
+            in_front: 0,
+            first_area: 2 * self.first_area,
+            map_slot: self.map_slot,
+            base: self.base,
         })
     }
 }

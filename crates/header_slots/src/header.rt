@@ -1,4 +1,4 @@
-ghost use Rattle.std.specs.Prelude.{◌≡◌, ◌+◌, ◌<◌, ◌≤◌, length, MatchOption};
+ghost use Rattle.std.specs.Prelude.{ℕ, ◌≡◌, ◌≢◌, ◌+◌, ◌<◌, ◌≤◌, length, MatchOption};
 ghost use Rattle.header_slots.specs.Number.{number_at};
 ghost use Rattle.image_model.specs.Layout.{areas_of};
 
@@ -25,8 +25,10 @@ pub struct Header {
 // The bytes of a header behind its gate.
 pub const HEADER_BYTES: usize = 39;
 
-// `NBDJRNL1` as a number.
-const MAGIC: u64 = 0x4e42_444a_524e_4c31;
+// `NBDJRNL1` and `NBDJRNL2` as numbers.
+const MAGIC_ONE: u64 = 0x4e42_444a_524e_4c31;
+
+const MAGIC_TWO: u64 = 0x4e42_444a_524e_4c32;
 
 impl Header {
     ghost use Rattle.header_slots.specs.Header.{IsBadAt, SpellsAt, magic_of, mode_of};
@@ -60,17 +62,46 @@ impl Header {
         ensures { result ≡ magic_of layout }
     {
         match layout {
-            Layout::One => MAGIC,
+            Layout::One => MAGIC_ONE,
+            Layout::Two => MAGIC_TWO,
         }
     }
 
     // The byte that tells how many areas are in use.
     fn mode(layout: Layout, in_front: u8) -> u8
+        requires { in_front < areas_of layout }
         ensures { result ≡ mode_of layout in_front }
     {
         match layout {
             Layout::One => in_front,
+            Layout::Two => in_front + 1,
         }
+    }
+
+    // The layout whose headers begin with this.
+    fn layout(magic: u64) -> Option<Layout>
+        ensures { MatchOption result ((layout : Layout) → magic ≢ magic_of layout) (λ layout. magic ≡ magic_of layout) }
+    {
+        match magic {
+            MAGIC_ONE => Some(Layout::One),
+            MAGIC_TWO => Some(Layout::Two),
+            _ => None,
+        }
+    }
+
+    // How many areas are in use in front of the last, by the byte that tells it.
+    fn in_front(layout: Layout, mode: u8) -> Option<u8>
+        ensures { MatchOption result ((in_front : ℕ) → in_front < areas_of layout → mode ≢ mode_of layout in_front)
+            (λ in_front. (mode ≡ mode_of layout in_front) × (in_front < areas_of layout)) }
+    {
+        let in_front = match layout {
+            Layout::One => mode,
+            Layout::Two => mode.checked_sub(1)?,
+        };
+        if in_front >= layout.areas() {
+            return None;
+        }
+        Some(in_front)
     }
 
     // The header that these bytes spell; none where a field is outside its limits.
@@ -78,14 +109,9 @@ impl Header {
         requires { length bytes.now ≡ 39 }
         ensures { MatchOption result (IsBadAt bytes.now 0) (SpellsAt bytes.now 0) }
     {
-        if u64_at(bytes, 0) != MAGIC {
-            return None;
-        }
-        let geometry = Geometry::new(u64_at(bytes, 16), u32_at(bytes, 24))?;
-        let in_front = bytes[28];
-        if in_front >= geometry.areas() {
-            return None;
-        }
+        let layout = Self::layout(u64_at(bytes, 0))?;
+        let geometry = Geometry::with_areas(layout, u64_at(bytes, 16), u32_at(bytes, 24))?;
+        let in_front = Self::in_front(layout, bytes[28])?;
         let first_area = bytes[29];
         if first_area >= geometry.areas() {
             return None;

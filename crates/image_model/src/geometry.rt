@@ -1,6 +1,6 @@
 ghost use Rattle.std.specs.Prelude.{◌≡◌, ◌+◌, ◌*◌, ◌%◌, ◌≤◌, ◌<◌, ◌^◌, ◌↔◌, IsSome, IfSome};
 ghost use Rattle.image_model.specs.Geometry.{device_bytes_of, map_bytes_of};
-ghost use Rattle.image_model.specs.Layout.{area_size_of, areas_of};
+ghost use Rattle.image_model.specs.Layout.{AreSizesOf, area_size_of, areas_of};
 
 use crate::layout::Layout;
 
@@ -10,7 +10,7 @@ pub const BLOCK_BYTES: u64 = 4096;
 /// The most blocks of an image.
 pub const MOST_BLOCKS: u64 = 1 << 24;
 
-/// The fewest bytes of a journal area; an area has a multiple of 8,192 bytes.
+/// The fewest bytes of a journal area; that of a geometry has a multiple of 8,192 bytes.
 pub const LEAST_AREA_BYTES: u32 = 2_097_152;
 
 /// The most bytes of a journal area.
@@ -25,6 +25,7 @@ pub struct Geometry {
     pub ghost some_blocks: { 1 ≤ blocks },
     pub ghost not_too_many: { blocks ≤ 16777216 },
     pub ghost area_not_too_small: { 2097152 ≤ area },
+    pub ghost areas_not_too_small: { 2097152 ≤ area_size_of layout area },
     pub ghost area_not_too_large: { area ≤ 1073741824 },
     pub ghost area_whole: { area % 8192 ≡ 0 },
 }
@@ -47,6 +48,36 @@ impl Geometry {
             area,
             layout: Layout::One,
         })
+    }
+
+    /// The same sizes in layout 2; none where each of its areas would be too small: refusal 22 (area too small).
+    pub fn with_layout_two(&self) -> Option<Geometry>
+        ensures given { IfSome result (λ geometry. (geometry.blocks ≡ self.now.blocks) × (geometry.area ≡ self.now.area) × (geometry.layout ≡ Layout.Two)) }
+        ensures within { IsSome result ↔ (4194304 ≤ self.now.area) }
+    {
+        if self.area < 2 * LEAST_AREA_BYTES {
+            return None;
+        }
+        Some(Geometry {
+            blocks: self.blocks,
+            area: self.area,
+            layout: Layout::Two,
+        })
+    }
+
+    /// The geometry of this layout with so many blocks, and areas of so many bytes each; none where one of these is outside
+    /// its limits.
+    pub fn with_areas(layout: Layout, blocks: u64, size: u32) -> Option<Geometry>
+        ensures given { IfSome result (λ geometry. (geometry.blocks ≡ blocks) × (area_size_of layout geometry.area ≡ size) × (geometry.layout ≡ layout)) }
+        ensures within { IsSome result ↔ AreSizesOf layout blocks size }
+    {
+        match layout {
+            Layout::One => Geometry::new(blocks, size),
+            Layout::Two => {
+                let area = size.checked_mul(2)?;
+                Geometry::new(blocks, area)?.with_layout_two()
+            }
+        }
     }
 
     /// The journal areas of the device.

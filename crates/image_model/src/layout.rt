@@ -6,6 +6,8 @@ ghost use Rattle.image_model.specs.Layout.{area_size_of, areas_of};
 pub enum Layout {
     /// Two areas of that size.
     One,
+    /// Four areas of half that size.
+    Two,
 }
 
 impl Layout {
@@ -15,6 +17,7 @@ impl Layout {
     {
         match self {
             Layout::One => 2,
+            Layout::Two => 4,
         }
     }
 
@@ -24,6 +27,7 @@ impl Layout {
     {
         match self {
             Layout::One => area,
+            Layout::Two => area / 2,
         }
     }
 }

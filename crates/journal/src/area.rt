@@ -96,6 +96,13 @@ impl Area {
         self.from
     }
 
+    /// The area's bytes.
+    pub fn bytes(&self) -> u32
+        ensures { result ≡ self.now.bytes }
+    {
+        self.bytes
+    }
+
     /// The number that the next group has to begin with; 0 where no number is left.
     pub fn next(&self) -> u64
         ensures { result ≡ self.now.next }

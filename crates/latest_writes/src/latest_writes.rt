@@ -16,7 +16,8 @@ use std::marker::Model;
 /// The last touch of each block of an image by the commands of an area, as ranges in ascending order.
 ///
 /// Of n touched ranges, of which a command has one and with edges up to three, there are at most 2n ranges. They take at
-/// most 80 bytes a touched range, also while they are made.
+/// most 80 bytes a touched range while they are made, and then 28 bytes a range that is a put and 16 another one: of puts to
+/// blocks apart, 28 bytes a command.
 #[derive(Drop)]
 pub struct LastTouches {
     blocks: u32,
@@ -51,8 +52,10 @@ impl LastTouches {
         ensures blocks { IfOk result (λ touches. touches.blocks ≡ blocks) }
         ensures exact { IfOk result (λ touches. AreLastTouches from blocks touched.now touches.ranges) }
     {
-        let ranges = resolved(alloc, from, touched, blocks)?;
-        let puts = puts(alloc, &ranges)?;
+        let mut ranges = resolved(alloc, from, touched, blocks)?;
+        ranges.shrink_to_fit();
+        let mut puts = puts(alloc, &ranges)?;
+        puts.shrink_to_fit();
         let blocks_to_copy = sum_of_blocks(&puts);
         Ok(LastTouches {
             blocks,

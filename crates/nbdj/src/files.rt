@@ -177,6 +177,21 @@ pub fn open_fresh(rt: &HostRuntime, path: &str, size: u64) -> Result<(FreshFile,
     Ok((FreshFile::new(file, size, place), size))
 }
 
+// Whether a file could be opened, or made, there; what is there stays as it is, and no new file is left.
+pub fn try_fresh(rt: &HostRuntime, path: &str) -> Result<(), FileFault> {
+    let is_new = match place_of(rt, path) {
+        Err(FileFault::Unopened(error)) => error.kind() == ErrorKind::NotFound,
+        _ => false,
+    };
+    let _opened = open_fresh(rt, path, 0)?;
+    if is_new {
+        // A link may have led to where the file was made.
+        let made = Path::new(path).canonicalize(rt)?;
+        fs::remove_file(rt, made.as_str())?;
+    }
+    Ok(())
+}
+
 // Whether the system takes a length shows before anything is lost.
 fn try_length(file: &File, length: u64, size: u64) -> io::Result<()> {
     if length < size {

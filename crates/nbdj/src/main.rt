@@ -13,7 +13,7 @@ mod teller;
 mod told;
 
 use crate::beside::SecondHandle;
-use crate::files::{FileFault, Opened, open, open_for_reading, open_fresh};
+use crate::files::{FileFault, Opened, open, open_for_reading, open_fresh, try_fresh};
 use crate::filling::fill;
 use crate::serving::serve_at;
 use crate::streams::ClosedStreams;
@@ -101,13 +101,15 @@ where
             }
             Err(fault) => no_file(rt, teller, path, fault),
         },
-        Plan::Pipe { path, .. } | Plan::Recover { path } => match open(rt, path) {
-            Ok(opened) => {
-                let disk = disk_of(rt, teller, opened, path, invocation.is_verbose);
-                run_on(rt, &invocation.plan, disk)
+        Plan::Pipe { path, .. } | Plan::Recover { path } | Plan::Upgrade { path } => {
+            match open(rt, path) {
+                Ok(opened) => {
+                    let disk = disk_of(rt, teller, opened, path, invocation.is_verbose);
+                    run_on(rt, &invocation.plan, disk)
+                }
+                Err(fault) => no_file(rt, teller, path, fault),
             }
-            Err(fault) => no_file(rt, teller, path, fault),
-        },
+        }
         Plan::Check { path } => match open_for_reading(rt, path) {
             Ok(opened) => {
                 let disk = disk_of(rt, teller, opened, path, invocation.is_verbose);
@@ -116,6 +118,10 @@ where
             Err(fault) => no_file(rt, teller, path, fault),
         },
         Plan::Rehearse { course } => run_script(rt, course),
+        Plan::Refuse { path, refusal } => match try_fresh(rt, path) {
+            Ok(()) => exit_status(Err(refusal), &mut rt.stderr()),
+            Err(fault) => no_file(rt, teller, path, fault),
+        },
     }
 }
 

@@ -19,7 +19,7 @@ use Rattle.export_model.specs.declared.step.Step.{Step}
 use Rattle.export_model.specs.Run.{IsRun}
 use Rattle.export_model.specs.Serve.{Failure, Nothing, OutOfMemory, DeviceFailure, Misread}
 use Rattle.export_model.specs.Step.{after_step, append, publish, seal, sealed_more, stored_more}
-use Rattle.export_model.specs.World.{World, fits, last_number}
+use Rattle.export_model.specs.World.{World, area_bytes, fits, last_number}
 use Rattle.export_model_laws.specs.Law.{Grows, IsWithin}
 use Rattle.nbdj_pipe.specs.Causes.{HasCause, HasNoGeneration, Passes}
 use Rattle.nbdj_pipe.specs.inner.Checkpoint.{HasFullArea, IsUnfit}
@@ -27,7 +27,7 @@ use Rattle.nbdj_pipe.specs.inner.Export.{CameTo, GetsOn, IsSettled, IsWaiting, S
 use Rattle.nbdj_pipe.specs.inner.Refusals.{IsEarly, IsOfExport}
 use Rattle.nbdj_pipe.specs.inner.Session.{IsEndShown}
 use Rattle.front_end.specs.declared.refusal.Refusal.{Refusal}
-use Rattle.front_end.specs.declared.refusal.Refusal.TheVariants.{NoMemory, DeviceFault, BadMap, NoHeader, BadHeader, NumbersFull, AreaFull, OutOfOrder, DamagedGroup, NotNow, Failed as NeverEnds, NoRoom, PeerClosed, ProtocolEnd, StreamFault}
+use Rattle.front_end.specs.declared.refusal.Refusal.TheVariants.{NoMemory, DeviceFault, BadMap, NoHeader, BadHeader, NumbersFull, AreaFull, OutOfOrder, DamagedGroup, NotNow, Failed as NeverEnds, NoRoom, PeerClosed, ProtocolEnd, StreamFault, AreaSmall}
 use Rattle.nbdj_pipe.proofs.Steps.{last_same, of_test}
 
 -- what an export refuses ends its session early
@@ -39,6 +39,7 @@ early_of DeviceFault is = absurd is
 early_of BadMap is = absurd is
 early_of NoHeader is = absurd is
 early_of BadHeader is = absurd is
+early_of AreaSmall is = absurd is
 early_of AreaFull is = absurd is
 early_of OutOfOrder is = absurd is
 early_of DamagedGroup is = absurd is
@@ -70,6 +71,7 @@ cause_between DeviceFault first second third last before behind to on is = tt
 cause_between BadMap first second third last before behind to on is = tt
 cause_between NoHeader first second third last before behind to on is = tt
 cause_between BadHeader first second third last before behind to on is = tt
+cause_between AreaSmall first second third last before behind to on is = tt
 cause_between NumbersFull first second third last before behind to on is = passes_between HasNoGeneration first second third last before behind to on is
 cause_between AreaFull first second third last before behind to on is = is
 cause_between OutOfOrder first second third last before behind to on is = tt
@@ -200,12 +202,12 @@ module _ (world : World) (within : IsWithin world) (takes : AreChanges world.sta
   abbrev IsSealedAs : World → Type 0
   IsSealedAs next = ((event : Event) → next.log ≡ world.log ++ event ∷ [] → event ≡ Failed fault.NoMemory) ⊎ IsSealed next
 
-  sealed_some : world.stage.sealed ≡ world.stage.durable → 0 < longest (body_limit world.stage.setting.geometry.area) (drop world.stage.sealed world.stage.order)
-  sealed_some level = longest_some (body_limit world.stage.setting.geometry.area) world.stage.setting.geometry.blocks (drop world.stage.sealed world.stage.order)
+  sealed_some : world.stage.sealed ≡ world.stage.durable → 0 < longest (body_limit (area_bytes world.stage)) (drop world.stage.sealed world.stage.order)
+  sealed_some level = longest_some (body_limit (area_bytes world.stage)) world.stage.setting.geometry.blocks (drop world.stage.sealed world.stage.order)
       (all_behind (IsChange world.stage.setting.geometry.blocks) (take world.stage.sealed world.stage.order) (drop world.stage.sealed world.stage.order)
       (subst (AreChanges world.stage.setting.geometry.blocks) (sym (take-append-drop world.stage.sealed world.stage.order)) takes))
       (omega (arith, length-drop world.stage.sealed world.stage.order, level, pending))
-      (omega (arith, world.stage.setting.geometry.area_not_too_small))
+      (omega (arith, world.stage.setting.geometry.areas_not_too_small))
 
   sealed_more_as : (failure : Failure) → world.stage.sealed ≡ world.stage.durable → IsSealedAs (sealed_more failure world)
   sealed_more_as OutOfMemory level = inl (λ event log. sym (last_same world.log (Failed fault.NoMemory) event log))

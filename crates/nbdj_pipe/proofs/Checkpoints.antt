@@ -5,7 +5,7 @@ use Rattle.std.specs.FinMap.{contains_key, insert, len, len-empty, len-insert}
 use Rattle.std.specs.Ordering.{nat_cmp}
 use Rattle.std.proofs.lemmas.List.{drop_all}
 use Rattle.std.proofs.lemmas.List.Sums.{sum_by-append}
-use Rattle.std.proofs.lemmas.Bool.{and_from, both_ways, le-leb, eqb-false, leb-false, leb-true, ltb-false}
+use Rattle.std.proofs.lemmas.Bool.{and_from, both_ways, le-leb, lt-ltb, eqb-false, leb-false, leb-true, ltb-false}
 use Rattle.image_model.specs.Bodies.{bodies_bytes, body_bytes, body_limit, longest}
 use Rattle.image_model.specs.declared.command.Edges.{Edges}
 use Rattle.image_model.specs.declared.command.Edges.TheVariants.{Head, Tail, Both}
@@ -16,6 +16,7 @@ use Rattle.image_model.specs.Dirty.{Dirty, dirty_blocks, frames_suffice, with_bl
 use Rattle.image_model.specs.Edit.{ByteEdit, BytesPut, BytesTrimmed, BytesZeroed, apply_edit, becomes, blocks_met, bytes_of, cleared_within, end_spanned, first_spanned, is_partial_data}
 use Rattle.image_model.specs.Image.{Image, last_of}
 use Rattle.image_model.specs.laws.Becoming.{length-bytes_of}
+use Rattle.image_model.specs.laws.Layouts.{areas_least, areas_most}
 use Rattle.nbd_wire.specs.Request.{Message}
 use Rattle.device_image.specs.Keeper.{KeeperState}
 use Rattle.disk_model.specs.Disk.{State}
@@ -34,11 +35,11 @@ use Rattle.export_model.specs.Log.{cleared_as, edit_asked}
 use Rattle.export_model.specs.Run.{IsReached, IsRun}
 use Rattle.export_model.specs.Serve.{Failure, Nothing, OutOfMemory, DeviceFailure, Misread, image_shown}
 use Rattle.export_model.specs.Step.{after_step, clean, copy_block, finish, in_time, rotate, seal, sealed_more, with_generation, without_memory, write_map, written}
-use Rattle.export_model.specs.World.{Setting, Stage, World, dirty_behind, has_room, last_number}
+use Rattle.export_model.specs.World.{Setting, Stage, World, area_bytes, areas_at, dirty_behind, has_room, last_number}
 use Rattle.export_model_laws.specs.Law.{Grows, IsRising, IsWithin}
 use Rattle.nbdj_pipe.specs.Causes.{HasCause}
 use Rattle.nbdj_pipe.specs.inner.Causes.{LacksRoom}
-use Rattle.nbdj_pipe.specs.inner.Checkpoint.{EndsBy, HasCopied, HasCopiedAll, HasFullArea, IsCopied, IsDone, IsEmptied, IsFine, IsFinished, KeepsOrder, OrStopped}
+use Rattle.nbdj_pipe.specs.inner.Checkpoint.{EndsBy, HasCopied, HasCopiedAll, HasFinished, HasFullArea, IsCopied, IsDone, IsEmptied, IsFine, IsFinished, KeepsOrder, OrStopped}
 use Rattle.nbdj_pipe.specs.inner.Export.{IsJudged, IsStoring, Settles}
 use Rattle.nbdj_pipe.specs.Talk.{spoken, verdict_on}
 use Rattle.front_end.specs.declared.refusal.Refusal.{Refusal}
@@ -222,26 +223,34 @@ late_map old new all late = record {
       map_is_written new.mapped new.left (sym (ap (λ (b : Bool). b && not new.mapped && nat_lt 0 new.left) here) ∙ all.none) (sym (ap (λ (b : Bool). b && not new.mapped && (new.left == 0)) here) ∙ late);
 }
 
+-- where one area is in use there is nothing to finish
+none_finish : (old new : Stage) → old.turned ≡ [] → new.turned ≡ [] → HasMapped old new → HasFinished old new
+none_finish old new was is has = record {
+  keeps = has.keeps;
+  at = has.at;
+  last = ap (last_turned new.base) is ∙ has.base ∙ ap (last_turned old.base) (sym was);
+  fewer = let here = ap length is in let there = ap length was in omega (arith, here, there);
+}
+
 -- the first area is no longer in use
-took_finish : (old new : Stage) (turned : List ℕ) → old.turned ≡ turned → new.turned ≡ turned → length turned < 2 → HasMapped old new → IsFinished old (finished new turned)
-took_finish old new [] was is few has = record { keeps = has.keeps; at = has.at; base = has.base ∙ ap (last_turned old.base) (sym was); turned = is }
-took_finish old new (first ∷ []) was is few has = record {
+took_finish : (old new : Stage) (turned : List ℕ) → old.turned ≡ turned → new.turned ≡ turned → HasMapped old new → HasFinished old (finished new turned)
+took_finish old new [] was is has = none_finish old new was is has
+took_finish old new (first ∷ rest) was is has = record {
   keeps = record { order = has.keeps.order; sealed = has.keeps.sealed; stored = has.keeps.stored; durable = has.keeps.durable };
   at = has.at;
-  base = ap (last_turned old.base) (sym was);
-  turned = refl;
+  last = ap (last_turned old.base) (sym was);
+  fewer = let many = ap length was in omega (arith, many);
 }
-took_finish old new (first ∷ second ∷ rest) was is few has = absurd (omega (arith, few))
 
-late_finish : (old new : Stage) (turned : List ℕ) → old.turned ≡ turned → new.turned ≡ turned → can_finish new ≡ false → HasMapped old new → IsFinished old new
-late_finish old new [] was is late has = record { keeps = has.keeps; at = has.at; base = has.base ∙ ap (last_turned old.base) (sym was); turned = is }
+late_finish : (old new : Stage) (turned : List ℕ) → old.turned ≡ turned → new.turned ≡ turned → can_finish new ≡ false → HasMapped old new → HasFinished old new
+late_finish old new [] was is late has = none_finish old new was is has
 late_finish old new (first ∷ rest) was is late has = absurd (unlike (sym (ap (λ (t : List ℕ). is_turned t && new.mapped) is ∙ has.mapped (ap is_turned was)) ∙ late))
   where
     unlike : true ≡ false → ⊥
     unlike same = cc
 
 -- a checkpoint that had begun, once all is copied
-module _ (first world : World) (to on : Failure) (few : length first.stage.turned < 2) (copied : OrStopped HasCopiedAll first world) where
+module _ (first world : World) (to on : Failure) (copied : OrStopped HasCopiedAll first world) where
   abbrev pub mapped : World
   mapped = write_map to world
 
@@ -249,39 +258,76 @@ module _ (first world : World) (to on : Failure) (few : length first.stage.turne
   last = finish on mapped
 
   module _ (stays : world.stage.stopped ≡ true → last.stage.stopped ≡ true) (stays_mapped : mapped.stage.stopped ≡ true → last.stage.stopped ≡ true) (map_done : IsDone world mapped) (finish_done : IsDone mapped last) where
-    finish_as : HasMapped first.stage mapped.stage → OrStopped IsFinished first last
+    finish_as : HasMapped first.stage mapped.stage → OrStopped HasFinished first last
     finish_as has = by (finish_ends mapped finish_done.event on finish_done.log finish_done.fine)
       where
         by : (last.stage.stopped ≡ true) ⊎ ((can_finish mapped.stage ≡ true) × (finish_done.event ≡ Took) × (last.stage ≡ finished mapped.stage mapped.stage.turned)) ⊎ ((can_finish mapped.stage ≡ false) × (last.stage ≡ mapped.stage))
-            → OrStopped IsFinished first last
+            → OrStopped HasFinished first last
         by (inl stopped) = inl stopped
-        by (inr (inl took)) = inr (subst (IsFinished first.stage) (sym took.2)
-            (took_finish first.stage mapped.stage mapped.stage.turned (sym has.turned) refl (subst (λ (t : List ℕ). length t < 2) (sym has.turned) few) has))
-        by (inr (inr late)) = inr (subst (IsFinished first.stage) (sym late.1) (late_finish first.stage mapped.stage mapped.stage.turned (sym has.turned) refl late.0 has))
+        by (inr (inl took)) = inr (subst (HasFinished first.stage) (sym took.2)
+            (took_finish first.stage mapped.stage mapped.stage.turned (sym has.turned) refl has))
+        by (inr (inr late)) = inr (subst (HasFinished first.stage) (sym late.1) (late_finish first.stage mapped.stage mapped.stage.turned (sym has.turned) refl late.0 has))
 
-    map_as : HasCopiedAll first.stage world.stage → OrStopped IsFinished first last
+    map_as : HasCopiedAll first.stage world.stage → OrStopped HasFinished first last
     map_as all = by (map_ends world map_done.event to map_done.log map_done.fine)
       where
         by : (mapped.stage.stopped ≡ true) ⊎ ((can_map world.stage ≡ true) × (map_done.event ≡ Took) × (mapped.stage ≡ record world.stage { mapped = true })) ⊎ ((can_map world.stage ≡ false) × (mapped.stage ≡ world.stage))
-            → OrStopped IsFinished first last
+            → OrStopped HasFinished first last
         by (inl stopped) = inl (stays_mapped stopped)
         by (inr (inl took)) = finish_as (subst (HasMapped first.stage) (sym took.2) (took_map first.stage world.stage all.copied))
         by (inr (inr late)) = finish_as (subst (HasMapped first.stage) (sym late.1) (late_map first.stage world.stage all late.0))
 
-    pub finished_as : OrStopped IsFinished first last
+    pub finished_as : OrStopped HasFinished first last
     finished_as = by copied
       where
-        by : OrStopped HasCopiedAll first world → OrStopped IsFinished first last
+        by : OrStopped HasCopiedAll first world → OrStopped HasFinished first last
         by (inl stopped) = inl (stays stopped)
         by (inr all) = map_as all
 
 -- a checkpoint that had begun is finished, or it is shown why it ends early
-pub finish_shown : (first world : World) (to on : Failure) (before : List Step) (outcome : Result (Unit {0}) Refusal) → IsRun first before (write_map to world) → length first.stage.turned < 2 → OrStopped HasCopiedAll first world
+pub finish_shown : (first world : World) (to on : Failure) (before : List Step) (outcome : Result (Unit {0}) Refusal) → IsRun first before (write_map to world) → OrStopped HasCopiedAll first world
     → (world.stage.stopped ≡ true → (write_map to world).stage.stopped ≡ true) → ((write_map to world).stage.stopped ≡ true → (finish on (write_map to world)).stage.stopped ≡ true)
     → IsDone world (write_map to world) → MatchResult outcome (λ done. IsDone (write_map to world) (finish on (write_map to world))) (λ refusal. HasCause refusal (write_map to world) (finish on (write_map to world)))
-    → MatchResult outcome (λ done. OrStopped IsFinished first (finish on (write_map to world))) (λ refusal. HasCause refusal first (finish on (write_map to world)))
-finish_shown first world to on before (Ok done) run few copied stays stays_mapped map_done is = finished_as first world to on few copied (λ stopped. stays_mapped (stays stopped)) stays_mapped map_done is
-finish_shown first world to on before (Err refusal) run few copied stays stays_mapped map_done is = cause_behind refusal first (write_map to world) (finish on (write_map to world)) before run is
+    → MatchResult outcome (λ done. OrStopped HasFinished first (finish on (write_map to world))) (λ refusal. HasCause refusal first (finish on (write_map to world)))
+finish_shown first world to on before (Ok done) run copied stays stays_mapped map_done is = finished_as first world to on copied (λ stopped. stays_mapped (stays stopped)) stays_mapped map_done is
+finish_shown first world to on before (Err refusal) run copied stays stays_mapped map_done is = cause_behind refusal first (write_map to world) (finish on (write_map to world)) before run is
+
+-- one checkpoint after another
+finished_on : (first mid last : Stage) → HasFinished first mid → HasFinished mid last → (length first.turned ≤ length last.turned + 2) × KeepsOrder first last × (last.at ≡ first.at)
+    × (last_turned last.base last.turned ≡ last_turned first.base first.turned)
+finished_on first mid last to on =
+    (let one = to.fewer in let two = on.fewer in omega (arith, one, two), kept_on first mid last to.keeps on.keeps, on.at ∙ to.at, on.last ∙ to.last)
+
+-- three of them end all that may have begun
+finished_all : (first one two last : Stage) → length first.turned < 4 → HasFinished first one → HasFinished one two → HasFinished two last → IsFinished first last
+finished_all first one two last few to on end =
+    let so_far = finished_on first one two to on in
+    let a = to.fewer in let b = on.fewer in let c = end.fewer in
+    let none : last.turned ≡ [] = length_none last.turned (omega (arith, few, a, b, c)) in
+    record {
+      keeps = kept_on first two last so_far.1 end.keeps;
+      at = end.at ∙ so_far.2;
+      base = ap (last_turned last.base) (sym none) ∙ end.last ∙ so_far.3;
+      turned = none;
+    }
+  where
+    length_none : (turned : List ℕ) → length turned ≡ 0 → turned ≡ []
+    length_none [] is = refl
+    length_none (area ∷ more) is = absurd (omega (arith, is))
+
+pub all_finished : (first one two last : World) → length first.stage.turned < 4 → (one.stage.stopped ≡ true → last.stage.stopped ≡ true) → (two.stage.stopped ≡ true → last.stage.stopped ≡ true)
+    → OrStopped HasFinished first one → OrStopped HasFinished one two → OrStopped HasFinished two last → OrStopped IsFinished first last
+all_finished first one two last few stays stays_on (inl stopped) on end = inl (stays stopped)
+all_finished first one two last few stays stays_on (inr to) (inl stopped) end = inl (stays_on stopped)
+all_finished first one two last few stays stays_on (inr to) (inr on) (inl stopped) = inl stopped
+all_finished first one two last few stays stays_on (inr to) (inr on) (inr end) = inr (finished_all first.stage one.stage two.stage last.stage few to on end)
+
+-- or it is shown why the last of them ends early
+pub all_shown : (first one two last : World) (before : List Step) (outcome : Result (Unit {0}) Refusal) → IsRun first before two → length first.stage.turned < 4
+    → (one.stage.stopped ≡ true → last.stage.stopped ≡ true) → (two.stage.stopped ≡ true → last.stage.stopped ≡ true) → OrStopped HasFinished first one → OrStopped HasFinished one two
+    → MatchResult outcome (λ done. OrStopped HasFinished two last) (λ refusal. HasCause refusal two last) → MatchResult outcome (λ done. OrStopped IsFinished first last) (λ refusal. HasCause refusal first last)
+all_shown first one two last before (Ok done) run few stays stays_on to on is = all_finished first one two last few stays stays_on to on is
+all_shown first one two last before (Err refusal) run few stays stays_on to on is = cause_behind refusal first two last before run is
 
 -- the last area in use is empty, and all that was stored is in front of it
 record HasRotated (old new : Stage) : Type 0 where
@@ -299,7 +345,9 @@ took_rotate old one = record {
 -- nothing was stored in the one area
 late_rotate : (world : World) → IsWithin world → world.stage.turned ≡ [] → can_rotate world.stage ≡ false → HasRotated world.stage world.stage
 late_rotate world within one late =
-    let none : nat_lt world.stage.base world.stage.stored ≡ false = sym (ap (λ (t : List ℕ). nat_lt (length t + 1) 2 && nat_lt (last_turned world.stage.base t) world.stage.stored) one) ∙ late in
+    let several = lt-ltb 1 (areas_at world.stage) (let least = areas_least world.stage.setting.geometry.layout in omega (arith, least)) in
+    let none : nat_lt world.stage.base world.stage.stored ≡ false =
+    ap (λ (b : Bool). b && nat_lt world.stage.base world.stage.stored) (sym several) ∙ sym (ap (λ (t : List ℕ). nat_lt (length t + 1) (areas_at world.stage) && nat_lt (last_turned world.stage.base t) world.stage.stored) one) ∙ late in
     let rising : world.stage.base ≤ world.stage.stored = subst (λ (t : List ℕ). IsRising world.stage.base t world.stage.stored) one within.rising in
     let same : world.stage.stored ≡ world.stage.base = omega (arith, ltb-false world.stage.base world.stage.stored none, rising) in
     let last = ap (last_turned world.stage.base) one in
@@ -360,7 +408,7 @@ empty_takes world failure empty level = of_test (λ (w : World). HasFullArea w �
     (λ is full. none full.hand)
   where
     area : ℕ
-    area = world.stage.setting.geometry.area
+    area = area_bytes world.stage
 
     none : world.stage.stored < world.stage.sealed → ⊥
     none hand = omega (arith, hand, level)
@@ -377,7 +425,7 @@ empty_takes world failure empty level = of_test (λ (w : World). HasFullArea w �
 
     too_large : nat_le (world.stage.at + 17 + bodies_bytes (take (behind world.stage.sealed) (drop world.stage.stored world.stage.order)) + 1) area ≡ false → ⊥
     too_large full =
-        omega (arith, leb-false (world.stage.at + 17 + bodies_bytes (take (behind world.stage.sealed) (drop world.stage.stored world.stage.order)) + 1) area full, group, empty, world.stage.setting.geometry.area_not_too_small)
+        omega (arith, leb-false (world.stage.at + 17 + bodies_bytes (take (behind world.stage.sealed) (drop world.stage.stored world.stage.order)) + 1) area full, group, empty, world.stage.setting.geometry.areas_not_too_small)
 
     more : (failure : Failure) → HasFullArea (sealed_more failure world) → ⊥
     more OutOfMemory full = none full.hand

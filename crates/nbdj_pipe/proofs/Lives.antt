@@ -11,6 +11,7 @@ use Rattle.device_image.specs.laws.Kept.{kept_content}
 use Rattle.disk_model.specs.Disk.{State, MayLeave}
 use Rattle.disk_model.specs.Faults.{HasRisen}
 use Rattle.image_model.specs.Image.{Image}
+use Rattle.image_model.specs.Layout.{area_size_of}
 use Rattle.nbd_wire.specs.Request.{Message}
 use Rattle.nbd_wire.specs.declared.error.Errno.TheVariants.{Io}
 use Rattle.nbd_wire.specs.declared.message.Answer.TheVariants.{Refused}
@@ -71,7 +72,7 @@ told_talk Q exchanges (Some request) each = told_exchanges Q exchanges (front_of
 -- the keeper of a device that was opened is let go, where memory for the connections was refused
 pub starved_opening : {D : Type 0} (state : D → State) (keeper : KeeperState D) (before : State) (found : List ℕ) → IsOpening before state (Ok keeper) found → IsOpening before state (Err (NoMemory, keeper.disk)) found
 starved_opening state keeper before found opening =
-    let (image, stands, keeps, base) = opening.outcome in
+    let (image, stands, keeps, base, sizes) = opening.outcome in
     record {
       fixed = opening.fixed;
       outcome = tt;
@@ -84,17 +85,17 @@ module _ {D : Type 0} (state : D → State) (faults : D → ℕ) (honest : D →
     (edits_law : (world : World) → IsReached world → world.stage.setting.trusted ≡ true → EditsFit world.log world.stage.order world.paired world.stage.setting.image)
     (fresh_law : (trusted : Bool) (keeper : KeeperState D) (found : Image) (states : List Kind) (frames connections : ℕ) (flags : SessionFlags) (mode : Mode) → IsRecovered keeper → length states ≡ keeper.geometry.blocks → keeper.count < 18446744073709551616
     → (Trusts trusted (honest keeper.disk) → Keeps keeper (state keeper.disk) found keeper.count)
-    → (Trusts trusted (honest keeper.disk) → ShowsImage found (new_order states keeper.count frames keeper.geometry.area).cache) → (trusted ≡ true → honest keeper.disk)
-    → IsExportOf (first_world trusted keeper found (faults keeper.disk) frames connections flags mode) (new_order states keeper.count frames keeper.geometry.area)
+    → (Trusts trusted (honest keeper.disk) → ShowsImage found (new_order states keeper.count frames (area_size_of keeper.geometry.layout keeper.geometry.area)).cache) → (trusted ≡ true → honest keeper.disk)
+    → IsExportOf (first_world trusted keeper found (faults keeper.disk) frames connections flags mode) (new_order states keeper.count frames (area_size_of keeper.geometry.layout keeper.geometry.area))
     keeper (faults keeper.disk) (new_connections connections flags mode) (Trusts trusted (honest keeper.disk)) (state keeper.disk))
     (start : D) (keeper keeper' keeper'' : KeeperState D) (order' order'' : OrderState) (connections' connections'' : ConnectionsState) (frames : ℕ) (enough : 512 ≤ frames) (mode : Mode)
     (states : List Kind) (recovered : IsRecovered keeper) (blocks : length states ≡ keeper.geometry.blocks) (few : keeper.count < 18446744073709551616) (count_same : faults keeper.disk ≡ faults start)
     (found : honest start → (content : List ℕ) × IsOpening (state start) state (Ok keeper) content)
-    (shows_of : (image : Image) → Keeps keeper (state keeper.disk) image keeper.count → ShowsImage image (new_order states keeper.count frames keeper.geometry.area).cache)
+    (shows_of : (image : Image) → Keeps keeper (state keeper.disk) image keeper.count → ShowsImage image (new_order states keeper.count frames (area_size_of keeper.geometry.layout keeper.geometry.area)).cache)
     (opened_on : honest start → honest keeper.disk)
     (back : honest keeper''.disk → honest keeper'.disk) (on : honest start → honest keeper''.disk)
     (end outcome : Result (Unit {0}) Refusal) (exchanges : List Exchange) (last : Option Message)
-    (runs : Runs state faults honest (new_order states keeper.count frames keeper.geometry.area) keeper (new_connections 1 plain mode) order' keeper' connections' exchanges last end)
+    (runs : Runs state faults honest (new_order states keeper.count frames (area_size_of keeper.geometry.layout keeper.geometry.area)) keeper (new_connections 1 plain mode) order' keeper' connections' exchanges last end)
     (settles : (world : World) (trusted : Bool) → IsExportOf world order' keeper' (faults keeper'.disk) connections' (Trusts trusted (honest keeper'.disk)) (state keeper'.disk)
     → (next : World) × Settles world next order'' keeper'' (faults keeper''.disk) connections'' (Trusts trusted (honest keeper''.disk)) (state keeper'.disk) (state keeper''.disk)
     × IsEndShown end outcome world next) where
@@ -115,8 +116,8 @@ module _ {D : Type 0} (state : D → State) (faults : D → ℕ) (honest : D →
       → IsFound ((first_world trusted keeper (image_of trusted given) (faults keeper.disk) frames 1 plain mode).stage.setting) (state start) (state keeper.disk)
   found_of true given is =
       let (content, opening) = found (given refl) in
-      let (image, stands, keeps, base) = opening.outcome in
-      record { content = content; fixed = opening.fixed; stands = stands; seen = keeps.stands; geometry = keeps.sizes; generation = keeps.generation; base = sym base ∙ keeps.from_base; any_moment = opening.crash }
+      let (image, stands, keeps, base, sizes) = opening.outcome in
+      record { content = content; fixed = opening.fixed; stands = stands; sizes = sizes; seen = keeps.stands; geometry = keeps.sizes; generation = keeps.generation; base = sym base ∙ keeps.from_base; any_moment = opening.crash }
   found_of false given is = cc
 
   -- the device has failed since the life began

@@ -45,6 +45,7 @@ of_early DeviceFault early = tt
 of_early Refusal.BadMap early = early
 of_early Refusal.NoHeader early = early
 of_early Refusal.BadHeader early = early
+of_early Refusal.AreaSmall early = early
 of_early Refusal.NumbersFull early = tt
 of_early Refusal.AreaFull early = early
 of_early Refusal.OutOfOrder early = early

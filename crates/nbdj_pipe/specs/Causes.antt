@@ -5,7 +5,7 @@ use Rattle.export_model.specs.Run.{IsRun}
 use Rattle.export_model.specs.Checkpoint.{can_finish, can_rotate, is_full}
 use Rattle.export_model.specs.World.{World}
 use Rattle.front_end.specs.declared.refusal.Refusal.{Refusal}
-use Rattle.front_end.specs.declared.refusal.Refusal.TheVariants.{NoMemory, DeviceFault, BadMap, NoHeader, BadHeader, NumbersFull, AreaFull, OutOfOrder, DamagedGroup, NotNow, Failed, NoRoom, PeerClosed, ProtocolEnd, StreamFault}
+use Rattle.front_end.specs.declared.refusal.Refusal.TheVariants.{NoMemory, DeviceFault, BadMap, NoHeader, BadHeader, NumbersFull, AreaFull, OutOfOrder, DamagedGroup, NotNow, Failed, NoRoom, PeerClosed, ProtocolEnd, StreamFault, AreaSmall}
 
 -- a run from one world to another passes one of which this holds
 pub record Passes (P : World → Type 0) (first last : World) : Type 0 where
@@ -30,6 +30,7 @@ HasCause DeviceFault first last = Unit {0}
 HasCause BadMap first last = Unit {0}
 HasCause NoHeader first last = Unit {0}
 HasCause BadHeader first last = Unit {0}
+HasCause AreaSmall first last = Unit {0}
 HasCause NumbersFull first last = Passes HasNoGeneration first last
 HasCause AreaFull first last = ⊥
 HasCause OutOfOrder first last = Unit {0}

@@ -29,6 +29,7 @@ pub record IsFound (setting : Setting) (start opened : State) : Type 0 where
   pub content : List ℕ
   pub fixed : MayLeave start content
   pub stands : StandsFor content setting.image setting.opening
+  pub sizes : setting.geometry ≡ stands.header.geometry
   pub seen : StandsFor opened.seen setting.image setting.opening
   pub geometry : setting.geometry ≡ seen.header.geometry
   pub generation : setting.generation ≡ seen.header.generation

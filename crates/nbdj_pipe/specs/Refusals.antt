@@ -1,6 +1,6 @@
 -- Which refusals an export, an early end of a session and a session may come to.
 use Rattle.front_end.specs.declared.refusal.Refusal.{Refusal}
-use Rattle.front_end.specs.declared.refusal.Refusal.TheVariants.{NoMemory, DeviceFault, BadMap, NoHeader, BadHeader, NumbersFull, AreaFull, OutOfOrder, DamagedGroup, NotNow, Failed, NoRoom, PeerClosed, ProtocolEnd, StreamFault}
+use Rattle.front_end.specs.declared.refusal.Refusal.TheVariants.{NoMemory, DeviceFault, BadMap, NoHeader, BadHeader, NumbersFull, AreaFull, OutOfOrder, DamagedGroup, NotNow, Failed, NoRoom, PeerClosed, ProtocolEnd, StreamFault, AreaSmall}
 
 -- a refusal that a session may end with; the others are an opening's
 abbrev pub IsOfSession : Refusal → Type 0
@@ -9,6 +9,7 @@ IsOfSession DeviceFault = Unit {0}
 IsOfSession BadMap = ⊥
 IsOfSession NoHeader = ⊥
 IsOfSession BadHeader = ⊥
+IsOfSession AreaSmall = ⊥
 IsOfSession NumbersFull = Unit {0}
 IsOfSession AreaFull = ⊥
 IsOfSession OutOfOrder = ⊥

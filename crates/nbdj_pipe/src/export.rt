@@ -4,7 +4,7 @@ ghost use Rattle.nbd_wire.specs.Request.{Message};
 ghost use Rattle.nbd_wire.specs.declared.head.RequestHead.{RequestHead};
 ghost use Rattle.nbdj_pipe.specs.Causes.{HasCause};
 ghost use Rattle.nbdj_pipe.specs.inner.Causes.{LacksRoom};
-ghost use Rattle.nbdj_pipe.specs.inner.Checkpoint.{EndsBy, HasCopiedAll, IsCopied, IsDone, IsEmptied, IsFinished, OrStopped};
+ghost use Rattle.nbdj_pipe.specs.inner.Checkpoint.{EndsBy, HasCopiedAll, HasFinished, IsCopied, IsDone, IsEmptied, IsFinished, OrStopped};
 ghost use Rattle.nbdj_pipe.specs.inner.Export.{AwaitsAnswer, CameTo, Follows, GetsOn, HasAnswer, IsGiven, IsJudged, IsOfKind, IsSettled, IsStoring, IsWaiting, Settles, StoredBy, said_of, told, told_by};
 ghost use Rattle.nbdj_pipe.specs.inner.Refusals.{IsOfExport};
 ghost use Rattle.nbdj_pipe.specs.Talk.{plain, spoken, verdict_on};
@@ -188,7 +188,26 @@ impl<B: BoardName, D: Disk> Export<B, D> {
         }
     }
 
-    // Carries a checkpoint that has begun to its end.
+    // Carries the checkpoint of the first of several areas in use to its end.
+    fn finish_first(&mut self) -> Result<(), Refusal>
+        requires group { IfSome self.old.connections.group (IsInHand self.old.order) }
+        ensures group { IfSome self.new.connections.group (IsInHand self.new.order) }
+        ensures extent { D.extent self.new.keeper.disk ≡ D.extent self.old.keeper.disk }
+        ensures honest { D.honest self.new.keeper.disk ↔ D.honest self.old.keeper.disk }
+        ensures early { IfErr result IsOfExport }
+        ensures world { (world : World) (trusted : Bool) → IsExportOf world self.old.order self.old.keeper (D.faults self.old.keeper.disk) self.old.connections (Trusts trusted (D.honest self.old.keeper.disk)) (D.state self.old.keeper.disk)
+            → (next : World) × Settles world next self.new.order self.new.keeper (D.faults self.new.keeper.disk) self.new.connections
+            (Trusts trusted (D.honest self.new.keeper.disk)) (D.state self.old.keeper.disk) (D.state self.new.keeper.disk)
+            × MatchResult result (λ done. OrStopped HasFinished world next) (λ refusal. HasCause refusal world next) }
+    {
+        leads_law::<D>();
+        schedule_law();
+        self.copy_all()?;
+        self.turn(Step::Map)?;
+        self.turn(Step::Finish)
+    }
+
+    // Carries the checkpoints that have begun to their end: at most three areas stand in front of the last.
     fn finish_checkpoint(&mut self) -> Result<(), Refusal>
         requires group { IfSome self.old.connections.group (IsInHand self.old.order) }
         ensures group { IfSome self.new.connections.group (IsInHand self.new.order) }
@@ -202,9 +221,9 @@ impl<B: BoardName, D: Disk> Export<B, D> {
     {
         leads_law::<D>();
         schedule_law();
-        self.copy_all()?;
-        self.turn(Step::Map)?;
-        self.turn(Step::Finish)
+        self.finish_first()?;
+        self.finish_first()?;
+        self.finish_first()
     }
 
     // Moves all that is stored into map and data, and lets the frames of it go. A checkpoint that was begun earlier, and for

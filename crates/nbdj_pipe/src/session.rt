@@ -13,6 +13,7 @@ ghost use Rattle.front_end.specs.declared.refusal.Refusal.TheVariants as Refusal
 ghost use Rattle.device_image.specs.Holds.{Holds};
 ghost use Rattle.image_model.specs.Image.{Image};
 ghost use Rattle.image_model.specs.declared.command.Kind.{Kind};
+ghost use Rattle.image_model.specs.Layout.{area_size_of};
 ghost use Rattle.order_book.specs.Order.{IsInHand, new_order};
 ghost use Rattle.order_book.specs.Shown.{ShowsImage};
 ghost use Rattle.request_core.specs.Bench.{new_connections};
@@ -63,9 +64,9 @@ pub fn pipe<D: Disk, R: Read, W: Write>(
     ensures extent { D.extent result.1 ≡ D.extent disk }
     ensures honest { D.honest result.1 ↔ D.honest disk }
 
-    // Where the opening is refused nothing is read or written. Else what is written are the simple replies to the requests
-    // read, one to each up to the first end of the stream; after an early refusal it may be the first bytes of such replies.
-    // The answers are those of a run of the world, in which these requests were sent.
+    // Where the opening is refused nothing is read or written. Else what is written are the
+    // simple replies to the requests read, one to each up to the first end of the stream; after an early refusal it may be
+    // the first bytes of such replies. The answers are those of a run of the world, in which these requests were sent.
     ensures dialog { IsUnopened D.state D.faults D.honest disk result.1 (R.remaining input.old) (R.remaining input.new) (W.contents output.old) (W.contents output.new) result.0
         ⊎ IsPiped (R.remaining input.old) (R.remaining input.new) (W.contents output.old) (W.contents output.new) result.0
         (IsLived D.state D.faults D.honest options.frames options.mode disk result.1) }
@@ -140,7 +141,7 @@ fn fresh_parts<B: BoardName, D: Disk>(
     requires named { blank.opening ≡ B.opening }
     requires opening { blank.opening ≡ keeper.now.count }
     ensures order { IfOk result (λ parts. (states : List Kind) × (length states ≡ keeper.now.geometry.blocks)
-        × (parts.2 ≡ new_order states keeper.now.count options.frames keeper.now.geometry.area)) }
+        × (parts.2 ≡ new_order states keeper.now.count options.frames (area_size_of keeper.now.geometry.layout keeper.now.geometry.area))) }
     ensures image { (image : Image) → Holds keeper.now (D.state keeper.now.disk) image [] [] → IfOk result (λ parts. ShowsImage image parts.2.cache) }
     ensures connections { IfOk result (λ parts. parts.3 ≡ new_connections 1 plain options.mode) }
     ensures few { OnOk result (keeper.now.count < 18446744073709551616) }

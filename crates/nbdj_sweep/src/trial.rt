@@ -36,7 +36,9 @@ impl Trial {
     pub fn begin(alloc: Global, schedule: Schedule) -> Result<(Trial, SimDisk), KeeperFault>
         ensures { IfOk result (λ begun. ⟦<SimDisk as Disk>⟧.extent begun.1 ≡ ⟦<SimDisk as Disk>⟧.extent begun.0.fresh) }
     {
-        let geometry = schedule.setup.geometry;
+        let Some(geometry) = schedule.setup.geometry() else {
+            return Err(KeeperFault::AreaSmall);
+        };
         let size = geometry.device_bytes();
         let mut fresh = SimDisk::new(alloc, size)?;
         Keeper::format(alloc, &mut fresh, geometry)?;

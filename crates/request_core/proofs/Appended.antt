@@ -214,6 +214,7 @@ module _ {D : Type 0} (state : D → State) (faults extent : D → ℕ) (honest 
         let count = kept.count in
         absurd (is.2 (omega (arith, first, count)))
     appended_refused fault.DamagedGroup new only failed full out_of_order same level stays_honest any = absurd only
+    appended_refused fault.AreaSmall new only failed full out_of_order same level stays_honest any = absurd only
     appended_refused fault.NotNow new only failed full out_of_order same level stays_honest any = absurd only
     appended_refused fault.Failed new only failed full out_of_order same level stays_honest any =
         (Nothing, appended_failed new (failed.0 refl) same)

@@ -15,6 +15,8 @@ use Rattle.device_image.specs.laws.Counted.{remembers_still}
 use Rattle.disk_model.specs.Disk.{State, LeavesOnly, IsSound, MayLeave}
 use Rattle.disk_model.specs.Faults.{counted}
 use Rattle.disk_model.specs.laws.Moments.{begins, ends, weakens}
+use Rattle.image_model.specs.Layout.{areas_of}
+use Rattle.image_model.specs.declared.geometry.Geometry.{Geometry}
 use Rattle.image_model.specs.Change.{Change}
 use Rattle.image_model.specs.Dirty.{dirty_blocks}
 use Rattle.image_model.specs.Image.{Image, apply_all}
@@ -27,14 +29,14 @@ use Rattle.request_core.specs.inner.Storing.{hand_refused, order_refused, step_e
 use Rattle.request_core.specs.laws.Lives.{IsOrdered, apply_append, keeps_of, ordered, part_none, take_part, through_turned}
 use Rattle.request_core.specs.laws.Orders.{order_puts_back, order_stops}
 use Rattle.request_core.proofs.Stored.{not_true_is}
-use Rattle.request_core.proofs.Times.{areas_two, copy_lefts, copy_phase, copy_sound, copy_whole, finish_lefts, finish_phase, finish_some, finish_sound, finish_whole, fronts_more, map_phase, map_sound, map_whole, numbers_length, numbers_more, rotate_lefts, rotate_phase, rotate_some, rotate_sound, rotate_whole, phase_by}
+use Rattle.request_core.proofs.Times.{copy_lefts, copy_phase, copy_sound, copy_whole, finish_lefts, finish_phase, finish_some, finish_sound, finish_whole, fronts_more, map_phase, map_sound, map_whole, numbers_length, numbers_more, rotate_lefts, rotate_phase, rotate_some, rotate_sound, rotate_whole, phase_by}
 use Rattle.export_model.specs.Checkpoint.{can_copy, can_finish, can_map, can_rotate, finished, is_full, is_turned, last_turned, left_behind, rotated, to_copy}
 use Rattle.export_model.specs.declared.event.Event.{Event}
 use Rattle.export_model.specs.declared.event.Event.TheVariants.{Took, Held, Failed}
 use Rattle.export_model.specs.declared.event.StepFault.TheVariants.{NoMemory, DeviceFault, NumbersFull, FailedBefore}
 use Rattle.export_model.specs.Serve.{Failure, Nothing, OutOfMemory, DeviceFailure, held, logged, faulted, staged}
 use Rattle.export_model.specs.Step.{copy_block, finish, in_time, out_of_memory, rotate, without_memory, write_map, written}
-use Rattle.export_model.specs.World.{World, Stage, image_after}
+use Rattle.export_model.specs.World.{World, Stage, areas_at, image_after}
 use Rattle.export_model_laws.specs.Law.{IsRising, IsWithin}
 use Rattle.export_model_laws.specs.laws.Within.{last_of_more, rising_end, turned_through}
 
@@ -245,6 +247,7 @@ module _ {D : Type 0} (state : D → State) (faults extent : D → ℕ) (honest 
     step_refused fault.AreaFull new only failed not_now full fills memory device same level stays_honest stays = absurd only
     step_refused fault.OutOfOrder new only failed not_now full fills memory device same level stays_honest stays = absurd only
     step_refused fault.DamagedGroup new only failed not_now full fills memory device same level stays_honest stays = absurd only
+    step_refused fault.AreaSmall new only failed not_now full fills memory device same level stays_honest stays = absurd only
     step_refused fault.NotNow new only failed not_now full fills memory device same level stays_honest stays =
         let is = not_now.0 refl in
         let late = not_true time (λ now. is.1 (sound_time now)) in (
@@ -281,14 +284,14 @@ module _ {D : Type 0} (state : D → State) (faults extent : D → ℕ) (honest 
 
   rotate_here : can_rotate world.stage ≡ true → IsRotateTime old
   rotate_here now =
-      let is = rotate_sound world.stage.turned world.stage.at world.stage.base world.stage.stored within.taken now in
-      let few = is.0 in let some = is.1 in let used = kept.used in let areas = areas_two old.geometry.layout in
+      let is = rotate_sound (areas_at world.stage) world.stage.turned world.stage.at world.stage.base world.stage.stored within.taken now in
+      let few = is.0 in let some = is.1 in let used = kept.used in let areas = ap (λ (g : Geometry). areas_of g.layout) kept.geometry in
       (omega (arith, few, as_many, areas), omega (arith, some, used))
 
   rotate_there : IsRotateTime old → can_rotate world.stage ≡ true
   rotate_there now =
-      let few = now.0 in let some = now.1 in let used = kept.used in let areas = areas_two old.geometry.layout in
-      rotate_whole world.stage.turned world.stage.at world.stage.base world.stage.stored (ordered world within).turned within.taken (omega (arith, few, as_many, areas)) (omega (arith, some, used))
+      let few = now.0 in let some = now.1 in let used = kept.used in let areas = ap (λ (g : Geometry). areas_of g.layout) kept.geometry in
+      rotate_whole (areas_at world.stage) world.stage.turned world.stage.at world.stage.base world.stage.stored (ordered world within).turned within.taken (omega (arith, few, as_many, areas)) (omega (arith, some, used))
 
   copy_here : can_copy world.stage ≡ true → IsCopyTime old.phase
   copy_here now = to_keeper_phase IsCopyTime (copy_sound world.stage.turned world.stage.mapped world.stage.left now)

@@ -10,6 +10,7 @@ use Rattle.device_image.specs.Remembers.{Remembers}
 use Rattle.device_image.specs.Stands.{StandsFor}
 use Rattle.disk_model.specs.Disk.{State, MayLeave}
 use Rattle.image_model.specs.Image.{Image}
+use Rattle.image_model.specs.Layout.{area_size_of}
 use Rattle.image_model.specs.declared.command.Kind.{Kind}
 use Rattle.nbd_wire.specs.declared.message.SessionFlags.{SessionFlags}
 use Rattle.order_book.specs.Order.{new_order}
@@ -34,8 +35,8 @@ idle_here count connection = by_case (cases_lt connection count)
 pub fresh_parts : {D : Type 0} (trusted : Bool) (keeper : KeeperState D) (found : Image) (states : List Kind) (failures frames connections : ℕ) (flags : SessionFlags) (mode : Mode) (honest : Type 0) (state : State)
     → ((number : ℕ) (content : List ℕ) → Keeps keeper state found number → MayLeave state content → StandsFor content found number)
     → length states ≡ keeper.geometry.blocks → keeper.failed ≡ false → keeper.phase ≡ One → keeper.used ≡ 0 → keeper.base ≡ keeper.count → keeper.turned ≡ [] → keeper.lefts ≡ [] → Remembers keeper []
-    → keeper.count < 18446744073709551616 → (honest → Holds keeper state found [] []) → (honest → ShowsImage found (new_order states keeper.count frames keeper.geometry.area).cache) → (trusted ≡ true → honest)
-    → IsExportOf (first_world trusted keeper found failures frames connections flags mode) (new_order states keeper.count frames keeper.geometry.area) keeper failures (new_connections connections flags mode) honest state
+    → keeper.count < 18446744073709551616 → (honest → Holds keeper state found [] []) → (honest → ShowsImage found (new_order states keeper.count frames (area_size_of keeper.geometry.layout keeper.geometry.area)).cache) → (trusted ≡ true → honest)
+    → IsExportOf (first_world trusted keeper found failures frames connections flags mode) (new_order states keeper.count frames (area_size_of keeper.geometry.layout keeper.geometry.area)) keeper failures (new_connections connections flags mode) honest state
 fresh_parts trusted keeper found states failures frames connections flags mode honest state crash blocks works one unused based turned lefts remembers fits holds shows sure = record {
   of_order = record {
     opening = refl;

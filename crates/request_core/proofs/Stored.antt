@@ -7,6 +7,7 @@ use Rattle.checkpoint.specs.Keeper.{end_after, grown_by}
 use Rattle.disk_model.specs.Faults.{counted}
 use Rattle.image_model.specs.Change.{change_of}
 use Rattle.image_model.specs.Command.{bodies_of}
+use Rattle.image_model.specs.Layout.{area_size_of}
 use Rattle.image_model.specs.declared.geometry.Geometry.{Geometry}
 use Rattle.regions.specs.Layout.{area_size}
 use Rattle.journal_format.specs.Group.{Numbered}
@@ -15,7 +16,6 @@ use Rattle.request_core.specs.Parts.{IsKeeperOf, IsOrderOf, last_commands, turne
 use Rattle.request_core.specs.inner.Storing.{IsKept, PublishesBy, SealsBy, CleansBy}
 use Rattle.request_core.specs.laws.Orders.{bodies_same, commands_length, hand_is, order_publishes, order_puts_back, order_seals, order_stops, order_stores, clean_due, order_cleans}
 use Rattle.request_core.proofs.Serves.{if_false, if_true}
-use Rattle.request_core.proofs.Times.{area_whole}
 use Rattle.export_model.specs.declared.event.Event.{Event}
 use Rattle.export_model.specs.declared.event.Event.TheVariants.{Took, Held, Failed}
 use Rattle.export_model.specs.declared.event.StepFault.TheVariants.{NoMemory, DeviceFault, FailedBefore}
@@ -23,7 +23,7 @@ use Rattle.image_model.specs.Bodies.{bodies_bytes}
 use Rattle.export_model.specs.Serve.{Failure, Nothing, OutOfMemory, held, logged, faulted}
 use Rattle.export_model.specs.Checkpoint.{can_clean}
 use Rattle.export_model.specs.Step.{append, clean, publish, put_back, seal, out_of_memory, stored_more}
-use Rattle.export_model.specs.World.{World, fits, in_hand, Stage}
+use Rattle.export_model.specs.World.{World, area_bytes, fits, in_hand, Stage}
 use Rattle.export_model_laws.specs.Law.{IsWithin}
 use Rattle.request_core.specs.laws.Lives.{last_grows, ordered}
 use Rattle.device_image.specs.Remembers.{Remembers}
@@ -164,12 +164,12 @@ module _ {D : Type 0} (world : World) (keeper : KeeperState D) (failures : ℕ) 
     works is = sym of_keeper.failed ∙ is
 
     fits_is : end_after keeper group ≤ area_size keeper.geometry → fits world ≡ true
-    fits_is fit = let used = of_keeper.used in let area = area_whole keeper.geometry.layout keeper.geometry.area ∙ ap (λ (g : Geometry). g.area) of_keeper.geometry in
-        le-leb (world.stage.at + 17 + bodies_bytes (in_hand world) + 1) world.stage.setting.geometry.area (omega (arith, fit, used, area, hand_bodies))
+    fits_is fit = let used = of_keeper.used in let area = ap (λ (g : Geometry). area_size_of g.layout g.area) of_keeper.geometry in
+        le-leb (world.stage.at + 17 + bodies_bytes (in_hand world) + 1) (area_bytes world.stage) (omega (arith, fit, used, area, hand_bodies))
 
     full_is : area_size keeper.geometry < end_after keeper group → fits world ≡ false
-    full_is full = let used = of_keeper.used in let area = area_whole keeper.geometry.layout keeper.geometry.area ∙ ap (λ (g : Geometry). g.area) of_keeper.geometry in
-        lt-leb (world.stage.at + 17 + bodies_bytes (in_hand world) + 1) world.stage.setting.geometry.area (omega (arith, full, used, area, hand_bodies))
+    full_is full = let used = of_keeper.used in let area = ap (λ (g : Geometry). area_size_of g.layout g.area) of_keeper.geometry in
+        lt-leb (world.stage.at + 17 + bodies_bytes (in_hand world) + 1) (area_bytes world.stage) (omega (arith, full, used, area, hand_bodies))
 
     -- where storing the group in hand leads: the device failed before, the group doesn't fit, or it is tried
     pub goes_failed : (P : World → Type 0) → keeper.failed ≡ true → P (logged (put_back world) (Failed FailedBefore)) → P (append Nothing world)

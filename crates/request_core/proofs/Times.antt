@@ -4,22 +4,12 @@ use Rattle.std.proofs.lemmas.Bool.{and_from, and_parts, cases_eq, eq-eqb, eqb-tr
 use Rattle.checkpoint.specs.Steps.{IsCopyTime, IsFinishTime, IsMapTime, fewer, left_in, phase_left, phase_with}
 use Rattle.device_image.specs.Keeper.{Phase, One, Copying, Mapped}
 use Rattle.image_model.specs.Change.{Change}
-use Rattle.image_model.specs.Layout.{area_size_of, areas_of}
-use Rattle.image_model.specs.declared.layout.Layout.{Layout}
-use Rattle.image_model.specs.declared.layout.Layout.TheVariants as layouts
 use Rattle.request_core.specs.Parts.{copies_of, fronts_of, lefts_by, numbers_of, part}
 use Rattle.export_model.specs.Checkpoint.{is_turned, last_turned, left_behind, to_copy}
 
 -- the phase with these areas in use but the last, the map written or not, and so many blocks left
 abbrev pub phase_by : List ℕ → Bool → ℕ → Phase
 phase_by turned mapped left = if is_turned turned then (if mapped then Mapped else Copying left) else One
-
--- how many areas there are, and the bytes of each
-pub areas_two : (layout : Layout) → areas_of layout ≡ 2
-areas_two layouts.One = refl
-
-pub area_whole : (layout : Layout) (area : ℕ) → area_size_of layout area ≡ area
-area_whole layouts.One area = refl
 
 -- the last area in use holds something
 pub rotate_some : (turned : List ℕ) (at base stored : ℕ) → last_turned base turned ≤ stored → ((at ≡ 0) ↔ (stored ≡ last_turned base turned)) → 0 < at → last_turned base turned < stored
@@ -30,20 +20,20 @@ rotate_some turned at base stored behind taken some = above (cases_eq stored (la
     above (inr other) = omega (arith, other, behind)
 
 -- the time of a rotate
-pub rotate_sound : (turned : List ℕ) (at base stored : ℕ) → ((at ≡ 0) ↔ (stored ≡ last_turned base turned))
-    → (nat_lt (length turned + 1) 2 && nat_lt (last_turned base turned) stored) ≡ true → (length turned + 1 < 2) × (0 < at)
-rotate_sound turned at base stored taken now =
-    let parts = and_parts (nat_lt (length turned + 1) 2) (nat_lt (last_turned base turned) stored) now in
-    (ltb-true (length turned + 1) 2 parts.0, positive (cases_eq at 0) (ltb-true (last_turned base turned) stored parts.1))
+pub rotate_sound : (areas : ℕ) (turned : List ℕ) (at base stored : ℕ) → ((at ≡ 0) ↔ (stored ≡ last_turned base turned))
+    → (nat_lt (length turned + 1) areas && nat_lt (last_turned base turned) stored) ≡ true → (length turned + 1 < areas) × (0 < at)
+rotate_sound areas turned at base stored taken now =
+    let parts = and_parts (nat_lt (length turned + 1) areas) (nat_lt (last_turned base turned) stored) now in
+    (ltb-true (length turned + 1) areas parts.0, positive (cases_eq at 0) (ltb-true (last_turned base turned) stored parts.1))
   where
     positive : (at ≡ 0) ⊎ (at ≡ 0 → ⊥) → last_turned base turned < stored → 0 < at
     positive (inl none) some = let same = taken.0 none in absurd (omega (arith, same, some))
     positive (inr other) some = omega (arith, other)
 
-pub rotate_whole : (turned : List ℕ) (at base stored : ℕ) → last_turned base turned ≤ stored → ((at ≡ 0) ↔ (stored ≡ last_turned base turned))
-    → length turned + 1 < 2 → 0 < at → (nat_lt (length turned + 1) 2 && nat_lt (last_turned base turned) stored) ≡ true
-rotate_whole turned at base stored behind taken few some =
-    and_from (nat_lt (length turned + 1) 2) (nat_lt (last_turned base turned) stored) (lt-ltb (length turned + 1) 2 few)
+pub rotate_whole : (areas : ℕ) (turned : List ℕ) (at base stored : ℕ) → last_turned base turned ≤ stored → ((at ≡ 0) ↔ (stored ≡ last_turned base turned))
+    → length turned + 1 < areas → 0 < at → (nat_lt (length turned + 1) areas && nat_lt (last_turned base turned) stored) ≡ true
+rotate_whole areas turned at base stored behind taken few some =
+    and_from (nat_lt (length turned + 1) areas) (nat_lt (last_turned base turned) stored) (lt-ltb (length turned + 1) areas few)
     (lt-ltb (last_turned base turned) stored (rotate_some turned at base stored behind taken some))
 
 -- the phase once another area is in use

@@ -16,7 +16,7 @@ use Rattle.export_model.specs.declared.connection.Connection.TheVariants.{Closed
 use Rattle.image_model.specs.Bodies.{body_bytes}
 use Rattle.export_model.specs.Run.{IsReached}
 use Rattle.export_model.specs.Checkpoint.{is_turned, last_turned, to_copy}
-use Rattle.export_model.specs.World.{World, Stage, dirty_behind, image_after}
+use Rattle.export_model.specs.World.{World, Stage, area_bytes, dirty_behind, image_after}
 
 -- The content stands for the image after some first commands of the order, `least` of them or more, and for the number
 -- of the last of these.
@@ -90,7 +90,7 @@ pub record IsOrderOf (stage : Stage) (order : OrderState) (group : Option Number
   pub dirty : order.dirty ≡ dirty_behind stage.cleaned stage
   pub frames : order.frames ≡ stage.setting.frames
   pub blocks : length order.cache.states ≡ stage.setting.geometry.blocks
-  pub area : order.area ≡ stage.setting.geometry.area
+  pub area : order.area ≡ area_bytes stage
   pub stopped : order.stopped ≡ stage.stopped
   -- the last number has 64 bits
   pub fits : order.mark < 18446744073709551616

@@ -150,7 +150,8 @@ pub(crate) fn refused<B: BoardName>(
         | KeeperFault::AreaFull
         | KeeperFault::OutOfOrder
         | KeeperFault::DamagedGroup
-        | KeeperFault::NotNow => Event::Held,
+        | KeeperFault::NotNow
+        | KeeperFault::AreaSmall => Event::Held,
     }
 }
 

@@ -1,6 +1,6 @@
 //! Write requests as edits of the image.
 
-ghost use Rattle.std.specs.Prelude.{◌≡◌, ◌<◌, ℕ, true, length};
+ghost use Rattle.std.specs.Prelude.{◌≡◌, ◌<◌, true, length};
 ghost use Rattle.image_model.specs.Edit.{edit_of};
 ghost use Rattle.nbd_wire.specs.Request.{Message, handed_len};
 ghost use Rattle.request_core.specs.inner.Serving.{IsHandedBack};

@@ -1,4 +1,4 @@
-ghost use Rattle.std.specs.Prelude.{◌≡◌, ◌≢◌, ◌==◌, ◌||◌, ◌&&◌, not, nat_lt, ◌+◌, ◌*◌};
+ghost use Rattle.std.specs.Prelude.{◌≡◌, ◌≢◌, ◌==◌, ◌||◌, ◌&&◌, ◌*◌};
 ghost use Rattle.export_model.specs.Verdict.{verdict, is_known, allowed_flags, range_verdict, IsServedRange};
 
 use bitflags::Flags;

@@ -1,6 +1,7 @@
 ghost use Rattle.std.specs.Prelude.{◌≡◌, ◌<◌, ℕ, Bool, List, length, true};
 ghost use Rattle.checkpoint.specs.Recovery.{IsRecovered};
 ghost use Rattle.image_model.specs.declared.command.Kind.{Kind};
+ghost use Rattle.image_model.specs.Layout.{area_size_of};
 ghost use Rattle.device_image.specs.Keeper.{KeeperState};
 ghost use Rattle.device_image.specs.Keeps.{Keeps};
 ghost use Rattle.device_image.specs.Stands.{StandsFor};
@@ -24,8 +25,8 @@ use export_model_laws::schedule_law;
 pub fn fresh_parts_law<D: Disk>()
     ensures { (trusted : Bool) (keeper : KeeperState D) (found : Image) (states : List Kind) (frames connections : ℕ) (flags : SessionFlags) (mode : Mode) → IsRecovered keeper → length states ≡ keeper.geometry.blocks
         → keeper.count < 18446744073709551616 → (Trusts trusted (D.honest keeper.disk) → Keeps keeper (D.state keeper.disk) found keeper.count)
-        → (Trusts trusted (D.honest keeper.disk) → ShowsImage found (new_order states keeper.count frames keeper.geometry.area).cache) → (trusted ≡ true → D.honest keeper.disk)
-        → IsExportOf (first_world trusted keeper found (D.faults keeper.disk) frames connections flags mode) (new_order states keeper.count frames keeper.geometry.area)
+        → (Trusts trusted (D.honest keeper.disk) → ShowsImage found (new_order states keeper.count frames (area_size_of keeper.geometry.layout keeper.geometry.area)).cache) → (trusted ≡ true → D.honest keeper.disk)
+        → IsExportOf (first_world trusted keeper found (D.faults keeper.disk) frames connections flags mode) (new_order states keeper.count frames (area_size_of keeper.geometry.layout keeper.geometry.area))
         keeper (D.faults keeper.disk) (new_connections connections flags mode) (Trusts trusted (D.honest keeper.disk)) (D.state keeper.disk) }
 {
     keeper_laws::<D>();

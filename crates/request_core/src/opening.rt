@@ -1,6 +1,7 @@
 ghost use Rattle.std.specs.Prelude.{◌≡◌, ◌≤◌, ◌<◌, [], IfOk, List, OnOk, length};
 ghost use Rattle.device_image.specs.Holds.{Holds};
 ghost use Rattle.image_model.specs.Image.{Image};
+ghost use Rattle.image_model.specs.Layout.{area_size_of};
 ghost use Rattle.image_model.specs.declared.command.Kind.{Kind};
 ghost use Rattle.order_book.specs.Order.{new_order};
 ghost use Rattle.order_book.specs.Shown.{ShowsImage};
@@ -23,7 +24,7 @@ pub fn fresh_order<B: BoardName, D: Disk>(
     requires named { keeper.now.count ≡ B.opening }
     requires seat { seat ≡ record { history = []; accepted = keeper.now.count; base = keeper.now.count } }
     ensures order { IfOk result (λ order. (states : List Kind) × (length states ≡ keeper.now.geometry.blocks)
-        × (order ≡ new_order states keeper.now.count frames keeper.now.geometry.area)) }
+        × (order ≡ new_order states keeper.now.count frames (area_size_of keeper.now.geometry.layout keeper.now.geometry.area))) }
     ensures few { OnOk result (keeper.now.count < 18446744073709551616) }
 
     // Where map and data hold all of an image, the order shows it.
@@ -35,7 +36,7 @@ pub fn fresh_order<B: BoardName, D: Disk>(
         map,
         keeper.count(),
         frames,
-        keeper.geometry().area,
+        keeper.geometry().area_size(),
         seat,
     )
 }

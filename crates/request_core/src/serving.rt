@@ -1,6 +1,5 @@
-ghost use Rattle.std.specs.Prelude.{◌≡◌, ◌≢◌, ◌/◌, ◌<◌, ◌↔◌, ℕ, true, false, [], Some, IfSome, IfOk, IfErr, IsErr, IsTrue, OnErr, MatchOption, IfNone, Option, Result, length, slice_index_or, slice_set, vec_len};
+ghost use Rattle.std.specs.Prelude.{◌≡◌, ◌≢◌, ◌/◌, ◌<◌, ◌↔◌, true, false, [], Some, IfSome, IfOk, IfErr, IsErr, OnErr, IfNone, Option, Result, length, slice_index_or, slice_set, vec_len};
 ghost use Rattle.journal_format.specs.Group.{Numbered};
-ghost use Rattle.nbd_wire.specs.Request.{Message};
 ghost use Rattle.nbd_wire.specs.declared.error.Errno.{Errno};
 ghost use Rattle.order_book.specs.Order.{IsInHand};
 ghost use Rattle.image_model.specs.Edit.{blocks_met};

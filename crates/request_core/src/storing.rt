@@ -113,7 +113,8 @@ fn give_back<B: BoardName>(
         | KeeperFault::AreaFull
         | KeeperFault::OutOfOrder
         | KeeperFault::DamagedGroup
-        | KeeperFault::NotNow => {
+        | KeeperFault::NotNow
+        | KeeperFault::AreaSmall => {
             order.put_back(group);
             Event::Held
         }

@@ -1,9 +1,11 @@
 -- what a crash leaves of a device that was only read, and lives whose device counts other calls
-use Rattle.std.proofs.Common.{◌≡◌, ◌⊎◌, ⊎_elim, ◌∙◌, ℕ, List, Option, Some, Result, Ok, Err, IfOk, subst}
+use Rattle.std.proofs.Common.{◌≡◌, ◌⊎◌, ⊎_elim, ◌∙◌, Bool, true, false, ℕ, List, Option, Some, Result, Ok, Err, IfOk, subst}
 use Rattle.std.specs.Prelude.{IfSome}
 use Rattle.device_image.specs.Keeper.{KeeperState}
 use Rattle.device_image.specs.Keeps.{Keeps}
-use Rattle.checkpoint.specs.Opening.{StandsAs}
+use Rattle.checkpoint.specs.Opening.{IsOutcome, StandsAs}
+use Rattle.checkpoint.specs.Upgrade.{IsUpgradeOutcome}
+use Rattle.checkpoint.specs.declared.fault.KeeperFault.{KeeperFault}
 use Rattle.device_image.specs.Stands.{StandsFor}
 use Rattle.device_image.specs.laws.Sole.{one_image, one_number}
 use Rattle.disk_model.specs.Disk.{IsKept, IsSound, LeavesOnly, MayLeave, State}
@@ -11,7 +13,7 @@ use Rattle.disk_model.specs.laws.Moments.{ends}
 use Rattle.device_image.specs.Holds.{Holds}
 use Rattle.image_model.specs.Change.{Change}
 use Rattle.image_model.specs.Image.{Image}
-use Rattle.script_runner.specs.Life.{FindsNoMore}
+use Rattle.script_runner.specs.Life.{FindsNoMore, IsOpened}
 use Rattle.order_book.specs.Order.{OrderState}
 use Rattle.request_core.specs.Bench.{BenchState}
 use Rattle.request_core.specs.Parts.{IsWorldOf}
@@ -33,6 +35,20 @@ finds_no_more before after found fixed crash sound content image number left sta
     let numbers = one_number content again.0 image again.1 number again.3 stands in
     (found, fixed, subst (λ (i : Image). StandsFor found i number) images (subst (λ (n : ℕ). StandsFor found again.0 n) numbers again.2)))
     (ends crash sound content left)
+
+-- what an opening and an upgrade find
+pub opened_of : {D : Type 0} (start : State) (state : D → State) (upgrades : Bool) (result : Result (KeeperState D) (KeeperFault × D)) (found : List ℕ) → MayLeave start found → IsOutcome state result found
+    → IfOk result (λ keeper. IsOpened start upgrades keeper (state keeper.disk))
+opened_of start state upgrades (Ok keeper) found fixed outcome = record { image = outcome.0; content = found; fixed = fixed; stands = outcome.1; sizes = λ opens. outcome.4; keeps = outcome.2 }
+opened_of start state upgrades (Err refused) found fixed outcome = tt
+
+pub upgraded_of : {D : Type 0} (start : State) (state : D → State) (result : Result (KeeperState D) (KeeperFault × D)) (found : List ℕ) → MayLeave start found → IsUpgradeOutcome state result found
+    → IfOk result (λ keeper. IsOpened start true keeper (state keeper.disk))
+upgraded_of start state (Ok keeper) found fixed outcome = record { image = outcome.0; content = found; fixed = fixed; stands = outcome.1; sizes = λ opens. never opens; keeps = outcome.2 }
+  where
+    never : {X : Type 0} → true ≡ false → X
+    never is = cc
+upgraded_of start state (Err refused) found fixed outcome = tt
 
 -- what holds of what there is, if anything, holds of whatever is there
 pub some_has : {X : Type 0} (P : X → Type 0) (o : Option X) → IfSome o P → (x : X) → o ≡ Some x → P x

@@ -1,5 +1,5 @@
 -- A script's device from one opening to the next crash.
-use Rattle.std.specs.Prelude.{ℕ, List}
+use Rattle.std.specs.Prelude.{ℕ, ◌≡◌, Bool, false, List}
 use Rattle.device_image.specs.Keeper.{KeeperState}
 use Rattle.device_image.specs.Keeps.{Keeps}
 use Rattle.device_image.specs.Stands.{StandsFor}
@@ -15,12 +15,14 @@ abbrev pub IsLifeOf : {D : Type 0} → (D → State) → (D → ℕ) → (D → 
 IsLifeOf state faults honest world order keeper bench =
     IsWorldOf world order keeper (faults keeper.disk) bench (honest keeper.disk) (state keeper.disk)
 
--- An opened keeper works and keeps an image. A content stands for that image which a crash at the start might have left.
-pub record IsOpened {D : Type 0} (start : State) (keeper : KeeperState D) (state : State) : Type 0 where
+-- A keeper that was opened, or upgraded, works and keeps an image. A content stands for that image which a crash at the start might
+-- have left; an opening keeps its sizes and its layout.
+pub record IsOpened {D : Type 0} (start : State) (upgrades : Bool) (keeper : KeeperState D) (state : State) : Type 0 where
   pub image : Image
   pub content : List ℕ
   pub fixed : MayLeave start content
   pub stands : StandsFor content image keeper.count
+  pub sizes : upgrades ≡ false → keeper.geometry ≡ stands.header.geometry
   pub keeps : Keeps keeper state image keeper.count
 
 -- a content that a crash might have left of the device stands for this image and this number

@@ -1,10 +1,14 @@
-ghost use Rattle.std.specs.Prelude.{◌≡◌, ◌≢◌, ◌↔◌, ◌<◌, ◌≤◌, ◌*◌, ◌^◌, ℕ, true, List, [], ◌∷◌, length, take, vec_len, IfErr, IfOk, OnOk};
+ghost use Rattle.std.specs.Prelude.{◌≡◌, ◌⊎◌, ◌≢◌, ◌↔◌, ◌<◌, ◌≤◌, ◌*◌, ◌^◌, ℕ, true, List, [], ◌∷◌, length, take, vec_len, IfErr, IfOk, IsTrue, OnOk};
 ghost use Rattle.std.specs.Option.{ForSome};
+ghost use Rattle.checkpoint.specs.Opening.{StandsAs, disk_after};
 ghost use Rattle.checkpoint.specs.Recovery.{IsRecovered};
 ghost use Rattle.device_image.specs.Holds.{Holds};
 ghost use Rattle.device_image.specs.Keeps.{Keeps};
+ghost use Rattle.disk_model.specs.Disk.{LeavesOnly, MayLeave};
 ghost use Rattle.image_model.specs.Image.{Image};
+ghost use Rattle.image_model.specs.Layout.{area_size_of};
 ghost use Rattle.image_model.specs.declared.command.Kind.{Kind};
+ghost use Rattle.image_model.specs.declared.layout.Layout.TheVariants as Layout;
 ghost use Rattle.script_runner.specs.Life.{FindsNoMore, IsLifeOf, IsOpened};
 ghost use Rattle.script_runner.specs.inner.Life.{LeavesNoMore};
 ghost use Rattle.order_book.specs.Order.{IsInHand, new_order};
@@ -54,15 +58,35 @@ pub struct BlockRun {
     pub byte: u8,
 }
 
-/// Opens the device, which recovers it, and reads what its blocks hold.
-pub fn open<D: Disk>(alloc: Global, disk: D) -> Result<(Keeper<D>, Vec<BlockRun>), (KeeperFault, D)>
+// The keeper of a device that is opened, or made one of layout 2.
+fn keeper_of<D: Disk>(alloc: Global, disk: D, upgrades: bool) -> Result<Keeper<D>, (KeeperFault, D)>
+    ensures recovered { IfOk result IsRecovered }
+    ensures honest { D.honest (disk_after result) ↔ D.honest disk }
+    ensures layout { IsTrue upgrades → IfOk result (λ keeper. keeper.geometry.layout ≡ Layout.Two) }
+    ensures opened { D.honest disk → IfOk result (λ keeper. IsOpened (D.state disk) upgrades keeper (D.state keeper.disk)) }
+    ensures left { D.honest disk → (found : List ℕ) × MayLeave (D.state disk) found
+        × LeavesOnly (D.state disk) (D.state (disk_after result)) (λ content. MayLeave (D.state disk) content ⊎ StandsAs found content) }
+{
+    if upgrades {
+        return Keeper::upgrade(alloc, disk);
+    }
+    Keeper::open(alloc, disk)
+}
+
+/// Opens the device, which recovers it, and reads what its blocks hold. Where `upgrades`, it is made one of layout 2.
+pub fn open<D: Disk>(
+    alloc: Global,
+    disk: D,
+    upgrades: bool,
+) -> Result<(Keeper<D>, Vec<BlockRun>), (KeeperFault, D)>
     ensures recovered { IfOk result (λ opened. IsRecovered opened.0) }
     ensures honest { D.honest disk → IfOk result (λ opened. D.honest opened.0.disk) }
-    ensures opened { D.honest disk → IfOk result (λ opened. IsOpened (D.state disk) opened.0 (D.state opened.0.disk)) }
+    ensures layout { IsTrue upgrades → IfOk result (λ opened. opened.0.geometry.layout ≡ Layout.Two) }
+    ensures opened { D.honest disk → IfOk result (λ opened. IsOpened (D.state disk) upgrades opened.0 (D.state opened.0.disk)) }
     ensures refused { D.honest disk → IfErr result (λ refused. FindsNoMore (D.state disk) (D.state refused.1)) }
 {
     keeper_laws::<D>();
-    match Keeper::open(alloc, disk) {
+    match keeper_of(alloc, disk, upgrades) {
         Ok(mut keeper) => match runs(alloc, &mut keeper) {
             Ok(runs) => Ok((keeper, runs)),
             Err(fault) => Err((fault, keeper.into_disk())),
@@ -132,7 +156,7 @@ fn first_parts<B: BoardName, D: Disk>(
     requires named { blank.opening ≡ B.opening }
     requires opening { blank.opening ≡ keeper.now.count }
     ensures order { IfOk result (λ parts. (states : List Kind) × (length states ≡ keeper.now.geometry.blocks)
-        × (parts.2 ≡ new_order states keeper.now.count setup.frames keeper.now.geometry.area)) }
+        × (parts.2 ≡ new_order states keeper.now.count setup.frames (area_size_of keeper.now.geometry.layout keeper.now.geometry.area))) }
     ensures image { (image : Image) → Holds keeper.now (D.state keeper.now.disk) image [] [] → IfOk result (λ parts. ShowsImage image parts.2.cache) }
     ensures bench { IfOk result (λ parts. parts.3 ≡ new_bench 16 (record { structured = true; context = true }) setup.mode) }
     ensures count { IfOk result (λ parts. keeper.now.count < 2 ^ 64) }

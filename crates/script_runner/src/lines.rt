@@ -67,8 +67,8 @@ pub struct Schedule {
 }
 
 impl Schedule {
-    /// Reads a script to its end. A line that crashes the device or lets a call of it fail is refused here, as one that is
-    /// no step is.
+    /// Reads a script to its end. A line that crashes the device, lets a call of it fail or opens it again is refused here, as one
+    /// that is no step is.
     pub fn read<R: Read>(alloc: Global, input: &mut R) -> Result<Schedule, End> {
         let mut lines = Lines::new(alloc, input)?;
         let setup = lines.setup(alloc)?;

@@ -63,7 +63,7 @@ fn run<R: Read, W: Write>(alloc: Global, input: &mut R, output: &mut W) -> Resul
 }
 
 // Carries out the lines of one life of the device, whose board gets its name here; what the next life begins with, where it
-// ends by a crash.
+// ends by a crash or an upgrade.
 fn live<B: BoardName, R: Read, W: Write>(
     alloc: Global,
     blank: BlankBoard,
@@ -90,7 +90,7 @@ fn live<B: BoardName, R: Read, W: Write>(
         };
         rehearsal = match rehearsal.carry_out(alloc, line, lines.count(), output)? {
             Went::On(rehearsal) => rehearsal,
-            Went::Crashed(course) => return Ok(Some(course)),
+            Went::Over(course) => return Ok(Some(course)),
         };
     }
     rehearsal.end();
@@ -102,7 +102,7 @@ fn live<B: BoardName, R: Read, W: Write>(
 struct Course {
     setup: Setup,
     keeper: Keeper<SimDisk>,
-    // What the opening after a crash found; none where the device is new.
+    // What the opening after a crash, or an upgrade, found; none where the device is new.
     found: Option<Vec<BlockRun>>,
     // What unsynced bytes become at an armed crash.
     armed: CrashChoice,
@@ -112,10 +112,10 @@ struct Course {
     ghost keeps: { ∥ (⟦<SimDisk as Disk>⟧.honest keeper.disk → (image : Image) × Keeps keeper (⟦<SimDisk as Disk>⟧.state keeper.disk) image keeper.count) ∥₁ },
 }
 
-// How a line ended: the life goes on, or the device has crashed and was opened again.
+// How a line ended: the life goes on, or it is over, and the device was opened again.
 enum Went<B: BoardName> {
     On(Rehearsal<B>),
-    Crashed(Course),
+    Over(Course),
 }
 
 // A script on its way.
@@ -182,12 +182,13 @@ impl<B: BoardName> Rehearsal<B> {
                 self.life.fail(kind, k);
                 Ok(Went::On(self.print(output, "armed")?))
             }
-            Line::Crash(choice) => Ok(Went::Crashed(self.crash(alloc, choice, output)?)),
+            Line::Crash(choice) => Ok(Went::Over(self.crash(alloc, choice, output)?)),
             Line::CrashAt(k, choice) => {
                 self.life.stop_at(k);
                 self.armed = choice;
                 Ok(Went::On(self.print(output, "armed")?))
             }
+            Line::Upgrade => Ok(Went::Over(self.upgrade(alloc, output)?)),
         }
     }
 
@@ -202,7 +203,7 @@ impl<B: BoardName> Rehearsal<B> {
         if self.life.stopped() {
             let armed = self.armed;
             let stopped = self.print(output, "stopped")?;
-            return Ok(Went::Crashed(stopped.crash(alloc, armed, output)?));
+            return Ok(Went::Over(stopped.crash(alloc, armed, output)?));
         }
         Ok(Went::On(self.tell(told, line, output)?))
     }
@@ -259,7 +260,30 @@ impl<B: BoardName> Rehearsal<B> {
         } = self;
         let (mut disk, _log) = life.end();
         disk.crash(choice);
-        let (keeper, runs) = open_again(alloc, disk, armed, output)?;
+        let (keeper, runs) = open_again(alloc, disk, armed, false, output)?;
+        Ok(Course {
+            setup,
+            keeper,
+            found: Some(runs),
+            armed,
+            cookie,
+        })
+    }
+
+    // The device is opened again, and made one of layout 2. What wasn't stored is lost. The next life begins as behind a crash.
+    fn upgrade<W: Write>(self, alloc: Global, output: &mut W) -> Result<Course, End>
+        ensures { IfOk result (λ next. (world : World) → IsLifeOf ⟦<SimDisk as Disk>⟧.state ⟦<SimDisk as Disk>⟧.faults ⟦<SimDisk as Disk>⟧.honest world self.life.order self.life.keeper self.life.bench
+            → (found : Image) × IsNextLife world found next.keeper.count) }
+    {
+        next_life_law::<SimDisk>();
+        let Rehearsal {
+            setup,
+            life,
+            armed,
+            cookie,
+        } = self;
+        let (disk, _log) = life.end();
+        let (keeper, runs) = open_again(alloc, disk, armed, true, output)?;
         Ok(Course {
             setup,
             keeper,
@@ -305,26 +329,31 @@ fn begin(alloc: Global, setup: Setup) -> Result<Keeper<SimDisk>, KeeperFault>
     ensures recovered { IfOk result IsRecovered }
     ensures keeps { IfOk result (λ keeper. (image : Image) × Keeps keeper (⟦<SimDisk as Disk>⟧.state keeper.disk) image keeper.count) }
 {
-    let mut disk = SimDisk::new(alloc, setup.geometry.device_bytes())?;
-    Keeper::format(alloc, &mut disk, setup.geometry)?;
+    let Some(geometry) = setup.geometry() else {
+        return Err(KeeperFault::AreaSmall);
+    };
+    let mut disk = SimDisk::new(alloc, geometry.device_bytes())?;
+    Keeper::format(alloc, &mut disk, geometry)?;
     match Keeper::open(alloc, disk) {
         Ok(keeper) => Ok(keeper),
         Err((fault, _disk)) => Err(fault),
     }
 }
 
-// Opens a device after a crash. Where an armed crash falls into the opening, it crashes and is opened once more.
+// Opens a device after a crash, or makes it one of layout 2. Where an armed crash falls into that, it crashes and is opened once
+// more.
 fn open_again<W: Write>(
     alloc: Global,
     disk: SimDisk,
     armed: CrashChoice,
+    upgrades: bool,
     output: &mut W,
 ) -> Result<(Keeper<SimDisk>, Vec<BlockRun>), End>
     ensures recovered { IfOk result (λ opened. IsRecovered opened.0) }
     ensures keeps { IfOk result (λ opened. (image : Image) × Keeps opened.0 (⟦<SimDisk as Disk>⟧.state opened.0.disk) image opened.0.count) }
     ensures found { IfOk result (λ opened. (image : Image) × IsFoundFrom (⟦<SimDisk as Disk>⟧.state disk) image opened.0.count) }
 {
-    match open(alloc, disk) {
+    match open(alloc, disk, upgrades) {
         Ok(opened) => Ok(opened),
         Err((fault, mut disk)) => {
             if !disk.stopped() {
@@ -332,7 +361,7 @@ fn open_again<W: Write>(
             }
             print(output, "stopped")?;
             disk.crash(armed);
-            match open(alloc, disk) {
+            match open(alloc, disk, false) {
                 Ok(opened) => Ok(opened),
                 Err((fault, _disk)) => Err(failed(fault, output)),
             }

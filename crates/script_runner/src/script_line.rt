@@ -1,8 +1,9 @@
-ghost use Rattle.std.specs.Prelude.{◌≡◌, ◌≤◌, ◌<◌, IfSome};
+ghost use Rattle.std.specs.Prelude.{◌≡◌, ◌≤◌, ◌<◌, IfSome, MatchOption};
+ghost use Rattle.image_model.specs.declared.layout.Layout.TheVariants as Layout;
 
 use disk_model::{CallKind, CrashChoice};
 use front_end::{LEAST_FRAMES, MOST_FRAMES};
-use image_model::{BLOCK_BYTES, Geometry};
+use image_model::{BLOCK_BYTES, Geometry, Layout};
 use request_core::Mode;
 use std::alloc::{AllocError, Global};
 use std::str;
@@ -25,6 +26,8 @@ pub enum Line {
     Crash(CrashChoice),
     /// It crashes at the so manieth call from now on.
     CrashAt(u64, CrashChoice),
+    /// The device is opened again, and made one of layout 2.
+    Upgrade,
 }
 
 /// A step; a connection is named by its place, from 0 on.
@@ -56,11 +59,27 @@ pub enum StepLine {
 /// What a device is made with.
 #[derive(Clone, Copy, Debug)]
 pub struct Setup {
-    pub geometry: Geometry,
+    // Its sizes, in layout 1.
+    geometry: Geometry,
+    layout: Layout,
+    ghost one: { geometry.layout ≡ Layout.One },
     /// The most blocks that may wait for the checkpoint: 512 to 65,536.
     pub frames: u32,
     pub mode: Mode,
     ghost frames_few: { frames ≤ 65536 },
+}
+
+impl Setup {
+    /// The device's geometry; none where layout 2 would have areas below their limit: refusal 22 (area too small).
+    pub fn geometry(&self) -> Option<Geometry>
+        ensures { MatchOption result ((self.now.layout ≡ Layout.Two) × (self.now.geometry.area < 4194304))
+            (λ geometry. (geometry.blocks ≡ self.now.geometry.blocks) × (geometry.area ≡ self.now.geometry.area) × (geometry.layout ≡ self.now.layout)) }
+    {
+        match self.layout {
+            Layout::One => Some(self.geometry),
+            Layout::Two => self.geometry.with_layout_two(),
+        }
+    }
 }
 
 /// The range that a request names, in bytes, and whether it has FUA.
@@ -100,10 +119,19 @@ pub fn parse(alloc: Global, text: &[u8]) -> Result<Option<Line>, AllocError> {
 
 fn line_of(words: &[&str]) -> Option<Line> {
     match words {
-        ["format", blocks, area, frames] => format(blocks, area, frames, Mode::Writeback),
-        ["format", blocks, area, frames, "writethrough"] => {
-            format(blocks, area, frames, Mode::Writethrough)
+        ["format", blocks, area, frames] => {
+            format(blocks, area, frames, Mode::Writeback, Layout::One)
         }
+        ["format", blocks, area, frames, "writethrough"] => {
+            format(blocks, area, frames, Mode::Writethrough, Layout::One)
+        }
+        ["format", blocks, area, frames, "layout2"] => {
+            format(blocks, area, frames, Mode::Writeback, Layout::Two)
+        }
+        ["format", blocks, area, frames, "writethrough", "layout2"] => {
+            format(blocks, area, frames, Mode::Writethrough, Layout::Two)
+        }
+        ["upgrade"] => Some(Line::Upgrade),
         ["fault", kind, k] => Some(Line::Fault(kind_of(kind)?, count_of(k)?)),
         ["crash", fill] => Some(Line::Crash(fill_of(fill)?)),
         ["crash", "at", k, fill] => Some(Line::CrashAt(count_of(k)?, fill_of(fill)?)),
@@ -200,7 +228,7 @@ fn cleared(connection: usize, kind: &str, hole: Clearing, range: Range) -> Optio
     }
 }
 
-fn format(blocks: &str, area: &str, frames: &str, mode: Mode) -> Option<Line> {
+fn format(blocks: &str, area: &str, frames: &str, mode: Mode, layout: Layout) -> Option<Line> {
     let area = u32::try_from(number_of(area)?).ok()?;
     let geometry = Geometry::new(number_of(blocks)?, area)?;
     let frames = number_of(frames)?;
@@ -209,6 +237,7 @@ fn format(blocks: &str, area: &str, frames: &str, mode: Mode) -> Option<Line> {
     }
     Some(Line::Format(Setup {
         geometry,
+        layout,
         frames: frames as u32,
         mode,
     }))

@@ -196,6 +196,7 @@ module _ {D : Type 0} (state : D → State) (honest : D → Type 0) (opening : �
     refused fault.OutOfOrder next same kept left = subst (Of seat) (sym same) is
     refused fault.DamagedGroup next same kept left = subst (Of seat) (sym same) is
     refused fault.NotNow next same kept left = subst (Of seat) (sym same) is
+    refused fault.AreaSmall next same kept left = subst (Of seat) (sym same) is
     refused fault.Failed next same kept left = subst (Of seat) (sym same) is
 
   -- the same, where the seat has learned more meanwhile

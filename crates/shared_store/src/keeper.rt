@@ -1,4 +1,4 @@
-ghost use Rattle.std.specs.Prelude.{◌≡◌, ◌+◌, ◌<◌, ◌≤◌, ◌↔◌, ◌≢◌, [], ℕ, List, Result, Err, true, false, IfErr, IfOk, IsErrAnd, IsTrue, OnErr, OnOk, length, max};
+ghost use Rattle.std.specs.Prelude.{◌≡◌, ◌+◌, ◌<◌, ◌≤◌, ◌↔◌, ◌≢◌, [], ℕ, List, Result, Err, false, IfErr, IfOk, IsErrAnd, IsTrue, OnErr, OnOk, length, max};
 ghost use mathlib.Core.List.{IsPrefix};
 ghost use Rattle.checkpoint.specs.Keeper.{end_after, faults_by, grown_by, refused_by};
 ghost use Rattle.checkpoint.specs.Recovery.{IsRecovered};

@@ -2,7 +2,7 @@
 use crate::devices::{append, block_of, formatted, opened, put};
 use checkpoint::{Keeper, KeeperFault, Report};
 use disk_model::{Disk, SimDisk};
-use image_model::{Geometry, Kind};
+use image_model::{Geometry, Kind, Layout};
 use std::alloc::Global;
 use std::process::Abort;
 use std::test::Fail;
@@ -45,6 +45,7 @@ fn refused(alloc: Global, disk: SimDisk) -> Result<(KeeperFault, Report), Fail> 
 // What a device holds whose commands each wrote a block of their own, none of which is in map and data.
 fn report(in_front: u8, commands: u64) -> Report {
     Report {
+        layout: Layout::One,
         blocks: 16,
         in_front,
         base: 0,

@@ -20,6 +20,8 @@ mod journal_tests;
 #[cfg(test)]
 mod keeper_tests;
 #[cfg(test)]
+mod layout_tests;
+#[cfg(test)]
 mod map_tests;
 #[cfg(test)]
 mod recovery_tests;

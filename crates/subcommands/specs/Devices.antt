@@ -4,6 +4,7 @@ use Rattle.checkpoint.specs.Format.{IsFormatted, LeavesFormat}
 use Rattle.checkpoint.specs.Keeper.{faults_by}
 use Rattle.checkpoint.specs.Opening.{IsAtRest, IsOpening, IsPassing, disk_after, faults_after_opening}
 use Rattle.checkpoint.specs.Recovery.{IsRecovered}
+use Rattle.checkpoint.specs.Upgrade.{IsOpenedAndUpgraded, IsUpgradePassing}
 use Rattle.checkpoint.specs.declared.fault.KeeperFault.{KeeperFault}
 use Rattle.checkpoint.specs.declared.fault.KeeperFault.TheVariants as fault
 use Rattle.device_image.specs.Keeper.{KeeperState}
@@ -12,6 +13,7 @@ use Rattle.device_image.specs.Stands.{StandsFor}
 use Rattle.disk_model.specs.Disk.{State, IsAllSynced, IsSteady, LeavesOnly}
 use Rattle.image_model.specs.Image.{Image}
 use Rattle.image_model.specs.declared.geometry.Geometry.{Geometry}
+use Rattle.image_model.specs.declared.layout.Layout.TheVariants.{Two}
 use Rattle.front_end.specs.Refusals.{of_keeper}
 use Rattle.front_end.specs.declared.refusal.Refusal.{Refusal}
 use Rattle.front_end.specs.declared.refusal.Refusal.TheVariants.{StreamFault}
@@ -63,3 +65,21 @@ pub record IsRecoveryCarriedOut {D : Type 0} (state : D → State) (faults exten
   pub any_moment : honest disk → IsAllSynced (state disk) → (image : Image) (number : ℕ) → StandsFor (state disk).seen image number
       → LeavesOnly (state disk) (state left) (λ content. StandsFor content image number)
   pub at_rest : honest disk → IsAllSynced (state disk) → IsAtRest (state disk).seen → LeavesOnly (state disk) (state left) (λ content. content ≡ (state disk).seen)
+
+-- A device was opened and made one of layout 2: this is what that came to, what it made of the device, and what was told of it. All
+-- is as it is of the keeper's upgrade.
+pub record IsUpgradeCarriedOut {D : Type 0} (state : D → State) (faults extent : D → ℕ) (honest : D → Type 0) (disk left : D) (outcome : Result (Unit {0}) Refusal) : Type 0 where
+  pub given : Result (KeeperState D) (KeeperFault × D)
+  pub told : IsOpeningTold given outcome
+  pub is_left : left ≡ disk_after given
+  pub size : extent left ≡ extent disk
+  pub trusted : honest left ↔ honest disk
+  pub counted : faults left ≡ faults_after_opening given (faults disk)
+  pub recovered : IfOk given IsRecovered
+  pub layout : IfOk given (λ keeper. keeper.geometry.layout ≡ Two)
+  pub steps : IsOpenedAndUpgraded state faults honest disk given
+  pub same : honest disk → IsAllSynced (state disk) → (image : Image) (number : ℕ) → StandsFor (state disk).seen image number
+      → IfOk given (λ keeper. Keeps keeper (state left) image number × (keeper.base ≡ number))
+  pub passing : honest disk → IsAllSynced (state disk) → (image : Image) (number : ℕ) → StandsFor (state disk).seen image number → IfErr given (λ refused. IsUpgradePassing refused.0)
+  pub any_moment : honest disk → IsAllSynced (state disk) → (image : Image) (number : ℕ) → StandsFor (state disk).seen image number
+      → LeavesOnly (state disk) (state left) (λ content. StandsFor content image number)

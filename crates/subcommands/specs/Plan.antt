@@ -1,19 +1,21 @@
 use Rattle.std.specs.Prelude.{ℕ, ◌≡◌}
 use Rattle.nbdj_pipe.specs.declared.options.PipeOptions.{PipeOptions}
 use Rattle.subcommands.specs.declared.plan.Plan.{Plan}
-use Rattle.subcommands.specs.declared.plan.Plan.TheVariants.{Format, Pipe, Serve, Recover, Check, Rehearse}
+use Rattle.subcommands.specs.declared.plan.Plan.TheVariants.{Format, Pipe, Serve, Recover, Upgrade, Check, Rehearse, Refuse}
 use Rattle.image_model.specs.Geometry.{device_bytes_of}
 use Rattle.image_model.specs.declared.geometry.Geometry.{Geometry}
 
--- a device of this size can be worked on as the plan says; the plan of a script has no device, and that of a server is
--- carried out elsewhere
+-- a device of this size can be worked on as the plan says; the plan of a script has no device, that of a server is carried
+-- out elsewhere, and what is refused has none
 abbrev pub Suits : Plan → ℕ → Type 0
 Suits (Format path geometry preallocates) extent = extent ≡ device_bytes_of geometry.blocks geometry.area
 Suits (Pipe path options) extent = Unit {0}
 Suits (Serve path address options) extent = ⊥
 Suits (Recover path) extent = Unit {0}
+Suits (Upgrade path) extent = Unit {0}
 Suits (Check path) extent = Unit {0}
 Suits (Rehearse course) extent = ⊥
+Suits (Refuse path refusal) extent = ⊥
 
 -- what a plan that serves a connection comes to, by its options
 abbrev pub IfPipe : Plan → (PipeOptions → Type 0) → Type 0
@@ -21,8 +23,10 @@ IfPipe (Format path geometry preallocates) P = Unit {0}
 IfPipe (Pipe path options) P = P options
 IfPipe (Serve path address options) P = Unit {0}
 IfPipe (Recover path) P = Unit {0}
+IfPipe (Upgrade path) P = Unit {0}
 IfPipe (Check path) P = Unit {0}
 IfPipe (Rehearse course) P = Unit {0}
+IfPipe (Refuse path refusal) P = Unit {0}
 
 -- what a plan that only reads the device comes to
 abbrev pub IfCheck : Plan → Type 0 → Type 0
@@ -30,8 +34,10 @@ IfCheck (Format path geometry preallocates) P = Unit {0}
 IfCheck (Pipe path options) P = Unit {0}
 IfCheck (Serve path address options) P = Unit {0}
 IfCheck (Recover path) P = Unit {0}
+IfCheck (Upgrade path) P = Unit {0}
 IfCheck (Check path) P = P
 IfCheck (Rehearse course) P = Unit {0}
+IfCheck (Refuse path refusal) P = Unit {0}
 
 -- what a plan that formats a device comes to, by the sizes
 abbrev pub IfFormat : Plan → (Geometry → Type 0) → Type 0
@@ -39,8 +45,10 @@ IfFormat (Format path geometry preallocates) P = P geometry
 IfFormat (Pipe path options) P = Unit {0}
 IfFormat (Serve path address options) P = Unit {0}
 IfFormat (Recover path) P = Unit {0}
+IfFormat (Upgrade path) P = Unit {0}
 IfFormat (Check path) P = Unit {0}
 IfFormat (Rehearse course) P = Unit {0}
+IfFormat (Refuse path refusal) P = Unit {0}
 
 -- what a plan that recovers a device comes to
 abbrev pub IfRecover : Plan → Type 0 → Type 0
@@ -48,5 +56,18 @@ IfRecover (Format path geometry preallocates) P = Unit {0}
 IfRecover (Pipe path options) P = Unit {0}
 IfRecover (Serve path address options) P = Unit {0}
 IfRecover (Recover path) P = P
+IfRecover (Upgrade path) P = Unit {0}
 IfRecover (Check path) P = Unit {0}
 IfRecover (Rehearse course) P = Unit {0}
+IfRecover (Refuse path refusal) P = Unit {0}
+
+-- what a plan that makes a device one of layout 2 comes to
+abbrev pub IfUpgrade : Plan → Type 0 → Type 0
+IfUpgrade (Format path geometry preallocates) P = Unit {0}
+IfUpgrade (Pipe path options) P = Unit {0}
+IfUpgrade (Serve path address options) P = Unit {0}
+IfUpgrade (Recover path) P = Unit {0}
+IfUpgrade (Upgrade path) P = P
+IfUpgrade (Check path) P = Unit {0}
+IfUpgrade (Rehearse course) P = Unit {0}
+IfUpgrade (Refuse path refusal) P = Unit {0}

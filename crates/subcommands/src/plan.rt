@@ -1,4 +1,4 @@
-use front_end::ServeOptions;
+use front_end::{Refusal, ServeOptions};
 use image_model::Geometry;
 use nbdj_pipe::PipeOptions;
 
@@ -53,6 +53,10 @@ pub enum Plan<'a> {
     Recover {
         path: &'a str,
     },
+    /// Opens the device, which recovers it, and makes it one of layout 2.
+    Upgrade {
+        path: &'a str,
+    },
     /// Says what the device holds, which is read alone.
     Check {
         path: &'a str,
@@ -60,5 +64,10 @@ pub enum Plan<'a> {
     /// Runs a script from standard input on a simulated device.
     Rehearse {
         course: Course,
+    },
+    /// Tells why a format is refused, where a file could be opened or made at the path, and leaves it as it was.
+    Refuse {
+        path: &'a str,
+        refusal: Refusal,
     },
 }

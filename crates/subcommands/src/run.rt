@@ -6,14 +6,14 @@ ghost use Rattle.nbdj_pipe.specs.Pipe.{IsPiped, IsUnopened, status_of};
 ghost use Rattle.front_end.specs.declared.refusal.Refusal.{Refusal};
 ghost use Rattle.front_end.specs.declared.refusal.Refusal.TheVariants.{DeviceFault};
 ghost use Rattle.journal_format.specs.Reading.{IsOnlyRead};
-ghost use Rattle.subcommands.specs.Devices.{IsFormatCarriedOut, IsPrinted, IsRecoveryCarriedOut};
-ghost use Rattle.subcommands.specs.Plan.{IfCheck, IfFormat, IfPipe, IfRecover, Suits};
+ghost use Rattle.subcommands.specs.Devices.{IsFormatCarriedOut, IsPrinted, IsRecoveryCarriedOut, IsUpgradeCarriedOut};
+ghost use Rattle.subcommands.specs.Plan.{IfCheck, IfFormat, IfPipe, IfRecover, IfUpgrade, Suits};
 
 use crate::plan::Plan;
 use checkpoint::{Keeper, Report};
 use disk_model::Disk;
 use front_end::Refusal;
-use image_model::Geometry;
+use image_model::{Geometry, Layout};
 use nbdj_pipe::pipe;
 use std::alloc::Global;
 use std::fmt::Display;
@@ -39,11 +39,13 @@ pub fn perform<D: Disk + Drop, R: Read, W: Write, E: Write>(
         ⊎ IsPiped (R.remaining input.old) (R.remaining input.new) (W.contents output.old) (W.contents output.new) outcome
         (IsLived D.state D.faults D.honest options.frames options.mode disk result.1))
         × (IsErrOf outcome DeviceFault → HasRisen (D.faults disk) (D.faults result.1))) }
-    // A format and a recovery do what the keeper's calls do, and tell what that came to.
+    // A format, a recovery and an upgrade do what the keeper's calls do, and tell what that came to.
     ensures formatted { IfFormat plan.now (λ geometry. (outcome : Result (Unit {0}) Refusal) × (result.0 ≡ status_of outcome)
         × IsFormatCarriedOut D.state D.faults D.extent D.honest disk result.1 geometry outcome) }
     ensures recovered { IfRecover plan.now ((outcome : Result (Unit {0}) Refusal) × (result.0 ≡ status_of outcome)
         × IsRecoveryCarriedOut D.state D.faults D.extent D.honest disk result.1 outcome) }
+    ensures upgraded { IfUpgrade plan.now ((outcome : Result (Unit {0}) Refusal) × (result.0 ≡ status_of outcome)
+        × IsUpgradeCarriedOut D.state D.faults D.extent D.honest disk result.1 outcome) }
     // A check only reads.
     ensures checked { IfCheck plan.now (D.honest disk → IsOnlyRead (D.state disk) (D.state result.1)) }
 {
@@ -54,7 +56,11 @@ pub fn perform<D: Disk + Drop, R: Read, W: Write, E: Write>(
         Plan::Format { geometry, .. } => format(alloc, disk, geometry, output),
         Plan::Pipe { path: _, options } => pipe(alloc, disk, options, input, output),
         Plan::Recover { path: _ } => recover(alloc, disk, output),
-        Plan::Serve { .. } | Plan::Check { path: _ } | Plan::Rehearse { .. } => unreachable!(),
+        Plan::Upgrade { path: _ } => upgrade(alloc, disk, output),
+        Plan::Serve { .. }
+        | Plan::Check { path: _ }
+        | Plan::Rehearse { .. }
+        | Plan::Refuse { .. } => unreachable!(),
     };
     (exit_status(outcome, errors), disk)
 }
@@ -113,6 +119,18 @@ fn recover<D: Disk, W: Write>(alloc: Global, disk: D, output: &mut W) -> (Result
     }
 }
 
+fn upgrade<D: Disk, W: Write>(alloc: Global, disk: D, output: &mut W) -> (Result<(), Refusal>, D)
+    ensures { IsUpgradeCarriedOut D.state D.faults D.extent D.honest disk result.1 result.0 }
+{
+    match Keeper::upgrade(alloc, disk) {
+        Ok(keeper) => {
+            let printed = print(output, "layout 2");
+            (printed, keeper.into_disk())
+        }
+        Err((refused, disk)) => (Err(Refusal::from(refused)), disk),
+    }
+}
+
 // Prints what the device holds, and gives the exit status.
 fn check<D: Disk, W: Write, E: Write>(
     alloc: Global,
@@ -146,6 +164,9 @@ fn is_of_content(refusal: Refusal) -> bool {
 }
 
 fn print_report<W: Write>(report: &Report, output: &mut W) -> Result<(), Refusal> {
+    if report.layout == Layout::Two {
+        print(output, "layout 2")?;
+    }
     print(output, format_args!("blocks {}", report.blocks))?;
     print(output, format_args!("mode {}", report.in_front))?;
     print(output, format_args!("base {}", report.base))?;

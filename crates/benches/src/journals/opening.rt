@@ -4,7 +4,7 @@ use crate::journals::scanning::puts;
 use anyhow::Result;
 use checkpoint::{Keeper, KeeperFault};
 use disk_model::{Disk, FileDisk};
-use image_model::Geometry;
+use image_model::{Geometry, Layout};
 use journal::Group;
 use std::alloc::Global;
 use std::fs::{File, OpenOptions};
@@ -41,7 +41,7 @@ fn append<D: Disk>(alloc: Global, keeper: &mut Keeper<D>, count: u64, blocks: u6
     }
 }
 
-// Fills the journal with groups of so many puts; how many puts.
+// Fills the last area with groups of so many puts; how many puts there are.
 fn fill<D: Disk + Drop>(alloc: Global, disk: D, count: u64, blocks: u64) -> Result<u64>
     requires some { 1 ≤ blocks }
     requires few { blocks ≤ 256 }
@@ -55,6 +55,27 @@ fn fill<D: Disk + Drop>(alloc: Global, disk: D, count: u64, blocks: u64) -> Resu
         }
     }
     Ok(keeper.count())
+}
+
+// Fills each area with groups of so many puts; how many puts, and how many areas.
+fn fill_all<D: Disk + Drop>(alloc: Global, disk: D, count: u64, blocks: u64) -> Result<(u64, u8)>
+    requires some { 1 ≤ blocks }
+    requires few { blocks ≤ 256 }
+    requires one { 1 ≤ count }
+    requires fit { count * (13 + 4096 * blocks) ≤ 8388608 }
+{
+    let mut keeper = opened(alloc, disk)?;
+    let areas = keeper.geometry().areas();
+    for _ in 0..u64::MAX {
+        if !append(alloc, &mut keeper, count, blocks)? {
+            match keeper.rotate() {
+                Ok(()) => {}
+                Err(KeeperFault::NotNow) => break,
+                Err(fault) => return Err(fault.into()),
+            }
+        }
+    }
+    Ok((keeper.count(), areas))
 }
 
 // The keeper of a device; one that is refused is let go.
@@ -115,7 +136,50 @@ fn timed_copy(rt: &HostRuntime, alloc: Global, path: &str, copy_path: &str) -> R
     Ok(begin.elapsed(rt)?.as_millis())
 }
 
-/// Fills the journal of a new file with groups of so many puts, opens it, copies as many bytes plainly into another new
+// A new file with an image of holes and a journal of this geometry.
+fn formatted(
+    rt: &HostRuntime,
+    alloc: Global,
+    path: &str,
+    geometry: Geometry,
+) -> Result<FileDisk<File>> {
+    let bytes = geometry.device_bytes();
+    let mut disk = FileDisk::new(created(rt, path, bytes)?, bytes);
+    Keeper::format(alloc, &mut disk, geometry)?;
+    Ok(disk)
+}
+
+/// Fills all areas of a new file with groups of so many puts, opens it, and prints how long that took, for each layout in
+/// turn.
+pub fn measure_layouts(
+    rt: &HostRuntime,
+    alloc: Global,
+    path: &str,
+    count: u64,
+    blocks: u64,
+) -> Result<()>
+    requires some { 1 ≤ blocks }
+    requires few { blocks ≤ 256 }
+    requires one { 1 ≤ count }
+    requires fit { count * (13 + 4096 * blocks) ≤ 8388608 }
+{
+    for layout in [Layout::One, Layout::Two] {
+        let Some(one) = Geometry::new(BLOCKS, AREA_BYTES) else {
+            return Ok(());
+        };
+        let Some(two) = one.with_layout_two() else {
+            return Ok(());
+        };
+        let geometry = if layout == Layout::One { one } else { two };
+        let disk = formatted(rt, alloc, path, geometry)?;
+        let (puts, areas) = fill_all(alloc, disk, count, blocks)?;
+        let opening = timed_opening(rt, alloc, path, geometry.device_bytes())?;
+        println!(rt; "{puts} puts of {blocks} blocks in {areas} areas: opened in {opening} ms")?;
+    }
+    Ok(())
+}
+
+/// Fills the first area of a new file with groups of so many puts, opens it, copies as many bytes plainly into another new
 /// file, and prints how long both took.
 pub fn measure_opening(
     rt: &HostRuntime,
@@ -133,11 +197,9 @@ pub fn measure_opening(
     let Some(geometry) = Geometry::new(BLOCKS, AREA_BYTES) else {
         return Ok(());
     };
-    let bytes = geometry.device_bytes();
-    let mut disk = FileDisk::new(created(rt, path, bytes)?, bytes);
-    Keeper::format(alloc, &mut disk, geometry)?;
+    let disk = formatted(rt, alloc, path, geometry)?;
     let puts = fill(alloc, disk, count, blocks)?;
-    let opening = timed_opening(rt, alloc, path, bytes)?;
+    let opening = timed_opening(rt, alloc, path, geometry.device_bytes())?;
     let copying = timed_copy(rt, alloc, path, copy_path)?;
     let percent = opening.saturating_mul(100) / copying.max(1);
     println!(rt;

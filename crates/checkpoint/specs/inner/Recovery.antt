@@ -1,6 +1,6 @@
 -- What functions of this crate hand to one another, beside `Recovery`.
 use Rattle.checkpoint.specs.declared.fault.KeeperFault.{KeeperFault}
-use Rattle.checkpoint.specs.declared.fault.KeeperFault.TheVariants.{NoMemory, DeviceFault, BadMap, NoHeader, BadHeader, NumbersFull, AreaFull, OutOfOrder, DamagedGroup, NotNow, Failed}
+use Rattle.checkpoint.specs.declared.fault.KeeperFault.TheVariants.{NoMemory, DeviceFault, BadMap, NoHeader, BadHeader, NumbersFull, AreaFull, OutOfOrder, DamagedGroup, NotNow, Failed, AreaSmall}
 
 -- the refusals that the steps of a checkpoint give in their times
 abbrev pub IsRecoveryFault : KeeperFault → Type 0
@@ -15,3 +15,4 @@ IsRecoveryFault OutOfOrder = ⊥
 IsRecoveryFault DamagedGroup = ⊥
 IsRecoveryFault NotNow = ⊥
 IsRecoveryFault Failed = ⊥
+IsRecoveryFault AreaSmall = ⊥

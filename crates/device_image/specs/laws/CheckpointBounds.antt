@@ -20,17 +20,17 @@ use Rattle.regions.specs.Layout.{area_at, area_size, areas_in, behind, block_at,
 use Rattle.regions.specs.laws.Ring.{area_high, area_low, behind_apart, behind_below, next_below, ring-last}
 use Rattle.device_image.specs.Copied.{IsTurnBegun, LeavesTurn}
 use Rattle.device_image.specs.Free.{IsFree, in_spare_area, to_be_copied}
-use Rattle.device_image.specs.Keeper.{AreStatesAfter, AreUncopied, IsUncopied, KeeperState, PlanState, count_puts, earlier_of, is_put, last_number, phase_of}
-use Rattle.device_image.specs.Keeps.{AreHeld, IsCopying, IsInPhase, IsMapWritten, IsPlaced, Keeps, behind_lists, touched_first}
+use Rattle.device_image.specs.Keeper.{AreStatesAfter, AreUncopied, IsPlanOf, IsRemembered, IsUncopied, KeeperState, PlanState, count_puts, earlier_of, is_put, last_number, phase_of}
+use Rattle.device_image.specs.Keeps.{AreHeld, IsCopying, IsInPhase, IsListed, IsMapWritten, IsPlaced, Keeps, behind_lists, touched_first}
 use Rattle.device_image.specs.Stands.{StandsFor, HoldLists, all_changes, areas_in_front, in_use, last_area, next_number, stored_image}
 use Rattle.device_image.specs.laws.Copied.{phase_on}
-use Rattle.device_image.specs.laws.Frame.{last_inside, one_kept}
+use Rattle.device_image.specs.laws.Frame.{last_inside, moved_list, one_kept}
 use Rattle.device_image.specs.laws.Free.{area_same, areas_same, in_front_used, ring_inside, stands_still}
 use Rattle.device_image.specs.laws.HeaderReplaced.{areas_above, begins_turn, ends_turn, follows}
 use Rattle.device_image.specs.laws.Headers.{begun, ended}
 use Rattle.device_image.specs.laws.Kept.{held as fronts_held}
 use Rattle.device_image.specs.laws.Lists.{KeepsLists}
-use Rattle.device_image.specs.laws.Puts.{count_more, count_one, count_zero}
+use Rattle.device_image.specs.laws.Puts.{count_more, count_one, count_same, count_zero}
 use Rattle.device_image.specs.laws.Steps.{held_stay}
 
 -- as many areas stand in front of the last as checkpoints are to be carried out
@@ -51,9 +51,31 @@ front_none [] geometry next (groups ∷ front) state held = absurd held
 front_none (area ∷ areas) geometry next [] state held = absurd held
 front_none (area ∷ areas) geometry next (groups ∷ front) state held = absurd held
 
+-- an area that is held, by what a checkpoint of it remembers
+pub listed_of : (remembered area : AreaState) (first : ℕ) (groups : List StoredGroup) (state : State) → IsRemembered remembered area → IsHeld area first groups state → IsListed remembered first groups state
+listed_of remembered area first groups state is held = record {
+  list = moved_list area remembered first groups state.seen (sym is.from) (sym is.bytes) (sym is.blocks) held.list;
+  next = is.next ∙ held.next;
+  touched = λ block below.
+      is.touched block (omega (arith, below, is.blocks))
+      ∙ ap (last_touch block) held.touched
+      ∙ ap (λ (place : ℕ). last_touch block (touched_by_groups place groups)) (sym is.from);
+  synced = λ place within. held.synced place (omega (arith, within.0, is.from), omega (arith, within.1, is.from, is.bytes));
+}
+
+pub placed_of : (remembered area : AreaState) (geometry : Geometry) (index : ℕ) → IsRemembered remembered area → IsPlaced area geometry index → IsPlaced remembered geometry index
+placed_of remembered area geometry index is placed = record { from = is.from ∙ placed.from; bytes = is.bytes ∙ placed.bytes; blocks = is.blocks ∙ placed.blocks }
+
+-- how many blocks it leaves to copy
+pub plan_left : (area : AreaState) (plan : PlanState) → IsPlanOf area plan → plan.left ≡ count_puts area.blocks area.touched
+plan_left area plan is =
+    ap (λ (p : PlanState). p.left) is.uncopied
+    ∙ ap (λ (blocks : ℕ). count_puts blocks plan.first.touched) is.remembered.blocks
+    ∙ count_same area.blocks area.blocks plan.first.touched area.touched (omega arith) is.remembered.touched
+
 -- one more area behind those that are held
 pub held_more : (areas : List ℕ) (last : ℕ) (geometry : Geometry) (next : ℕ) (front : List (List StoredGroup)) (groups : List StoredGroup) (earlier : List AreaState) (area : AreaState) (state : State)
-    → AreHeld areas geometry next front earlier state → IsPlaced area geometry last → IsHeld area (behind_lists next front) groups state
+    → AreHeld areas geometry next front earlier state → IsPlaced area geometry last → IsListed area (behind_lists next front) groups state
     → AreHeld (areas ++ last ∷ []) geometry next (front ++ groups ∷ []) (earlier ++ area ∷ []) state
 held_more [] last geometry next [] groups [] area state held placed here = (placed, here, tt)
 held_more [] last geometry next [] groups (other ∷ earlier) area state held placed here = absurd held
@@ -98,9 +120,10 @@ uncopied_copying count zero header plan next (groups ∷ front) earlier state st
 uncopied_copying count (suc n) header plan next [] earlier state states held is = absurd held
 uncopied_copying count (suc n) header plan next (groups ∷ front) earlier state states held is =
     let touches = touched_by_groups (area_at header.geometry header.first_area) groups in
-    let touched : plan.first.touched ≡ touches = held.1.touched ∙ ap (λ (place : ℕ). touched_by_groups place groups) held.0.from in
     let puts : count_puts plan.first.blocks plan.first.touched ≡ count_puts header.geometry.blocks touches =
-    ap (λ (blocks : ℕ). count_puts blocks plan.first.touched) held.0.blocks ∙ ap (count_puts header.geometry.blocks) touched in
+    count_same plan.first.blocks plan.first.blocks plan.first.touched (touched_by_groups plan.first.from groups) (omega arith) held.1.touched
+    ∙ ap (λ (place : ℕ). count_puts plan.first.blocks (touched_by_groups place groups)) held.0.from
+    ∙ ap (λ (blocks : ℕ). count_puts blocks touches) held.0.blocks in
     let none : plan.copied ≡ 0 = ap (λ (p : PlanState). p.copied) is in
     let left = ap (λ (p : PlanState). p.left) is in
     let zeroes : count_puts plan.copied touches ≡ 0 = ap (λ (block : ℕ). count_puts block touches) none ∙ count_zero touches in
@@ -220,22 +243,16 @@ module _ {D : Type 0} (keeper : KeeperState D) (before : State) (image : Image) 
         first_after = area_same before.seen after.seen keeps.stands.header keeps.areas.front used_same keeps.stands.header.first_area keeps.stands.header.first_inside
             (λ places behind_it few. behind_apart (areas_in keeps.stands.header.geometry) 0 places keeps.stands.header.first_area keeps.stands.header.first_inside (omega (arith, behind_it)) few)
 
-    module _ (plan : PlanState) (plan_is : plan ≡ record { first = keeper.memory.area; copied = 0; left = count_puts keeper.memory.area.blocks keeper.memory.area.touched; mapped = None }) where
-      first_is : plan.first ≡ keeper.memory.area
-      first_is = ap (λ (p : PlanState). p.first) plan_is
-
-      uncopied : IsUncopied plan
-      uncopied = plan_is ∙ ap (λ (area : AreaState). let made : PlanState = record { first = area; copied = 0; left = count_puts area.blocks area.touched; mapped = None } in made) (sym first_is)
-
+    module _ (plan : PlanState) (plan_is : IsPlanOf keeper.memory.area plan) where
       all_after : AreHeld (areas_in_front (begun keeps.stands.header room)) keeps.stands.header.geometry (next_number keeps.stands.header.base) (keeps.areas.front ++ keeps.areas.groups ∷ []) (earlier_of (keeper.memory.plans ++ plan ∷ [])) after
       all_after =
           let header = keeps.stands.header in
           let lists = keeps.areas.front ++ keeps.areas.groups ∷ [] in
           subst (λ (areas : List ℕ). AreHeld areas header.geometry (next_number header.base) lists (earlier_of (keeper.memory.plans ++ plan ∷ [])) after) (sym (ring-last (areas_in header.geometry) header.in_front header.first_area))
-          (subst (λ (earlier : List AreaState). AreHeld (areas_in_front header ++ last_area header ∷ []) header.geometry (next_number header.base) lists earlier after)
-          (ap (λ (area : AreaState). earlier_of keeper.memory.plans ++ area ∷ []) (sym first_is) ∙ sym (earlier-push keeper.memory.plans plan))
-          (held_more (areas_in_front header) (last_area header) header.geometry (next_number header.base) keeps.areas.front keeps.areas.groups (earlier_of keeper.memory.plans) keeper.memory.area after
-          fronts_after keeps.areas.placed last_after))
+          (subst (λ (earlier : List AreaState). AreHeld (areas_in_front header ++ last_area header ∷ []) header.geometry (next_number header.base) lists earlier after) (sym (earlier-push keeper.memory.plans plan))
+          (held_more (areas_in_front header) (last_area header) header.geometry (next_number header.base) keeps.areas.front keeps.areas.groups (earlier_of keeper.memory.plans) plan.first after
+          fronts_after (placed_of plan.first keeper.memory.area header.geometry (last_area header) plan_is.remembered keeps.areas.placed)
+          (listed_of plan.first keeper.memory.area _ keeps.areas.groups after plan_is.remembered last_after)))
 
       pub keeps_begun : (now : KeeperState D) (next : AreaState)
           → next ≡ record { from = next_from; bytes = area_size keeps.stands.header.geometry; blocks = keeps.stands.header.geometry.blocks; next = keeper.memory.area.next; gate = 0; touched = [] }
@@ -284,7 +301,7 @@ module _ {D : Type 0} (keeper : KeeperState D) (before : State) (image : Image) 
               taken = refl;
               phase = refl;
               phased = phase_grown (areas_in geometry) header room keeper.memory.plans plan after keeps.stands.states (next_number header.base) keeps.areas.front keeps.areas.groups
-                  fronts_after all_after phase_after uncopied;
+                  fronts_after all_after phase_after plan_is.uncopied;
               unsynced = λ place unsynced. absurd (begun_is.synced place unsynced);
             };
             front_is = refl;
@@ -297,7 +314,7 @@ pub record AreSeveral (header : Header) (front : List (List StoredGroup)) (plan 
   pub others : List (List StoredGroup)
   pub is : front ≡ first ∷ others
   pub first_placed : IsPlaced plan.first header.geometry header.first_area
-  pub first_held : IsHeld plan.first (next_number header.base) first state
+  pub first_held : IsListed plan.first (next_number header.base) first state
   pub others_held : AreHeld (ring (areas_in header.geometry) (length rest) (next_of (areas_in header.geometry) header.first_area)) header.geometry (next_behind (next_number header.base) first) others (earlier_of rest) state
 
 several : (header : Header) (front : List (List StoredGroup)) (plan : PlanState) (rest : List PlanState) (state : State)

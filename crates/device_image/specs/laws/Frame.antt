@@ -25,7 +25,7 @@ use Rattle.regions.specs.Layout.{area_at, area_size, areas_in, behind, block_at,
 use Rattle.regions.specs.Map.{HoldsMap}
 use Rattle.regions.specs.laws.Ring.{apart, area_high, area_low, behind_apart, behind_below, next_below, ring-last}
 use Rattle.device_image.specs.Keeper.{is_put}
-use Rattle.device_image.specs.Keeps.{AreHeld, IsCopyPlace, IsPlaced, behind_lists}
+use Rattle.device_image.specs.Keeps.{AreHeld, IsCopyPlace, IsListed, IsPlaced, behind_lists}
 use Rattle.device_image.specs.Stands.{StandsFor, HoldLists, all_changes, area_of, areas_in_front, is_data, last_area, next_number, stored_image}
 
 -- the last area in use is one of the device's
@@ -237,6 +237,21 @@ one_kept area geometry side next groups before after placed same synced held =
       synced = λ place within. synced place (here place within);
     }
 
+-- and so is one whose list is known
+pub one_listed : (area : AreaState) (geometry : Geometry) (side : ℕ) (next : ℕ) (groups : List StoredGroup) (before after : State) → IsPlaced area geometry side
+    → ((place : ℕ) → InRange (area_at geometry side) (area_size geometry) place → slice_index after.seen place ≡ slice_index before.seen place)
+    → ((place : ℕ) → InRange (area_at geometry side) (area_size geometry) place → after.unsynced place → ⊥)
+    → IsListed area next groups before → IsListed area next groups after
+one_listed area geometry side next groups before after placed same synced listed =
+    let here : (place : ℕ) → InRange area.from area.bytes place → InRange (area_at geometry side) (area_size geometry) place =
+    λ place within. (omega (arith, within.0, placed.from), omega (arith, within.1, placed.from, placed.bytes)) in
+    record {
+      list = list_kept area next groups before.seen after.seen (λ place within. same place (here place within)) listed.list;
+      next = listed.next;
+      touched = listed.touched;
+      synced = λ place within. synced place (here place within);
+    }
+
 -- and so are areas, but for the last one
 pub held_kept : (sides : List ℕ) (last : ℕ) (geometry : Geometry) (next : ℕ) (lists : List (List StoredGroup)) (areas : List AreaState) (before after : State) → AreOthers geometry sides last
     → ((place : ℕ) → place < 8192 + 2 * geometry.area → (InRange (area_at geometry last) (area_size geometry) place → ⊥) → slice_index after.seen place ≡ slice_index before.seen place)
@@ -249,7 +264,7 @@ held_kept (side ∷ sides) last geometry next [] areas before after others same 
 held_kept (side ∷ sides) last geometry next (groups ∷ lists) [] before after others same synced held = absurd held
 held_kept (side ∷ sides) last geometry next (groups ∷ lists) (area ∷ areas) before after others same synced held = (
   held.0,
-  one_kept area geometry side next groups before after held.0
+  one_listed area geometry side next groups before after held.0
       (λ place here. same place (omega (arith, area_high geometry side others.0, here.1)) (apart geometry side last place others.1 here))
       (λ place here. synced place (omega (arith, area_high geometry side others.0, here.1))) held.1,
   held_kept sides last geometry (next_behind next groups) lists areas before after others.2 same synced held.2,

@@ -1,8 +1,9 @@
 -- How many of the first blocks have a put as their last touch.
-use Rattle.std.proofs.Common.{◌≡◌, ℕ, zero, suc, ◌+◌, ◌≤◌, ◌<◌, Bool, true, false, if◌then◌else◌, List, ap, refl, arith}
+use Rattle.std.proofs.Common.{◌≡◌, ℕ, zero, suc, ◌+◌, ◌≤◌, ◌<◌, Bool, true, false, if◌then◌else◌, Option, List, sym, ◌∙◌, ap, refl, arith}
 use Rattle.journal_format.specs.Touches.{last_touch}
+use Rattle.journal_format.specs.declared.touch.Touch.{Touch}
 use Rattle.journal_format.specs.declared.touch.TouchedRange.{TouchedRange}
-use Rattle.device_image.specs.Keeper.{count_puts, is_put}
+use Rattle.device_image.specs.Keeper.{TellSame, count_puts, is_put}
 
 abbrev pub one_if : Bool → ℕ
 one_if b = if b then 1 else 0
@@ -40,3 +41,11 @@ count_more from (suc n) touched =
 
 pub count_one : (block : ℕ) (touched : List TouchedRange) → is_put (last_touch block touched) ≡ true → count_puts (suc block) touched ≡ count_puts block touched + 1
 count_one block touched put = let one : (if is_put (last_touch block touched) then 1 else 0) ≡ 1 = ap one_if put in omega (arith, count_suc block touched, one)
+
+-- ranges that tell the same last touches count the same puts
+pub count_same : (n blocks : ℕ) (touched others : List TouchedRange) → n ≤ blocks → TellSame blocks touched others → count_puts n touched ≡ count_puts n others
+count_same zero blocks touched others few same = count_zero touched ∙ sym (count_zero others)
+count_same (suc n) blocks touched others few same =
+    let rest = count_same n blocks touched others (omega (arith, few)) same in
+    let one : (if is_put (last_touch n touched) then 1 else 0) ≡ (if is_put (last_touch n others) then 1 else 0) = ap (λ (t : Option Touch). one_if (is_put t)) (same n (omega (arith, few))) in
+    omega (arith, rest, one, count_suc n touched, count_suc n others)

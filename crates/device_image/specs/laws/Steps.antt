@@ -13,7 +13,7 @@ use Rattle.device_image.specs.Free.{IsFree}
 use Rattle.device_image.specs.Keeper.{KeeperState, PlanState, earlier_of, phase_of}
 use Rattle.device_image.specs.Keeps.{AreHeld, HoldsAreas, IsCopyPlace, IsInPhase, Keeps}
 use Rattle.device_image.specs.Stands.{areas_in_front, last_area, next_number}
-use Rattle.device_image.specs.laws.Frame.{fronts_of, last_high, last_inside, one_kept}
+use Rattle.device_image.specs.laws.Frame.{fronts_of, last_high, last_inside, one_kept, one_listed}
 use Rattle.device_image.specs.laws.Lists.{KeepsLists}
 use Rattle.device_image.specs.laws.Free.{AreInside, AreSame, area_same, areas_same, free_content, in_front_used, ring_inside}
 
@@ -27,7 +27,7 @@ held_stay (side ∷ sides) geometry next [] areas before after inside same synce
 held_stay (side ∷ sides) geometry next (groups ∷ lists) [] before after inside same synced held = absurd held
 held_stay (side ∷ sides) geometry next (groups ∷ lists) (area ∷ areas) before after inside same synced held = (
   held.0,
-  one_kept area geometry side next groups before after held.0 same.0 (λ place here. synced place (omega (arith, area_high geometry side inside.0, here.1))) held.1,
+  one_listed area geometry side next groups before after held.0 same.0 (λ place here. synced place (omega (arith, area_high geometry side inside.0, here.1))) held.1,
   held_stay sides geometry (next_behind next groups) lists areas before after inside.1 same.1 synced held.2,
 )
 

@@ -29,7 +29,7 @@ use Rattle.export_model.specs.Step.{send, sealed_more, seal, put_back, written, 
 use Rattle.export_model.specs.Verdict.{verdict, first_of_rules, is_known, allowed_flags, past_end}
 use Rattle.image_model.specs.Image.{Image}
 use Rattle.export_model.specs.Shown.{shown_by}
-use Rattle.export_model.specs.World.{World, Stage, Setting, fresh, last_number, has_room, fits, in_hand, put}
+use Rattle.export_model.specs.World.{World, Stage, Setting, area_bytes, fresh, last_number, has_room, fits, in_hand, put}
 use Rattle.export_model_laws.specs.laws.Logged.{IsQuiet, put_same, sound_quiet, sound_moved}
 use Rattle.export_model_laws.specs.laws.Ordered.{sound_ordered}
 use Rattle.export_model_laws.specs.laws.Sound.{AwaitsOthers, IsRight, IsSound, facts_of}
@@ -260,7 +260,7 @@ module _ (world : World) (sound : IsSound world) where
   sound_failed fault = sound_quiet world (Failed fault) (quiet_failed fault) sound
 
   sound_grouped : IsSound (sealed_more Nothing world)
-  sound_grouped = sound_took (record world.stage { sealed = world.stage.sealed + longest (body_limit world.stage.setting.geometry.area) (drop world.stage.sealed world.stage.order) }) Took quiet_took (omega arith)
+  sound_grouped = sound_took (record world.stage { sealed = world.stage.sealed + longest (body_limit (area_bytes world.stage)) (drop world.stage.sealed world.stage.order) }) Took quiet_took (omega arith)
 
   sound_sealed_more : (failure : Failure) → IsSound (sealed_more failure world)
   sound_sealed_more OutOfMemory = sound_failed fault.NoMemory

@@ -5,6 +5,7 @@ use Rattle.image_model.specs.Bodies.{body_bytes, body_limit, longest}
 use Rattle.image_model.specs.Change.{Change}
 use Rattle.image_model.specs.Edit.{becomes}
 use Rattle.image_model.specs.Image.{Image}
+use Rattle.image_model.specs.laws.Layouts.{areas_some}
 use Rattle.nbd_wire.specs.Request.{Message}
 use Rattle.nbd_wire.specs.declared.error.Errno.{Errno}
 use Rattle.nbd_wire.specs.declared.error.Errno.TheVariants.{Io}
@@ -23,7 +24,7 @@ use Rattle.export_model.specs.Run.{IsReached, Fresh, After}
 use Rattle.export_model.specs.Serve.{Failure, Nothing, OutOfMemory, DeviceFailure, accepted, answer, judged, logged, passed, ready, serve, staged, Misread, image_shown, shown, read_served, status_served, faulted, takes_old_bytes}
 use Rattle.export_model.specs.Step.{after_step, append, in_time, with_generation, sealed_more, send, sent, without_memory, written}
 use Rattle.export_model.specs.Verdict.{verdict}
-use Rattle.export_model.specs.World.{World, Stage, Setting, fits, fresh, has_room, last_number}
+use Rattle.export_model.specs.World.{World, Stage, Setting, area_bytes, areas_at, fits, fresh, has_room, last_number}
 use Rattle.export_model_laws.specs.Law.{IsRising, IsWithin}
 use Rattle.export_model_laws.specs.laws.Parts.{copied_same}
 use Rattle.export_model_laws.specs.laws.Steps.{of_either}
@@ -140,7 +141,7 @@ module _ (world : World) (within : IsWithin world) where
 
   -- what a checkpoint comes to
   within_turned : (base : ℕ) (turned : List ℕ) (left : ℕ) (mapped : Bool) (cleaned at generation : ℕ) (event : Event)
-      → cleaned ≤ base → IsRising base turned world.stage.stored → length turned < 2 → ((at ≡ 0) ↔ (world.stage.stored ≡ last_turned base turned)) → left ≤ left_behind base turned world.stage.order
+      → cleaned ≤ base → IsRising base turned world.stage.stored → length turned < areas_at world.stage → ((at ≡ 0) ↔ (world.stage.stored ≡ last_turned base turned)) → left ≤ left_behind base turned world.stage.order
       → (mapped ≡ true → (is_turned turned ≡ true) × (left ≡ 0))
       → IsWithin (logged (staged world (record world.stage { base = base; turned = turned; left = left; mapped = mapped; cleaned = cleaned; at = at; generation = generation })) event)
   within_turned base turned left mapped cleaned at generation event first second areas taken third fourth = record {
@@ -219,7 +220,7 @@ module _ (world : World) (within : IsWithin world) where
 
   within_grouped : IsWithin (sealed_more Nothing world)
   within_grouped =
-      let most = longest-le (body_limit world.stage.setting.geometry.area) (drop world.stage.sealed world.stage.order) in
+      let most = longest-le (body_limit (area_bytes world.stage)) (drop world.stage.sealed world.stage.order) in
       let rest = length-drop world.stage.sealed world.stage.order in
       let stored = within.stored in let sealed = within.sealed in
       within_counts _ _ _ _ _ _ _ within.durable (omega arith) (omega (arith, stored)) (omega (arith, most, rest, sealed)) within.taken
@@ -260,10 +261,10 @@ module _ (world : World) (within : IsWithin world) where
 
   within_rotated : can_rotate world.stage ≡ true → IsWithin (logged (staged world (rotated world.stage)) Took)
   within_rotated now =
-      let tests = and_parts (nat_lt (length world.stage.turned + 1) 2) (nat_lt (last_turned world.stage.base world.stage.turned) world.stage.stored) now in
+      let tests = and_parts (nat_lt (length world.stage.turned + 1) (areas_at world.stage)) (nat_lt (last_turned world.stage.base world.stage.turned) world.stage.stored) now in
       within_turned _ _ _ _ _ _ _ _ within.cleaned
       (rising_end world.stage.base world.stage.turned world.stage.stored (ltb-true (last_turned world.stage.base world.stage.turned) world.stage.stored tests.1) within.rising)
-      (let room = ltb-true (length world.stage.turned + 1) 2 tests.0 in omega (arith, room, length-append world.stage.turned (world.stage.stored ∷ [])))
+      (let room = ltb-true (length world.stage.turned + 1) (areas_at world.stage) tests.0 in omega (arith, room, length-append world.stage.turned (world.stage.stored ∷ [])))
       (λ none. sym (last_of_more world.stage.base world.stage.turned world.stage.stored), λ same. refl)
       (rotated_left world.stage world.stage.turned within.left)
       (λ is. rotated_mapped world.stage world.stage.turned (within.mapped is))
@@ -310,7 +311,7 @@ within_fresh setting = record {
   sealed = omega arith;
   cleaned = omega arith;
   rising = omega arith;
-  areas = omega arith;
+  areas = areas_some setting.geometry.layout;
   taken = (λ none. refl, λ none. refl);
   left = omega arith;
   mapped = λ is. absurd (both_ways false refl is);

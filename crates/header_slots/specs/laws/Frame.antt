@@ -7,9 +7,9 @@ use Rattle.header_slots.specs.declared.fault.HeaderFault.TheVariants.{DeviceFaul
 use Rattle.header_slots.specs.declared.header.Header.{Header}
 use Rattle.image_model.specs.declared.side.Side.{Side}
 use Rattle.image_model.specs.declared.side.Side.TheVariants.{Zero, One}
-use Rattle.header_slots.specs.Header.{AreSpelledSizes, SpellsAt, IsBadAt, another_magic, outside_limits, no_mode, no_first_area, no_map_slot}
+use Rattle.header_slots.specs.Header.{SpellsAt, IsBadAt, another_magic, outside_limits, no_mode, no_first_area, no_map_slot}
 use Rattle.header_slots.specs.Number.{number_at}
-use Rattle.image_model.specs.Layout.{areas_of}
+use Rattle.image_model.specs.Layout.{AreSizesOf, areas_of}
 use Rattle.header_slots.specs.Slots.{slot_at, generation_in, IsInForce, AreEqual, IsBad, equal_generations, no_header_there, another_size, IsReading}
 use Rattle.image_model.specs.Side.{other_of}
 
@@ -72,8 +72,8 @@ module _ (a b : List ℕ) (p q : ℕ) (same : (k : ℕ) → k < 39 → slice_ind
   pub moved_bad : IsBadAt a p → IsBadAt b q
   moved_bad (another_magic wrong) = another_magic (λ layout right. wrong layout (first_number ∙ right))
   moved_bad (outside_limits layout begins outside) = outside_limits layout (sym first_number ∙ begins) (λ sizes. outside
-      (subst (λ (blocks : ℕ). AreSpelledSizes layout blocks (number_at (p + 24) 4 a)) (sym (moved_number 16 8 (omega arith)))
-      (subst (λ (area : ℕ). AreSpelledSizes layout (number_at (q + 16) 8 b) area) (sym (moved_number 24 4 (omega arith))) sizes)))
+      (subst (λ (blocks : ℕ). AreSizesOf layout blocks (number_at (p + 24) 4 a)) (sym (moved_number 16 8 (omega arith)))
+      (subst (λ (area : ℕ). AreSizesOf layout (number_at (q + 16) 8 b) area) (sym (moved_number 24 4 (omega arith))) sizes)))
   moved_bad (no_mode layout begins none) = no_mode layout (sym first_number ∙ begins) (λ in_front few is. none in_front few (same 28 (omega arith) ∙ is))
   moved_bad (no_first_area layout begins above) = no_first_area layout (sym first_number ∙ begins) (subst (λ (byte : ℕ). areas_of layout ≤ byte) (same 29 (omega arith)) above)
   moved_bad (no_map_slot above) = no_map_slot (subst (λ (byte : ℕ). 1 < byte) (same 30 (omega arith)) above)

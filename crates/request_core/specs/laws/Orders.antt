@@ -13,7 +13,7 @@ use Rattle.image_model.specs.laws.CleanedMaps.{cleaned-blocks}
 use Rattle.image_model.specs.laws.DirtyTails.{dirty_behind_push}
 use Rattle.order_book.specs.Order.{OrderState, Seals, has_room_for, with_clean, with_command, with_durable, with_group}
 use Rattle.export_model.specs.Checkpoint.{can_clean}
-use Rattle.export_model.specs.World.{Stage, dirty_behind}
+use Rattle.export_model.specs.World.{Stage, area_bytes, dirty_behind}
 use Rattle.request_core.specs.Parts.{IsOrderOf, commands_in}
 use Rattle.image_model.specs.Bodies.{body_bytes, bodies_bytes, body_limit, longest}
 use Rattle.image_model.specs.Dirty.{Dirty, clean_through, dirty_after, dirty_blocks, frames_suffice}
@@ -99,9 +99,9 @@ commands_length group = length-map group.commands change_of
 
 -- a group is sealed
 pub order_seals : (stage : Stage) (old new : OrderState) (group : Numbered) → IsOrderOf stage old None → stage.stored ≤ length stage.order → Seals old new group
-    → IsOrderOf (record stage { sealed = stage.sealed + longest (body_limit stage.setting.geometry.area) (drop stage.sealed stage.order) }) new (Some group)
+    → IsOrderOf (record stage { sealed = stage.sealed + longest (body_limit (area_bytes stage)) (drop stage.sealed stage.order) }) new (Some group)
 order_seals stage old new group of stored seals =
-    let Result : OrderState → Type 0 = λ order. IsOrderOf (record stage { sealed = stage.sealed + longest (body_limit stage.setting.geometry.area) (drop stage.sealed stage.order) }) order (Some group) in
+    let Result : OrderState → Type 0 = λ order. IsOrderOf (record stage { sealed = stage.sealed + longest (body_limit (area_bytes stage)) (drop stage.sealed stage.order) }) order (Some group) in
     subst Result (sym seals.rest) (record {
       opening = of.opening;
       durable = of.durable;
@@ -132,13 +132,13 @@ order_seals stage old new group of stored seals =
     pending_length : length (map change_of old.pending) ≡ length old.pending
     pending_length = length-map old.pending change_of
 
-    count_is : longest (body_limit stage.setting.geometry.area) (drop stage.sealed stage.order) ≡ length group.commands
+    count_is : longest (body_limit (area_bytes stage)) (drop stage.sealed stage.order) ≡ length group.commands
     count_is =
         let limit_is = ap body_limit of.area in
         let fits = seals.fits in
         let longer = ap length seals.beginning in
-        ap (longest (body_limit stage.setting.geometry.area)) pending_is
-        ∙ longest_is (body_limit stage.setting.geometry.area) (map change_of old.pending) (length group.commands)
+        ap (longest (body_limit (area_bytes stage))) pending_is
+        ∙ longest_is (body_limit (area_bytes stage)) (map change_of old.pending) (length group.commands)
         (omega (arith, longer, length-append group.commands new.pending, pending_length))
         (omega (arith, fits, limit_is, sym (beginning_is (length group.commands)), ap bodies_of group_is))
         (λ more above within. let over = seals.longest more above (omega (arith, within, pending_length)) in omega (arith, over, limit_is, beginning_is more))

@@ -3,7 +3,7 @@ use Rattle.image_model.specs.Geometry.{device_bytes_of}
 use Rattle.checkpoint.specs.Recovery.{IsBegun}
 use Rattle.checkpoint.specs.Keeper.{AreSized}
 use Rattle.checkpoint.proofs.Areas.{placed_sized}
-use Rattle.checkpoint.proofs.Rotating.{counted_read, sized_read}
+use Rattle.checkpoint.proofs.Rotating.{counted_read, sized_read, uncopied_behind}
 use Rattle.device_image.specs.Keeper.{PlanState, last_turned, phase_of, turned_of}
 use Rattle.device_image.specs.Stands.{last_area}
 use Rattle.device_image.specs.laws.Frame.{last_inside}
@@ -49,4 +49,5 @@ invariant_of-result g c =
         counted_read read.header.base read.area.next _ read.plans.items fits (call.none none).1 (search rules)
             ∙ ap (λ (plans : List PlanState). last_turned read.header.base (turned_of plans)) (sym taken.ensures.plans),
       ),
+      uncopied_behind taken.result read.plans.items taken.new.waiting.items taken.ensures.plans taken.ensures.none call.uncopied,
     )

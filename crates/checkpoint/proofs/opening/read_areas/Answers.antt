@@ -1,6 +1,5 @@
 use Rattle.std.proofs.Common.{◌≡◌, ◌<◌, ◌+◌, ℕ, suc, List, [], ◌∷◌, ◌++◌, length, if◌then◌else◌, refl, sym, ◌∙◌, ap, subst, arith, length-append}
 use Rattle.image_model.specs.declared.geometry.Geometry.{Geometry}
-use Rattle.journal_format.specs.Area.{AreaState}
 use Rattle.journal_format.specs.GroupList.{IsDamaged}
 use Rattle.journal_format.specs.laws.Chained.{reads_on}
 use Rattle.regions.specs.Layout.{areas_in, behind}
@@ -49,7 +48,7 @@ loop-place-preserved g c =
     let before = g.D.Disk.state c.loop-place.disk in
     let after = g.D.Disk.state c.read_plan.new.disk in
     let now = c.next-next.result in
-    let now_is : now ≡ plan.first.next = c.next-next.ensures ∙ ap (λ (a : AreaState). a.next) c.first.ensures in
+    let now_is : now ≡ plan.first.next = c.next-next.ensures in
     let pushed : c.push.new.self.items ≡ plans ++ plan ∷ [] = c.push.ensures.items ∙ ap (λ b. if b then plans ++ plan ∷ [] else plans) (sym c.in_ok-map_err.ensures.variant) in
     let index : c.area_behind-index.result ≡ behind (areas_in header.geometry) c.loop-place.place header.first_area =
     c.area_behind-index.ensures.area ∙ ap (λ (size : Geometry). behind (areas_in size) c.loop-place.place header.first_area) c.of-regions.ensures in

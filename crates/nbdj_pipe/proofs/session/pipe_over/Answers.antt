@@ -4,6 +4,7 @@ use Rattle.checkpoint.specs.declared.fault.KeeperFault.TheVariants as fault
 use Rattle.device_image.specs.Keeps.{Keeps}
 use Rattle.disk_model.specs.Faults.{HasRisen}
 use Rattle.image_model.specs.Image.{Image}
+use Rattle.image_model.specs.Layout.{area_size_of}
 use Rattle.nbd_wire.specs.Request.{Message}
 use Rattle.order_book.specs.Order.{OrderState, new_order}
 use Rattle.order_book.specs.Shown.{ShowsImage}
@@ -46,7 +47,7 @@ returns-clause-dialog g c = λ start opened.
     let shows = λ (image : Image) (keeps : Keeps keeper (disk.state keeper.disk) image keeper.count). subst (λ (order : OrderState). ShowsImage image order.cache) parts.ensures.order.2
     (parts.ensures.image image (c.keeper_laws.ensures.empty keeper image keeper.count keeps opened.recovered.phase opened.recovered.used)) in
     let fresh_runs = λ (exchanges : List Exchange) (last : Option Message) (runs : Runs disk.state disk.faults disk.honest parts.parts.2 keeper parts.parts.3 ran.order ran.keeper ran.connections exchanges last c.run-end.result).
-    subst (λ (connections : ConnectionsState). Runs disk.state disk.faults disk.honest (new_order states keeper.count frames keeper.geometry.area) keeper connections ran.order ran.keeper ran.connections exchanges last c.run-end.result)
+    subst (λ (connections : ConnectionsState). Runs disk.state disk.faults disk.honest (new_order states keeper.count frames (area_size_of keeper.geometry.layout keeper.geometry.area)) keeper connections ran.order ran.keeper ran.connections exchanges last c.run-end.result)
     parts.ensures.connections
     (subst (λ (order : OrderState). Runs disk.state disk.faults disk.honest order keeper parts.parts.3 ran.order ran.keeper ran.connections exchanges last c.run-end.result) parts.ensures.order.2 runs) in
     inr (subst (λ end. IsPiped (g.R.Read.remaining c.args.input.now) (g.R.Read.remaining c.run-end.new.input) (g.W.Write.contents c.args.output.now) (g.W.Write.contents c.run-end.new.output) c.finish-outcome.result
@@ -74,7 +75,7 @@ returns-clause-device g c = λ start opened is.
     let shows = λ (image : Image) (keeps : Keeps keeper (disk.state keeper.disk) image keeper.count). subst (λ (order : OrderState). ShowsImage image order.cache) parts.ensures.order.2
     (parts.ensures.image image (c.keeper_laws.ensures.empty keeper image keeper.count keeps opened.recovered.phase opened.recovered.used)) in
     let fresh_runs = λ (exchanges : List Exchange) (last : Option Message) (runs : Runs disk.state disk.faults disk.honest parts.parts.2 keeper parts.parts.3 ran.order ran.keeper ran.connections exchanges last c.run-end.result).
-    subst (λ (connections : ConnectionsState). Runs disk.state disk.faults disk.honest (new_order states keeper.count frames keeper.geometry.area) keeper connections ran.order ran.keeper ran.connections exchanges last c.run-end.result)
+    subst (λ (connections : ConnectionsState). Runs disk.state disk.faults disk.honest (new_order states keeper.count frames (area_size_of keeper.geometry.layout keeper.geometry.area)) keeper connections ran.order ran.keeper ran.connections exchanges last c.run-end.result)
     parts.ensures.connections
     (subst (λ (order : OrderState). Runs disk.state disk.faults disk.honest order keeper parts.parts.3 ran.order ran.keeper ran.connections exchanges last c.run-end.result) parts.ensures.order.2 runs) in
     subst (λ end. HasRisen (disk.faults start) (disk.faults end)) (sym c.into_disk-2.ensures)

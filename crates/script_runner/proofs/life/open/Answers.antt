@@ -1,4 +1,4 @@
-use Rattle.std.proofs.Common.{◌≡◌, ap, sym, subst, ℕ}
+use Rattle.std.proofs.Common.{◌≡◌, ◌∙◌, ap, false, sym, subst, ℕ}
 use Rattle.device_image.specs.Keeps.{Keeps}
 use Rattle.device_image.specs.Stands.{StandsFor}
 use Rattle.disk_model.specs.Disk.{MayLeave}
@@ -10,16 +10,20 @@ returns-in-Ok-runs-clause-opened g c = λ honest.
     let disk = g.D.Disk in
     let old = c.in-Ok.keeper in
     let new = c.runs.new.keeper in
-    let (content, opening) = c.in-Ok.ensures.found honest in
-    let (image, stands, keeps, base) = opening.outcome in
+    let opened = c.in-Ok.ensures.opened honest in
+    let image = opened.image in
+    let keeps = opened.keeps in
     let rest = c.in-Ok.ensures.recovered in
     let count : old.count ≡ new.count = sym (ap (λ keeper. keeper.count) c.in-Ok-runs.ensures.ok) in
+    let stands = subst (λ (n : ℕ). (stands : StandsFor opened.content image n) × (c.args.upgrades ≡ false → new.geometry ≡ stands.header.geometry)) count
+    (opened.stands, λ opens. ap (λ keeper. keeper.geometry) c.in-Ok-runs.ensures.ok ∙ opened.sizes opens) in
     let held = c.in-Ok-runs.ensures.held (c.in-Ok.ensures.honest.1 honest) image (c.keeper_laws.ensures.empty old image old.count keeps rest.phase rest.used) in
     record {
       image = image;
-      content = content;
-      fixed = opening.fixed;
-      stands = subst (λ (n : ℕ). StandsFor content image n) count stands;
+      content = opened.content;
+      fixed = opened.fixed;
+      stands = stands.0;
+      sizes = stands.1;
       keeps = subst (λ (n : ℕ). Keeps new (disk.state new.disk) image n) (sym held.keeps.counted) held.keeps;
     }
 
@@ -28,12 +32,12 @@ returns-in-Err-runs-clause-refused g c = λ honest content image number may stan
     let disk = g.D.Disk in
     let old = c.in-Ok.keeper in
     let there = c.in-Ok.ensures.honest.1 honest in
-    let (found, opening) = c.in-Ok.ensures.found honest in
-    finds_no_more (disk.state c.args.disk) (disk.state old.disk) found opening.fixed opening.crash (g.met.D.Disk.sound old.disk there) content image number
+    let (found, fixed, crash) = c.in-Ok.ensures.left honest in
+    finds_no_more (disk.state c.args.disk) (disk.state old.disk) found fixed crash (g.met.D.Disk.sound old.disk there) content image number
     (c.runs.ensures.left there content (subst (λ d. MayLeave (disk.state d) content) c.into_disk.ensures may)) stands
 
 pub returns-in-Err-clause-refused : goal.returns-in-Err-clause-refused
 returns-in-Err-clause-refused g c = λ honest.
     let disk = g.D.Disk in
-    let (found, opening) = c.in-Err.ensures.found honest in
-    finds_no_more (disk.state c.args.disk) (disk.state c.in-Err.disk) found opening.fixed opening.crash (g.met.D.Disk.sound c.in-Err.disk (c.in-Err.ensures.honest.1 honest))
+    let (found, fixed, crash) = c.in-Err.ensures.left honest in
+    finds_no_more (disk.state c.args.disk) (disk.state c.in-Err.disk) found fixed crash (g.met.D.Disk.sound c.in-Err.disk (c.in-Err.ensures.honest.1 honest))

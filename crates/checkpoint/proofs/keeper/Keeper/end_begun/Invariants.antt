@@ -11,6 +11,7 @@ abbrev pub invariant-loop-self : goal.invariant-loop-self
 invariant-loop-self g l = record {
   works : l.self.failed ≡ false;
   begun : IsBegun l.self.phase;
+  sizes : l.self.geometry ≡ l.fn.self.geometry;
   idle : l.fn.self.phase ≡ One → l.self ≡ l.fn.self;
   extent : g.D.Disk.extent l.self.disk ≡ g.D.Disk.extent l.fn.self.disk;
   faults : g.D.Disk.faults l.self.disk ≡ g.D.Disk.faults l.fn.self.disk;

@@ -1,9 +1,10 @@
-use Rattle.std.proofs.Common.{◌∷◌, ℕ, ◌<◌, sym, ◌∙◌, ap, subst, arith}
+use Rattle.std.proofs.Common.{◌≡◌, ◌∷◌, ℕ, ◌<◌, sym, ◌∙◌, ap, subst, arith}
 use Rattle.disk_model.specs.Disk.{IsSound, LeavesOnly}
 use Rattle.disk_model.specs.laws.Moments.{begins, weakens}
 use Rattle.header_slots.specs.Change.{IsRenewed}
 use Rattle.header_slots.specs.declared.change.HeaderChange.{HeaderChange}
 use Rattle.image_model.specs.Image.{apply_all}
+use Rattle.image_model.specs.Side.{other_of}
 use Rattle.device_image.specs.CheckpointHeader.{without_first}
 use Rattle.device_image.specs.Holds.{Holds}
 use Rattle.device_image.specs.Keeper.{KeeperState, lefts_of, phase_of, turned_of}
@@ -12,8 +13,8 @@ use Rattle.device_image.specs.Stands.{StandsFor}
 use Rattle.device_image.specs.laws.Counted.{remembers_still}
 use Rattle.device_image.specs.laws.Kept.{kept_content}
 use Rattle.checkpoint.specs.Keeper.{plans_of}
-use Rattle.checkpoint.specs.Steps.{IsFinishTime, first_turned, plans_behind}
-use Rattle.checkpoint.proofs.Rotating.{current_held, ending, finish_held, finish_left, finish_next, in_map, slots_synced}
+use Rattle.checkpoint.specs.Steps.{IsFinishTime, finished_by, first_turned, map_after, plans_behind}
+use Rattle.checkpoint.proofs.Rotating.{current_held, ending, finish_held, finish_left, finish_next, in_map, lefts-behind, phase-behind, slots_synced, turned-behind}
 use Rattle.checkpoint.proofs.keeper.Keeper.finish.Goals as goal
 
 pub returns-in_default-clause-any_moment : goal.returns-in_default-clause-any_moment
@@ -23,6 +24,43 @@ returns-in_default-clause-any_moment g c honest image number keeps =
 pub returns-in_default-next-clause-any_moment : goal.returns-in_default-next-clause-any_moment
 returns-in_default-next-clause-any_moment g c honest image number keeps =
     begins (g.met.D.Disk.sound c.args.self.now.disk honest) (λ content left. kept_content _ _ image number keeps content left)
+
+pub returns-in-Ok-clause-ok : goal.returns-in-Ok-clause-ok
+returns-in-Ok-clause-ok g c =
+    let inside = c.self.inside in
+    let plans = plans_of inside.plan inside.waiting.items in
+    let header = c.in-Some-next.header in
+    let header_is : IsRenewed inside.header (without_first inside.header c.in-Some.base) header =
+    subst (λ (change : HeaderChange). IsRenewed inside.header change header)
+    (c.without_first.ensures.change ∙ ap (λ (k : KeeperState g.row.D.Denot). without_first k.memory.header c.in-Some.base) (sym c.self.view_is)) c.in-Some-next.ensures.some in
+    let base = header_is.base ∙ c.in-Some.ensures.some.1 ∙ ap (λ (k : KeeperState g.row.D.Denot). first_turned k.base k.turned) (sym c.self.view_is) in
+    let turned = turned-behind plans in
+    let lefts = lefts-behind plans in
+    let phase = phase-behind inside.plan inside.waiting.items c.self.invariant.9 in
+    let old : KeeperState g.row.D.Denot = record {
+      disk = inside.disk;
+      geometry = inside.header.geometry;
+      generation = inside.header.generation;
+      count = inside.count;
+      base = inside.header.base;
+      turned = turned_of plans;
+      lefts = lefts_of plans;
+      used = inside.area.gate;
+      phase = phase_of plans;
+      failed = inside.failed;
+      memory = record { header = inside.header; slot = inside.slot; map = inside.map; plans = plans; area = inside.area };
+    } in
+    subst (λ (k : KeeperState g.row.D.Denot). c.take_over.new.self ≡ finished_by k c.take_over.new.self.disk c.take_over.new.self.memory) c.self.view_is
+    (subst (λ (now : KeeperState g.row.D.Denot). now ≡ finished_by old now.disk now.memory) (sym c.take_over.ensures)
+    (λ i. record old {
+      disk = c.change_header.new.disk;
+      generation = header_is.generation i;
+      base = base i;
+      turned = turned i;
+      lefts = lefts i;
+      phase = phase i;
+      memory = record old.memory { header = header; slot = other_of inside.slot; map = map_after plans inside.map; plans = plans_behind plans };
+    }))
 
 pub returns-in-Ok-clause-remembered : goal.returns-in-Ok-clause-remembered
 returns-in-Ok-clause-remembered g c commands remembers =

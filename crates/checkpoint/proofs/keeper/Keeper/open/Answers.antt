@@ -20,15 +20,19 @@ returns-in-Ok-recover-clause-found g c honest =
     let trusted = read.honest.1 honest in
     let found = read.found honest in
     let kept = call.kept trusted found.0 keeper.count found.1 in
-    let counted = kept.counted in (
+    let counted = kept.counted in
+    let new = c.recover.new.self in
+    let stands = subst (λ (n : ℕ). (stands : StandsFor (g.D.Disk.state keeper.disk).seen found.0 n) × (new.geometry ≡ stands.header.geometry)) (sym counted)
+    (found.1.stands, call.sizes ∙ found.1.sizes) in (
       (g.D.Disk.state keeper.disk).seen,
       record {
         fixed = read.fixed honest;
         outcome = (
           found.0,
-          subst (λ (n : ℕ). StandsFor (g.D.Disk.state keeper.disk).seen found.0 n) (sym counted) found.1.stands,
-          subst (λ (n : ℕ). Keeps c.recover.new.self (g.D.Disk.state c.recover.new.self.disk) found.0 n) (sym counted) kept,
-          empty_base c.recover.new.self (g.D.Disk.state c.recover.new.self.disk) found.0 keeper.count kept call.ok.phase call.ok.used ∙ sym counted,
+          stands.0,
+          subst (λ (n : ℕ). Keeps new (g.D.Disk.state new.disk) found.0 n) (sym counted) kept,
+          empty_base new (g.D.Disk.state new.disk) found.0 keeper.count kept call.ok.phase call.ok.used ∙ sym counted,
+          stands.1,
         );
         crash = recovers _ _ _ found.0 keeper.count found.1.stands (read.any_moment honest) (call.any_moment trusted found.0 keeper.count found.1);
         settled = tt;

@@ -1,6 +1,8 @@
-use Rattle.std.proofs.Common.{ap, List, [], ◌∷◌, ◌++◌, ◌∙◌, ◌≡◌, arith, ℕ, true, ◌==◌, sym}
+use Rattle.std.proofs.Common.{ap, Err, List, [], ◌∷◌, ◌++◌, ◌∙◌, ◌≡◌, ◌≢◌, arith, ℕ, true, ◌==◌, sym}
 use Rattle.device_image.specs.Keeper.{KeeperState, count_puts, last_turned}
-use Rattle.checkpoint.proofs.Recovered.{keeps_begun, recovered_by}
+use Rattle.device_image.specs.Keeps.{Keeps}
+use Rattle.checkpoint.specs.declared.fault.KeeperFault.TheVariants.{DeviceFault}
+use Rattle.checkpoint.proofs.Recovered.{err_given, keeps_begun, recovered_by, sizes_ended, still_kept}
 use Rattle.disk_model.specs.laws.Moments.{goes_on}
 use Rattle.checkpoint.proofs.keeper.Keeper.recover.Goals as goal
 use Rattle.device_image.specs.laws.Counted.{remembers_none}
@@ -11,6 +13,15 @@ returns-in_err-rotate-clause-any_moment g c honest image number keeps =
     let first = c.in_ok-end_begun.ensures in
     goes_on (first.any_moment honest image number keeps)
     (c.in_err-rotate.ensures.any_moment (first.honest.1 honest) image number (first.kept honest image number keeps)) (λ content stands. stands)
+
+pub returns-in_err-rotate-clause-kept_still : goal.returns-in_err-rotate-clause-kept_still
+returns-in_err-rotate-clause-kept_still g c honest image number keeps =
+    let first = c.in_ok-end_begun.ensures in
+    let mid = c.end_begun.new.self in
+    let new = c.rotate.new.self in
+    let fault = c.in_err-rotate.field-0.0 in
+    err_given (λ fault. fault ≢ DeviceFault → Keeps new (g.D.Disk.state new.disk) image number) c.from_residual-in_err-rotate.result fault c.from_residual-in_err-rotate.ensures.1
+    (still_kept {T = Unit {0}} g.D.Disk.state (Err fault) mid new image number c.in_err-rotate.ensures.err (first.kept honest image number keeps))
 
 pub returns-clause-any_moment : goal.returns-clause-any_moment
 returns-clause-any_moment g c honest image number keeps =
@@ -43,6 +54,11 @@ returns-then-is_empty-clause-ok g c =
     let first = c.in_ok-end_begun.ensures in
     let none = zero_is c.end_begun.new.self.used (sym c.if-is_empty.true ∙ c.is_empty.ensures.empty) in
     record { works = first.ok.0; phase = first.ok.1; used = none; turned = first.ok.2; lefts = first.ok.3; base = sym (c.is_empty.ensures.counted none ∙ ap (last_turned c.end_begun.new.self.base) first.ok.2); remembers = remembers_none _ (c.is_empty.ensures.untouched none) }
+
+pub returns-clause-sizes : goal.returns-clause-sizes
+returns-clause-sizes g c =
+    sizes_ended c.end_checkpoint.result c.rotate.new.self c.end_checkpoint.new.self c.args.self.now.geometry
+    (ap (λ (k : KeeperState g.row.D.Denot). k.geometry) c.in_ok-rotate.ensures.ok ∙ c.in_ok-end_begun.ensures.sizes) c.end_checkpoint.ensures.ok
 
 pub returns-clause-ok : goal.returns-clause-ok
 returns-clause-ok g c =

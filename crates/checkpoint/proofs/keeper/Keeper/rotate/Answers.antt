@@ -1,4 +1,4 @@
-use Rattle.std.proofs.Common.{◌≡◌, ◌<◌, ◌+◌, ℕ, suc, None, Some, List, [], ◌∷◌, ◌++◌, refl, sym, ◌∙◌, ap, subst, arith}
+use Rattle.std.proofs.Common.{◌≡◌, ◌<◌, ◌+◌, ◌%◌, ℕ, suc, Some, List, [], ◌∷◌, ◌++◌, refl, sym, ◌∙◌, ap, subst, arith}
 use Rattle.std.specs.FinMap.{len}
 use Rattle.std.specs.Prelude.{IfSome}
 use Rattle.disk_model.specs.Disk.{IsSound, LeavesOnly}
@@ -12,15 +12,16 @@ use Rattle.journal_format.specs.Area.{AreaState}
 use Rattle.regions.specs.Layout.{area_at, area_size, areas_in, behind}
 use Rattle.device_image.specs.CheckpointHeader.{with_next}
 use Rattle.device_image.specs.Holds.{Holds}
-use Rattle.device_image.specs.Keeper.{KeeperState, PlanState, count_puts, last_number, last_turned, lefts_of, phase_of, turned_of}
+use Rattle.device_image.specs.Keeper.{IsPlanOf, KeeperState, Memory, PlanState, count_puts, last_number, last_turned, lefts_of, phase_of, turned_of}
 use Rattle.device_image.specs.Keeps.{Keeps}
 use Rattle.device_image.specs.Remembers.{Remembers}
 use Rattle.device_image.specs.Stands.{StandsFor}
+use Rattle.device_image.specs.laws.CheckpointBounds.{plan_left}
 use Rattle.device_image.specs.laws.Kept.{kept_content}
 use Rattle.checkpoint.specs.Keeper.{IsSized, plans_of}
-use Rattle.checkpoint.specs.Steps.{phase_with}
+use Rattle.checkpoint.specs.Steps.{phase_with, rotated_by}
 use Rattle.checkpoint.proofs.Areas.{last-push}
-use Rattle.checkpoint.proofs.Rotating.{ArePlansSized, added, comes_next, current_held, from_above, last_counted, lefts-push, next_sized, phase-push, rotate_held, rotate_left, rotated_left, sized_after, slots_synced}
+use Rattle.checkpoint.proofs.Rotating.{ArePlansSized, added, comes_next, current_held, from_above, last_counted, lefts-push, next_sized, phase-push, rotate_held, rotate_left, rotated_left, sized_after, slots_synced, turned-push, uncopied_after}
 use Rattle.checkpoint.proofs.keeper.Keeper.rotate.Goals as goal
 
 pub returns-then-not-has_spare_area-clause-any_moment : goal.returns-then-not-has_spare_area-clause-any_moment
@@ -55,28 +56,27 @@ invariant_of-self-in-Ok g c =
     let new = c.add_plan.new.plan in
     let waiting = c.self.inside.waiting.items in
     let more = c.add_plan.new.waiting.items in
-    let last = c.of.result in
+    let last = c.of-last.result in
     let some : IfSome old (λ first. (new ≡ Some first) × (more ≡ waiting ++ last ∷ [])) =
     subst (λ (w : List PlanState). IfSome old (λ first. (new ≡ Some first) × (more ≡ w ++ last ∷ []))) c.reserve.ensures.items c.add_plan.ensures.behind in
     let added_is : plans_of new more ≡ plans_of old waiting ++ last ∷ [] = added old new waiting more last c.add_plan.ensures.first some in
-    let last_is : last ≡ record { first = c.self.inside.area; copied = 0; left = count_puts c.self.inside.area.blocks c.self.inside.area.touched; mapped = None } =
-    c.of.ensures ∙ ap (λ (a : AreaState). let plan : PlanState = record { first = a; copied = 0; left = count_puts a.blocks a.touched; mapped = None } in plan) c.replace-first.ensures.value in
-    let area_is : c.replace-first.new.dest ≡ record { from = from; bytes = area_size inside_header.geometry; blocks = inside_header.geometry.blocks; next = c.self.inside.area.next; gate = 0; touched = [] } =
-    c.replace-first.ensures.after ∙ c.in-Ok.ensures.ok
+    let last_is : IsPlanOf c.self.inside.area last = c.of-last.ensures in
+    let area_is : c.begin_turn.new.area ≡ record { from = from; bytes = area_size inside_header.geometry; blocks = inside_header.geometry.blocks; next = c.self.inside.area.next; gate = 0; touched = [] } =
+    c.in-Ok.ensures.ok
     ∙ ap (λ (a : AreaState). let area : AreaState = record { from = from; bytes = a.bytes; blocks = a.blocks; next = a.next; gate = 0; touched = [] } in area) c.next_area-next.ensures in
     let extent = g.D.Disk.extent c.self.inside.disk in
     let now = g.D.Disk.extent c.begin_turn.new.disk in
     let header = c.in-Some.header in
     let is = c.self.invariant in
     let sized : ArePlansSized old waiting inside_header.geometry extent inside_header.in_front = record { first = is.2; behind = is.3; none = is.4; many = is.5 } in
-    let first : last.first ≡ c.self.inside.area = ap (λ (p : PlanState). p.first) last_is in
-    let last_sized : IsSized last.first inside_header.geometry extent = subst (λ (a : AreaState). IsSized a inside_header.geometry extent) (sym first) is.6 in
+    let kept = last_is.remembered in
+    let last_sized : IsSized last.first inside_header.geometry extent = record { bytes = kept.bytes ∙ is.6.bytes; blocks = kept.blocks ∙ is.6.blocks; inside = omega (arith, is.6.inside, kept.from, kept.bytes) } in
     let after = sized_after old new waiting more last inside_header.geometry extent inside_header.in_front c.add_plan.ensures.first some sized last_sized in
     let same : extent ≡ now = sym c.in-Ok.ensures.extent in
     let there = subst (λ (n : ℕ). ArePlansSized new more header.geometry now n) (sym header_is.in_front)
     (subst (λ (e : ℕ). ArePlansSized new more header.geometry e (inside_header.in_front + 1)) same
     (subst (λ (size : Geometry). ArePlansSized new more size extent (inside_header.in_front + 1)) (sym header_is.geometry) after)) in
-    let area = next_sized c.replace-first.new.dest inside_header.geometry (suc inside_header.in_front) inside_header.first_area extent inside_header.first_inside
+    let area = next_sized c.begin_turn.new.area inside_header.geometry (suc inside_header.in_front) inside_header.first_area extent inside_header.first_inside
     (ap (λ (a : AreaState). a.from) area_is ∙ from_is) (ap (λ (a : AreaState). a.bytes) area_is) (ap (λ (a : AreaState). a.blocks) area_is) is.0 in
     let fits : c.self.inside.count < 18446744073709551616 = omega arith in (
       sym same ∙ is.0 ∙ ap (λ (size : Geometry). device_bytes_of size.blocks size.area) (sym header_is.geometry),
@@ -85,14 +85,75 @@ invariant_of-self-in-Ok g c =
       there.behind,
       there.none,
       there.many,
-      subst (λ (e : ℕ). IsSized c.replace-first.new.dest header.geometry e) same (subst (λ (size : Geometry). IsSized c.replace-first.new.dest size extent) (sym header_is.geometry) area),
+      subst (λ (e : ℕ). IsSized c.begin_turn.new.area header.geometry e) same (subst (λ (size : Geometry). IsSized c.begin_turn.new.area size extent) (sym header_is.geometry) area),
       ap (λ (a : AreaState). a.next) area_is ∙ is.7,
       λ none. (
         ap (λ (a : AreaState). a.touched) area_is,
-        sym (ap (λ (all : List PlanState). last_turned header.base (turned_of all)) added_is ∙ last-push header.base (plans_of old waiting) last ∙ ap last_number first
+        sym (ap (λ (all : List PlanState). last_turned header.base (turned_of all)) added_is ∙ last-push header.base (plans_of old waiting) last ∙ ap (λ (n : ℕ). (n + 18446744073709551615) % 18446744073709551616) kept.next
             ∙ last_counted c.self.inside.area c.self.inside.count is.7 fits),
       ),
+      uncopied_after old new waiting more last c.add_plan.ensures.first some is.9 last_is.uncopied,
     )
+
+pub begin_turn-requires-clause-inside : goal.begin_turn-requires-clause-inside
+begin_turn-requires-clause-inside g c =
+    let header = c.self.inside.header in
+    let next = c.next_area-next.ensures in
+    (next_sized c.next_area-next.result header.geometry (suc header.in_front) header.first_area (g.D.Disk.extent c.self.inside.disk) header.first_inside
+    (ap (λ (a : AreaState). a.from) next) (ap (λ (a : AreaState). a.bytes) next) (ap (λ (a : AreaState). a.blocks) next) c.self.invariant.0).inside
+
+pub returns-in-Ok-clause-ok : goal.returns-in-Ok-clause-ok
+returns-in-Ok-clause-ok g c =
+    let inside = c.self.inside in
+    let header_is : IsRenewed inside.header (with_next inside.header) c.in-Some.header =
+    subst (λ (change : HeaderChange). IsRenewed inside.header change c.in-Some.header) (c.with_next.ensures ∙ ap (λ (k : KeeperState g.row.D.Denot). with_next k.memory.header) (sym c.self.view_is)) c.in-Some.ensures.some in
+    let old = inside.plan in
+    let new = c.add_plan.new.plan in
+    let waiting = inside.waiting.items in
+    let more = c.add_plan.new.waiting.items in
+    let last = c.of-last.result in
+    let plans = plans_of old waiting in
+    let some : IfSome old (λ first. (new ≡ Some first) × (more ≡ waiting ++ last ∷ [])) =
+    subst (λ (w : List PlanState). IfSome old (λ first. (new ≡ Some first) × (more ≡ w ++ last ∷ []))) c.reserve.ensures.items c.add_plan.ensures.behind in
+    let added_is : plans_of new more ≡ plans ++ last ∷ [] = added old new waiting more last c.add_plan.ensures.first some in
+    let last_is : IsPlanOf inside.area last = c.of-last.ensures in
+    let fits : inside.count < 18446744073709551616 = omega arith in
+    let count : last_number last.first ≡ inside.count =
+    ap (λ (n : ℕ). (n + 18446744073709551615) % 18446744073709551616) last_is.remembered.next ∙ last_counted inside.area inside.count c.self.invariant.7 fits in
+    let left : last.left ≡ count_puts inside.header.geometry.blocks inside.area.touched =
+    plan_left inside.area last last_is ∙ ap (λ (b : ℕ). count_puts b inside.area.touched) c.self.invariant.6.blocks in
+    let turned = ap turned_of added_is ∙ turned-push plans last ∙ ap (λ (n : ℕ). turned_of plans ++ n ∷ []) count in
+    let lefts = ap lefts_of added_is ∙ lefts-push plans last ∙ ap (λ (n : ℕ). lefts_of plans ++ n ∷ []) left in
+    let phase = ap phase_of added_is ∙ phase-push plans last (ap (λ (p : PlanState). p.mapped) last_is.uncopied) ∙ ap (phase_with (phase_of plans)) left in
+    let used : c.begin_turn.new.area.gate ≡ 0 = ap (λ (a : AreaState). a.gate) c.in-Ok.ensures.ok in
+    let memory : Memory = record { header = c.in-Some.header; slot = c.other-self-inside.result; map = inside.map; plans = plans_of new more; area = c.begin_turn.new.area } in
+    let made : KeeperState g.row.D.Denot = record {
+      disk = c.begin_turn.new.disk;
+      geometry = c.in-Some.header.geometry;
+      generation = c.in-Some.header.generation;
+      count = inside.count;
+      base = c.in-Some.header.base;
+      turned = turned_of (plans_of new more);
+      lefts = lefts_of (plans_of new more);
+      used = c.begin_turn.new.area.gate;
+      phase = phase_of (plans_of new more);
+      failed = inside.failed;
+      memory = memory;
+    } in
+    subst (λ (k : KeeperState g.row.D.Denot). made ≡ rotated_by k c.begin_turn.new.disk memory) c.self.view_is
+    (λ i. record {
+      disk = c.begin_turn.new.disk;
+      geometry = header_is.geometry i;
+      generation = header_is.generation i;
+      count = inside.count;
+      base = header_is.base i;
+      turned = turned i;
+      lefts = lefts i;
+      used = used i;
+      phase = phase i;
+      failed = inside.failed;
+      memory = memory;
+    })
 
 pub returns-in-Ok-clause-left : goal.returns-in-Ok-clause-left
 returns-in-Ok-clause-left g c commands remembers =
@@ -100,12 +161,11 @@ returns-in-Ok-clause-left g c commands remembers =
     let new = c.add_plan.new.plan in
     let waiting = c.self.inside.waiting.items in
     let more = c.add_plan.new.waiting.items in
-    let last = c.of.result in
+    let last = c.of-last.result in
     let some : IfSome old (λ first. (new ≡ Some first) × (more ≡ waiting ++ last ∷ [])) =
     subst (λ (w : List PlanState). IfSome old (λ first. (new ≡ Some first) × (more ≡ w ++ last ∷ []))) c.reserve.ensures.items c.add_plan.ensures.behind in
     let added_is : plans_of new more ≡ plans_of old waiting ++ last ∷ [] = added old new waiting more last c.add_plan.ensures.first some in
-    let last_is : last ≡ record { first = c.self.inside.area; copied = 0; left = count_puts c.self.inside.area.blocks c.self.inside.area.touched; mapped = None } =
-    c.of.ensures ∙ ap (λ (a : AreaState). let plan : PlanState = record { first = a; copied = 0; left = count_puts a.blocks a.touched; mapped = None } in plan) c.replace-first.ensures.value in
+    let last_is : IsPlanOf c.self.inside.area last = c.of-last.ensures in
     let inside = subst (λ (k : KeeperState g.row.D.Denot). Remembers k commands) (sym c.self.view_is) remembers in
     let left = rotated_left _ last commands c.self.invariant.6.blocks last_is inside in
     ap lefts_of added_is ∙ lefts-push (plans_of old waiting) last ∙ ap (λ (n : ℕ). lefts_of (plans_of old waiting) ++ n ∷ []) left
@@ -117,15 +177,14 @@ returns-in-Ok-clause-phase g c commands remembers =
     let new = c.add_plan.new.plan in
     let waiting = c.self.inside.waiting.items in
     let more = c.add_plan.new.waiting.items in
-    let last = c.of.result in
+    let last = c.of-last.result in
     let some : IfSome old (λ first. (new ≡ Some first) × (more ≡ waiting ++ last ∷ [])) =
     subst (λ (w : List PlanState). IfSome old (λ first. (new ≡ Some first) × (more ≡ w ++ last ∷ []))) c.reserve.ensures.items c.add_plan.ensures.behind in
     let added_is : plans_of new more ≡ plans_of old waiting ++ last ∷ [] = added old new waiting more last c.add_plan.ensures.first some in
-    let last_is : last ≡ record { first = c.self.inside.area; copied = 0; left = count_puts c.self.inside.area.blocks c.self.inside.area.touched; mapped = None } =
-    c.of.ensures ∙ ap (λ (a : AreaState). let plan : PlanState = record { first = a; copied = 0; left = count_puts a.blocks a.touched; mapped = None } in plan) c.replace-first.ensures.value in
+    let last_is : IsPlanOf c.self.inside.area last = c.of-last.ensures in
     let inside = subst (λ (k : KeeperState g.row.D.Denot). Remembers k commands) (sym c.self.view_is) remembers in
     let left = rotated_left _ last commands c.self.invariant.6.blocks last_is inside in
-    ap phase_of added_is ∙ phase-push (plans_of old waiting) last (ap (λ (p : PlanState). p.mapped) last_is) ∙ ap (phase_with (phase_of (plans_of old waiting))) left
+    ap phase_of added_is ∙ phase-push (plans_of old waiting) last (ap (λ (p : PlanState). p.mapped) last_is.uncopied) ∙ ap (phase_with (phase_of (plans_of old waiting))) left
     ∙ ap (λ (k : KeeperState g.row.D.Denot). phase_with k.phase (len (dirty_blocks 0 commands))) c.self.view_is
 
 pub returns-in-Ok-clause-held : goal.returns-in-Ok-clause-held
@@ -147,14 +206,13 @@ returns-in-Ok-clause-held g c honest base fronts last_commands holds =
     let new = c.add_plan.new.plan in
     let waiting = c.self.inside.waiting.items in
     let more = c.add_plan.new.waiting.items in
-    let last = c.of.result in
+    let last = c.of-last.result in
     let some : IfSome old (λ first. (new ≡ Some first) × (more ≡ waiting ++ last ∷ [])) =
     subst (λ (w : List PlanState). IfSome old (λ first. (new ≡ Some first) × (more ≡ w ++ last ∷ []))) c.reserve.ensures.items c.add_plan.ensures.behind in
     let added_is : plans_of new more ≡ plans_of old waiting ++ last ∷ [] = added old new waiting more last c.add_plan.ensures.first some in
-    let last_is : last ≡ record { first = c.self.inside.area; copied = 0; left = count_puts c.self.inside.area.blocks c.self.inside.area.touched; mapped = None } =
-    c.of.ensures ∙ ap (λ (a : AreaState). let plan : PlanState = record { first = a; copied = 0; left = count_puts a.blocks a.touched; mapped = None } in plan) c.replace-first.ensures.value in
-    let area_is : c.replace-first.new.dest ≡ record { from = from; bytes = area_size inside_header.geometry; blocks = inside_header.geometry.blocks; next = c.self.inside.area.next; gate = 0; touched = [] } =
-    c.replace-first.ensures.after ∙ c.in-Ok.ensures.ok
+    let last_is : IsPlanOf c.self.inside.area last = c.of-last.ensures in
+    let area_is : c.begin_turn.new.area ≡ record { from = from; bytes = area_size inside_header.geometry; blocks = inside_header.geometry.blocks; next = c.self.inside.area.next; gate = 0; touched = [] } =
+    c.in-Ok.ensures.ok
     ∙ ap (λ (a : AreaState). let area : AreaState = record { from = from; bytes = a.bytes; blocks = a.blocks; next = a.next; gate = 0; touched = [] } in area) c.next_area-next.ensures in
     let turn = call.begun trusted inside.keeps.steady (slots_synced _ before _ _ inside.keeps sound)
     (from_above _ before _ _ inside.keeps sound c.in-Some.header header_is room from from_is) inside_header (current_held _ before _ _ inside.keeps sound)
@@ -169,12 +227,12 @@ returns-in-Ok-clause-held g c honest base fronts last_commands holds =
       base = c.in-Some.header.base;
       turned = turned_of (plans_of new more);
       lefts = lefts_of (plans_of new more);
-      used = c.replace-first.new.dest.gate;
+      used = c.begin_turn.new.area.gate;
       phase = phase_of all;
       failed = c.self.inside.failed;
-      memory = record { header = c.in-Some.header; slot = c.other-self-inside.result; map = c.self.inside.map; plans = all; area = c.replace-first.new.dest };
+      memory = record { header = c.in-Some.header; slot = c.other-self-inside.result; map = c.self.inside.map; plans = all; area = c.begin_turn.new.area };
     } in
-    rotate_held _ before base fronts last_commands inside sound c.in-Some.header header_is room from from_is after after_sound (made (plans_of new more)) c.other-self-inside.result c.replace-first.new.dest last
+    rotate_held _ before base fronts last_commands inside sound c.in-Some.header header_is room from from_is after after_sound (made (plans_of new more)) c.other-self-inside.result c.begin_turn.new.area last
     c.other-self-inside.ensures turn area_is last_is (ap made added_is)
 
 pub returns-in-Ok-clause-any_moment : goal.returns-in-Ok-clause-any_moment

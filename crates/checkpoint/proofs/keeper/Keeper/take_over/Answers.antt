@@ -5,7 +5,7 @@ use Rattle.device_image.specs.Keeper.{KeeperState}
 use Rattle.device_image.specs.Stands.{next_number}
 use Rattle.checkpoint.specs.Keeper.{IsSized, plans_of}
 use Rattle.checkpoint.specs.Steps.{IsFinishTime, first_turned}
-use Rattle.checkpoint.proofs.Rotating.{ArePlansSized, last_behind, sized_behind, time_some}
+use Rattle.checkpoint.proofs.Rotating.{ArePlansSized, last_behind, sized_behind, time_some, uncopied_behind}
 use Rattle.checkpoint.proofs.keeper.Keeper.take_over.Goals as goal
 
 pub invariant_of-self : goal.invariant_of-self
@@ -47,4 +47,5 @@ invariant_of-self g c =
             sym (ap (λ (a : AreaState). a.touched) same_area) ∙ (is.8 before).0,
             sym same_count ∙ (is.8 before).1 ∙ last_behind old new waiting more was.base header.base several (c.take_first.ensures.plans ∙ waits) base,
           ),
+      uncopied_behind new waiting more (c.take_first.ensures.plans ∙ waits) c.take_first.ensures.none is.9,
     )

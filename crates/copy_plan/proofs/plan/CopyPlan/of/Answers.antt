@@ -1,32 +1,52 @@
-use Rattle.std.proofs.Common.{ℕ, None, ap, count_by, ◌∙◌, arith}
-use Rattle.std.specs.List.{range_with_len}
-use Rattle.latest_writes.specs.Puts.{is_put}
-use Rattle.latest_writes.specs.Ranges.{touch_at}
-use Rattle.device_image.specs.Keeper.{PlanState}
-use Rattle.copy_plan.proofs.Counts.{counted_puts}
+use Rattle.std.proofs.Common.{ℕ, ◌+◌, None, ap, sym, ◌∙◌, refl, subst, arith}
+use Rattle.journal_format.specs.Touches.{last_touch}
+use Rattle.latest_writes.specs.Ranges.{AreLastTouches}
+use Rattle.device_image.specs.Keeper.{PlanState, TellSame}
 use Rattle.device_image.specs.laws.Puts.{count_zero}
+use Rattle.copy_plan.specs.Plan.{remembered, told_by}
+use Rattle.copy_plan.proofs.Counts.{counted_puts}
+use Rattle.copy_plan.proofs.Told.{tells_same, told_last, told_within}
 use Rattle.copy_plan.proofs.plan.CopyPlan.of.Goals as goal
 
 pub invariant_of-result : goal.invariant_of-result
 invariant_of-result c =
-    let first = c.args.first in
-    let counted = c.blocks_to_copy-left.ensures
-    ∙ ap (λ (n : ℕ). count_by (λ block. is_put (touch_at block c.args.touches.ranges)) (range_with_len 0 n)) c.requires.blocks
-    ∙ counted_puts first.from first.blocks first.touched c.args.touches.ranges c.requires.last in
+    let area = c.args.area.now in
+    let start = c.start.ensures in
+    let bytes = c.bytes.ensures in
+    let few = c.requires.few in
+    let last = subst (λ (from : ℕ). AreLastTouches from c.args.touches.blocks area.touched c.args.touches.ranges) (sym start)
+    (subst (λ (blocks : ℕ). AreLastTouches area.from blocks area.touched c.args.touches.ranges) (sym c.requires.blocks) c.requires.last) in
+    let told = told_last c.start.result c.args.touches.blocks area.touched c.args.touches.ranges last in
+    let counted = c.blocks_to_copy-left.ensures ∙ counted_puts c.start.result c.args.touches.blocks (told_by c.start.result c.args.touches.ranges) c.args.touches.ranges told in
     record {
-      blocks = c.requires.blocks;
-      few = c.requires.few;
-      last = c.requires.last;
-      puts_within = c.requires.within;
+      blocks = refl;
+      few = omega (arith, few, c.requires.blocks);
+      last = told;
+      puts_within = λ block place is.
+          let fits = told_within area.from area.blocks area.touched c.args.touches.ranges c.requires.last (area.from + area.bytes) c.requires.within block place
+          (ap (λ (from : ℕ). last_touch block (told_by from c.args.touches.ranges)) (sym start) ∙ is) in
+          omega (arith, fits, start, bytes);
       within = omega arith;
-      counted = omega (arith, counted, count_zero first.touched);
+      counted = omega (arith, counted, count_zero (told_by c.start.result c.args.touches.ranges));
       done = tt;
     }
 
 pub returns : goal.returns
 returns c =
-    let first = c.args.first in
-    let counted = c.blocks_to_copy-left.ensures
-    ∙ ap (λ (n : ℕ). count_by (λ block. is_put (touch_at block c.args.touches.ranges)) (range_with_len 0 n)) c.requires.blocks
-    ∙ counted_puts first.from first.blocks first.touched c.args.touches.ranges c.requires.last in
-    ap (λ (n : ℕ). let made : PlanState = record { first = first; copied = 0; left = n; mapped = None } in made) counted
+    let area = c.args.area.now in
+    let start = c.start.ensures in
+    let last = subst (λ (from : ℕ). AreLastTouches from c.args.touches.blocks area.touched c.args.touches.ranges) (sym start)
+    (subst (λ (blocks : ℕ). AreLastTouches area.from blocks area.touched c.args.touches.ranges) (sym c.requires.blocks) c.requires.last) in
+    let told = told_last c.start.result c.args.touches.blocks area.touched c.args.touches.ranges last in
+    let counted = c.blocks_to_copy-left.ensures ∙ counted_puts c.start.result c.args.touches.blocks (told_by c.start.result c.args.touches.ranges) c.args.touches.ranges told in
+    record {
+      remembered = record {
+        from = start;
+        bytes = c.bytes.ensures;
+        blocks = c.requires.blocks;
+        next = c.next.ensures;
+        touched = subst (λ (blocks : ℕ). TellSame blocks (told_by c.start.result c.args.touches.ranges) area.touched) c.requires.blocks
+            (tells_same c.start.result c.args.touches.blocks area.touched c.args.touches.ranges last);
+      };
+      uncopied = ap (λ (n : ℕ). let made : PlanState = record { first = remembered c.start.result c.bytes.result c.next.result c.args.touches; copied = 0; left = n; mapped = None } in made) counted;
+    }

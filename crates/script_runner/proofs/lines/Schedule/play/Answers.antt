@@ -6,7 +6,7 @@ use Rattle.script_runner.proofs.lines.Schedule.play.Goals as goal
 pub play_on-requires-clause-keeps : goal.play_on-requires-clause-keeps
 play_on-requires-clause-keeps c =
     let (content, opening) = c.in-Ok.ensures.found tt in
-    let (image, stands, keeps, base) = opening.outcome in
+    let (image, stands, keeps, base, sizes) = opening.outcome in
     (image, keeps)
 
 pub returns : goal.returns
