@@ -46,10 +46,12 @@ client() {
     timeout "$limit" "$python" "$here/tests/libnbd_client.py" "$@" 2>&1
 }
 
-# image: a new d.img of holes
+# image: a new d.img of holes, in layout 1 and in layout 2 by turns
+layout=2
 image() {
+    layout=$((3 - layout))
     rm -f d.img
-    "$NBDJ" format d.img --size "$SIZE" --area "$AREA" >/dev/null
+    "$NBDJ" format d.img --size "$SIZE" --area "$AREA" --layout "$layout" >/dev/null
 }
 
 # serves TRANSPORT WORD..: serves d.img over tcp or unix, and sets uri, and where as nbd-client has it

@@ -1,6 +1,6 @@
 #!/usr/bin/env python3
-"""100,000 writes through `pipe` over a journal of 2 MiB, which fills every few hundred of them, by the built program NBDJ. Half are of a
-block, the others of any bytes.
+"""100,000 writes through `pipe` over a journal whose areas have 2 MiB, of which one fills every few hundred of them, by the built program
+NBDJ: 70,000 over one of two areas, and 30,000 over one of four. Half are of a block, the others of any bytes.
 
 Each life of the server is killed (SIGKILL) once it has answered a seeded number of requests, or ends with its input. Then the image is
 recovered, and is the image after some first writes of those that were sent, all that a FLUSH confirmed among them; the next life goes
@@ -15,9 +15,7 @@ import sys
 import tempfile
 import threading
 
-BLOCK, BLOCKS, AREA = 4096, 2048, 2097152
-DATA = 8192 + 2 * AREA + 2 * BLOCK
-WRITES, LIVES, SEED = 100_000, 20, 17
+BLOCK, BLOCKS, SEED = 4096, 2048, 17
 WRITE, DISCONNECT, FLUSH = 1, 2, 3
 NBDJ = os.environ["NBDJ"]
 passed, failed = 0, 0
@@ -94,47 +92,56 @@ def live(image, requests, answers_wanted):
     return answered, status
 
 
-def main():
-    random_source = random.Random(SEED)
+def fill(layout, writes_wanted, lives):
+    """The writes over a device of this layout, in so many lives."""
+    random_source = random.Random(SEED * layout)
+    area = 2097152 * layout
+    begin = 8192 + 2 * area + 2 * BLOCK
     image, written = bytearray(BLOCKS * BLOCK), set()
     last, killed = 0, 0
     with tempfile.TemporaryDirectory() as folder:
         path = os.path.join(folder, "d.img")
-        check("format", f"0|formatted {DATA + BLOCKS * BLOCK}\n|", run("format", path, "--blocks", str(BLOCKS), "--area", str(AREA)))
-        for life in range(LIVES):
-            count = (WRITES - last) // (LIVES - life) + 1
+        check("format", f"0|formatted {begin + BLOCKS * BLOCK}\n|", run("format", path, "--blocks", str(BLOCKS), "--area", str(area), "--layout", str(layout)))
+        for life in range(lives):
+            count = (writes_wanted - last) // (lives - life) + 1
             writes = [(last + 1 + index, *any_range(random_source)) for index in range(count)]
             requests = requests_of(writes, random_source)
             # (the last life, and each fifth, comes to its end)
-            whole = life % 5 == 4 or life == LIVES - 1
+            whole = life % 5 == 4 or life == lives - 1
             wanted = len(requests) if whole else random_source.randrange(count // 2, len(requests) - 1)
             answered, status = live(path, requests, wanted)
             if whole:
-                check(f"life {life}: the end", (len(requests) - 1, 0), (answered, status))
+                check(f"layout {layout}, life {life}: the end", (len(requests) - 1, 0), (answered, status))
             else:
-                check(f"life {life}: the kill", (wanted, -9), (answered, status))
+                check(f"layout {layout}, life {life}: the kill", (wanted, -9), (answered, status))
                 killed += 1
             confirmed = max([number for kind, number, _, _ in requests[:answered] if kind == FLUSH], default=last)
             confirmed = writes[-1][0] if whole else confirmed
             recovered = run("recover", path)
             found = int(recovered.split()[1]) if recovered.startswith("0|commands ") else -1
-            check(f"life {life}: {confirmed} to {writes[-1][0]} commands", True, confirmed <= found <= writes[-1][0])
+            check(f"layout {layout}, life {life}: {confirmed} to {writes[-1][0]} commands", True, confirmed <= found <= writes[-1][0])
             for number, offset, length in writes:
                 if number <= found:
                     image[offset:offset + length] = bytes_of(number, offset, length)
                     written |= set(range(offset // BLOCK, (offset + length - 1) // BLOCK + 1))
             with open(path, "rb") as file:
-                file.seek(DATA)
+                file.seek(begin)
                 data = file.read()
-            check(f"life {life}: the bytes of the image", len(image), len(data))
+            check(f"layout {layout}, life {life}: the bytes of the image", len(image), len(data))
             differ = [block for block in range(BLOCKS) if data[block * BLOCK:(block + 1) * BLOCK] != image[block * BLOCK:(block + 1) * BLOCK]]
-            check(f"life {life}: the blocks that differ", [], differ[:9])
+            check(f"layout {layout}, life {life}: the blocks that differ", [], differ[:9])
             last = found
         counts = len(written), BLOCKS - len(written)
         numbers = {"blocks": BLOCKS, "mode": 0, "base": last, "commands": last, "data": counts[0], "zero": 0, "hole": counts[1]}
-        check("check", "0|" + "".join(f"{name} {number}\n" for name, number in numbers.items()) + "|", run("check", path))
-        check("lives that were killed", True, killed >= 10)
-    print(f"{last} writes in {LIVES} lives, {killed} of them killed")
+        first = "" if layout == 1 else f"layout {layout}\n"
+        check("check", f"0|{first}" + "".join(f"{name} {number}\n" for name, number in numbers.items()) + "|", run("check", path))
+        check("lives that were killed", True, killed >= lives // 2)
+    print(f"{last} writes over layout {layout} in {lives} lives, {killed} of them killed")
+
+
+def main():
+    fill(1, 70_000, 14)
+    fill(2, 30_000, 6)
     print(f"{passed} passed, {failed} failed")
     return failed > 0
 

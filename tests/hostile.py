@@ -328,7 +328,7 @@ def largest(folder):
     """The largest image, all holes: a write, a trim of as many bytes as a request can name, and their states as one run, though together they
     touch as many blocks as 32 bits have no bytes for."""
     blocks, image = 1 << 24, os.path.join(folder, "largest.img")
-    subprocess.run([NBDJ, "format", image, "--blocks", str(blocks), "--area", "2097152"], check=True, stdout=subprocess.DEVNULL, timeout=60)
+    subprocess.run([NBDJ, "format", image, "--blocks", str(blocks), "--area", "4194304", "--layout", "2"], check=True, stdout=subprocess.DEVNULL, timeout=60)
     words = [NBDJ, "serve", image, "--listen", "127.0.0.1:0", "--frames", str(FRAMES), "--sessions", "1"]
     with subprocess.Popen(words, stdin=subprocess.DEVNULL, stdout=subprocess.PIPE, text=True) as server:
         port = int(server.stdout.readline().split()[1])

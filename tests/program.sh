@@ -90,6 +90,9 @@ is 'what is said where no address is' "2|error: one of --listen <ADDR> and --uni
 refused 'sessions past 64 bits' serve new.img --listen 127.0.0.1:0 --sessions 18446744073709551616
 refused 'unknown cache mode of a server' serve new.img --listen 127.0.0.1:0 --cache unsafe
 refused 'a word too many' recover new.img more
+refused 'layout 0' format new.img --size 64K --layout 0
+refused 'layout 3' format new.img --size 64K --layout 3
+refused 'a layout of letters' format new.img --size 64K --layout two
 refused 'check without a path' check
 # The version is that of the first heading of the list of changes.
 version=$(sed -n 's/^## \([0-9][0-9.]*\).*/\1/p' "$here/CHANGELOG.md" | head -n 1)
@@ -97,7 +100,7 @@ run --version
 is 'version' "0|$(text "nbdj $version")|" "$status|$output|$errors"
 run pipe --help
 is 'help' '0|yes|' "$status|$(grep -q FLUSH output && echo yes)|$errors"
-for command in format serve pipe recover check rehearse; do
+for command in format serve pipe recover upgrade check rehearse; do
     run "$command" --version
     is "version of $command" "0|$version|" "$status|$(sed 's/.* //' output)|$errors"
     run "$command" --help
@@ -112,9 +115,9 @@ mkdir bin
 ln -s "$NBDJ" bin/nbdj
 request 0000 2 1 0 0 >requests
 cp "$here/examples/crash-before-the-flush.script" script
-for command in format pipe recover check rehearse; do
+for command in format pipe recover upgrade check rehearse; do
     example=$("$NBDJ" "$command" --help | sed -n 's/^Example: //p')
-    case $command in format) example="$example --area 2M" ;; esac
+    case $command in format) example="$example --area 4M" ;; esac
     is "the example of $command" "0|nbdj $command" "$(PATH="$folder/bin:$PATH" sh -c "$example" >printed 2>&1; echo $?)|$(echo "$example" | cut -d ' ' -f 1-2)"
 done
 fresh 16 2097152
@@ -245,6 +248,70 @@ done <<'ROWS'
 ROWS
 ends 'format --blocks with letters in the area' 0 "$(text 'formatted 4276224')" '' format s.img --blocks 16 --area 2M
 rm -f s.img
+
+# Layout 2: four areas of half the size, by a format and by an upgrade, which may be repeated.
+lines() { printf '%s\n' "$@" | hex; }
+ends 'format of layout 2' 0 "$(text 'formatted 8470528')" '' format e.img --blocks 16 --area 4M --layout 2
+is 'header of layout 2' 014e42444a524e4c3200000000000000010000000000000010002000000100000000000000000000 "$(part e.img 0 40)"
+ends 'format of layout 1' 0 "$(text 'formatted 8470528')" '' format e.img --blocks 16 --area 4194304 --layout 1
+for name in 'an upgrade' 'a second upgrade'; do
+    ends "$name" 0 "$(text 'layout 2')" '' upgrade e.img
+    is "slot 1 after $name" 014e42444a524e4c3200000000000000020000000000000010002000000100000000000000000000 "$(part e.img 4096 40)"
+    ends "check after $name" 0 "$(lines 'layout 2' 'blocks 16' 'mode 0' 'base 0' 'commands 0' 'data 0' 'zero 0' 'hole 16')" '' check e.img
+    ends "recover after $name" 0 "$(text 'commands 0')" '' recover e.img
+done
+cp "$here/examples/write-and-flush.requests" input
+ends 'pipe of layout 2' 0 6744669800000000010203040506070867446698000000000000000000000002 '' pipe e.img
+: >input
+ends 'check after a pipe of layout 2' 0 "$(lines 'layout 2' 'blocks 16' 'mode 0' 'base 0' 'commands 1' 'data 1' 'zero 0' 'hole 15')" '' check e.img
+serves 'a server of layout 2' 143 'listening s.sock' '' e.img --unix s.sock
+rm -f e.img s.sock
+ends 'format of small areas' 1 '' 'nbdj: area too small (22)' format e.img --blocks 16 --area 4186112 --layout 2
+is 'the file of small areas' no "$([ -e e.img ] && echo yes || echo no)"
+ln -s made.img e.img
+ends 'format of small areas over a link' 1 '' 'nbdj: area too small (22)' format e.img --blocks 16 --area 2M --layout 2
+is 'the file behind the link' no "$([ -e made.img ] && echo yes || echo no)"
+rm -f e.img
+printf 'something else' >e.img
+ends 'format of small areas over a file' 1 '' 'nbdj: area too small (22)' format e.img --size 64K --area 2M --layout 2
+is 'the file under small areas' 'something else' "$(cat e.img)"
+ends 'format of small areas in a missing folder' 1 '' 'nbdj: cannot open none/e.img' format none/e.img --blocks 16 --area 2M --layout 2
+refused 'layout 2 with an area below all limits' format new.img --blocks 16 --area 1M --layout 2
+refused 'layout 2 without a path' format --blocks 16 --area 2M --layout 2
+"$NBDJ" format e.img --blocks 16 --area 2M >/dev/null
+ends 'upgrade of small areas' 1 '' 'nbdj: area too small (22)' upgrade e.img
+rm -f e.img
+
+# An image of 1,024 blocks that nbdj wrote before it knew layout 2, with commands 5 to 8 in its second area. Block B of each write, of
+# blocks 0 to 255, 200 to 449, 400 to 655, 700 to 899 and 10 to 159, has bytes of its own; then 20 to 49 were trimmed, three blocks from
+# byte 100 of block 200 on became zeroes, and 10 digits were written from byte 904 of block 1 on.
+for command in recover upgrade; do
+    gzip -dc "$here/tests/images/before-layout-2.img.gz" >d.img
+    checks "check of an old image, before $command" 1024 0 4 8 824 0 200
+    case $command in recover) printed='commands 8' ;; upgrade) printed='layout 2' ;; esac
+    ends "$command of an old image" 0 "$(text "$printed")" '' "$command" d.img
+    while read -r block offset wanted; do
+        is "block $block of an old image, after $command" "$wanted" "$(part d.img $((8404992 + 4096 * block + offset)) $((${#wanted} / 2)))"
+    done <<'ROWS'
+0 0 0808
+1 902 0909303132333435363738390909
+10 4094 bfbf
+19 0 c8c8
+50 0 e7e7
+159 0 5959
+160 0 a8a8
+200 98 29290000
+203 98 00002c2c
+399 0 f0f0
+400 0 b7b7
+655 4094 bbbb
+700 0 0303
+899 4094 caca
+ROWS
+    case $command in recover) first= ;; upgrade) first='layout 2' ;; esac
+    ends "check of an old image, after $command" 0 "$(lines ${first:+"$first"} 'blocks 1024' 'mode 0' 'base 8' 'commands 8' 'data 824' 'zero 0' 'hole 200')" '' check d.img
+done
+rm -f d.img before.img
 
 # A file of which every block is there, and one of holes where the file system has any: blocks of 512 bytes hold it whole, or don't.
 held() { [ $(($(stat -c %b "$1") * 512)) -ge "$(stat -c %s "$1")" ] && echo whole || echo holes; }
@@ -779,6 +846,31 @@ for script in "$here"/tests/scripts/*.in; do
     scripts=$((scripts + 1))
 done
 is 'there are scripts' yes "$([ "$scripts" -gt 0 ] && echo yes)"
+
+# Layout 2 in scripts: areas that would be too small, and how many commands fit a group, whose body has at most the bytes of an area
+# less 18, and 8,388,608: of 7 puts of 1 MiB, one of a block less, and 308 clears of 13 bytes.
+printf '%s\n' 'format 16 4186112 512 layout2' 'crash ff' >input
+ends 'a script with small areas' 1 "$(text 'failed 22')" '' rehearse
+printf '%s\n' 'format 16 2097152 512' 'send 1 put 0 1 41' 'serve 1' 'answer 1' seal append publish upgrade 'crash ff' >input
+ends 'an upgrade of small areas in a script' 1 "$(lines done done done 'answer 1 ok' done done done 'failed 22')" '' rehearse
+many() {
+    awk -v format="$1" 'function ask(what) { print "send 1 " what; print "serve 1"; print "answer 1" }
+        BEGIN {
+            print format
+            for (k = 0; k < 7; k++) ask("put 0 256 41")
+            ask("put 0 255 42")
+            for (k = 0; k < 308; k++) ask("clear hole 0 1")
+            print "seal"; print "append"; print "publish"; print "crash 00"
+        }'
+}
+while read -r area layout commands; do
+    case $layout in .) many 'format 256 16777216 512' ;; *) many "format 256 16777216 512 $layout" ;; esac >input
+    run rehearse
+    is "the commands of a group in areas of $area" "0|$(printf 'opened %s\nrun 0 1 h 00\nrun 1 254 d 42\nrun 255 1 d 41' "$commands")|" "$status|$(tail -n 4 output)|$errors"
+done <<'ROWS'
+16M . 315
+8M layout2 313
+ROWS
 
 # Lines that are no step, as the second of a script, and first lines that are no format.
 while IFS= read -r line; do

@@ -1,5 +1,5 @@
 #!/usr/bin/env python3
-"""300 restarts of `serve` over one image, by the built program NBDJ: each server is killed (SIGKILL) while it opens the image, while a client
+"""400 restarts of `serve` over one image of each layout, by the built program NBDJ: each server is killed (SIGKILL) while it opens the image, while a client
 that has read all of it waits, or amid a client's writes.
 
 What a client reads of the whole image before a kill without load is, byte for byte, what it reads after the restart. After a kill under load
@@ -18,9 +18,12 @@ import sys
 import tempfile
 import threading
 import time
+from concurrent.futures import ThreadPoolExecutor
 
-BLOCK, BLOCKS, AREA = 4096, 256, 2097152
-RESTARTS, SECONDS = 300, 60
+BLOCK, BLOCKS = 4096, 256
+# The bytes of `--area` by the layout, in both of which each area of the journal has 2 MiB.
+AREAS = {1: 2097152, 2: 4194304}
+RESTARTS, SECONDS = 400, 90
 SEED = int(os.environ.get("RESTARTS_SEED", "41"))
 READ, WRITE, FLUSH, TRIM, ZEROES = 0, 1, 3, 4, 6
 NO_HOLE = 2
@@ -155,16 +158,17 @@ def differing(one, other):
     return [it for it in range(BLOCKS) if one[it * BLOCK: (it + 1) * BLOCK] != other[it * BLOCK: (it + 1) * BLOCK]][:8]
 
 
-def run(folder):
-    source = random.Random(SEED)
-    restarts = Restarts(os.path.join(folder, "d.img"), os.path.join(folder, "socket"))
-    subprocess.run([NBDJ, "format", restarts.image, "--blocks", str(BLOCKS), "--area", str(AREA)], check=True, stdout=subprocess.DEVNULL)
+def run(folder, layout):
+    source = random.Random(SEED * layout)
+    restarts = Restarts(os.path.join(folder, f"{layout}.img"), os.path.join(folder, f"socket{layout}"))
+    words = [NBDJ, "format", restarts.image, "--blocks", str(BLOCKS), "--area", str(AREAS[layout]), "--layout", str(layout)]
+    subprocess.run(words, check=True, stdout=subprocess.DEVNULL)
     known, load = bytes(BLOCKS * BLOCK), Load()
     ways = dict.fromkeys(("opening", "idle", "load"), 0)
     began = time.monotonic()
     for number in range(1, RESTARTS + 1):
         if time.monotonic() - began > SECONDS:
-            print(f"{number - 1} restarts in {SECONDS} seconds, and not {RESTARTS}", flush=True)
+            print(f"{number - 1} restarts of layout {layout} in {SECONDS} seconds, and not {RESTARTS}", flush=True)
             break
         way = source.choices(("opening", "idle", "load"), (2, 2, 5))[0]
         ways[way] += 1
@@ -175,18 +179,18 @@ def run(folder):
             continue
         said = restarts.listens()
         if said is not True:
-            check(f"restart {number}: it listens", True, said)
-            restarts.told(f"restart {number}")
+            check(f"layout {layout}, restart {number}: it listens", True, said)
+            restarts.told(f"layout {layout}, restart {number}")
             return ways
         client = Client(restarts.path)
         found = client.image()
         stands = next((count for count, image in load.leaves(known) if image == found), None)
         if stands is None:
             near = next(load.leaves(known))[1]
-            restarts.told(f"restart {number}")
-            check(f"restart {number}: the image after {load.confirmed} to {len(load.sent)} commands", "none", f"blocks {differing(near, found)}")
+            restarts.told(f"layout {layout}, restart {number}")
+            check(f"layout {layout}, restart {number}: the image after {load.confirmed} to {len(load.sent)} commands", "none", f"blocks {differing(near, found)}")
             return ways
-        check(f"restart {number}: the image is one that may stand", True, load.confirmed <= stands <= len(load.sent))
+        check(f"layout {layout}, restart {number}: the image is one that may stand", True, load.confirmed <= stands <= len(load.sent))
         known, load = found, Load()
         if way == "load":
             worker = threading.Thread(target=load.run, args=(client, random.Random(source.random())))
@@ -202,6 +206,8 @@ def run(folder):
 
 
 with tempfile.TemporaryDirectory() as temporary:
-    print("kills:", ", ".join(f"{count} {way}" for way, count in run(temporary).items()), flush=True)
+    with ThreadPoolExecutor(len(AREAS)) as both:
+        for layout, ways in zip(AREAS, both.map(lambda layout: run(temporary, layout), AREAS)):
+            print(f"kills of layout {layout}:", ", ".join(f"{count} {way}" for way, count in ways.items()), flush=True)
 print(f"{passed} passed, {failed} failed")
 sys.exit(failed > 0)
