@@ -4,7 +4,8 @@
 # nbdj's ratio to the best of the others. It is part of no gate.
 # A second table has what writers, a flusher and a reader get beside one another. A third one has nbdj and nbdkit's file plugin with syncs
 # that take SLOW_SYNCS microseconds more (0 1000 5000), by a preload that sleeps in them: READs alone and beside 4 connections that write and
-# flush, and such connections.
+# flush, and such connections. A fourth one has how long writes wait while the journal fills all the time, in both layouts of nbdj, with
+# areas of 16 MiB (4 of 8), and beside the others, for FILLING_SECONDS (60).
 # It needs cc and Debian's libnbd-dev, nbdkit and qemu-utils. ROUNDS (1) says how often each is measured, the servers in turn; the median
 # counts. BENCH_SECONDS (4) is the time of each measurement, BENCH_FOLDER where the images are, TMPDIR otherwise. After the time each
 # client waits for the answers that are due.
@@ -40,6 +41,7 @@ for it in nbdkit cache qemu; do truncate -s $((blocks * 4096)) $it.img; done
 # command NAME: how it serves its image at the socket NAME.sock
 command_of() {
     case $1 in
+    layout*) echo "$NBDJ serve $1.img --unix $1.sock --workers 16 --frames 16384" ;;
     nbdj) echo "$NBDJ serve nbdj.img --unix nbdj.sock --workers 16 --frames $frames" ;;
     nbdkit) echo 'nbdkit -f -U nbdkit.sock file nbdkit.img' ;;
     cache) echo 'nbdkit -f -U cache.sock --filter=cache file cache.img' ;;
@@ -185,5 +187,32 @@ for us in $slow_syncs; do
     for connections in 1 2 4 8 15; do
         echo "$(median <"nbdj.$us.flushed.$connections")|$(median <"nbdkit.$us.flushed.$connections")" |
             awk -F '|' -v what="$us us | WRITE 4 KiB and FLUSH, $connections connections" '{ printf "| %s | %s | | %s | | %.2f |\n", what, $1, $2, $1 / $2 }'
+    done
+done
+
+# A journal that fills all the time: new images, all of which is written at random.
+filling=${FILLING_SECONDS:-60}
+for layout in 1 2; do "$NBDJ" format layout$layout.img --blocks $blocks --area 16M --layout $layout >/dev/null; done
+slowly=''
+round=0
+while [ $round -lt "$rounds" ]; do
+    for it in layout1 layout2 nbdkit cache qemu; do
+        serve $it
+        timeout $((filling + 60)) ./client waits "nbd+unix:///?socket=$folder/$it.sock" "$filling" $blocks >>$it.waits
+        stop
+    done
+    round=$((round + 1))
+done
+
+echo
+echo '| 4 connections that write, one that writes and flushes, through a journal that fills all the time | layout 1 | layout 2 | nbdkit file | nbdkit cache, file | qemu-nbd |'
+echo '|---|---|---|---|---|---|'
+waits() { echo "| $1 | $(part layout1.waits "$2") | $(part layout2.waits "$2") | $(part nbdkit.waits "$2") | $(part cache.waits "$2") | $(part qemu.waits "$2") |"; }
+waits 'WRITEs of 4 KiB a second' 1
+field=2
+for what in 'a WRITE' 'a WRITE with a FLUSH'; do
+    for part in p50 p99 p99.9 'the longest'; do
+        waits "$what, $part, us" $field
+        field=$((field + 1))
     done
 done

@@ -22,6 +22,9 @@
  * bench_client stall URI SECONDS BLOCKS
  *     4 connections write as `write` does, one writes and flushes as `flushed` does, and one reads 4 KiB, one after another. Prints how many
  *     WRITEs were answered a second, the longest of them, the 99th of a hundred of a write and FLUSH, and of a READ, in microseconds.
+ * bench_client waits URI SECONDS BLOCKS
+ *     4 connections write as `write` does, and one writes and flushes as `flushed` does. Prints how many WRITEs were answered a second, and
+ *     of them, and then of a write and FLUSH, the median, the 99th of a hundred, the 999th of a thousand and the longest, in microseconds.
  * bench_client start SOCKET COMMAND...
  *     Runs the server of a Unix socket, and prints after how many milliseconds it greeted a client, and how many bytes were resident
  *     then; kills it.
@@ -46,6 +49,7 @@
 #define LONG_BLOCKS 256u
 #define MOST_DEPTH 16
 #define MOST_CONNECTIONS 64
+#define MOST_TIMES 4000000
 
 struct kind {
     const char *name;
@@ -84,6 +88,7 @@ struct connection {
     uint64_t random, next, blocks, answered, number;
     double end, longest;
     double *times; /* of each write and FLUSH, or none are kept */
+    double *taken; /* of each request that was on its way with others, or none are kept */
     struct slot slots[MOST_DEPTH];
 };
 
@@ -128,6 +133,7 @@ static int completed(void *data, int *error) {
     }
     double took = now() - slot->begun;
     if (took > slot->connection->longest) slot->connection->longest = took;
+    if (slot->connection->taken && slot->connection->answered < MOST_TIMES) slot->connection->taken[slot->connection->answered] = took;
     slot->is_busy = 0;
     slot->connection->answered++;
     return 1;
@@ -165,7 +171,6 @@ static void ask_many(struct connection *it) {
     }
 }
 
-#define MOST_TIMES 4000000
 
 static void ask_in_turn(struct connection *it) {
     char *data = it->slots[0].data;
@@ -337,6 +342,50 @@ static void stall(const char *uri, double seconds, uint64_t blocks) {
     free(times);
 }
 
+static void print_waits(double *times, size_t count) {
+    qsort(times, count, sizeof *times, longer);
+    if (count == 0) fail("no answer");
+    printf(" %.0f %.0f %.0f %.0f", times[count / 2] * 1e6, times[count * 99 / 100] * 1e6, times[count * 999 / 1000] * 1e6, times[count - 1] * 1e6);
+}
+
+static void waits(const char *uri, double seconds, uint64_t blocks) {
+    static struct connection connections[WRITERS], flusher;
+    double *times = malloc(WRITERS * MOST_TIMES * sizeof *times);
+    size_t written = 0;
+    if (!times) fail("memory");
+    for (unsigned k = 0; k < WRITERS; k++) {
+        prepare(&connections[k], uri, &kinds[0], k, blocks);
+        connections[k].taken = malloc(MOST_TIMES * sizeof *times);
+        if (!connections[k].taken) fail("memory");
+    }
+    prepare(&flusher, uri, &kinds[1], WRITERS, blocks);
+    flusher.times = malloc(MOST_TIMES * sizeof *times);
+    if (!flusher.times) fail("memory");
+    double begun = now();
+    flusher.end = begun + seconds;
+    if (pthread_create(&flusher.thread, NULL, serve_thread, &flusher)) fail("a thread");
+    for (unsigned k = 0; k < WRITERS; k++) {
+        connections[k].end = begun + seconds;
+        if (pthread_create(&connections[k].thread, NULL, serve_thread, &connections[k])) fail("a thread");
+    }
+    for (unsigned k = 0; k < WRITERS; k++) {
+        pthread_join(connections[k].thread, NULL);
+        size_t kept = connections[k].answered < MOST_TIMES ? connections[k].answered : MOST_TIMES;
+        memcpy(times + written, connections[k].taken, kept * sizeof *times);
+        written += kept;
+        finish(&connections[k]);
+        free(connections[k].taken);
+    }
+    pthread_join(flusher.thread, NULL);
+    printf("%.0f", written / (now() - begun));
+    print_waits(times, written);
+    print_waits(flusher.times, flusher.answered < MOST_TIMES ? flusher.answered : MOST_TIMES);
+    printf("\n");
+    finish(&flusher);
+    free(flusher.times);
+    free(times);
+}
+
 static long resident(pid_t pid) {
     char path[64], line[256];
     long found = 0;
@@ -393,6 +442,8 @@ int main(int argc, char **argv) {
         beside(argv[2], (unsigned)atoi(argv[3]), (unsigned)atoi(argv[4]), atof(argv[5]), strtoull(argv[6], NULL, 10));
     } else if (argc == 5 && strcmp(argv[1], "stall") == 0) {
         stall(argv[2], atof(argv[3]), strtoull(argv[4], NULL, 10));
+    } else if (argc == 5 && strcmp(argv[1], "waits") == 0) {
+        waits(argv[2], atof(argv[3]), strtoull(argv[4], NULL, 10));
     } else if (argc > 3 && strcmp(argv[1], "start") == 0) {
         start(argv[2], argv + 3);
     } else {
