@@ -585,8 +585,8 @@ def refuse_test(built, test):
     whole = Run([built, test])
     if whole.status != 0:
         return conclude(name, 1, [f"status {whole.status} with all memory"])
-    if time.monotonic() - began > 1 and not LONG:
-        return print(f"with --long alone: {name}, since it takes more than a second", flush=True)
+    if time.monotonic() - began > 0.5 and not LONG:
+        return print(f"with --long alone: {name}, since it takes more than half a second", flush=True)
     ends = "^test result: ok|^the test failed" if "refused_memory" in test else "^test result: ok|^the test failed|^test stopped at"
     wrong, calls = [], 0
     wanted = calls_to_refuse()
