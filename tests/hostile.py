@@ -347,7 +347,7 @@ def largest(folder):
             check("what the largest image answers", bytes.fromhex(wanted).hex(), take(client, 16 * 3 + 32 + 1).hex())
         check("the largest image: the server ends", 0, server.wait(timeout=60))
     told = subprocess.run([NBDJ, "check", image], capture_output=True, text=True, timeout=60).stdout
-    check("a check of the largest image", f"blocks {blocks}\nmode 0\nbase 0\ncommands 2\ndata 0\nzero 0\nhole {blocks}\n", told)
+    check("a check of the largest image", f"layout 2\nblocks {blocks}\nmode 0\nbase 0\ncommands 2\ndata 0\nzero 0\nhole {blocks}\n", told)
     os.unlink(image)
 
 
