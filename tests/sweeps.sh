@@ -1,7 +1,7 @@
 #!/bin/sh
 # Sweeps scripts with the built program NBDJ: each is run anew for each crash at a call of the device, and for each fault of one, and
 # what is opened afterwards is compared with plain bytes. Swept are the scripts of tests/scripts, without their lines that crash the
-# device, let a call of it fail or open it again, those of docs/SCRIPTS.md, and some that are drawn. Prints how many runs with a crash there were, and
+# device or let a call of it fail, those of docs/SCRIPTS.md, and some that are drawn. Prints how many runs with a crash there were, and
 # last 'N passed, M failed'. Those that take many minutes are swept with --long alone.
 set -u
 here=$(cd "$(dirname "$0")/.." && pwd)
@@ -11,7 +11,7 @@ runs=0
 # Scripts with hundreds of calls of the device, or of a large one.
 long='checkpoint_lets_frames_go edge_is_held_before_its_read edge_waits_for_a_frame group_of_seven_puts_of_257_blocks
 no_frame_left_for_bytes read_of_old_bytes_fails_after_an_eviction area_of_half_the_bytes_is_full room_after_each_finish
-two_finishes_and_one_clean'
+two_finishes_and_one_clean upgrade_in_a_checkpoint crash_in_an_upgrade'
 
 # swept NAME: sweeps the script in the file `input`
 swept() {
@@ -25,8 +25,8 @@ swept() {
     is "the calls of $1" "${calls:-}" "$(awk '{ if (NF == 2) sum += $2 } END { print sum + 0 }' output)"
 }
 
-# without_trouble FILE: a script without the lines that crash the device, let a call of it fail, or open it again
-without_trouble() { grep -v -e '^crash ' -e '^fault ' -e '^upgrade$' "$1" >input; }
+# without_trouble FILE: a script without the lines that crash the device or let a call of it fail
+without_trouble() { grep -v -e '^crash ' -e '^fault ' "$1" >input; }
 
 if [ "${1:-}" = --long ]; then
     for name in $long; do
@@ -49,9 +49,9 @@ for name in bytes_across_two_holes zeroes_between_two_edges; do
     ends "the faults of $name" 0 "$(printf '%s\n' 'reads 0' 'writes 2' 'syncs 2' ok | hex)" '' rehearse --faults
 done
 
-# A script is read to its end before anything runs, and no line of it crashes the device, lets a call of it fail, or opens it again.
+# A script is read to its end before anything runs, and no line of it crashes the device or lets a call of it fail.
 for how in --sweep --faults; do
-    for line in 'crash ff' 'crash at 1 00' 'fault sync 1' upgrade 'no step' '' 'format 16 2097152 512'; do
+    for line in 'crash ff' 'crash at 1 00' 'fault sync 1' 'no step' '' 'format 16 2097152 512'; do
         printf 'format 16 2097152 512\nsend 1 flush\n%s\nseal\n' "$line" >input
         ends "no step of $how: '$line'" 2 '' 'nbdj: line 3: not a step' rehearse "$how"
     done
@@ -63,6 +63,9 @@ done
 : >input
 run rehearse --sweep --faults
 is 'one of both at a time' 2 "$status"
+# An upgrade for which the areas are too small ends each run.
+printf '%s\n' 'format 16 2097152 512' 'send 1 put 0 1 41' 'serve 1' 'answer 1' seal append publish upgrade >input
+for how in --sweep --faults; do ends "an upgrade of small areas, $how" 1 "$(text 'failed 22')" '' rehearse "$how"; done
 
 for script in "$here"/tests/scripts/*.in; do
     name=$(basename "$script" .in)

@@ -3,12 +3,13 @@ use export_model::{Event, Mode};
 use image_model::{Edit, Kind};
 use nbd_wire::{Answer, CommandFlags, FLUSH, Request, RequestHead, TRIM, WRITE, WRITE_ZEROES};
 use plain_image::PlainImage;
+use script_runner::PlayedLife;
 use std::alloc::{AllocError, Global};
 
 /// The most connections of a script.
 const CONNECTIONS: usize = 16;
 
-/// What a log promises of every later opening.
+/// What a run promises of every later opening.
 #[derive(Drop)]
 pub struct Promise {
     /// What the write commands ask for, in the order of their numbers.
@@ -16,38 +17,47 @@ pub struct Promise {
     /// So many of the first of them are there: all that were answered before a FLUSH was sent that is answered Ok, and all
     /// that wait until they are stored and are answered Ok.
     pub covered: u64,
+    // Whether each upgrade found what was promised before it.
+    kept: bool,
 }
 
 impl Promise {
-    /// What this log promises.
-    pub fn of(alloc: Global, log: &[Event], mode: Mode) -> Result<Promise, AllocError> {
+    /// What these lives of a device promise.
+    pub fn of(alloc: Global, lives: &[PlayedLife], mode: Mode) -> Result<Promise, AllocError> {
         let mut reading = Reading {
             mode,
-            open: vec![in alloc; None; CONNECTIONS]?,
+            open: Vec::new(alloc),
             edits: Vec::new(alloc),
             answered: 0,
             covered: 0,
+            kept: true,
         };
-        for (place, event) in log.iter().enumerate() {
-            match event {
-                Event::Sent(connection, request) => reading.sent(
-                    *connection,
-                    place,
-                    request.head(),
-                ),
-                Event::Numbered(connection, _) => reading.numbered(alloc, *connection, log)?,
-                Event::Answered(connection, Answer::Done) => reading.done(*connection),
-                _ => {}
+        for life in lives {
+            reading.begin(alloc, life.opening)?;
+            for (place, event) in life.log.iter().enumerate() {
+                match event {
+                    Event::Sent(connection, request) => reading.sent(
+                        *connection,
+                        place,
+                        request.head(),
+                    ),
+                    Event::Numbered(connection, _) => {
+                        reading.numbered(alloc, *connection, &life.log)?
+                    }
+                    Event::Answered(connection, Answer::Done) => reading.done(*connection),
+                    _ => {}
+                }
             }
         }
         Ok(Promise {
             edits: reading.edits,
             covered: reading.covered,
+            kept: reading.kept,
         })
     }
 
-    /// The image of so many blocks after the first `count` commands; none where there are fewer, or one of them has no
-    /// place in it.
+    /// The image of so many blocks after the first `count` commands; none where there are fewer, one of them has no place in it,
+    /// or an upgrade had lost what was promised.
     pub fn image(
         &self,
         alloc: Global,
@@ -55,7 +65,7 @@ impl Promise {
         count: u64,
     ) -> Result<Option<PlainImage>, AllocError> {
         let mut image = PlainImage::new(alloc, blocks)?;
-        if count > self.edits.len() as u64 {
+        if !self.kept || count > self.edits.len() as u64 {
             return Ok(None);
         }
         for edit in &self.edits[..count as usize] {
@@ -82,7 +92,7 @@ struct Open {
     before: u64,
 }
 
-// A log that is read from its beginning.
+// The logs of a device's lives, which are read from the first one's beginning.
 #[derive(Drop)]
 struct Reading {
     mode: Mode,
@@ -91,9 +101,20 @@ struct Reading {
     // The greatest number of a write that was answered Ok.
     answered: u64,
     covered: u64,
+    kept: bool,
 }
 
 impl Reading {
+    // A life begins with the first commands up to this number, which are stored. The others are lost, as are all requests.
+    fn begin(&mut self, alloc: Global, opening: u64) -> Result<(), AllocError> {
+        self.kept = self.kept && self.covered <= opening && opening <= self.edits.len() as u64;
+        self.edits.truncate(opening as usize);
+        self.open = vec![in alloc; None; CONNECTIONS]?;
+        self.answered = opening;
+        self.covered = opening;
+        Ok(())
+    }
+
     // A connection sent a request.
     fn sent(&mut self, connection: usize, place: usize, head: RequestHead) {
         let before = self.answered;

@@ -6,7 +6,7 @@ use checkpoint::{Keeper, KeeperFault};
 use disk_model::{CrashChoice, Disk, SimDisk};
 use export_model::{Event, StepFault};
 use nbd_wire::{Answer, Errno};
-use script_runner::{Played, Schedule, Setup, Trouble};
+use script_runner::{Played, PlayedLife, Schedule, Setup, Trouble};
 use std::alloc::Global;
 
 /// A script that is run over and over, each time from its first line on.
@@ -64,9 +64,13 @@ impl Trial {
         ensures fresh { self.new.fresh ≡ self.old.fresh }
         ensures size { IfOk result (λ outcome. ⟦<SimDisk as Disk>⟧.extent outcome.disk ≡ ⟦<SimDisk as Disk>⟧.extent self.old.fresh) }
     {
-        let Played { mut disk, log } = self.play(work, trouble, usize::MAX)?;
+        let Played {
+            mut disk,
+            lives,
+            upgrade_failed: _,
+        } = self.play(work, trouble, usize::MAX)?;
         let met = is_met(trouble, &disk);
-        let promise = Promise::of(self.alloc, &log, self.schedule.setup.mode)?;
+        let promise = Promise::of(self.alloc, &lives, self.schedule.setup.mode)?;
         disk.crash(choice);
         self.found.restore(&disk);
         let Judged { disk, right } = judge(self.alloc, disk, &self.found, choice, &promise)?;
@@ -78,16 +82,21 @@ impl Trial {
         requires { ⟦<SimDisk as Disk>⟧.extent work ≡ ⟦<SimDisk as Disk>⟧.extent self.now.fresh }
         ensures { IfOk result (λ outcome. ⟦<SimDisk as Disk>⟧.extent outcome.disk ≡ ⟦<SimDisk as Disk>⟧.extent self.now.fresh) }
     {
-        let Played { disk, log } = self.play(work, trouble, usize::MAX)?;
+        let Played {
+            disk,
+            lives,
+            upgrade_failed,
+        } = self.play(work, trouble, usize::MAX)?;
         let met = is_met(trouble, &disk);
-        let Some(place) = log.iter().position(tells_fault) else {
-            return Ok(Outcome {
-                disk,
-                met,
-                right: true,
-            });
+        let Some(steps) = steps_until_told(&lives) else {
+            let right = !upgrade_failed || disk.failures() > 0;
+            return Ok(Outcome { disk, met, right });
         };
-        let Played { disk, log: _ } = self.play(disk, trouble, place + 1)?;
+        let Played {
+            disk,
+            lives: _,
+            upgrade_failed: _,
+        } = self.play(disk, trouble, steps)?;
         let right = disk.failures() > 0;
         Ok(Outcome { disk, met, right })
     }
@@ -108,6 +117,18 @@ fn is_met(trouble: Trouble, disk: &SimDisk) -> bool {
         Trouble::Stop(_) => disk.stopped(),
         Trouble::Fault(..) => disk.failures() > 0,
     }
+}
+
+// How many steps there were until one said that the device failed, itself among them; none where no step did.
+fn steps_until_told(lives: &[PlayedLife]) -> Option<usize> {
+    let mut before: usize = 0;
+    for life in lives {
+        if let Some(place) = life.log.iter().position(tells_fault) {
+            return Some(before.saturating_add(place).saturating_add(1));
+        }
+        before = before.saturating_add(life.log.len());
+    }
+    None
 }
 
 // Whether a step says that the device failed.

@@ -12,6 +12,6 @@ mod stepping;
 
 pub use ending::{End, exit_status, failed, print};
 pub use lines::Schedule;
-pub use playing::{Played, Trouble};
+pub use playing::{Played, PlayedLife, Trouble};
 pub use rehearsing::script;
 pub use script_line::{Clearing, Filling, Range, Setup, StepLine};

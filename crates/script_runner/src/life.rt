@@ -58,8 +58,13 @@ pub struct BlockRun {
     pub byte: u8,
 }
 
-// The keeper of a device that is opened, or made one of layout 2.
-fn keeper_of<D: Disk>(alloc: Global, disk: D, upgrades: bool) -> Result<Keeper<D>, (KeeperFault, D)>
+/// Opens the device, which recovers it. Where `upgrades`, it is made one of layout 2.
+pub fn keeper_of<D: Disk>(
+    alloc: Global,
+    disk: D,
+    upgrades: bool,
+) -> Result<Keeper<D>, (KeeperFault, D)>
+    ensures extent { D.extent (disk_after result) ≡ D.extent disk }
     ensures recovered { IfOk result IsRecovered }
     ensures honest { D.honest (disk_after result) ↔ D.honest disk }
     ensures layout { IsTrue upgrades → IfOk result (λ keeper. keeper.geometry.layout ≡ Layout.Two) }

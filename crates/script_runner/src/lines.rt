@@ -63,28 +63,38 @@ fn stream_refusal(error: std::io::Error) -> Refusal {
 #[derive(Drop)]
 pub struct Schedule {
     pub setup: Setup,
-    pub steps: Vec<StepLine>,
+    /// The steps of each life of the device. Each but the first begins with an upgrade.
+    pub lives: Vec<Vec<StepLine>>,
 }
 
 impl Schedule {
-    /// Reads a script to its end. A line that crashes the device, lets a call of it fail or opens it again is refused here, as one
-    /// that is no step is.
+    /// Reads a script to its end. A line that crashes the device or lets a call of it fail is refused here, as one that is no
+    /// step is.
     pub fn read<R: Read>(alloc: Global, input: &mut R) -> Result<Schedule, End> {
         let mut lines = Lines::new(alloc, input)?;
         let setup = lines.setup(alloc)?;
+        let mut lives = Vec::new(alloc);
         let mut steps = Vec::new(alloc);
         for _ in 0..u64::MAX {
             match lines.next(alloc)? {
                 Some(Line::Step(step)) => keep(&mut steps, step)?,
+                Some(Line::Upgrade) => {
+                    keep(&mut lives, steps)?;
+                    steps = Vec::new(alloc);
+                }
                 Some(_) => return Err(End::NotAStep(lines.count())),
-                None => return Ok(Schedule { setup, steps }),
+                None => {
+                    keep(&mut lives, steps)?;
+                    return Ok(Schedule { setup, lives });
+                }
             }
         }
         Err(End::Refused(Refusal::StreamFault))
     }
 }
 
-fn keep(steps: &mut Vec<StepLine>, step: StepLine) -> Result<(), AllocError> {
-    steps.push(step)?;
+/// Adds one behind the others.
+pub fn keep<T: Drop>(all: &mut Vec<T>, next: T) -> Result<(), AllocError> {
+    all.push(next)?;
     Ok(())
 }

@@ -3,9 +3,9 @@ ghost use Rattle.checkpoint.specs.Recovery.{IsRecovered};
 ghost use Rattle.device_image.specs.Keeps.{Keeps};
 ghost use Rattle.image_model.specs.Image.{Image};
 
-use crate::life::{Life, Told};
-use crate::lines::Schedule;
-use crate::script_line::StepLine;
+use crate::life::{Life, Told, keeper_of};
+use crate::lines::{Schedule, keep};
+use crate::script_line::{Setup, StepLine};
 use crate::stepping::carry_out;
 use checkpoint::{Keeper, KeeperFault};
 use disk_model::{CallKind, Disk, SimDisk};
@@ -23,16 +23,28 @@ pub enum Trouble {
     Fault(CallKind, u64),
 }
 
-/// A device after steps were carried out on it, and what each of them did.
+/// A device after the lines of a script were carried out on it.
 #[derive(Drop)]
 pub struct Played {
     pub disk: SimDisk,
+    /// What each life came to, the first of them first.
+    pub lives: Vec<PlayedLife>,
+    /// Whether the script ended with an upgrade that told a fault of the device.
+    pub upgrade_failed: bool,
+}
+
+/// The device from an opening, or an upgrade, to the next one.
+#[derive(Drop)]
+pub struct PlayedLife {
+    /// The number of the last command that was found.
+    pub opening: u64,
+    /// What each step did.
     pub log: Vec<Event>,
 }
 
 impl Schedule {
     /// Opens the device, arms the trouble, and carries out the lines one after the other, until the device stops, or so
-    /// many steps were done, or all lines.
+    /// many steps were done, or all lines, or until an upgrade fails.
     pub fn play(
         &self,
         alloc: Global,
@@ -42,39 +54,69 @@ impl Schedule {
     ) -> Result<Played, KeeperFault>
         ensures { IfOk result (λ played. ⟦<SimDisk as Disk>⟧.extent played.disk ≡ ⟦<SimDisk as Disk>⟧.extent disk) }
     {
-        let keeper = match Keeper::open(alloc, disk) {
-            Ok(keeper) => keeper,
-            Err((fault, _disk)) => return Err(fault),
-        };
-        let blank = BlankBoard::new(alloc, keeper.count())?;
-        play_on::<Brand>(alloc, self, blank, keeper, trouble, most)
+        let mut disk = disk;
+        let mut lives: Vec<PlayedLife> = Vec::new(alloc);
+        let mut left = most;
+        let mut upgrades = false;
+        for steps in &self.lives {
+            let keeper = match keeper_of(alloc, disk, upgrades) {
+                Ok(keeper) => keeper,
+                Err((KeeperFault::DeviceFault, disk)) if upgrades => {
+                    return Ok(Played {
+                        disk,
+                        lives,
+                        upgrade_failed: true,
+                    });
+                }
+                Err((fault, _disk)) => return Err(fault),
+            };
+            let opening = keeper.count();
+            let blank = BlankBoard::new(alloc, opening)?;
+            let armed = if upgrades { None } else { Some(trouble) };
+            let (after, log) = live::<Brand>(alloc, self.setup, steps, blank, keeper, armed, left)?;
+            disk = after;
+            left = left.saturating_sub(log.len());
+            keep(&mut lives, PlayedLife { opening, log })?;
+            if disk.stopped() || left == 0 {
+                break;
+            }
+            upgrades = true;
+        }
+        Ok(Played {
+            disk,
+            lives,
+            upgrade_failed: false,
+        })
     }
 }
 
-// Carries out the lines on an opened device, over a board that gets its name here.
-fn play_on<B: BoardName>(
+// Carries out the lines of one life of an opened device, whose board gets its name here, and gives the device and what each step did.
+fn live<B: BoardName>(
     alloc: Global,
-    schedule: &Schedule,
+    setup: Setup,
+    steps: &[StepLine],
     blank: BlankBoard,
     keeper: Keeper<SimDisk>,
-    trouble: Trouble,
+    armed: Option<Trouble>,
     most: usize,
-) -> Result<Played, KeeperFault>
+) -> Result<(SimDisk, Vec<Event>), KeeperFault>
     requires board { blank.board ≡ B.board }
     requires named { blank.opening ≡ B.opening }
     requires opening { blank.opening ≡ keeper.count }
     requires recovered { IsRecovered keeper }
     requires keeps { (image : Image) × Keeps keeper (⟦<SimDisk as Disk>⟧.state keeper.disk) image keeper.count }
-    ensures { IfOk result (λ played. ⟦<SimDisk as Disk>⟧.extent played.disk ≡ ⟦<SimDisk as Disk>⟧.extent keeper.disk) }
+    ensures { IfOk result (λ lived. ⟦<SimDisk as Disk>⟧.extent lived.0 ≡ ⟦<SimDisk as Disk>⟧.extent keeper.disk) }
 {
-    let Ok(mut life) = Life::<B, SimDisk>::begin(alloc, blank, keeper, schedule.setup) else {
+    let Ok(mut life) = Life::<B, SimDisk>::begin(alloc, blank, keeper, setup) else {
         return Err(KeeperFault::NoMemory);
     };
-    arm(&mut life, trouble);
-    let done = carry_out_all(alloc, &mut life, &schedule.steps, most);
-    let (disk, log) = life.end();
+    if let Some(trouble) = armed {
+        arm(&mut life, trouble);
+    }
+    let done = carry_out_all(alloc, &mut life, steps, most);
+    let ended = life.end();
     match done {
-        Ok(()) => Ok(Played { disk, log }),
+        Ok(()) => Ok(ended),
         Err(fault) => Err(fault),
     }
 }
