@@ -1,7 +1,7 @@
 use crate::beside::ReadBeside;
 use crate::export::Export;
 use crate::name::ExportName;
-use crate::storage_engine::{Stage, StorageEngine};
+use crate::storage_engine::{CopyStep, StorageEngine};
 use crate::sync_points::{Point, SyncPoints};
 use checkpoint::KeeperFault;
 use disk_model::Disk;
@@ -10,10 +10,12 @@ use std::sync::Wait;
 use std::thread;
 use std::time::{Duration, Instant};
 
-// What a step of a checkpoint came to.
-enum NextStep {
-    // This step is next.
-    Next(Stage),
+// What came of a hold of the keeper's lock.
+enum Hold {
+    // Another area was taken into use.
+    Rotated,
+    // A part of the first area was copied.
+    Copied(CopyStep),
     // There is nothing to copy.
     Idle,
     // Memory was refused, and the step is taken again.
@@ -31,8 +33,8 @@ impl<B: ExportName, D: Disk, H: ReadBeside> Export<B, D, H> {
     /// Copies the journal into the image, step by step, before it is full or no frame is left. Each step is one hold of the
     /// keeper's lock, and groups are stored between two.
     ///
-    /// It ends once the flusher has, so it is started behind one that was, and a checkpoint that has begun is then carried to
-    /// its end; when a call of the device has failed; and where no greater generation of a header is left, after which what
+    /// It ends once the flusher has, so it is started behind one that was, and what waits to be copied is then copied to the
+    /// end; when a call of the device has failed; and where no greater generation of a header is left, after which what
     /// finds no room waits for good.
     pub fn checkpointer<R: Wait + Clock, G: SyncPoints>(&self, rt: &R, points: &mut G) {
         for _ in rt.forever() {
@@ -57,61 +59,58 @@ impl<B: ExportName, D: Disk, H: ReadBeside> Export<B, D, H> {
         unreachable!()
     }
 
-    // Carries out a checkpoint, and those of areas that come into use meanwhile; whether there may be another one.
+    // Takes an area into use, and copies the one in front of it and those that come to wait meanwhile; whether there may be another
+    // checkpoint.
     fn checkpoint<R: Wait + Clock, G: SyncPoints>(&self, rt: &R, points: &mut G) -> bool {
         let mut began = Instant::now(rt).ok();
-        let mut blocks = 0;
-        let mut stage = Stage::Rotate;
+        let mut blocks: u64 = 0;
         for _ in rt.forever() {
             points.reach(Point::Step);
-            match self.take_step(rt, stage, &mut blocks) {
-                NextStep::Next(next) => {
-                    if stage == Stage::Finish {
-                        if let Some(took) = time_since(rt, began) {
-                            points.reach(Point::Copied { blocks, took });
-                        }
-                        began = Instant::now(rt).ok();
-                        blocks = 0;
+            match self.take_step(rt) {
+                Hold::Rotated => {}
+                Hold::Copied(CopyStep::Blocks(more)) => blocks = blocks.saturating_add(more),
+                Hold::Copied(CopyStep::LetGo { waiting }) => {
+                    if let Some(took) = time_since(rt, began) {
+                        points.reach(Point::Copied { blocks, took });
                     }
-                    if next == Stage::Done {
+                    if waiting == 0 {
                         return true;
                     }
-                    stage = next;
+                    began = Instant::now(rt).ok();
+                    blocks = 0;
                 }
-                NextStep::Idle => return true,
-                NextStep::Again => thread::yield_now(),
-                NextStep::Ended => return false,
+                Hold::Idle => return true,
+                Hold::Again => thread::yield_now(),
+                Hold::Ended => return false,
             }
         }
         unreachable!()
     }
 
-    // Carries out a step in one hold of the keeper's lock, and the clean behind the last one too: so the order knows the base that a
-    // checkpoint has left before another one begins. Where the last area is nearly full another one comes first, if one is free: no
-    // write waits for the copy then.
-    fn take_step<R: Wait>(&self, rt: &R, stage: Stage, copied: &mut u64) -> NextStep {
+    // Takes the first step that there is, in one hold of the keeper's lock. Another area is taken into use where none waits to be
+    // copied, and where the last one is nearly full and one is free: no write waits for a copy then. Else the first that waits is
+    // copied.
+    fn take_step<R: Wait>(&self, rt: &R) -> Hold {
         let mut store = self.store.lock(rt);
-        if stage != Stage::Rotate && self.wants_area(rt, &*store) {
+        let is_first = store.waiting() == 0;
+        if is_first || self.wants_area(rt, &*store) {
             match store.rotate() {
-                Ok(()) => self.note(rt, Stage::Rotate, &mut *store),
+                Ok(()) => {
+                    self.note_rotated(rt);
+                    return Hold::Rotated;
+                }
                 // All are in use, or there is no memory for it now: the copy goes on, which frees some.
-                Err(KeeperFault::NotNow | KeeperFault::NoMemory) => {}
+                Err(KeeperFault::NotNow | KeeperFault::NoMemory) if !is_first => {}
+                Err(KeeperFault::NotNow) => {
+                    // Nothing was stored since the last one.
+                    self.queue.lock(rt).forget_wish();
+                    self.settled.notify_all();
+                    return Hold::Idle;
+                }
                 Err(fault) => return self.refused(rt, fault),
             }
         }
-        match store.take(&self.board, stage, copied) {
-            Ok(next) => {
-                self.note(rt, stage, &mut *store);
-                NextStep::Next(next)
-            }
-            Err(KeeperFault::NotNow) => {
-                // Nothing was stored since the last one.
-                self.queue.lock(rt).forget_wish();
-                self.settled.notify_all();
-                NextStep::Idle
-            }
-            Err(fault) => self.refused(rt, fault),
-        }
+        self.copy_on(rt, &mut *store)
     }
 
     // Whether the last area is full, or soon will be.
@@ -119,30 +118,38 @@ impl<B: ExportName, D: Disk, H: ReadBeside> Export<B, D, H> {
         store.is_nearly_full() || self.queue.lock(rt).is_full()
     }
 
-    // What comes of a step that was refused.
-    fn refused<R: Wait>(&self, rt: &R, fault: KeeperFault) -> NextStep {
-        match fault {
-            KeeperFault::NoMemory => NextStep::Again,
-            KeeperFault::NumbersFull => NextStep::Ended,
-            _ => {
-                self.fail(rt);
-                NextStep::Ended
-            }
-        }
+    // An area has been taken into use, and what didn't fit the last one is stored at once.
+    fn note_rotated<R: Wait>(&self, rt: &R) {
+        self.queue.lock(rt).find_empty();
+        self.work.notify_one();
     }
 
-    // Notes in the order what a step has changed: the area is empty, or frames can be let go.
-    fn note<R: Wait>(&self, rt: &R, stage: Stage, store: &mut StorageEngine<B, D>) {
-        if stage == Stage::Rotate {
-            self.queue.lock(rt).find_empty();
-            self.work.notify_one();
-        }
-        if stage == Stage::Finish {
+    // Copies a part of the first area. Where that is let go so are the frames, in the same hold: the order knows of a base before there
+    // is another one.
+    fn copy_on<R: Wait>(&self, rt: &R, store: &mut StorageEngine<B, D>) -> Hold {
+        let step = match store.copy_on(&self.board) {
+            Ok(step) => step,
+            Err(fault) => return self.refused(rt, fault),
+        };
+        if let CopyStep::LetGo { waiting: _ } = step {
             let mut queue = self.queue.lock(rt);
             store.clean(&mut queue, &self.board);
             drop(queue);
             self.settled.notify_all();
             self.signal(true, true);
+        }
+        Hold::Copied(step)
+    }
+
+    // What comes of a step that was refused.
+    fn refused<R: Wait>(&self, rt: &R, fault: KeeperFault) -> Hold {
+        match fault {
+            KeeperFault::NoMemory => Hold::Again,
+            KeeperFault::NumbersFull => Hold::Ended,
+            _ => {
+                self.fail(rt);
+                Hold::Ended
+            }
         }
     }
 }

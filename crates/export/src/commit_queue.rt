@@ -18,6 +18,7 @@ use crate::gathering::Waiters;
 use crate::name::ExportName;
 use crate::settling::FlushInterval;
 use crate::storage_engine::StorageEngine;
+use crate::throttling::Throttle;
 use disk_model::Disk;
 use marks::{Board, Pass};
 use nbd_wire::{Answer, Request};
@@ -60,6 +61,8 @@ pub(crate) struct CommitQueue<B: ExportName> {
     is_flushed: bool,
     // How long what is pending may wait.
     interval: FlushInterval,
+    // By how much clients that write are slowed down.
+    throttle: Throttle,
     ghost blocks: { length order.cache.states ≡ B.geometry.blocks },
     ghost noted: { settled ≡ order.base },
 }
@@ -78,6 +81,7 @@ impl<B: ExportName> Drop for CommitQueue<B> {
             wish: _,
             is_flushed: _,
             interval: _,
+            throttle: _,
         } = self;
     }
 }
@@ -134,6 +138,7 @@ impl<B: ExportName> CommitQueue<B> {
             wish: None,
             is_flushed: false,
             interval: FlushInterval::endless(),
+            throttle: Throttle::new(),
         }
     }
 
@@ -211,7 +216,8 @@ impl<B: ExportName> CommitQueue<B> {
         ensures unchanged { OnErr result ((self.new.order ≡ self.old.order) × (pass.new ≡ pass.old)) }
         ensures rest { (self.new.frames ≡ self.old.frames) × (self.new.passes ≡ self.old.passes) × (self.new.wanted ≡ self.old.wanted)
             × (self.new.waiters ≡ self.old.waiters) × (self.new.is_full ≡ self.old.is_full) × (self.new.lacks_room ≡ self.old.lacks_room)
-            × (self.new.wish ≡ self.old.wish) × (self.new.is_flushed ≡ self.old.is_flushed) × (self.new.interval ≡ self.old.interval) }
+            × (self.new.wish ≡ self.old.wish) × (self.new.is_flushed ≡ self.old.is_flushed) × (self.new.interval ≡ self.old.interval)
+            × (self.new.throttle ≡ self.old.throttle) }
     {
         if planned.settled != self.settled {
             return Err(bytes);
@@ -334,20 +340,29 @@ impl<B: ExportName> CommitQueue<B> {
         }
     }
 
-    /// Wants a checkpoint where half of the frames are dirty; whether it is wanted since now.
+    /// Wants a checkpoint where a quarter of the frames is dirty; whether it is wanted since now. Where no area waits to be copied,
+    /// these were dirtied since one was last taken into use; where one does, no other comes into use for that.
     pub(crate) fn look_at_frames(&mut self) -> bool
         ensures { self.new.settled ≡ self.old.settled }
     {
-        if self.wish.is_some() || !self.has_few_frames() {
+        if self.wish.is_some() || !self.has_dirtied_many() {
             return false;
         }
         self.wish_checkpoint();
         true
     }
 
-    // Whether half of the frames are dirty.
-    fn has_few_frames(&self) -> bool {
-        self.order.order().dirty_blocks() as u64 * 2 >= self.frames as u64
+    // Whether a quarter of the frames is dirty.
+    fn has_dirtied_many(&self) -> bool {
+        self.order.order().dirty_blocks() as u64 * 4 >= self.frames as u64
+    }
+
+    /// For how many microseconds a client waits that has written so many blocks.
+    pub(crate) fn throttle(&mut self, blocks: u64) -> u64
+        ensures { self.new.settled ≡ self.old.settled }
+    {
+        let dirty = self.order.order().dirty_blocks() as u64;
+        self.throttle.note(blocks, dirty, self.frames as u64)
     }
 
     /// Whether so many bytes are pending that they are stored though nobody waits for them.

@@ -16,6 +16,7 @@ mod settling;
 mod storage_engine;
 mod submitting;
 mod sync_points;
+mod throttling;
 
 pub use beside::ReadBeside;
 pub use export::{Export, OpenDevice};

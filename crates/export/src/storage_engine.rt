@@ -30,19 +30,24 @@ const MOST_RANGES: u32 = 16;
 /// What stands in an area round the commands of a group.
 const GROUP_BYTES: u64 = 17;
 
-/// A step of a checkpoint.
+// What is next of the first area that waits to be copied.
 #[derive(Clone, Copy, Debug, PartialEq, Eq)]
-pub(crate) enum Stage {
-    /// The next area is taken into use.
-    Rotate,
-    /// Blocks of the first area are copied into the image.
+enum Stage {
+    // Its blocks are copied into the image.
     Copy,
-    /// The map after the first area is written.
+    // The map after it is written.
     Map,
-    /// The first area is let go.
+    // It is let go.
     Finish,
-    /// No area waits to be copied.
-    Done,
+}
+
+/// What a step of copying did.
+#[derive(Clone, Copy, Debug, PartialEq, Eq)]
+pub(crate) enum CopyStep {
+    /// It copied so many blocks.
+    Blocks(u64),
+    /// The first area was let go, and so many wait still.
+    LetGo { waiting: u8 },
 }
 
 /// The keeper of an export with its seat, and how much of its areas is used.
@@ -50,8 +55,9 @@ pub(crate) struct StorageEngine<B: ExportName, D: Disk> {
     shared: SharedKeeper<B, D>,
     // The bytes of the last area that groups take.
     used: u64,
-    // How many areas in front of it wait to be copied.
+    // How many areas in front of it wait to be copied, and what is next of the first of them.
     waiting: u8,
+    stage: Stage,
     ghost geometry: { shared.keeper.geometry ≡ B.geometry },
 }
 
@@ -61,6 +67,7 @@ impl<B: ExportName, D: Disk + Drop> Drop for StorageEngine<B, D> {
             shared: _,
             used: _,
             waiting: _,
+            stage: _,
         } = self;
     }
 }
@@ -82,6 +89,7 @@ impl<B: ExportName, D: Disk> StorageEngine<B, D> {
             shared,
             used: 0,
             waiting: 0,
+            stage: Stage::Copy,
         }
     }
 
@@ -93,6 +101,7 @@ impl<B: ExportName, D: Disk> StorageEngine<B, D> {
             shared,
             used: _,
             waiting: _,
+            stage: _,
         } = self;
         shared.into_keeper()
     }
@@ -132,54 +141,48 @@ impl<B: ExportName, D: Disk> StorageEngine<B, D> {
         Ok(())
     }
 
-    /// Carries out a step of a checkpoint, and gives the next one: behind the last that of the next area that waits. The blocks
-    /// that it copies are added to `copied`.
-    pub(crate) fn take(
-        &mut self,
-        board: &Board<B>,
-        stage: Stage,
-        copied: &mut u64,
-    ) -> Result<Stage, KeeperFault> {
-        match stage {
-            Stage::Rotate => {
-                self.rotate()?;
-                Ok(Stage::Copy)
-            }
-            Stage::Copy => self.copy(copied),
+    /// How many areas wait to be copied.
+    pub(crate) fn waiting(&self) -> u8 {
+        self.waiting
+    }
+
+    /// Takes the next step of copying the first area that waits: some of its blocks, the map after it, or it is let go.
+    pub(crate) fn copy_on(&mut self, board: &Board<B>) -> Result<CopyStep, KeeperFault> {
+        match self.stage {
+            Stage::Copy => self.copy(),
             Stage::Map => {
                 self.shared.write_map()?;
-                Ok(Stage::Finish)
+                self.stage = Stage::Finish;
+                Ok(CopyStep::Blocks(0))
             }
             Stage::Finish => {
                 self.shared.finish(board)?;
+                self.stage = Stage::Copy;
                 self.waiting = self.waiting.saturating_sub(1);
-                Ok(if self.waiting > 0 {
-                    Stage::Copy
-                } else {
-                    Stage::Done
+                Ok(CopyStep::LetGo {
+                    waiting: self.waiting,
                 })
             }
-            Stage::Done => Ok(Stage::Done),
         }
     }
 
-    // Copies the next blocks, as many as one hold takes, and gives the next step: the map where none is left.
-    fn copy(&mut self, copied: &mut u64) -> Result<Stage, KeeperFault> {
+    // Copies the next blocks, as many as one hold takes; the map is next where none is left.
+    fn copy(&mut self) -> Result<CopyStep, KeeperFault> {
         let mut left = MOST_COPIED;
         for _ in 0..MOST_RANGES {
             if left == 0 {
                 break;
             }
             match self.shared.copy_some(left) {
-                Ok(blocks) => {
-                    *copied = copied.saturating_add(blocks as u64);
-                    left -= blocks;
+                Ok(blocks) => left -= blocks,
+                Err(KeeperFault::NotNow) => {
+                    self.stage = Stage::Map;
+                    break;
                 }
-                Err(KeeperFault::NotNow) => return Ok(Stage::Map),
                 Err(fault) => return Err(fault),
             }
         }
-        Ok(Stage::Copy)
+        Ok(CopyStep::Blocks(MOST_COPIED.saturating_sub(left) as u64))
     }
 
     /// Serves a request that isn't a DISC, with the keeper.

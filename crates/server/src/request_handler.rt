@@ -17,12 +17,13 @@ use nbd_wire::{
 };
 use session::Serve;
 use std::cell::Cell;
+use std::rt::Clock;
 use std::sync::Wait;
 use std::time::Duration;
 
 /// Where a client's requests are submitted to an export.
 #[derive(Drop)]
-pub struct RequestHandler<'a, B: ExportName, D: Disk, H: ReadBeside, R: Wait, L: Log> {
+pub struct RequestHandler<'a, B: ExportName, D: Disk, H: ReadBeside, R: Wait + Clock, L: Log> {
     pub rt: &'a R,
     pub export: &'a Export<B, D, H>,
     pub client: &'a Client,
@@ -37,7 +38,7 @@ pub struct RequestHandler<'a, B: ExportName, D: Disk, H: ReadBeside, R: Wait, L:
     pub is_replying: &'a Cell<bool>,
 }
 
-impl<'a, B: ExportName, D: Disk, H: ReadBeside, R: Wait, L: Log> Serve<Pass<B>>
+impl<'a, B: ExportName, D: Disk, H: ReadBeside, R: Wait + Clock, L: Log> Serve<Pass<B>>
     for RequestHandler<'a, B, D, H, R, L> {
     ghost allows = { λ handler pass request flags next reply. IsSubmitted B.opening B.image (Trusting B.opening B.image B.vouches B.trusted) request handler.export.now.mode pass next reply.answer
         × IsJudged (verdict request.head handler.export.now.geometry flags) request reply.answer
@@ -65,8 +66,13 @@ impl<'a, B: ExportName, D: Disk, H: ReadBeside, R: Wait, L: Log> Serve<Pass<B>>
     }
 
     fn serve(&self, pass: &mut Pass<B>, request: Request, flags: &SessionFlags) -> Reply {
+        let head = request.head();
         self.count(&request, flags);
-        self.export.submit(self.rt, pass, request, flags)
+        let reply = self.export.submit(self.rt, pass, request, flags);
+        if head.kind == WRITE && !self.may_wait(&head) {
+            self.export.throttle(self.rt, head.length);
+        }
+        reply
     }
 
     fn reuse(&self, reply: Reply) {
@@ -74,7 +80,14 @@ impl<'a, B: ExportName, D: Disk, H: ReadBeside, R: Wait, L: Log> Serve<Pass<B>>
     }
 }
 
-impl<'a, B: ExportName, D: Disk, H: ReadBeside, R: Wait, L: Log> RequestHandler<'a, B, D, H, R, L> {
+impl<'a, B: ExportName, D: Disk, H: ReadBeside, R: Wait + Clock, L: Log> RequestHandler<
+    'a,
+    B,
+    D,
+    H,
+    R,
+    L,
+> {
     // Counts a request, and tells of the first one.
     fn count(&self, request: &Request, flags: &SessionFlags) {
         let mut traffic = self.traffic.get();

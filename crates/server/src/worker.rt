@@ -147,7 +147,7 @@ pub(crate) fn worker<
 }
 
 // Serves a client in a slot, and stores what is pending before the client is let go.
-fn receive<B: ExportName, D: Disk, H: ReadBeside, R: Wait, G: SyncPoints + Log + Copy>(
+fn receive<B: ExportName, D: Disk, H: ReadBeside, R: Wait + Clock, G: SyncPoints + Log + Copy>(
     rt: &R,
     pool: &WorkerPool<'_, B>,
     export: &Export<B, D, H>,
@@ -187,7 +187,7 @@ fn receive<B: ExportName, D: Disk, H: ReadBeside, R: Wait, G: SyncPoints + Log +
 }
 
 // Serves a client from the first byte to the last.
-fn serve_client<B: ExportName, D: Disk, H: ReadBeside, R: Wait, G: SyncPoints + Log + Copy>(
+fn serve_client<B: ExportName, D: Disk, H: ReadBeside, R: Wait + Clock, G: SyncPoints + Log + Copy>(
     rt: &R,
     pool: &WorkerPool<'_, B>,
     export: &Export<B, D, H>,

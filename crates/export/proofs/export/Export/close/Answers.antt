@@ -1,4 +1,5 @@
-use Rattle.std.proofs.Common.{ℕ, ap, sym, ◌∙◌, subst}
+use Rattle.std.proofs.Common.{ℕ, ◌≡◌, ap, arith, sym, ◌∙◌, subst}
+use Rattle.std.proofs.lemmas.Bool.{le-leb, leb-true}
 use Rattle.device_image.specs.Keeper.{KeeperState}
 use Rattle.disk_model.specs.Disk.{MayLeave}
 use Rattle.shared_store.specs.Keepers.{HasLeft}
@@ -14,3 +15,11 @@ returns-clause-left g c = λ sure.
           subst (λ (n : ℕ). StandsWithin g.B.BoardName.opening g.B.ImageName.image history n content) (sym met.durable)
           (met.left sure content (subst (λ (d : g.row.D.Denot). MayLeave (g.D.Disk.state d) content) disk left));
     }
+
+pub returns-clause-stored : goal.returns-clause-stored
+returns-clause-stored g c =
+    let met = c.meet_all-mark.ensures in
+    let looked : c.meet_all-mark.new.pass.durable ≡ c.look_durable-durable.result = met.durable ∙ ap (λ pass. pass.durable) c.look_durable-durable.ensures.pass in (
+      λ stored. omega (arith, leb-true c.meet_all-mark.result c.look_durable-durable.result stored, met.mark, looked),
+      λ covered. le-leb c.meet_all-mark.result c.look_durable-durable.result (omega (arith, met.mark, looked, covered)),
+    )

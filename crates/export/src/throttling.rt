@@ -1,0 +1,71 @@
+//! Writers are slowed down where they fill the frames faster than the journal is copied into the image. Without that they would run
+//! into the last frame at full speed, and all wait until an area is copied.
+
+use crate::beside::ReadBeside;
+use crate::export::Export;
+use crate::name::ExportName;
+use disk_model::Disk;
+use image_model::BLOCK_BYTES;
+use std::rt::Clock;
+use std::sync::Wait;
+use std::thread;
+use std::time::Duration;
+
+/// So many microseconds is a client slowed down for a write of one block where seven eighths of the frames are dirty. It is nothing up to
+/// three quarters, and grows without end towards the last frame.
+const MICROS: u64 = 300;
+
+/// A write of so many blocks more is slowed down by as much again: blocks side by side are copied together.
+const BLOCKS_TOGETHER: u64 = 16;
+
+/// A client waits once so many microseconds have come together, of all clients, and so long at most.
+const LEAST_WAIT: u64 = 1_000;
+
+const MOST_WAIT: u64 = 10_000;
+
+/// The microseconds by which clients are still to be slowed down.
+#[derive(Clone, Copy, Debug, PartialEq, Eq)]
+pub(crate) struct Throttle {
+    due: u64,
+}
+
+impl Throttle {
+    pub(crate) fn new() -> Throttle {
+        Throttle { due: 0 }
+    }
+
+    /// Notes that so many blocks were written, where so many of the frames are dirty; for how many microseconds their client waits.
+    pub(crate) fn note(&mut self, blocks: u64, dirty: u64, frames: u64) -> u64 {
+        let above = dirty
+            .saturating_mul(4)
+            .saturating_sub(frames.saturating_mul(3));
+        if above == 0 {
+            self.due = 0;
+            return 0;
+        }
+        let left = frames.saturating_sub(above);
+        let cost = MICROS
+            .saturating_mul((blocks / BLOCKS_TOGETHER).saturating_add(1))
+            .saturating_mul(above);
+        self.due = self
+            .due
+            .saturating_add(cost.checked_div(left).unwrap_or(MOST_WAIT));
+        if self.due < LEAST_WAIT {
+            return 0;
+        }
+        let wait = self.due.min(MOST_WAIT);
+        self.due = 0;
+        wait
+    }
+}
+
+impl<B: ExportName, D: Disk, H: ReadBeside> Export<B, D, H> {
+    /// Has a client wait that has written so many bytes, for 10 ms at most, where more than three quarters of the frames are dirty.
+    pub fn throttle<R: Wait + Clock>(&self, rt: &R, bytes: u32) {
+        let blocks = u64::from(bytes).saturating_add(BLOCK_BYTES - 1) / BLOCK_BYTES;
+        let micros = self.queue.lock(rt).throttle(blocks);
+        if micros > 0 {
+            thread::sleep(rt, Duration::from_micros(micros));
+        }
+    }
+}
