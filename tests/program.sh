@@ -232,19 +232,26 @@ is 'header slot 0' 014e42444a524e4c310000000000000001000000000000001000200000000
 is 'length of the file' 4276224 "$(wc -c <d.img | tr -d ' ')"
 checks 'check of a fresh device' 16 0 0 0 0 0 16
 ends 'a fresh device' 0 "$(text 'commands 0')" '' recover d.img
-# Sizes: the device's bytes are 8,192, two areas, two map slots of 4,096 for each 16,384 blocks, and the blocks.
-while read -r words blocks area bytes; do
+# Sizes: the device's bytes are 8,192, two areas, two map slots of 4,096 for each 16,384 blocks, and the blocks. The header has the
+# layout's number at the end of its magic, and the bytes of an area, which are half of what was asked for in layout 2. That is made of
+# --size, where no layout is asked for and an area has 4 MiB or more.
+while read -r words layout blocks area bytes; do
     rm -f s.img
     ends "format --size $words" 0 "$(text "formatted $bytes")" '' format s.img --size $(echo "$words" | tr , ' ')
-    is "header of --size $words" "$blocks|$area" "$(part s.img 17 8)|$(part s.img 25 4)"
+    is "header of --size $words" "$layout|$blocks|$area" "$(part s.img 8 1)|$(part s.img 17 8)|$(part s.img 25 4)"
 done <<'ROWS'
-64K,--area,2097152 0000000000000010 00200000 4276224
-65536,--area,2M 0000000000000010 00200000 4276224
-4096,--area,2048k 0000000000000001 00200000 4214784
-+4k,--area,+2m 0000000000000001 00200000 4214784
-512M 0000000000020000 04000000 671162368
-1g 0000000000040000 04000000 1208098816
-1G,--area,1G 0000000000040000 40000000 3221364736
+64K,--area,2097152 31 0000000000000010 00200000 4276224
+65536,--area,2M 31 0000000000000010 00200000 4276224
+4096,--area,2048k 31 0000000000000001 00200000 4214784
++4k,--area,+2m 31 0000000000000001 00200000 4214784
+64K,--area,4186112 31 0000000000000010 003fe000 8454144
+64K,--area,4M 32 0000000000000010 00200000 8470528
+64K,--area,4M,--layout,1 31 0000000000000010 00400000 8470528
+512M 32 0000000000020000 02000000 671162368
+512M,--layout,2 32 0000000000020000 02000000 671162368
+512M,--layout,1 31 0000000000020000 04000000 671162368
+1g 32 0000000000040000 02000000 1208098816
+1G,--area,1G 32 0000000000040000 20000000 3221364736
 ROWS
 ends 'format --blocks with letters in the area' 0 "$(text 'formatted 4276224')" '' format s.img --blocks 16 --area 2M
 rm -f s.img
@@ -253,6 +260,8 @@ rm -f s.img
 lines() { printf '%s\n' "$@" | hex; }
 ends 'format of layout 2' 0 "$(text 'formatted 8470528')" '' format e.img --blocks 16 --area 4M --layout 2
 is 'header of layout 2' 014e42444a524e4c3200000000000000010000000000000010002000000100000000000000000000 "$(part e.img 0 40)"
+ends 'format of blocks' 0 "$(text 'formatted 8470528')" '' format e.img --blocks 16 --area 4M
+is 'header of blocks' 014e42444a524e4c3100000000000000010000000000000010004000000000000000000000000000 "$(part e.img 0 40)"
 ends 'format of layout 1' 0 "$(text 'formatted 8470528')" '' format e.img --blocks 16 --area 4194304 --layout 1
 for name in 'an upgrade' 'a second upgrade'; do
     ends "$name" 0 "$(text 'layout 2')" '' upgrade e.img

@@ -44,7 +44,7 @@ abbrev pub cache_rule : ValueParser → Rule
 cache_rule modes = record (option_rule (codes "cache")) { parser = Some modes; defaults = codes "writeback" ∷ [] }
 
 abbrev pub layout_rule : Rule
-layout_rule = record (option_rule (codes "layout")) { parser = Some (parser.Unsigned 1 2); defaults = codes "1" ∷ [] }
+layout_rule = record (option_rule (codes "layout")) { parser = Some (parser.Unsigned 1 2) }
 
 abbrev pub format_app : App
 format_app =

@@ -57,6 +57,16 @@ abbrev pub layout_number : Layout → ℕ
 layout_number One = 1
 layout_number Two = 2
 
+-- The layout where --layout is left out: 2 where --blocks is too and an area has 4 MiB or more, so that four of half the bytes can be made
+-- of two; else 1.
+abbrev pub IsUsualLayout : List Row → ℕ → Layout → Type 0
+IsUsualLayout rows area One = (first_of (codes "blocks") rows ≢ None) ⊎ (area < 4194304)
+IsUsualLayout rows area Two = IsLeftOut rows (codes "blocks") × (4194304 ≤ area)
+
+-- the layout is what --layout says, or the usual one
+abbrev pub SaysLayout : List Row → ℕ → Layout → Type 0
+SaysLayout rows area layout = IsGiven rows (codes "layout") (layout_number layout) ⊎ (IsLeftOut rows (codes "layout") × IsUsualLayout rows area layout)
+
 -- Layout 2 is asked for, and its areas would be below their limit: the blocks and the bytes of an area are within those of layout 1.
 abbrev pub SaysSmallAreas : List Row → Type 0
 SaysSmallAreas rows =
@@ -96,7 +106,7 @@ abbrev pub IsAsked : Option (Text × List Row) → Plan → Type 0
 IsAsked None plan = ⊥
 IsAsked (Some (name, rows)) (Format path geometry preallocates) =
     (name ≡ codes "format") × HasPath rows path.now × SaysBlocks rows geometry.blocks × SaysArea rows geometry.area
-    × IsGiven rows (codes "layout") (layout_number geometry.layout) × SaysFlag rows (codes "preallocate") preallocates
+    × SaysLayout rows geometry.area geometry.layout × SaysFlag rows (codes "preallocate") preallocates
 IsAsked (Some (name, rows)) (Pipe path options) =
     (name ≡ codes "pipe") × HasPath rows path.now × IsGiven rows (codes "frames") options.frames
     × (first_of (codes "cache") rows ≡ Some (mode_name options.mode))

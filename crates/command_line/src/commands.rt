@@ -139,10 +139,9 @@ fn layout<'a>(alloc: Global) -> Arg<'a>
     ensures rule { rule_of result ≡ layout_rule }
 {
     option(alloc, "layout", "L")
-        .default_value("1")
         .value_parser(value_parser!(u64).range(1..=2))
         .help(
-            "The layout: 1 has two journal areas, 2 has four of half the bytes, where --area is 4M or more",
+            "The layout: 1 has two journal areas, 2 has four of half the bytes, where --area is 4M or more; with --size by default 2, where that can be, and with --blocks 1",
         )
 }
 

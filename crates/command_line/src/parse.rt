@@ -1,9 +1,10 @@
-ghost use Rattle.std.specs.Prelude.{◌≡◌, ◌≤◌, ◌*◌, Some, IfOk, codes, map, option_map};
+ghost use Rattle.std.specs.Prelude.{◌≡◌, ◌≤◌, ◌<◌, ◌*◌, Some, IfOk, MatchOption, codes, map, option_map};
 ghost use Rattle.clap.specs.Words.{first_of, found_of, rows_of, subcommand_of};
 ghost use Rattle.clap.specs.declared.builder.value_parser.ValueParser.{ValueParser};
 ghost use Rattle.command_line.specs.Commands.{nbdj_app};
-ghost use Rattle.command_line.specs.Line.{fault_name, layout_number, mode_name, HasPath, IsAsked, IsInvocation, IsGiven, SaysAddress, SaysArea, SaysBlocks, SaysScriptRuns, SaysFlag, SaysLimits};
+ghost use Rattle.command_line.specs.Line.{fault_name, layout_number, mode_name, HasPath, IsAsked, IsInvocation, IsGiven, SaysAddress, SaysArea, SaysBlocks, SaysLayout, SaysScriptRuns, SaysFlag, SaysLimits};
 ghost use Rattle.command_line.specs.Size.{IsSize};
+ghost use Rattle.image_model.specs.declared.layout.Layout.TheVariants as Layout;
 
 use crate::commands::{self, modes, program};
 use crate::size::bytes_of;
@@ -71,28 +72,46 @@ fn format<'a>(alloc: Global, matches: &ArgMatches<'a>) -> Result<Plan<'a>, Error
     let path = path(alloc, matches)?;
     let blocks = blocks(alloc, matches)?;
     let area = area(alloc, matches)?;
-    let layout = layout(alloc, matches)?;
     let preallocates = flag(matches, "preallocate");
     let Some(geometry) = Geometry::new(blocks, area) else {
         return Err(format_fault(alloc, "--area: the bytes of an area are a multiple of 8192"));
     };
-    let geometry = match layout {
-        Layout::One => geometry,
-        Layout::Two => match geometry.with_layout_two() {
-            Some(halved) => halved,
-            None => {
-                return Ok(Plan::Refuse {
-                    path,
-                    refusal: Refusal::AreaSmall,
-                });
-            }
+    match laid_out(alloc, matches, geometry)? {
+        Some(geometry) => Ok(Plan::Format {
+            path,
+            geometry,
+            preallocates,
+        }),
+        None => Ok(Plan::Refuse {
+            path,
+            refusal: Refusal::AreaSmall,
+        }),
+    }
+}
+
+// The same sizes in the layout that is asked for; None where its areas would be too small. Where none is asked for it is layout 2
+// beside --size, if its areas are large enough, and layout 1 beside --blocks, whose bytes are those of every nbdj.
+fn laid_out(
+    alloc: Global,
+    matches: &ArgMatches<'_>,
+    geometry: Geometry,
+) -> Result<Option<Geometry>, Error>
+    requires { geometry.layout ≡ Layout.One }
+    ensures { IfOk result (λ laid. MatchOption laid (IsGiven (rows_of (found_of matches.now)) (codes "layout") 2 × (geometry.area < 4194304))
+        (λ laid. (laid.blocks ≡ geometry.blocks) × (laid.area ≡ geometry.area) × SaysLayout (rows_of (found_of matches.now)) laid.area laid.layout)) }
+{
+    let halved = geometry.with_layout_two();
+    match (text(matches, "layout"), text(matches, "blocks")) {
+        (Some(_), _) => match layout(alloc, matches)? {
+            Layout::One => Ok(Some(geometry)),
+            Layout::Two => Ok(halved),
         },
-    };
-    Ok(Plan::Format {
-        path,
-        geometry,
-        preallocates,
-    })
+        (None, Some(_)) => Ok(Some(geometry)),
+        (None, None) => match halved {
+            Some(halved) => Ok(Some(halved)),
+            None => Ok(Some(geometry)),
+        },
+    }
 }
 
 fn layout(alloc: Global, matches: &ArgMatches<'_>) -> Result<Layout, Error>
