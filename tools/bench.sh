@@ -6,6 +6,7 @@
 # that take SLOW_SYNCS microseconds more (0 1000 5000), by a preload that sleeps in them: READs alone and beside 4 connections that write and
 # flush, and such connections. A fourth one has how long writes wait while the journal fills all the time, in both layouts of nbdj, with
 # areas of 16 MiB (4 of 8), and beside the others, for FILLING_SECONDS (60).
+# TABLES (servers syncs filling) says which are made: the first two, the third, the fourth.
 # It needs cc and Debian's libnbd-dev, nbdkit and qemu-utils. ROUNDS (1) says how often each is measured, the servers in turn; the median
 # counts. BENCH_SECONDS (4) is the time of each measurement, BENCH_FOLDER where the images are, TMPDIR otherwise. After the time each
 # client waits for the answers that are due.
@@ -69,150 +70,176 @@ median() { sort -n | awk '{ it[NR] = $1 } END { print it[int((NR + 1) / 2)] }'; 
 # measure NAME KIND CONNECTIONS BLOCKS
 measure() { timeout 100 ./client run "nbd+unix:///?socket=$folder/$1.sock" "$2" "$3" "$seconds" "$4"; }
 
-# Each server has its whole life in a round, so that none shares the machine with another.
-round=0
-while [ $round -lt "$rounds" ]; do
-    for it in $servers; do
-        serve $it
-        ./client fill "nbd+unix:///?socket=$folder/$it.sock" $blocks
-        # (what the one has left unstored the next would pay for)
-        for row in 'sequential 1' 'flushed 8' 'fua 8' 'write 1' 'write 4' 'mixed 4' 'write-512 1' 'write-512 4' 'read-512 1' 'read-512 4'; do
-            measure $it $row $blocks >>"$it.$(echo "$row" | tr ' ' .)"
-            sync
-        done
-        # Reads that hit: of blocks that were written last, fewer than the frames.
-        ./client fill "nbd+unix:///?socket=$folder/$it.sock" $hot
-        for row in 'read 1' 'read 4' 'read-long 1' 'read-64k 1' 'write-512 1' 'write-512 4' 'read-512 1' 'read-512 4'; do measure $it $row $hot >>"$it.hit.$(echo "$row" | tr ' ' .)"; done
-        for row in 'read-long 1' 'read-64k 1'; do measure $it $row $blocks >>"$it.$(echo "$row" | tr ' ' .)"; done
-        sync
-        timeout 100 ./client stall "nbd+unix:///?socket=$folder/$it.sock" "$seconds" $blocks >>$it.stall
-        stop
-    done
-    round=$((round + 1))
-done
+# fill NAME BLOCKS: writes the first blocks of its image
+fill() { ./client fill "nbd+unix:///?socket=$folder/$1.sock" "$2"; }
 
-# The start on a clean image, nine times.
-"$NBDJ" recover nbdj.img >/dev/null
-for it in $servers; do
-    for k in 1 2 3 4 5 6 7 8 9; do
-        rm -f $it.sock
-        TMPDIR=$folder ./client start "$folder/$it.sock" $(command_of $it) >>$it.start
-    done
-    cut -d ' ' -f 1 $it.start | median >$it.ms
-    cut -d ' ' -f 2 $it.start | median >$it.bytes
-done
+# part NAME FIELD: the median of a field of what was measured
+part() { cut -d ' ' -f "$2" <"$1" | median; }
 
-echo "$(uname -sr), $(nproc) processors, load $(cut -d ' ' -f 1-3 /proc/loadavg), images on $(df -T "$folder" | awk 'NR == 2 { print $2 }');"
-echo "$("$NBDJ" --version), $(nbdkit --version), $(qemu-nbd --version | head -n 1), libnbd $(nbdinfo --version | sed -n 's/^nbdinfo //p');"
-echo "$rounds rounds of $seconds s, nbdj with $frames frames and areas of 64 MiB, an image of $((blocks / 256)) MiB."
-echo
-echo '| Workload | Unit | nbdj | nbdkit file | nbdkit cache, file | qemu-nbd | nbdj to the best other | Aim |'
-echo '|---|---|---|---|---|---|---|---|'
 # row TEXT UNIT AIM FILE: larger is better
 row() {
     echo "$1|$2|$(median <"nbdj.$4")|$(median <"nbdkit.$4")|$(median <"cache.$4")|$(median <"qemu.$4")|$3" |
         awk -F '|' '{ best = $4; if ($5 > best) best = $5; if ($6 > best) best = $6
             printf "| %s | %s | %s | %s | %s | %s | %.2f | %s |\n", $1, $2, $3, $4, $5, $6, $3 / best, $7 }'
 }
-row 'WRITE 4 KiB at random, 1 connection' '1/s' 1.0 write.1
-row 'WRITE 4 KiB at random, 4 connections' '1/s' 1.0 write.4
-row 'WRITE 4 KiB and FLUSH, 8 connections' '1/s' 1.0 flushed.8
-row 'WRITE 4 KiB with FUA, 8 connections' '1/s' 1.0 fua.8
-row 'WRITE 1 MiB in sequence, once over the image, FLUSH at the end' 'MiB/s' 0.6 sequential.1
-row 'READ 4 KiB at random that hits, 1 connection' '1/s' 1.0 hit.read.1
-row 'READ 4 KiB at random that hits, 4 connections' '1/s' 1.0 hit.read.4
-row '7 READs of 4 KiB to 3 WRITEs at random, 4 connections' '1/s' 0.9 mixed.4
-row 'READ 1 MiB in sequence that hits' 'MiB/s' 0.9 hit.read-long.1
-row 'READ 1 MiB in sequence that misses' 'MiB/s' 0.9 read-long.1
-row 'READ 64 KiB in sequence that hits' '1/s' 0.9 hit.read-64k.1
-row 'READ 64 KiB in sequence that misses' '1/s' 0.9 read-64k.1
-# (the old bytes of a block that was written last are in memory, and those of one at random anywhere are read)
-for connections in 1 4; do
-    many=$([ $connections -eq 1 ] && echo '1 connection' || echo '4 connections')
-    row "WRITE 512 bytes at random over blocks in memory, $many" '1/s' '' hit.write-512.$connections
-    row "WRITE 512 bytes at random over the image, $many" '1/s' '' write-512.$connections
-    row "READ 512 bytes at random that hits, $many" '1/s' '' hit.read-512.$connections
-    row "READ 512 bytes at random over the image, $many" '1/s' '' read-512.$connections
-done
-echo "| start until the greeting | ms | $(cat nbdj.ms) | $(cat nbdkit.ms) | $(cat cache.ms) | $(cat qemu.ms) | | 20 at most |"
-# The map of the image has two bits a block.
-most=$((frames * 4096 + blocks / 4 + 8388608))
-echo "| resident after the start | bytes | $(cat nbdj.bytes) | $(cat nbdkit.bytes) | $(cat cache.bytes) | $(cat qemu.bytes) | | $most at most |"
 
-# part NAME FIELD: the median of a field of what was measured
-part() { cut -d ' ' -f "$2" <"$1" | median; }
-
-echo
-echo '| 4 connections that write, one that writes and flushes, one that reads | nbdj | nbdkit file | nbdkit cache, file | qemu-nbd |'
-echo '|---|---|---|---|---|'
+# stalls TEXT FIELD, waits TEXT FIELD: a line of the second table, and of the fourth
 stalls() { echo "| $1 | $(part nbdj.stall "$2") | $(part nbdkit.stall "$2") | $(part cache.stall "$2") | $(part qemu.stall "$2") |"; }
-stalls 'WRITEs of 4 KiB a second' 1
-stalls 'the longest, us' 2
-stalls 'a WRITE with a FLUSH, p99, us' 3
-stalls 'a READ of 4 KiB, p99, us' 4
+waits() { echo "| $1 | $(part layout1.waits "$2") | $(part layout2.waits "$2") | $(part nbdkit.waits "$2") | $(part cache.waits "$2") | $(part qemu.waits "$2") |"; }
 
-# Syncs that take long. Each server has its life for each time of a sync, in each round.
-slow_syncs=${SLOW_SYNCS:-0 1000 5000}
-round=0
-while [ $round -lt "$rounds" ]; do
-    for us in $slow_syncs; do
-        slowly="SLOW_SYNC_US=$us LD_PRELOAD=$folder/slow_sync.so"
-        for it in nbdj nbdkit; do
+# Each server has its whole life in a round, so that none shares the machine with another.
+measure_servers() {
+    round=0
+    while [ $round -lt "$rounds" ]; do
+        for it in $servers; do
             serve $it
-            for length in 4096 65536; do
-                for flushers in 0 4; do
-                    timeout 100 ./client beside "nbd+unix:///?socket=$folder/$it.sock" $length $flushers "$seconds" $blocks >>"$it.$us.$length.$flushers"
-                done
+            fill $it $blocks
+            # (what the one has left unstored the next would pay for)
+            for row in 'sequential 1' 'flushed 8' 'fua 8' 'write 1' 'write 4' 'mixed 4' 'write-512 1' 'write-512 4' 'read-512 1' 'read-512 4'; do
+                measure $it $row $blocks >>"$it.$(echo "$row" | tr ' ' .)"
+                sync
             done
-            for connections in 1 2 4 8 15; do measure $it flushed $connections $blocks >>"$it.$us.flushed.$connections"; done
+            # Reads that hit: of blocks that were written last, fewer than the frames.
+            fill $it $hot
+            for row in 'read 1' 'read 4' 'read-long 1' 'read-64k 1' 'write-512 1' 'write-512 4' 'read-512 1' 'read-512 4'; do measure $it $row $hot >>"$it.hit.$(echo "$row" | tr ' ' .)"; done
+            for row in 'read-long 1' 'read-64k 1'; do measure $it $row $blocks >>"$it.$(echo "$row" | tr ' ' .)"; done
+            sync
+            timeout 100 ./client stall "nbd+unix:///?socket=$folder/$it.sock" "$seconds" $blocks >>$it.stall
             stop
         done
+        round=$((round + 1))
     done
-    round=$((round + 1))
-done
 
-echo
-echo '| Syncs take more | Workload | nbdj, 1/s | p50, p99, longest, us | nbdkit file, 1/s | p50, p99, longest, us | Ratio |'
-echo '|---|---|---|---|---|---|---|'
-for us in $slow_syncs; do
-    for length in 4096 65536; do
-        for flushers in 0 4; do
-            for it in nbdj nbdkit; do
-                name="$it.$us.$length.$flushers"
-                echo "$(part "$name" 1)|$(part "$name" 2), $(part "$name" 3), $(part "$name" 4)"
-            done | paste -s -d '|' | awk -F '|' -v what="$us us | READ $((length / 1024)) KiB beside $flushers that flush" \
-                '{ printf "| %s | %s | %s | %s | %s | %.2f |\n", what, $1, $2, $3, $4, $1 / $3 }'
+    # The start on a clean image, nine times.
+    "$NBDJ" recover nbdj.img >/dev/null
+    for it in $servers; do
+        for k in 1 2 3 4 5 6 7 8 9; do
+            rm -f $it.sock
+            TMPDIR=$folder ./client start "$folder/$it.sock" $(command_of $it) >>$it.start
         done
+        cut -d ' ' -f 1 $it.start | median >$it.ms
+        cut -d ' ' -f 2 $it.start | median >$it.bytes
     done
-    for connections in 1 2 4 8 15; do
-        echo "$(median <"nbdj.$us.flushed.$connections")|$(median <"nbdkit.$us.flushed.$connections")" |
-            awk -F '|' -v what="$us us | WRITE 4 KiB and FLUSH, $connections connections" '{ printf "| %s | %s | | %s | | %.2f |\n", what, $1, $2, $1 / $2 }'
-    done
-done
 
-# A journal that fills all the time: new images, all of which is written at random.
-filling=${FILLING_SECONDS:-60}
-for layout in 1 2; do "$NBDJ" format layout$layout.img --blocks $blocks --area 16M --layout $layout >/dev/null; done
-slowly=''
-round=0
-while [ $round -lt "$rounds" ]; do
-    for it in layout1 layout2 nbdkit cache qemu; do
+    echo
+    echo "Nbdj with $frames frames and areas of 64 MiB:"
+    echo
+    echo '| Workload | Unit | nbdj | nbdkit file | nbdkit cache, file | qemu-nbd | nbdj to the best other | Aim |'
+    echo '|---|---|---|---|---|---|---|---|'
+    row 'WRITE 4 KiB at random, 1 connection' '1/s' 1.0 write.1
+    row 'WRITE 4 KiB at random, 4 connections' '1/s' 1.0 write.4
+    row 'WRITE 4 KiB and FLUSH, 8 connections' '1/s' 1.0 flushed.8
+    row 'WRITE 4 KiB with FUA, 8 connections' '1/s' 1.0 fua.8
+    row 'WRITE 1 MiB in sequence, once over the image, FLUSH at the end' 'MiB/s' 0.6 sequential.1
+    row 'READ 4 KiB at random that hits, 1 connection' '1/s' 1.0 hit.read.1
+    row 'READ 4 KiB at random that hits, 4 connections' '1/s' 1.0 hit.read.4
+    row '7 READs of 4 KiB to 3 WRITEs at random, 4 connections' '1/s' 0.9 mixed.4
+    row 'READ 1 MiB in sequence that hits' 'MiB/s' 0.9 hit.read-long.1
+    row 'READ 1 MiB in sequence that misses' 'MiB/s' 0.9 read-long.1
+    row 'READ 64 KiB in sequence that hits' '1/s' 0.9 hit.read-64k.1
+    row 'READ 64 KiB in sequence that misses' '1/s' 0.9 read-64k.1
+    # (the old bytes of a block that was written last are in memory, and those of one at random anywhere are read)
+    for connections in 1 4; do
+        many=$([ $connections -eq 1 ] && echo '1 connection' || echo '4 connections')
+        row "WRITE 512 bytes at random over blocks in memory, $many" '1/s' '' hit.write-512.$connections
+        row "WRITE 512 bytes at random over the image, $many" '1/s' '' write-512.$connections
+        row "READ 512 bytes at random that hits, $many" '1/s' '' hit.read-512.$connections
+        row "READ 512 bytes at random over the image, $many" '1/s' '' read-512.$connections
+    done
+    echo "| start until the greeting | ms | $(cat nbdj.ms) | $(cat nbdkit.ms) | $(cat cache.ms) | $(cat qemu.ms) | | 20 at most |"
+    # The map of the image has two bits a block.
+    most=$((frames * 4096 + blocks / 4 + 8388608))
+    echo "| resident after the start | bytes | $(cat nbdj.bytes) | $(cat nbdkit.bytes) | $(cat cache.bytes) | $(cat qemu.bytes) | | $most at most |"
+
+    echo
+    echo '| 4 connections that write, one that writes and flushes, one that reads | nbdj | nbdkit file | nbdkit cache, file | qemu-nbd |'
+    echo '|---|---|---|---|---|'
+    stalls 'WRITEs of 4 KiB a second' 1
+    stalls 'the longest, us' 2
+    stalls 'a WRITE with a FLUSH, p99, us' 3
+    stalls 'a READ of 4 KiB, p99, us' 4
+}
+
+# Syncs that take long. Each server has its life for each time of a sync, in each round.
+measure_syncs() {
+    for it in nbdj nbdkit; do
         serve $it
-        timeout $((filling + 60)) ./client waits "nbd+unix:///?socket=$folder/$it.sock" "$filling" $blocks >>$it.waits
+        fill $it $blocks
         stop
     done
-    round=$((round + 1))
-done
-
-echo
-echo '| 4 connections that write, one that writes and flushes, through a journal that fills all the time | layout 1 | layout 2 | nbdkit file | nbdkit cache, file | qemu-nbd |'
-echo '|---|---|---|---|---|---|'
-waits() { echo "| $1 | $(part layout1.waits "$2") | $(part layout2.waits "$2") | $(part nbdkit.waits "$2") | $(part cache.waits "$2") | $(part qemu.waits "$2") |"; }
-waits 'WRITEs of 4 KiB a second' 1
-field=2
-for what in 'a WRITE' 'a WRITE with a FLUSH'; do
-    for part in p50 p99 p99.9 'the longest'; do
-        waits "$what, $part, us" $field
-        field=$((field + 1))
+    slow_syncs=${SLOW_SYNCS:-0 1000 5000}
+    round=0
+    while [ $round -lt "$rounds" ]; do
+        for us in $slow_syncs; do
+            slowly="SLOW_SYNC_US=$us LD_PRELOAD=$folder/slow_sync.so"
+            for it in nbdj nbdkit; do
+                serve $it
+                for length in 4096 65536; do
+                    for flushers in 0 4; do
+                        timeout 100 ./client beside "nbd+unix:///?socket=$folder/$it.sock" $length $flushers "$seconds" $blocks >>"$it.$us.$length.$flushers"
+                    done
+                done
+                for connections in 1 2 4 8 15; do measure $it flushed $connections $blocks >>"$it.$us.flushed.$connections"; done
+                stop
+            done
+        done
+        slowly=''
+        round=$((round + 1))
     done
+
+    echo
+    echo '| Syncs take more | Workload | nbdj, 1/s | p50, p99, longest, us | nbdkit file, 1/s | p50, p99, longest, us | Ratio |'
+    echo '|---|---|---|---|---|---|---|'
+    for us in $slow_syncs; do
+        for length in 4096 65536; do
+            for flushers in 0 4; do
+                for it in nbdj nbdkit; do
+                    name="$it.$us.$length.$flushers"
+                    echo "$(part "$name" 1)|$(part "$name" 2), $(part "$name" 3), $(part "$name" 4)"
+                done | paste -s -d '|' | awk -F '|' -v what="$us us | READ $((length / 1024)) KiB beside $flushers that flush" \
+                    '{ printf "| %s | %s | %s | %s | %s | %.2f |\n", what, $1, $2, $3, $4, $1 / $3 }'
+            done
+        done
+        for connections in 1 2 4 8 15; do
+            echo "$(median <"nbdj.$us.flushed.$connections")|$(median <"nbdkit.$us.flushed.$connections")" |
+                awk -F '|' -v what="$us us | WRITE 4 KiB and FLUSH, $connections connections" '{ printf "| %s | %s | | %s | | %.2f |\n", what, $1, $2, $1 / $2 }'
+        done
+    done
+}
+
+# A journal that fills all the time: new images, all of which is written at random.
+measure_filling() {
+    filling=${FILLING_SECONDS:-60}
+    for layout in 1 2; do "$NBDJ" format layout$layout.img --blocks $blocks --area 16M --layout $layout >/dev/null; done
+    round=0
+    while [ $round -lt "$rounds" ]; do
+        for it in layout1 layout2 nbdkit cache qemu; do
+            serve $it
+            timeout $((filling + 60)) ./client waits "nbd+unix:///?socket=$folder/$it.sock" "$filling" $blocks >>$it.waits
+            stop
+        done
+        round=$((round + 1))
+    done
+
+    echo
+    echo '| 4 connections that write, one that writes and flushes, through a journal that fills all the time | layout 1 | layout 2 | nbdkit file | nbdkit cache, file | qemu-nbd |'
+    echo '|---|---|---|---|---|---|'
+    waits 'WRITEs of 4 KiB a second' 1
+    field=2
+    for what in 'a WRITE' 'a WRITE with a FLUSH'; do
+        for part in p50 p99 p99.9 'the longest'; do
+            waits "$what, $part, us" $field
+            field=$((field + 1))
+        done
+    done
+}
+
+echo "$(uname -sr), $(nproc) processors, load $(cut -d ' ' -f 1-3 /proc/loadavg), images on $(df -T "$folder" | awk 'NR == 2 { print $2 }');"
+echo "$("$NBDJ" --version), $(nbdkit --version), $(qemu-nbd --version | head -n 1), libnbd $(nbdinfo --version | sed -n 's/^nbdinfo //p');"
+echo "$rounds rounds of $seconds s, an image of $((blocks / 256)) MiB."
+for table in ${TABLES:-servers syncs filling}; do
+    case $table in
+    servers | syncs | filling) measure_$table ;;
+    *) echo "bench: there is no table $table" >&2; exit 2 ;;
+    esac
 done
