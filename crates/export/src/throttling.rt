@@ -11,8 +11,8 @@ use std::sync::Wait;
 use std::thread;
 use std::time::Duration;
 
-/// So many microseconds is a client slowed down for a write of one block where seven eighths of the frames are dirty. It is nothing up to
-/// three quarters, and grows without end towards the last frame.
+/// So many microseconds is a client slowed down for a write of one block where 15 of 16 frames are dirty. It is nothing up to 14 of 16,
+/// and grows without end towards the last frame.
 const MICROS: u64 = 300;
 
 /// A write of so many blocks more is slowed down by as much again: blocks side by side are copied together.
@@ -37,8 +37,8 @@ impl Throttle {
     /// Notes that so many blocks were written, where so many of the frames are dirty; for how many microseconds their client waits.
     pub(crate) fn note(&mut self, blocks: u64, dirty: u64, frames: u64) -> u64 {
         let above = dirty
-            .saturating_mul(4)
-            .saturating_sub(frames.saturating_mul(3));
+            .saturating_mul(8)
+            .saturating_sub(frames.saturating_mul(7));
         if above == 0 {
             self.due = 0;
             return 0;
@@ -60,7 +60,7 @@ impl Throttle {
 }
 
 impl<B: ExportName, D: Disk, H: ReadBeside> Export<B, D, H> {
-    /// Has a client wait that has written so many bytes, for 10 ms at most, where more than three quarters of the frames are dirty.
+    /// Has a client wait that has written so many bytes, for 10 ms at most, where more than seven eighths of the frames are dirty.
     pub fn throttle<R: Wait + Clock>(&self, rt: &R, bytes: u32) {
         let blocks = u64::from(bytes).saturating_add(BLOCK_BYTES - 1) / BLOCK_BYTES;
         let micros = self.queue.lock(rt).throttle(blocks);
