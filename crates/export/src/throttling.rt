@@ -7,8 +7,7 @@ use crate::name::ExportName;
 use disk_model::Disk;
 use image_model::BLOCK_BYTES;
 use std::rt::Clock;
-use std::sync::Wait;
-use std::thread;
+use std::sync::{CondvarTimeouts, Wait};
 use std::time::Duration;
 
 /// So many microseconds is a client slowed down for a write of one block where 15 of 16 frames are dirty. It is nothing up to 14 of 16,
@@ -63,9 +62,13 @@ impl<B: ExportName, D: Disk, H: ReadBeside> Export<B, D, H> {
     /// Has a client wait that has written so many bytes, for 10 ms at most, where more than seven eighths of the frames are dirty.
     pub fn throttle<R: Wait + Clock>(&self, rt: &R, bytes: u32) {
         let blocks = u64::from(bytes).saturating_add(BLOCK_BYTES - 1) / BLOCK_BYTES;
-        let micros = self.queue.lock(rt).throttle(blocks);
+        let mut queue = self.queue.lock(rt);
+        let micros = queue.throttle(blocks);
         if micros > 0 {
-            thread::sleep(rt, Duration::from_micros(micros));
+            // Frames that are let go end it.
+            let _woken = self
+                .settled
+                .wait_timeout(rt, queue, Duration::from_micros(micros));
         }
     }
 }
