@@ -70,7 +70,8 @@ def kills(folder):
         check("a kill behind a connection that was cut", "commands 1", killed(server))
     for name, words, wait, found in (("interval", ("--flush-interval", "1"), 2.5, 3), ("never", ("--flush-interval", "0"), 2.5, 0), ("usual", (), 7, 3)):
         with Server(folder, name, 2, *words) as server, server.shaken() as client:
-            check(f"{name}: three writes", True, all(write(client, cookie, MIB // 4) for cookie in (0, 1, 2)))
+            # (a quarter of the frames would be stored for a checkpoint)
+            check(f"{name}: three writes", True, all(write(client, cookie, MIB // 8) for cookie in (0, 1, 2)))
             time.sleep(wait)
             check(f"{name}: a kill after {wait} seconds", f"commands {found}", killed(server))
 
@@ -339,18 +340,17 @@ def told(folder):
 
 
 def copied(folder):
-    """A checkpoint that is told: the second write takes half of the frames, and of an area."""
+    """A checkpoint that is told: the write takes a quarter of the frames."""
     with Server(folder, "copied", 1, "--verbose") as server:
         with server.shaken() as client:
-            for cookie in (0, 1):
-                check("copied: a write", True, write(client, cookie, MIB // 2))
-                client.sendall(request(FLUSH, 9, 0, 0))
-                check("copied: a flush", reply(9), take(client, 16))
+            check("copied: a write", True, write(client, 0, MIB // 2))
+            client.sendall(request(FLUSH, 9, 0, 0))
+            check("copied: a flush", reply(9), take(client, 16))
             late = threading.Timer(20, server.process.kill)
             late.start()
             line = next((it for it in server.process.stderr if "checkpoint" in it), "")
             late.cancel()
-        check("copied: what is told", "nbdj: checkpoint of 256 blocks in T s\n", re.sub(r"\d+\.\d{3} s$", "T s", line, flags=re.M))
+        check("copied: what is told", "nbdj: checkpoint of 128 blocks in T s\n", re.sub(r"\d+\.\d{3} s$", "T s", line, flags=re.M))
 
 
 def main():
