@@ -472,7 +472,7 @@ block_device() {
     is 'a block device that is too short' "1||nbdj: cannot open $loop" "$?|$(cat output)|$(cat errors)"
     differing 8388608 9 | dd of="$loop" bs=1M conv=notrunc 2>/dev/null
     is 'a block device is formatted' 'formatted 83902464' "$("$NBDJ" format "$loop" --size 64M --area 8M 2>&1)"
-    is 'a block device is checked' 'blocks 16384' "$("$NBDJ" check "$loop" 2>&1 | head -n 1)"
+    is 'a block device is checked' 'layout 2 blocks 16384' "$("$NBDJ" check "$loop" 2>&1 | head -n 2 | paste -s -d ' ')"
     rm -f d.img
     ln -s "$loop" d.img
     serves unix
