@@ -1,6 +1,5 @@
 //! What a journal costs: the last touches of an area that is full of commands, a scan of it, and the opening of a device
 //! that has to be recovered.
-ghost use Rattle.std.specs.Prelude.{◌≤◌};
 ghost use Rattle.journal_format.specs.Touches.{AreWithin};
 
 mod opening;

@@ -1,4 +1,4 @@
-ghost use Rattle.std.specs.Prelude.{◌≡◌, ℕ, ◌+◌, ◌-◌, ◌*◌, ◌≤◌, List, length, is_some, IfNone, IfOk, IfSome, None, Some};
+ghost use Rattle.std.specs.Prelude.{◌≡◌, ℕ, ◌+◌, ◌-◌, ◌≤◌, List, length, is_some, IfNone, IfOk, IfSome, None, Some};
 ghost use Rattle.copy_plan.specs.Plan.{IsNextCopy};
 ghost use Rattle.copy_plan.specs.inner.Plan.{kind_given};
 ghost use Rattle.device_image.specs.Keeper.{AreStatesAfter, IsPlanOf};

@@ -5,7 +5,6 @@ ghost use Rattle.device_image.specs.Keeper.{KeeperState, One};
 ghost use Rattle.device_image.specs.Keeps.{Keeps};
 ghost use Rattle.device_image.specs.Stands.{StandsFor};
 ghost use Rattle.disk_model.specs.Disk.{MayLeave};
-ghost use Rattle.image_model.specs.Change.{Change};
 ghost use Rattle.image_model.specs.Image.{Image};
 
 use disk_model::Disk;

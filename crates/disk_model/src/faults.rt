@@ -1,4 +1,4 @@
-ghost use Rattle.std.specs.Prelude.{◌≡◌, ◌&&◌, not, is_ok};
+ghost use Rattle.std.specs.Prelude.{◌≡◌, is_ok};
 ghost use Rattle.disk_model.specs.Faults.{faults_after};
 
 use crate::disk::DeviceFault;

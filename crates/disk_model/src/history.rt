@@ -1,4 +1,4 @@
-ghost use Rattle.std.specs.Prelude.{◌≡◌, ◌+◌, ◌≤◌, ◌<◌, ◌-◌, ◌⊎◌, ℕ, [], ◌∷◌, ◌++◌, length, take, drop, reverse, slice_index, replicate, OnOk, OnErr, IfSome, IfNone, IsTrue, false, vec_capacity, vec_len};
+ghost use Rattle.std.specs.Prelude.{◌≡◌, ◌+◌, ◌≤◌, ◌<◌, ◌-◌, ◌⊎◌, ℕ, [], ◌∷◌, ◌++◌, length, reverse, slice_index, replicate, OnOk, OnErr, IfSome, IfNone, IsTrue, false, vec_capacity, vec_len};
 ghost use Rattle.disk_model.specs.declared.history.Entry.TheVariants.{Written, Synced};
 ghost use Rattle.disk_model.specs.History.{patched, IsInside, IsPut, unsynced_by, synced_content, IsLeftBy};
 

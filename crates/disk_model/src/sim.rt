@@ -1,4 +1,4 @@
-ghost use Rattle.std.specs.Prelude.{◌≡◌, ◌≤◌, ◌<◌, ◌+◌, ◌^◌, ◌↔◌, ◌⊎◌, ℕ, [], length, reverse, ◌&&◌, slice_index, replicate, false, not, is_ok, IfOk, IsOk, IsErr, OnOk, OnErr, IsTrue};
+ghost use Rattle.std.specs.Prelude.{◌≡◌, ◌≤◌, ◌<◌, ◌+◌, ◌^◌, ◌⊎◌, ℕ, [], length, reverse, ◌&&◌, slice_index, replicate, false, not, is_ok, IfOk, IsErr, OnOk, OnErr, IsTrue};
 ghost use Rattle.disk_model.specs.Faults.{faults_after};
 ghost use Rattle.disk_model.specs.Disk.{IsFound, MayLeave, MayLeaveTorn, IsKept, IsWritten, IsWriteFailed, IsSynced, IsSyncFailed, LeavesOnly};
 ghost use Rattle.disk_model.specs.FaultPlan.{armed, is_due, after_call, no_faults};

@@ -1,4 +1,4 @@
-ghost use Rattle.std.specs.Prelude.{◌≡◌, ◌+◌, ◌≤◌, ◌↔◌, ℕ, length, OnOk, OnErr};
+ghost use Rattle.std.specs.Prelude.{◌≡◌, ◌+◌, ◌≤◌, ◌↔◌, length, OnOk};
 ghost use Rattle.disk_model.specs.Faults.{faults_after};
 ghost use Rattle.disk_model.specs.Disk.{IsStored, LeavesOnly, MayLeaveTorn};
 

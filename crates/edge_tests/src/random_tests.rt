@@ -1,5 +1,5 @@
 //! Edits at random places, each as the command that it becomes, compared with plain bytes after every checkpoint.
-ghost use Rattle.std.specs.Prelude.{◌≤◌, ◌<◌};
+ghost use Rattle.std.specs.Prelude.{◌<◌};
 
 use crate::subject::{Subject, holds};
 use image_model::{Edit, Kind};

@@ -1,5 +1,5 @@
 //! Reads beside the locks that are held while all else goes on: writes, clears, checkpoints, and frames that are let go.
-ghost use Rattle.std.specs.Prelude.{◌≡◌, ◌+◌, ◌*◌, ◌<◌, ◌≤◌, ◌^◌};
+ghost use Rattle.std.specs.Prelude.{◌≡◌, ◌+◌, ◌<◌, ◌^◌};
 ghost use Rattle.shared_store.specs.Orders.{SpanRead};
 
 use crate::memory_file::{HeldHandle, Latch, MemoryFile, wait_for_turn};

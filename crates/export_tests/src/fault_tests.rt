@@ -1,5 +1,5 @@
 //! A device that fails amid eight threads: each call returns, and what a FLUSH confirmed is there when it is opened again.
-ghost use Rattle.std.specs.Prelude.{◌≡◌, ◌*◌, ◌+◌, ◌<◌, ◌≤◌, ◌^◌};
+ghost use Rattle.std.specs.Prelude.{◌≡◌, ◌*◌, ◌+◌, ◌<◌, ◌^◌};
 ghost use Rattle.shared_store.specs.Orders.{SpanRead};
 
 use crate::requests::{flush, fresh_that_stops, has_block, write_block};

@@ -1,5 +1,5 @@
 //! Threads that write and read over an area so small that checkpoints go on all the time.
-ghost use Rattle.std.specs.Prelude.{◌≡◌, ◌*◌, ◌+◌, ◌<◌, ◌≤◌, ◌^◌};
+ghost use Rattle.std.specs.Prelude.{◌≡◌, ◌*◌, ◌+◌, ◌<◌, ◌^◌};
 ghost use Rattle.shared_store.specs.Orders.{SpanRead};
 
 use crate::requests::{flush, fresh, fresh_halved, reads_back, write_block};

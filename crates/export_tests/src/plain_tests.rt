@@ -1,6 +1,6 @@
 //! Eight threads for some seconds, each against a plain image of its own blocks, over an area so small that checkpoints go on all
 //! the time.
-ghost use Rattle.std.specs.Prelude.{◌≡◌, ◌*◌, ◌+◌, ◌<◌, ◌≤◌, ◌^◌};
+ghost use Rattle.std.specs.Prelude.{◌≡◌, ◌*◌, ◌+◌, ◌<◌, ◌^◌};
 ghost use Rattle.shared_store.specs.Orders.{SpanRead};
 
 use crate::requests::{flush, fresh, reads_back, trim_block, write_block};

@@ -1,4 +1,4 @@
-ghost use Rattle.std.specs.Prelude.{◌≡◌, ◌<◌, ◌^◌, length, replicate, slice_index_or, slice_set, is_some, IfOk, Some, None};
+ghost use Rattle.std.specs.Prelude.{◌≡◌, ◌<◌, length, replicate, slice_index_or, slice_set, is_some, IfOk, Some, None};
 ghost use Rattle.frame_pool.specs.Frames.{shown_at};
 
 use crate::region::Region;

@@ -1,5 +1,5 @@
 //! A pool and plain lists, on which the same calls are made.
-ghost use Rattle.std.specs.Prelude.{◌≡◌, ◌<◌, ◌≤◌, length};
+ghost use Rattle.std.specs.Prelude.{◌<◌};
 ghost use Rattle.frame_tests.specs.Both.{IsAtMost};
 
 use crate::plain::PlainPool;

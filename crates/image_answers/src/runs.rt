@@ -1,6 +1,5 @@
-ghost use Rattle.std.specs.Prelude.{◌≡◌, ◌+◌, ◌*◌, ◌-◌, ◌/◌, ◌%◌, ◌≤◌, ◌<◌, ◌^◌, IfOk, List, length, slice_index_or, take};
+ghost use Rattle.std.specs.Prelude.{◌≡◌, ◌+◌, ◌*◌, ◌-◌, ◌/◌, ◌%◌, ◌≤◌, ◌<◌, ◌^◌, IfOk, length, slice_index_or, take};
 ghost use Rattle.alloc_map.specs.Codes.{state_at};
-ghost use Rattle.image_model.specs.Edit.{blocks_met};
 ghost use Rattle.export_model.specs.Shown.{cut_behind, cut_front, cut_to, read_status_of, runs_from, runs_met, status_of};
 
 use image_model::Kind;

@@ -5,10 +5,6 @@ use Rattle.std.specs.Prelude.{ℕ, ◌+◌, ◌*◌, ◌/◌}
 abbrev pub map_bytes_of : ℕ → ℕ
 map_bytes_of blocks = 4096 * ((blocks + 16383) / 16384)
 
--- the journal areas of a device of layout 1
-abbrev pub area_count : ℕ
-area_count = 2
-
 -- the bytes of a device: two header slots, the areas, two map slots, the data
 abbrev pub device_bytes_of : ℕ → ℕ → ℕ
 device_bytes_of blocks area = 8192 + 2 * area + 2 * map_bytes_of blocks + 4096 * blocks

@@ -1,4 +1,4 @@
-ghost use Rattle.std.specs.Prelude.{◌≡◌, ◌≢◌, ◌⊎◌, ℕ, ◌+◌, ◌≤◌, ◌<◌, ◌^◌, ◌==◌, ◌↔◌, List, [], ◌∷◌, ◌++◌, length, take, drop, Option, Some, None, OnOk, IfErr, IfSome, IfNone, OnErr, IsErr, IsErrOf, IsErrAnd, vec_capacity};
+ghost use Rattle.std.specs.Prelude.{◌≡◌, ◌≢◌, ◌⊎◌, ℕ, ◌+◌, ◌≤◌, ◌<◌, ◌^◌, ◌==◌, ◌↔◌, List, [], ◌∷◌, ◌++◌, length, take, drop, OnOk, IfErr, OnErr, IsErr, IsErrOf, IsErrAnd, vec_capacity};
 ghost use Rattle.disk_model.specs.Disk.{IsSyncedIn, IsWritten, IsWriteFailed, LeavesOnly, MayLeaveTorn};
 ghost use Rattle.disk_model.specs.Faults.{faults_after};
 ghost use Rattle.image_model.specs.Change.{AreChanges};

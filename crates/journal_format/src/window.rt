@@ -1,4 +1,4 @@
-ghost use Rattle.std.specs.Prelude.{◌≡◌, ℕ, ◌+◌, ◌≤◌, ◌<◌, ◌^◌, ◌-◌, min, List, length, slice_index, OnOk, IfOk, IsTrue, ◌↔◌, vec_len};
+ghost use Rattle.std.specs.Prelude.{◌≡◌, ℕ, ◌+◌, ◌≤◌, ◌<◌, ◌-◌, min, List, length, slice_index, OnOk, IfOk, IsTrue, ◌↔◌};
 ghost use Rattle.disk_model.specs.Faults.{faults_after};
 ghost use Rattle.journal_format.specs.Reading.{IsOnlyRead};
 ghost use Rattle.journal_format.specs.Scanning.{IsReadAs};

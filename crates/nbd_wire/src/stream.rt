@@ -1,4 +1,4 @@
-ghost use Rattle.std.specs.Prelude.{◌≡◌, ◌+◌, ◌-◌, ◌<◌, ◌≤◌, ℕ, List, [], ◌∷◌, ◌++◌, Some, length, take, IfOk, IfErr, IsOkAnd, OnErr, vec_len, vec_capacity};
+ghost use Rattle.std.specs.Prelude.{◌≡◌, ◌+◌, ◌-◌, ◌<◌, ◌≤◌, ℕ, List, [], ◌++◌, Some, length, take, IfOk, IfErr, IsOkAnd, OnErr, vec_len, vec_capacity};
 ghost use Rattle.std.specs.Io.KnownBytes.{Keeps};
 ghost use Rattle.nbd_wire.specs.Head.{head_bytes};
 ghost use Rattle.nbd_wire.specs.Request.{handed_len};

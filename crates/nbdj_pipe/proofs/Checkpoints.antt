@@ -16,7 +16,7 @@ use Rattle.image_model.specs.Dirty.{Dirty, dirty_blocks, frames_suffice, with_bl
 use Rattle.image_model.specs.Edit.{ByteEdit, BytesPut, BytesTrimmed, BytesZeroed, apply_edit, becomes, blocks_met, bytes_of, cleared_within, end_spanned, first_spanned, is_partial_data}
 use Rattle.image_model.specs.Image.{Image, last_of}
 use Rattle.image_model.specs.laws.Becoming.{length-bytes_of}
-use Rattle.image_model.specs.laws.Layouts.{areas_least, areas_most}
+use Rattle.image_model.specs.laws.Layouts.{areas_least}
 use Rattle.nbd_wire.specs.Request.{Message}
 use Rattle.device_image.specs.Keeper.{KeeperState}
 use Rattle.disk_model.specs.Disk.{State}

@@ -1,4 +1,4 @@
-ghost use Rattle.std.specs.Prelude.{◌≡◌, ◌≢◌, ℕ, ◌<◌, ◌^◌, take, IfOk, OnErr};
+ghost use Rattle.std.specs.Prelude.{◌≡◌, ◌≢◌, ℕ, ◌<◌, take, IfOk, OnErr};
 ghost use Rattle.option_wire.specs.Head.{option_head, option_magic};
 
 use crate::error::Malformed;

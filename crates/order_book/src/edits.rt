@@ -1,4 +1,4 @@
-ghost use Rattle.std.specs.Prelude.{◌≡◌, ◌≢◌, ◌⊎◌, ◌+◌, ◌-◌, ◌*◌, ◌/◌, ◌%◌, ◌<◌, ◌≤◌, ◌^◌, ◌↔◌, ◌++◌, ◌==◌, ◌&&◌, not, if◌then◌else◌, ℕ, List, length, take, drop, replicate, slice_index, Some, None, true, false, IfErr, IfOk, IsTrue, OnOk, OnErr};
+ghost use Rattle.std.specs.Prelude.{◌≡◌, ◌⊎◌, ◌+◌, ◌-◌, ◌*◌, ◌/◌, ◌%◌, ◌<◌, ◌≤◌, ◌^◌, ◌↔◌, ◌++◌, ◌==◌, ◌&&◌, not, if◌then◌else◌, ℕ, List, length, replicate, slice_index, Some, None, true, false, IfErr, IfOk, IsTrue, OnOk, OnErr};
 ghost use Rattle.alloc_map.specs.Codes.{state_at};
 ghost use Rattle.checkpoint.specs.Keeper.{faults_by, refused_by};
 ghost use Rattle.checkpoint.specs.declared.fault.KeeperFault.TheVariants as KeeperFault;

@@ -1,5 +1,5 @@
 //! Edits in bytes over blocks in each state, read back against plain bytes, and what refuses one.
-ghost use Rattle.std.specs.Prelude.{◌≡◌, ◌<◌, ◌≤◌, ◌+◌, ◌^◌};
+ghost use Rattle.std.specs.Prelude.{◌≡◌, ◌<◌, ◌^◌};
 
 use crate::edits::{Asked, ByteRange, edit};
 use crate::plain::{BLOCKS, Plain};

@@ -1,4 +1,4 @@
-ghost use Rattle.std.specs.Prelude.{◌≡◌, ◌≢◌, ◌+◌, ◌*◌, ◌<◌, ◌≤◌, ℕ};
+ghost use Rattle.std.specs.Prelude.{◌≡◌, ◌≢◌, ◌+◌, ◌<◌, ◌≤◌, ℕ};
 ghost use Rattle.disk_model.specs.Disk.{InRange};
 ghost use Rattle.image_model.specs.declared.side.Side.TheVariants as Side;
 ghost use Rattle.image_model.specs.Geometry.{device_bytes_of, map_bytes_of};

@@ -116,7 +116,3 @@ module _ {D : Type 0} (keeper : KeeperState D) (disk : D) (state : State) where
         };
         log = of.log;
       }
-
-pub ok_so : {X E : Type 0} (P Q : X → Type 0) (r : Result X E) → ((x : X) → P x → Q x) → IfOk r P → IfOk r Q
-ok_so P Q (Ok x) so holds = so x holds
-ok_so P Q (Err e) so holds = tt

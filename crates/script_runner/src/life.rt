@@ -1,4 +1,4 @@
-ghost use Rattle.std.specs.Prelude.{◌≡◌, ◌⊎◌, ◌≢◌, ◌↔◌, ◌<◌, ◌≤◌, ◌*◌, ◌^◌, ℕ, true, List, [], ◌∷◌, length, take, vec_len, IfErr, IfOk, IsTrue, OnOk};
+ghost use Rattle.std.specs.Prelude.{◌≡◌, ◌⊎◌, ◌≢◌, ◌↔◌, ◌<◌, ◌*◌, ◌^◌, ℕ, true, List, [], ◌∷◌, length, take, vec_len, IfErr, IfOk, IsTrue, OnOk};
 ghost use Rattle.std.specs.Option.{ForSome};
 ghost use Rattle.checkpoint.specs.Opening.{StandsAs, disk_after};
 ghost use Rattle.checkpoint.specs.Recovery.{IsRecovered};

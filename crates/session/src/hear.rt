@@ -1,4 +1,4 @@
-ghost use Rattle.std.specs.Prelude.{◌≡◌, ◌⊎◌, ℕ, ◌<◌, List, [], Option, Some, IfErr, IfOk, IsErrAnd, IsErrOf, OnErr, OnOk, vec_len};
+ghost use Rattle.std.specs.Prelude.{◌≡◌, ◌⊎◌, ℕ, ◌<◌, List, [], Option, Some, IfOk, IsErrAnd, IsErrOf, OnErr, OnOk, vec_len};
 ghost use Rattle.std.specs.Global.{Vec};
 ghost use Rattle.std.specs.Io.KnownBytes.{IsAtEnd, Keeps};
 ghost use Rattle.nbd_wire.specs.Request.{Message};

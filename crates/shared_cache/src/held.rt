@@ -1,4 +1,4 @@
-ghost use Rattle.std.specs.Prelude.{◌≡◌, ◌==◌, true, if◌then◌else◌, ◌≢◌, ◌+◌, ◌<◌, ◌≤◌, ◌^◌, [], ℕ, All, length, replicate, slice_set, IfOk, IfNone, IfSome, IsErr, OnOk, OnErr, ◌↔◌};
+ghost use Rattle.std.specs.Prelude.{◌≡◌, ◌==◌, true, if◌then◌else◌, ◌+◌, ◌<◌, ◌≤◌, ◌^◌, [], ℕ, All, length, slice_set, IfOk, IfNone, IfSome, IsErr, OnOk, OnErr, ◌↔◌};
 ghost use Rattle.std.specs.Option.{option_copied};
 ghost use Rattle.frame_pool.specs.Lists.{times};
 ghost use Rattle.frame_pool.specs.Pool.{DirtyFrame, front_through, with_bytes, with_clean, with_dirty, with_free};

@@ -1,6 +1,5 @@
 //! A device of 16 blocks: formatted, added to, cut off at each call, and damaged by hand.
-ghost use Rattle.std.specs.Prelude.{◌≡◌, ◌+◌, ◌<◌, ◌^◌, length, IfOk};
-ghost use Rattle.image_model.specs.Geometry.{device_bytes_of};
+ghost use Rattle.std.specs.Prelude.{◌<◌};
 
 use crate::devices::{append, block_of, formatted, opened, put};
 use checkpoint::{Keeper, KeeperFault};

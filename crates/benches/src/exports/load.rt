@@ -1,5 +1,5 @@
 //! What a thread of a measurement asks of an export.
-ghost use Rattle.std.specs.Prelude.{◌≡◌, ◌≢◌, ◌*◌, ◌<◌, ◌≤◌, ◌^◌, IfOk, vec_len};
+ghost use Rattle.std.specs.Prelude.{◌≡◌, ◌*◌, ◌<◌, ◌^◌};
 
 use disk_model::Disk;
 use export::{Export, ExportName};

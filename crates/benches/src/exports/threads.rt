@@ -1,5 +1,5 @@
 //! Threads that carry out a task over one export, beside a flusher and a checkpointer.
-ghost use Rattle.std.specs.Prelude.{◌<◌, ◌^◌};
+ghost use Rattle.std.specs.Prelude.{◌<◌};
 
 use crate::exports::load::{Task, carry_out, flush, write};
 use disk_model::Disk;

@@ -1,5 +1,5 @@
 //! What an order takes to accept edits whose old bytes are in memory.
-ghost use Rattle.std.specs.Prelude.{◌≡◌, ◌≤◌, ◌<◌, ◌+◌, ◌^◌};
+ghost use Rattle.std.specs.Prelude.{◌<◌, ◌^◌};
 
 use crate::orders::load::{Desk, store};
 use anyhow::{Result, bail};

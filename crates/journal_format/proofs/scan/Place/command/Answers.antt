@@ -1,4 +1,4 @@
-use Rattle.std.proofs.Common.{◌≡◌, ⊎_elim, ℕ, ◌+◌, ◌*◌, ◌∷◌, [], List, Option, Some, ◌∙◌, ap, arith}
+use Rattle.std.proofs.Common.{◌≡◌, ⊎_elim, ℕ, ◌+◌, ◌∷◌, [], List, Option, Some, ◌∙◌, ap, arith}
 use Rattle.image_model.specs.Change.{edge_count}
 use Rattle.image_model.specs.declared.command.Edges.{Edges}
 use Rattle.journal_format.specs.declared.touch.TouchedRange.{TouchedRange}
