@@ -93,6 +93,15 @@ refused 'a word too many' recover new.img more
 refused 'layout 0' format new.img --size 64K --layout 0
 refused 'layout 3' format new.img --size 64K --layout 3
 refused 'a layout of letters' format new.img --size 64K --layout two
+refused 'a layout without a value' format new.img --size 64K --layout
+refused 'a layout given twice' format new.img --size 64K --layout 1 --layout 2
+refused 'a layout before its command' --layout 1 format new.img --size 64K
+refused 'a layout behind the words' format new.img --size 64K -- --layout 1
+refused 'a part of an option' format new.img --size 64K --lay 1
+refused 'an unknown option' format new.img --size 64K --layuot 1
+refused 'blocks without a value' format new.img --size 64K --blocks
+run format new.img --size 64K --help
+is 'help beside a format makes no file' '0|no' "$status|$([ -e new.img ] && echo yes || echo no)"
 refused 'check without a path' check
 # The version is that of the first heading of the list of changes.
 version=$(sed -n 's/^## \([0-9][0-9.]*\).*/\1/p' "$here/CHANGELOG.md" | head -n 1)

@@ -39,7 +39,7 @@ pub record SaysFlag (rows : List Row) (name : Text) (flag : Bool) : Type 0 where
   pub given : one_of name rows ≡ Some (codes "true") → flag ≡ true
   pub left_out : one_of name rows ≡ Some (codes "false") → flag ≡ false
 
--- the option was left out
+-- the option was left out (by what clap reads, it has no value)
 abbrev pub IsLeftOut : List Row → Text → Type 0
 IsLeftOut rows name = first_of name rows ≡ None
 
@@ -48,7 +48,7 @@ abbrev pub SaysBlocks : List Row → ℕ → Type 0
 SaysBlocks rows blocks =
     (IsLeftOut rows (codes "blocks") × IsGivenSize rows (codes "size") (blocks * 4096)) ⊎ (IsLeftOut rows (codes "size") × IsGiven rows (codes "blocks") blocks)
 
--- an area has so many bytes: what --area says, or 64 MiB where it is left out and --blocks is too
+-- an area of layout 1, or two of layout 2, has so many bytes: what --area says, or 64 MiB where it is left out and --blocks is too
 abbrev pub SaysArea : List Row → ℕ → Type 0
 SaysArea rows area = IsGivenSize rows (codes "area") area ⊎ (IsLeftOut rows (codes "area") × IsLeftOut rows (codes "blocks") × (area ≡ 67108864))
 

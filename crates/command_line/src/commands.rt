@@ -79,7 +79,7 @@ fn bare<'a>(alloc: Global) -> Command<'a>
 
 // The two ways to say how large an image is.
 const FORMAT_USAGE: &str =
-    "nbdj format --size <SIZE> [--area <BYTES>] <PATH>\n       nbdj format --blocks <N> --area <BYTES> <PATH>";
+    "nbdj format [OPTIONS] --size <SIZE> <PATH>\n       nbdj format [OPTIONS] --blocks <N> --area <BYTES> <PATH>";
 
 pub fn format<'a>(alloc: Global) -> Result<Command<'a>, AllocError>
     ensures { IfOk result (λ command. app_of command ≡ format_app) }
@@ -88,7 +88,7 @@ pub fn format<'a>(alloc: Global) -> Result<Command<'a>, AllocError>
         alloc,
         "format",
         "Makes or replaces the file at its full size: an image of holes with an empty journal",
-        "Example: nbdj format d.img --size 10G\n\nWhat the file held before is lost, unless the format is refused. A kill or a power cut before the end leaves what the file held, or a file that doesn't open.\n\nExit status: 0 done; 1 a fault of file, device or memory; 2 a refused command line.",
+        "Example: nbdj format d.img --size 10G\n\nWhat the file held before is lost, unless the format is refused. A kill or a power cut before the end leaves what the file held, or a file that doesn't open.\n\nExit status: 0 done; 1 a fault of file, device or memory, or an area below 4M for layout 2; 2 a refused command line.",
     );
     let command = command.override_usage(FORMAT_USAGE).arg(path(alloc))?;
     let command = with_argument(command, size(alloc))?;
@@ -130,7 +130,7 @@ fn area<'a>(alloc: Global) -> Arg<'a>
     ensures rule { rule_of result ≡ area_rule }
 {
     option(alloc, "area", "BYTES").help(
-        "Bytes of each journal area, a multiple of 8192: 2M to 1G; with --size by default 64M",
+        "Bytes of a journal area of layout 1, and of two of layout 2, a multiple of 8192: 2M to 1G; with --size by default 64M",
     )
 }
 
