@@ -8,13 +8,13 @@ use Rattle.image_model.specs.declared.layout.Layout.{Layout}
 use Rattle.image_model.specs.declared.layout.Layout.TheVariants.{One, Two}
 use Rattle.export_model.specs.declared.step.Mode.{Mode}
 use Rattle.export_model.specs.declared.step.Mode.TheVariants.{Writeback, Writethrough}
-use Rattle.subcommands.specs.declared.plan.Invocation.{Invocation}
-use Rattle.subcommands.specs.declared.plan.Plan.{Plan}
-use Rattle.subcommands.specs.declared.plan.Address.{Address}
-use Rattle.subcommands.specs.declared.plan.Address.TheVariants.{Tcp, Unix}
-use Rattle.subcommands.specs.declared.plan.Course.{Course}
-use Rattle.subcommands.specs.declared.plan.Course.TheVariants.{Once, Sweep, Faults}
-use Rattle.subcommands.specs.declared.plan.Plan.TheVariants.{Format, Pipe, Serve, Recover, Upgrade, Check, Rehearse, Refuse}
+use Rattle.front_end.specs.declared.plan.Invocation.{Invocation}
+use Rattle.front_end.specs.declared.plan.Plan.{Plan}
+use Rattle.front_end.specs.declared.plan.Address.{Address}
+use Rattle.front_end.specs.declared.plan.Address.TheVariants.{Tcp, Unix}
+use Rattle.front_end.specs.declared.plan.Course.{Course}
+use Rattle.front_end.specs.declared.plan.Course.TheVariants.{Once, Sweep, Faults}
+use Rattle.front_end.specs.declared.plan.Plan.TheVariants.{Format, Pipe, Serve, Recover, Upgrade, Check, Rehearse, Refuse}
 use Rattle.front_end.specs.declared.refusal.Refusal.TheVariants.{AreaSmall}
 use Rattle.front_end.specs.declared.options.Limits.{Limits}
 use Rattle.front_end.specs.declared.options.OnFault.{OnFault}

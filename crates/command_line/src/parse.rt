@@ -11,11 +11,11 @@ use crate::size::bytes_of;
 use clap::error::ErrorKind;
 use clap::{ArgMatches, Command, Error};
 use export_model::Mode;
-use front_end::{Limits, OnFault, Refusal, ServeOptions};
+use front_end::{
+    Address, Course, Invocation, Limits, OnFault, PipeOptions, Plan, Refusal, ServeOptions,
+};
 use image_model::{BLOCK_BYTES, Geometry, LEAST_AREA_BYTES, Layout, MOST_AREA_BYTES, MOST_BLOCKS};
-use nbdj_pipe::PipeOptions;
 use std::alloc::{AllocError, Global};
-use subcommands::{Address, Course, Invocation, Plan};
 
 /// Reads a command line, the program's name first. Texts of help and version come as errors too.
 ///

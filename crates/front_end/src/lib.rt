@@ -1,11 +1,15 @@
-//! What lies above the engine and below what uses it: why a run of the program ends early, how many frames it may have, and how an
-//! image is served.
+//! What lies above the engine and below what uses it: what a command line may ask for, how an image is served, how many frames it may
+//! have, and why a run of the program ends early.
 #![tactic(auto)]
 
 mod limits;
 mod options;
+mod pipe_options;
+mod plan;
 mod refusal;
 
 pub use limits::{LEAST_FRAMES, MOST_FRAMES};
 pub use options::{Limits, MOST_WORKERS, OnFault, ServeOptions};
+pub use pipe_options::PipeOptions;
+pub use plan::{Address, Course, Invocation, Plan};
 pub use refusal::Refusal;

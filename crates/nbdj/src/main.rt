@@ -4,25 +4,19 @@
 ghost use Rattle.subcommands.specs.Plan.{Suits};
 
 mod beside;
-mod files;
-mod filling;
-mod fresh;
 mod serving;
-mod streams;
 mod teller;
-mod told;
 
 use crate::beside::SecondHandle;
-use crate::files::{FileFault, Opened, open, open_for_reading, open_fresh, try_fresh};
-use crate::filling::fill;
 use crate::serving::serve_at;
-use crate::streams::ClosedStreams;
 use crate::teller::Teller;
-use crate::told::ToldFile;
 use clap::error::ErrorKind;
 use command_line::line;
 use disk_model::{Disk, FileDisk};
-use front_end::Refusal;
+use front_end::{Course, Invocation, Plan, Refusal};
+use image_files::{
+    ClosedStreams, FileFault, Opened, ToldFile, fill, open, open_for_reading, open_fresh, try_fresh,
+};
 use nbdj_sweep::{faults, sweep};
 use script_runner::script;
 use std::fs::File;
@@ -31,7 +25,7 @@ use std::rt::Clock;
 use std::sync::Wait;
 use std::thread::Threads;
 use std::{env, io};
-use subcommands::{Course, Invocation, Plan, exit_status, perform};
+use subcommands::{exit_status, perform};
 
 fn main(rt: HostRuntime) -> ExitCode {
     // Before anything else is opened, and kept to the end.

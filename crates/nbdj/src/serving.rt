@@ -2,11 +2,11 @@
 
 use crate::beside::SecondHandle;
 use crate::teller::Teller;
-use crate::told::ToldFile;
 use disk_model::{Disk, FileDisk};
 use export::OpenDevice;
-use front_end::{Refusal, ServeOptions};
+use front_end::{Address, Refusal, ServeOptions};
 use header_slots::read_current;
+use image_files::ToldFile;
 use server::{Listener, serve};
 use std::fmt::Display;
 use std::fs::{self, File};
@@ -18,7 +18,7 @@ use std::rt::Clock;
 use std::sync::Wait;
 use std::thread::Threads;
 use std::time::{Duration, Instant};
-use subcommands::{Address, exit_status};
+use subcommands::exit_status;
 
 // Opens a device, serves it at an address, and gives the exit status.
 pub fn serve_at<R: Threads + Wait + Clock + Copy + Send + Sync + Drop + 'static>(

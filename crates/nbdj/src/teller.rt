@@ -1,9 +1,9 @@
 //! What `--verbose` tells: why something can't be done, and what happens in the life of a server.
 
-use crate::files::{FileFault, header_of};
 use disk_model::{Disk, FileDisk};
 use export::{Point, SyncPoints};
 use header_slots::{HeaderFault, read_current};
+use image_files::{FileFault, header_of};
 use nbd_wire::SessionFlags;
 use negotiation::End;
 use server::{Event, Log, Traffic};

@@ -3,8 +3,6 @@
 #![tactic(auto)]
 
 mod export;
-mod options;
 mod session;
 
-pub use options::PipeOptions;
 pub use session::pipe;

@@ -22,13 +22,12 @@ ghost use Rattle.request_core.specs.Parts.{IsExportOf};
 ghost use Rattle.export_model.specs.World.{World};
 
 use crate::export::Export;
-use crate::options::PipeOptions;
 use byte_streams::{StreamFault, read_some, write_whole};
 use checkpoint::Keeper;
 use device_image::keeper_laws;
 use disk_model::Disk;
 use export_model_laws::schedule_law;
-use front_end::Refusal;
+use front_end::{PipeOptions, Refusal};
 use marks::{BlankBoard, Board, BoardName, KeeperSeat, Opened};
 use nbd_reply::encode_simple_reply;
 use nbd_wire::{Answer, Request, SessionFlags, StreamReader, one_reading};

@@ -3,14 +3,14 @@ ghost use Rattle.subcommands.specs.Plan.{Suits};
 
 use disk_model::{Disk, SimDisk};
 use export_model::Mode;
+use front_end::{PipeOptions, Plan};
 use image_model::Geometry;
 use nbd_wire::{RequestHead, encode_request};
-use nbdj_pipe::PipeOptions;
 use std::alloc::{AllocError, Global};
 use std::io::Read;
 use std::process::Abort;
 use std::test::Fail;
-use subcommands::{Plan, perform};
+use subcommands::perform;
 
 // What a run of a plan left.
 pub struct Ran {

@@ -1,7 +1,7 @@
 use Rattle.std.specs.Prelude.{ℕ, ◌≡◌}
-use Rattle.nbdj_pipe.specs.declared.options.PipeOptions.{PipeOptions}
-use Rattle.subcommands.specs.declared.plan.Plan.{Plan}
-use Rattle.subcommands.specs.declared.plan.Plan.TheVariants.{Format, Pipe, Serve, Recover, Upgrade, Check, Rehearse, Refuse}
+use Rattle.front_end.specs.declared.pipe_options.PipeOptions.{PipeOptions}
+use Rattle.front_end.specs.declared.plan.Plan.{Plan}
+use Rattle.front_end.specs.declared.plan.Plan.TheVariants.{Format, Pipe, Serve, Recover, Upgrade, Check, Rehearse, Refuse}
 use Rattle.image_model.specs.Geometry.{device_bytes_of}
 use Rattle.image_model.specs.declared.geometry.Geometry.{Geometry}
 

@@ -9,10 +9,9 @@ ghost use Rattle.journal_format.specs.Reading.{IsOnlyRead};
 ghost use Rattle.subcommands.specs.Devices.{IsFormatCarriedOut, IsPrinted, IsRecoveryCarriedOut, IsUpgradeCarriedOut};
 ghost use Rattle.subcommands.specs.Plan.{IfCheck, IfFormat, IfPipe, IfRecover, IfUpgrade, Suits};
 
-use crate::plan::Plan;
 use checkpoint::{Keeper, Report};
 use disk_model::Disk;
-use front_end::Refusal;
+use front_end::{Plan, Refusal};
 use image_model::{Geometry, Layout};
 use nbdj_pipe::pipe;
 use std::alloc::Global;

@@ -46,7 +46,7 @@ impl From<TryLockError> for FileFault {
 
 /// What a path names, as far as an image can lie there.
 #[derive(Clone, Copy, Debug, PartialEq, Eq)]
-pub enum Place {
+pub(crate) enum Place {
     /// A file, which may be made and cut to length.
     File,
     /// A block device, which has the length that it has.
@@ -112,7 +112,7 @@ fn counted(file: File, length: u64) -> (File, u64) {
     }
 }
 
-// The header in force of a file, however long that is.
+/// The header in force of a file, however long that is.
 pub fn header_of(file: File) -> (File, Option<Header>) {
     let mut front = [0; 2 * SLOT_BYTES as usize];
     if file.read_exact_at(&mut front, 0).is_err() {
@@ -134,7 +134,7 @@ pub fn header_of(file: File) -> (File, Option<Header>) {
     (file, None)
 }
 
-// Opens a device's file, which no other process works on then.
+/// Opens a device's file, which no other process works on then.
 pub fn open(rt: &HostRuntime, path: &str) -> Result<Opened, FileFault> {
     let place = place_of(rt, path)?;
     let file = OpenOptions::new().read(true).write(true).open(rt, path)?;
@@ -142,7 +142,7 @@ pub fn open(rt: &HostRuntime, path: &str) -> Result<Opened, FileFault> {
     measured(rt, file, place)
 }
 
-// Opens a device's file so that it can't be written, and no other process writes it.
+/// Opens a device's file so that it can't be written, and no other process writes it.
 pub fn open_for_reading(rt: &HostRuntime, path: &str) -> Result<Opened, FileFault> {
     let place = place_of(rt, path)?;
     let file = fs::open(rt, path)?;
@@ -150,8 +150,8 @@ pub fn open_for_reading(rt: &HostRuntime, path: &str) -> Result<Opened, FileFaul
     measured(rt, file, place)
 }
 
-// Opens a file, or makes it, that gets this length once it is written, and keeps what it holds until then; or a block device
-// that has it. Its name is stable where the system lets a folder be synced.
+/// Opens a file, or makes it, that gets this length once it is written, and keeps what it holds until then; or a block device
+/// that has it. Its name is stable where the system lets a folder be synced.
 pub fn open_fresh(rt: &HostRuntime, path: &str, size: u64) -> Result<(FreshFile, u64), FileFault>
     ensures { IfOk result (λ fresh. fresh.1 ≡ size) }
 {
@@ -177,7 +177,7 @@ pub fn open_fresh(rt: &HostRuntime, path: &str, size: u64) -> Result<(FreshFile,
     Ok((FreshFile::new(file, size, place), size))
 }
 
-// Whether a file could be opened, or made, there; what is there stays as it is, and no new file is left.
+/// Whether a file could be opened, or made, there; what is there stays as it is, and no new file is left.
 pub fn try_fresh(rt: &HostRuntime, path: &str) -> Result<(), FileFault> {
     let is_new = match place_of(rt, path) {
         Err(FileFault::Unopened(error)) => error.kind() == ErrorKind::NotFound,

@@ -1,6 +1,7 @@
-use front_end::{Refusal, ServeOptions};
+use crate::options::ServeOptions;
+use crate::pipe_options::PipeOptions;
+use crate::refusal::Refusal;
 use image_model::Geometry;
-use nbdj_pipe::PipeOptions;
 
 /// Where clients arrive.
 #[derive(Clone, Copy, Debug)]

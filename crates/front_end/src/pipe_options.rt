@@ -1,9 +1,9 @@
 ghost use Rattle.std.specs.Prelude.{◌≡◌, ◌≤◌, MatchOption};
 
+use crate::limits::{LEAST_FRAMES, MOST_FRAMES};
 use export_model::Mode;
-use front_end::{LEAST_FRAMES, MOST_FRAMES};
 
-/// How a connection is served.
+/// How one connection is served over a pair of streams.
 #[derive(Clone, Copy, Debug, PartialEq, Eq)]
 pub struct PipeOptions {
     /// The most blocks that may wait for the checkpoint.

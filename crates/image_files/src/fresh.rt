@@ -14,7 +14,7 @@ pub struct FreshFile {
 }
 
 impl FreshFile {
-    pub fn new(file: File, size: u64, place: Place) -> FreshFile {
+    pub(crate) fn new(file: File, size: u64, place: Place) -> FreshFile {
         FreshFile {
             file,
             size,

@@ -39,8 +39,8 @@ fn open_nothing(rt: &HostRuntime) -> io::Result<File> {
         .or_else(|_| fs::open(rt, "/"))
 }
 
-/// Whether what is written to a stream, which its path names, goes into this file, as far as the system tells.
-pub fn goes_into(rt: &HostRuntime, stream: &str, file: &Metadata) -> bool {
+// Whether what is written to a stream, which its path names, goes into this file, as far as the system tells.
+pub(crate) fn goes_into(rt: &HostRuntime, stream: &str, file: &Metadata) -> bool {
     match fs::metadata(rt, stream) {
         Ok(written) => written.dev() == file.dev() && written.ino() == file.ino(),
         Err(_) => false,

@@ -1,0 +1,15 @@
+//! The file or the block device that holds an image: opened and locked, made, filled, and told of where a call of it fails; and the
+//! standard streams, kept apart from it.
+#![tactic(auto)]
+
+mod files;
+mod filling;
+mod fresh;
+mod streams;
+mod told;
+
+pub use files::{FileFault, Opened, header_of, open, open_for_reading, open_fresh, try_fresh};
+pub use filling::fill;
+pub use fresh::FreshFile;
+pub use streams::ClosedStreams;
+pub use told::ToldFile;
