@@ -1,25 +1,33 @@
-use Rattle.std.proofs.Common.{◌≡◌, ◌<◌, ◌+◌, ◌%◌, ℕ, suc, Some, List, [], ◌∷◌, ◌++◌, refl, sym, ◌∙◌, ap, subst, arith}
+use Rattle.std.proofs.Common.{◌≡◌, ◌<◌, ◌+◌, ◌%◌, inl, ℕ, zero, suc, false, true, None, Some, Result, Ok, Err, List, [], ◌∷◌, ◌++◌, length, refl, sym, ◌∙◌, ap, subst, arith, rules}
 use Rattle.std.specs.FinMap.{len}
-use Rattle.std.specs.Prelude.{IfSome}
+use Rattle.std.specs.Bool.{◌==◌}
+use Rattle.std.specs.Prelude.{IfErr, IfSome, OnOk}
+use Rattle.std.specs.Result.{IsErrAnd}
+use Rattle.std.proofs.lemmas.Bool.{false≢true}
 use Rattle.disk_model.specs.Disk.{IsSound, LeavesOnly}
+use Rattle.disk_model.specs.Faults.{counted}
 use Rattle.disk_model.specs.laws.Moments.{begins, weakens}
 use Rattle.header_slots.specs.Change.{IsRenewed}
 use Rattle.header_slots.specs.declared.change.HeaderChange.{HeaderChange}
+use Rattle.header_slots.specs.declared.header.Header.{Header}
 use Rattle.image_model.specs.Dirty.{dirty_blocks}
 use Rattle.image_model.specs.Geometry.{device_bytes_of}
 use Rattle.image_model.specs.declared.geometry.Geometry.{Geometry}
 use Rattle.journal_format.specs.Area.{AreaState}
+use Rattle.journal_format.specs.declared.touch.TouchedRange.{TouchedRange}
 use Rattle.regions.specs.Layout.{area_at, area_size, areas_in, behind}
 use Rattle.device_image.specs.CheckpointHeader.{with_next}
 use Rattle.device_image.specs.Holds.{Holds}
-use Rattle.device_image.specs.Keeper.{IsPlanOf, KeeperState, Memory, PlanState, count_puts, last_number, last_turned, lefts_of, phase_of, turned_of}
+use Rattle.device_image.specs.Keeper.{AreUncopied, IsPlanOf, KeeperState, Memory, PlanState, count_puts, last_number, last_turned, lefts_of, phase_of, turned_of}
 use Rattle.device_image.specs.Keeps.{Keeps}
-use Rattle.device_image.specs.Remembers.{Remembers}
+use Rattle.device_image.specs.Remembers.{Remembers, TellOf}
 use Rattle.device_image.specs.Stands.{StandsFor}
 use Rattle.device_image.specs.laws.CheckpointBounds.{plan_left}
 use Rattle.device_image.specs.laws.Kept.{kept_content}
-use Rattle.checkpoint.specs.Keeper.{IsSized, plans_of}
-use Rattle.checkpoint.specs.Steps.{phase_with, rotated_by}
+use Rattle.checkpoint.specs.Keeper.{AreSized, IsSized, faults_by, plans_of, refused_by}
+use Rattle.checkpoint.specs.Steps.{IsRotateTime, IsStepFault, phase_with, rotated_by}
+use Rattle.checkpoint.specs.declared.fault.KeeperFault.{KeeperFault}
+use Rattle.checkpoint.specs.declared.fault.KeeperFault.TheVariants.{NoMemory, DeviceFault, NumbersFull, NotNow, Failed}
 use Rattle.checkpoint.proofs.Areas.{last-push}
 use Rattle.checkpoint.proofs.Rotating.{ArePlansSized, added, comes_next, current_held, from_above, last_counted, lefts-push, next_sized, phase-push, rotate_held, rotate_left, rotated_left, sized_after, slots_synced, turned-push, uncopied_after}
 use Rattle.checkpoint.proofs.keeper.Keeper.rotate.Goals as goal
@@ -274,3 +282,355 @@ returns-in-Err-clause-any_moment g c honest image number keeps =
     (comes_next _ before image number inside sound c.in-Some.header header_is room from from_is))
     (rotate_left _ before image number inside sound c.in-Some.header header_is room from from_is))
     honest keeps
+
+above_zero : (n : ℕ) → false ≡ (n == 0) → 0 < n
+above_zero zero same = absurd (false≢true same)
+above_zero (suc n) same = omega arith
+
+abbrev Given : Type 0
+Given = Result (Unit {0}) KeeperFault
+
+abbrev given : KeeperFault → Given
+given fault = Err fault
+
+ok_apart : (fault : KeeperFault) → ◌≡◌ {A = Given} (Ok tt) (Err fault) → ⊥
+ok_apart fault is = cc
+
+some_apart : (header : Header) → Some header ≡ None → ⊥
+some_apart header is = cc
+
+-- a refusal that is no memory or a fault of the device is none of three others
+device_apart : (fault : KeeperFault) → fault ≡ DeviceFault
+    → (◌≡◌ {A = Given} (Err fault) (Err Failed) → ⊥) × (◌≡◌ {A = Given} (Err fault) (Err NotNow) → ⊥) × (◌≡◌ {A = Given} (Err fault) (Err NumbersFull) → ⊥)
+device_apart fault is = (λ same. cc, λ same. cc, λ same. cc)
+
+full_apart : (◌≡◌ {A = Given} (Err NumbersFull) (Err Failed) → ⊥) × (◌≡◌ {A = Given} (Err NumbersFull) (Err NotNow) → ⊥)
+full_apart = (λ same. cc, λ same. cc)
+
+failed_apart : (◌≡◌ {A = Given} (Err Failed) (Err NotNow) → ⊥) × (◌≡◌ {A = Given} (Err Failed) (Err NumbersFull) → ⊥)
+failed_apart = (λ same. cc, λ same. cc)
+
+none_left : (result : Given) → IsErrAnd result (λ fault. fault ≡ NoMemory) → (result ≡ Err Failed → ⊥) × (result ≡ Err NotNow → ⊥) × (result ≡ Err NumbersFull → ⊥)
+none_left (Ok done) none = absurd none
+none_left (Err fault) is = (λ same. cc, λ same. cc, λ same. cc)
+
+no_memory : (result : Given) → IsErrAnd result (λ fault. fault ≡ NoMemory) → result ≡ Err NoMemory
+no_memory (Ok done) none = absurd none
+no_memory (Err fault) is = ap given is
+
+on_ok : (result : Given) (X : Type 0) → IsErrAnd result (λ fault. fault ≡ NoMemory) → OnOk result X
+on_ok (Ok done) X none = absurd none
+on_ok (Err fault) X is = tt
+
+pub returns-then-self-clause-not_now : goal.returns-then-self-clause-not_now
+returns-then-self-clause-not_now g c =
+    let fails = ap (λ (k : KeeperState g.row.D.Denot). k.failed) (sym c.self.view_is) ∙ c.if-self.true in
+    (λ is. absurd (failed_apart.0 is), λ none. absurd (false≢true (sym none.0 ∙ fails)))
+
+pub returns-then-self-clause-full : goal.returns-then-self-clause-full
+returns-then-self-clause-full g c =
+    let fails = ap (λ (k : KeeperState g.row.D.Denot). k.failed) (sym c.self.view_is) ∙ c.if-self.true in
+    (λ is. absurd (failed_apart.1 is), λ full. absurd (false≢true (sym full.0 ∙ fails)))
+
+pub returns-in_default-clause-failed : goal.returns-in_default-clause-failed
+returns-in_default-clause-failed g c =
+    let works = ap (λ (k : KeeperState g.row.D.Denot). k.failed) (sym c.self.view_is) ∙ c.if-self.false in
+    (λ is. absurd (full_apart.0 is), λ fails. absurd (false≢true (sym works ∙ fails)))
+
+pub returns-in_default-clause-not_now : goal.returns-in_default-clause-not_now
+returns-in_default-clause-not_now g c =
+    let time : IsRotateTime c.args.self.now = (c.if-not-has_spare_area.ensures.spare.0 refl, subst (λ (k : KeeperState g.row.D.Denot). 0 < k.used) c.self.view_is (above_zero c.self.inside.area.gate c.if-is_empty.ensures)) in
+    (λ is. absurd (full_apart.1 is), λ none. absurd (none.1 time))
+
+pub returns-in_default-clause-full : goal.returns-in_default-clause-full
+returns-in_default-clause-full g c =
+    let works = ap (λ (k : KeeperState g.row.D.Denot). k.failed) (sym c.self.view_is) ∙ c.if-self.false in
+    let time : IsRotateTime c.args.self.now = (c.if-not-has_spare_area.ensures.spare.0 refl, subst (λ (k : KeeperState g.row.D.Denot). 0 < k.used) c.self.view_is (above_zero c.self.inside.area.gate c.if-is_empty.ensures)) in
+    (λ is. (works, time, ap (λ (k : KeeperState g.row.D.Denot). k.generation) (sym c.self.view_is) ∙ c.in_default.ensures.none.0 refl), λ full. refl)
+
+pub returns-in-Ok-clause-failed : goal.returns-in-Ok-clause-failed
+returns-in-Ok-clause-failed g c =
+    let works = ap (λ (k : KeeperState g.row.D.Denot). k.failed) (sym c.self.view_is) ∙ c.if-self.false in
+    (λ is. absurd (ok_apart _ is), λ fails. absurd (false≢true (sym works ∙ fails)))
+
+pub returns-in-Ok-clause-not_now : goal.returns-in-Ok-clause-not_now
+returns-in-Ok-clause-not_now g c =
+    let time : IsRotateTime c.args.self.now = (c.if-not-has_spare_area.ensures.spare.0 refl, subst (λ (k : KeeperState g.row.D.Denot). 0 < k.used) c.self.view_is (above_zero c.self.inside.area.gate c.if-is_empty.ensures)) in
+    (λ is. absurd (ok_apart _ is), λ none. absurd (none.1 time))
+
+pub returns-in-Ok-clause-full : goal.returns-in-Ok-clause-full
+returns-in-Ok-clause-full g c =
+    (λ is. absurd (ok_apart _ is), λ full. let none : Some c.in-Some.header ≡ None = c.in-Some.ensures.none.1 (ap (λ (k : KeeperState g.row.D.Denot). k.generation) c.self.view_is ∙ full.2) in absurd (some_apart _ none))
+
+pub returns-in-Ok-clause-extent : goal.returns-in-Ok-clause-extent
+returns-in-Ok-clause-extent g c =
+    c.in-Ok.ensures.extent ∙ ap (λ (k : KeeperState g.row.D.Denot). g.D.Disk.extent k.disk) c.self.view_is
+
+pub returns-in-Ok-clause-honest : goal.returns-in-Ok-clause-honest
+returns-in-Ok-clause-honest g c =
+    let honest = c.in-Ok.ensures.honest in (
+      λ trusted. subst (λ (k : KeeperState g.row.D.Denot). g.D.Disk.honest k.disk) c.self.view_is (honest.0 trusted),
+      λ trusted. honest.1 (subst (λ (k : KeeperState g.row.D.Denot). g.D.Disk.honest k.disk) (sym c.self.view_is) trusted),
+    )
+
+pub returns-in-Err-clause-failed : goal.returns-in-Err-clause-failed
+returns-in-Err-clause-failed g c =
+    let works = ap (λ (k : KeeperState g.row.D.Denot). k.failed) (sym c.self.view_is) ∙ c.if-self.false in
+    (λ is. absurd ((device_apart c.from.result c.from.ensures).0 is), λ fails. absurd (false≢true (sym works ∙ fails)))
+
+pub returns-in-Err-clause-not_now : goal.returns-in-Err-clause-not_now
+returns-in-Err-clause-not_now g c =
+    let time : IsRotateTime c.args.self.now = (c.if-not-has_spare_area.ensures.spare.0 refl, subst (λ (k : KeeperState g.row.D.Denot). 0 < k.used) c.self.view_is (above_zero c.self.inside.area.gate c.if-is_empty.ensures)) in
+    (λ is. absurd ((device_apart c.from.result c.from.ensures).1 is), λ none. absurd (none.1 time))
+
+pub returns-in-Err-clause-full : goal.returns-in-Err-clause-full
+returns-in-Err-clause-full g c =
+    (λ is. absurd ((device_apart c.from.result c.from.ensures).2 is), λ full. let none : Some c.in-Some.header ≡ None = c.in-Some.ensures.none.1 (ap (λ (k : KeeperState g.row.D.Denot). k.generation) c.self.view_is ∙ full.2) in absurd (some_apart _ none))
+
+pub returns-in-Err-clause-extent : goal.returns-in-Err-clause-extent
+returns-in-Err-clause-extent g c =
+    c.in-Err.ensures.extent ∙ ap (λ (k : KeeperState g.row.D.Denot). g.D.Disk.extent k.disk) c.self.view_is
+
+pub returns-in-Err-clause-honest : goal.returns-in-Err-clause-honest
+returns-in-Err-clause-honest g c =
+    let honest = c.in-Err.ensures.honest in (
+      λ trusted. subst (λ (k : KeeperState g.row.D.Denot). g.D.Disk.honest k.disk) c.self.view_is (honest.0 trusted),
+      λ trusted. honest.1 (subst (λ (k : KeeperState g.row.D.Denot). g.D.Disk.honest k.disk) (sym c.self.view_is) trusted),
+    )
+
+pub returns-in_err-reserve-clause-extent : goal.returns-in_err-reserve-clause-extent
+returns-in_err-reserve-clause-extent g c =
+    ap (λ (k : KeeperState g.row.D.Denot). g.D.Disk.extent k.disk) c.self.view_is
+
+pub returns-in_err-reserve-clause-honest : goal.returns-in_err-reserve-clause-honest
+returns-in_err-reserve-clause-honest g c = (
+  λ trusted. subst (λ (k : KeeperState g.row.D.Denot). g.D.Disk.honest k.disk) c.self.view_is trusted,
+  λ trusted. subst (λ (k : KeeperState g.row.D.Denot). g.D.Disk.honest k.disk) (sym c.self.view_is) trusted,
+)
+
+pub returns-in-Ok-clause-faults_ok : goal.returns-in-Ok-clause-faults_ok
+returns-in-Ok-clause-faults_ok g c =
+    c.in-Ok.ensures.faults ∙ ap (λ (k : KeeperState g.row.D.Denot). g.D.Disk.faults k.disk) c.self.view_is
+
+pub returns-in-Ok-clause-fresh : goal.returns-in-Ok-clause-fresh
+returns-in-Ok-clause-fresh g c =
+    record {
+      takes = search rules;
+      noted = subst (λ (t : List TouchedRange). (block : ℕ) → TellOf block t []) (sym (ap (λ (a : AreaState). a.touched) c.in-Ok.ensures.ok)) (λ block. record { any = refl; put = refl });
+    }
+
+pub returns-in-Err-clause-only : goal.returns-in-Err-clause-only
+returns-in-Err-clause-only g c =
+    subst IsStepFault (sym c.from.ensures) tt
+
+pub returns-in-Err-clause-unchanged : goal.returns-in-Err-clause-unchanged
+returns-in-Err-clause-unchanged g c =
+    inl c.from.ensures
+
+pub returns-in-Err-clause-faults_err : goal.returns-in-Err-clause-faults_err
+returns-in-Err-clause-faults_err g c =
+    c.in-Err.ensures.faults ∙ ap (λ (k : KeeperState g.row.D.Denot). counted (g.D.Disk.faults k.disk)) c.self.view_is ∙ ap (λ (f : KeeperFault). faults_by f (g.D.Disk.faults c.args.self.now.disk)) (sym c.from.ensures)
+
+pub returns-in-Err-clause-err : goal.returns-in-Err-clause-err
+returns-in-Err-clause-err g c =
+    let inside = c.self.inside in
+    let disk = c.begin_turn.new.disk in
+    let made : List PlanState → KeeperState g.row.D.Denot = λ waiting. let plans = plans_of inside.plan waiting in record {
+      disk = disk;
+      geometry = inside.header.geometry;
+      generation = inside.header.generation;
+      count = inside.count;
+      base = inside.header.base;
+      turned = turned_of plans;
+      lefts = lefts_of plans;
+      used = inside.area.gate;
+      phase = phase_of plans;
+      failed = true;
+      memory = record { header = inside.header; slot = inside.slot; map = inside.map; plans = plans; area = inside.area };
+    } in
+    ap made c.reserve.ensures.items ∙ ap (λ (k : KeeperState g.row.D.Denot). let next : KeeperState g.row.D.Denot = record k { disk = disk; failed = true } in next) c.self.view_is
+    ∙ ap (λ (f : KeeperFault). refused_by f c.args.self.now disk) (sym c.from.ensures)
+
+pub invariant_of-self : goal.invariant_of-self
+invariant_of-self g c =
+    let inside = c.self.inside in
+    let geometry = inside.header.geometry in
+    let extent = g.D.Disk.extent inside.disk in
+    let is = c.self.invariant in
+    let same = c.reserve.ensures.items in (
+      is.0,
+      is.1,
+      is.2,
+      subst (λ (w : List PlanState). AreSized w geometry extent) (sym same) is.3,
+      λ none. same ∙ is.4 none,
+      is.5 ∙ ap (λ (w : List PlanState). length (plans_of inside.plan w)) (sym same),
+      is.6,
+      is.7,
+      λ none. ((is.8 none).0, (is.8 none).1 ∙ ap (λ (w : List PlanState). last_turned inside.header.base (turned_of (plans_of inside.plan w))) (sym same)),
+      subst AreUncopied (sym same) is.9,
+    )
+
+pub invariant_of-self-2 : goal.invariant_of-self-2
+invariant_of-self-2 g c =
+    let inside = c.self.inside in
+    let geometry = inside.header.geometry in
+    let extent = g.D.Disk.extent inside.disk in
+    let is = c.self.invariant in
+    let same = c.reserve.ensures.items in (
+      is.0,
+      is.1,
+      is.2,
+      subst (λ (w : List PlanState). AreSized w geometry extent) (sym same) is.3,
+      λ none. same ∙ is.4 none,
+      is.5 ∙ ap (λ (w : List PlanState). length (plans_of inside.plan w)) (sym same),
+      is.6,
+      is.7,
+      λ none. ((is.8 none).0, (is.8 none).1 ∙ ap (λ (w : List PlanState). last_turned inside.header.base (turned_of (plans_of inside.plan w))) (sym same)),
+      subst AreUncopied (sym same) is.9,
+    )
+
+pub invariant_of-self-in-Err-1 : goal.invariant_of-self-in-Err-1
+invariant_of-self-in-Err-1 g c =
+    let inside = c.self.inside in
+    let geometry = inside.header.geometry in
+    let extent = g.D.Disk.extent inside.disk in
+    let is = c.self.invariant in
+    let extents = c.in-Err.ensures.extent in
+    let same = c.reserve.ensures.items in (
+      extents ∙ is.0,
+      is.1,
+      subst (λ (e : ℕ). IfSome inside.plan (λ first. IsSized first.first geometry e)) (sym extents) is.2,
+      subst (λ (e : ℕ). AreSized c.reserve.new.self.items geometry e) (sym extents) (subst (λ (w : List PlanState). AreSized w geometry extent) (sym same) is.3),
+      λ none. same ∙ is.4 none,
+      is.5 ∙ ap (λ (w : List PlanState). length (plans_of inside.plan w)) (sym same),
+      subst (λ (e : ℕ). IsSized inside.area geometry e) (sym extents) is.6,
+      is.7,
+      λ none. ((is.8 none).0, (is.8 none).1 ∙ ap (λ (w : List PlanState). last_turned inside.header.base (turned_of (plans_of inside.plan w))) (sym same)),
+      subst AreUncopied (sym same) is.9,
+    )
+
+pub add_plan-requires-clause-none : goal.add_plan-requires-clause-none
+add_plan-requires-clause-none g c =
+    λ none. c.reserve.ensures.items ∙ c.self.invariant.4 none
+
+pub returns-in_err-touches-clause-failed : goal.returns-in_err-touches-clause-failed
+returns-in_err-touches-clause-failed g c =
+    let works = ap (λ (k : KeeperState g.row.D.Denot). k.failed) (sym c.self.view_is) ∙ c.if-self.false in
+    let left = none_left c.from_residual.result c.from_residual.ensures.1 in
+    (λ is. absurd (left.0 is), λ fails. absurd (false≢true (sym works ∙ fails)))
+
+pub returns-in_err-touches-clause-not_now : goal.returns-in_err-touches-clause-not_now
+returns-in_err-touches-clause-not_now g c =
+    let time : IsRotateTime c.args.self.now = (c.if-not-has_spare_area.ensures.spare.0 refl, subst (λ (k : KeeperState g.row.D.Denot). 0 < k.used) c.self.view_is (above_zero c.self.inside.area.gate c.if-is_empty.ensures)) in
+    let left = none_left c.from_residual.result c.from_residual.ensures.1 in
+    (λ is. absurd (left.1 is), λ none. absurd (none.1 time))
+
+pub returns-in_err-touches-clause-full : goal.returns-in_err-touches-clause-full
+returns-in_err-touches-clause-full g c =
+    let left = none_left c.from_residual.result c.from_residual.ensures.1 in
+    (λ is. absurd (left.2 is), λ full. let none : Some c.in-Some.header ≡ None = c.in-Some.ensures.none.1 (ap (λ (k : KeeperState g.row.D.Denot). k.generation) c.self.view_is ∙ full.2) in absurd (some_apart _ none))
+
+pub returns-in_err-touches-clause-only : goal.returns-in_err-touches-clause-only
+returns-in_err-touches-clause-only g c =
+    subst (λ (r : Given). IfErr r IsStepFault) (sym (no_memory c.from_residual.result c.from_residual.ensures.1)) tt
+
+pub returns-in_err-touches-clause-ok : goal.returns-in_err-touches-clause-ok
+returns-in_err-touches-clause-ok g c =
+    on_ok c.from_residual.result _ c.from_residual.ensures.1
+
+pub returns-in_err-touches-clause-faults_ok : goal.returns-in_err-touches-clause-faults_ok
+returns-in_err-touches-clause-faults_ok g c =
+    on_ok c.from_residual.result _ c.from_residual.ensures.1
+
+pub returns-in_err-touches-clause-fresh : goal.returns-in_err-touches-clause-fresh
+returns-in_err-touches-clause-fresh g c =
+    on_ok c.from_residual.result _ c.from_residual.ensures.1
+
+pub returns-in_err-touches-clause-left : goal.returns-in_err-touches-clause-left
+returns-in_err-touches-clause-left g c commands remembers =
+    on_ok c.from_residual.result _ c.from_residual.ensures.1
+
+pub returns-in_err-touches-clause-phase : goal.returns-in_err-touches-clause-phase
+returns-in_err-touches-clause-phase g c commands remembers =
+    on_ok c.from_residual.result _ c.from_residual.ensures.1
+
+pub returns-in_err-touches-clause-held : goal.returns-in_err-touches-clause-held
+returns-in_err-touches-clause-held g c honest base fronts last_commands holds =
+    on_ok c.from_residual.result _ c.from_residual.ensures.1
+
+pub returns-in_err-reserve-clause-failed : goal.returns-in_err-reserve-clause-failed
+returns-in_err-reserve-clause-failed g c =
+    let works = ap (λ (k : KeeperState g.row.D.Denot). k.failed) (sym c.self.view_is) ∙ c.if-self.false in
+    let left = none_left c.from_residual-in_err-reserve.result c.from_residual-in_err-reserve.ensures.1 in
+    (λ is. absurd (left.0 is), λ fails. absurd (false≢true (sym works ∙ fails)))
+
+pub returns-in_err-reserve-clause-not_now : goal.returns-in_err-reserve-clause-not_now
+returns-in_err-reserve-clause-not_now g c =
+    let time : IsRotateTime c.args.self.now = (c.if-not-has_spare_area.ensures.spare.0 refl, subst (λ (k : KeeperState g.row.D.Denot). 0 < k.used) c.self.view_is (above_zero c.self.inside.area.gate c.if-is_empty.ensures)) in
+    let left = none_left c.from_residual-in_err-reserve.result c.from_residual-in_err-reserve.ensures.1 in
+    (λ is. absurd (left.1 is), λ none. absurd (none.1 time))
+
+pub returns-in_err-reserve-clause-full : goal.returns-in_err-reserve-clause-full
+returns-in_err-reserve-clause-full g c =
+    let left = none_left c.from_residual-in_err-reserve.result c.from_residual-in_err-reserve.ensures.1 in
+    (λ is. absurd (left.2 is), λ full. let none : Some c.in-Some.header ≡ None = c.in-Some.ensures.none.1 (ap (λ (k : KeeperState g.row.D.Denot). k.generation) c.self.view_is ∙ full.2) in absurd (some_apart _ none))
+
+pub returns-in_err-reserve-clause-only : goal.returns-in_err-reserve-clause-only
+returns-in_err-reserve-clause-only g c =
+    subst (λ (r : Given). IfErr r IsStepFault) (sym (no_memory c.from_residual-in_err-reserve.result c.from_residual-in_err-reserve.ensures.1)) tt
+
+pub returns-in_err-reserve-clause-ok : goal.returns-in_err-reserve-clause-ok
+returns-in_err-reserve-clause-ok g c =
+    on_ok c.from_residual-in_err-reserve.result _ c.from_residual-in_err-reserve.ensures.1
+
+pub returns-in_err-reserve-clause-faults_ok : goal.returns-in_err-reserve-clause-faults_ok
+returns-in_err-reserve-clause-faults_ok g c =
+    on_ok c.from_residual-in_err-reserve.result _ c.from_residual-in_err-reserve.ensures.1
+
+pub returns-in_err-reserve-clause-fresh : goal.returns-in_err-reserve-clause-fresh
+returns-in_err-reserve-clause-fresh g c =
+    on_ok c.from_residual-in_err-reserve.result _ c.from_residual-in_err-reserve.ensures.1
+
+pub returns-in_err-reserve-clause-left : goal.returns-in_err-reserve-clause-left
+returns-in_err-reserve-clause-left g c commands remembers =
+    on_ok c.from_residual-in_err-reserve.result _ c.from_residual-in_err-reserve.ensures.1
+
+pub returns-in_err-reserve-clause-phase : goal.returns-in_err-reserve-clause-phase
+returns-in_err-reserve-clause-phase g c commands remembers =
+    on_ok c.from_residual-in_err-reserve.result _ c.from_residual-in_err-reserve.ensures.1
+
+pub returns-in_err-reserve-clause-held : goal.returns-in_err-reserve-clause-held
+returns-in_err-reserve-clause-held g c honest base fronts last_commands holds =
+    on_ok c.from_residual-in_err-reserve.result _ c.from_residual-in_err-reserve.ensures.1
+
+pub returns-in_err-touches-clause-err : goal.returns-in_err-touches-clause-err
+returns-in_err-touches-clause-err g c =
+    subst (λ (r : Given). IfErr r (λ fault. c.args.self.now ≡ refused_by fault c.args.self.now c.args.self.now.disk)) (sym (no_memory c.from_residual.result c.from_residual.ensures.1)) refl
+
+pub returns-in_err-touches-clause-faults_err : goal.returns-in_err-touches-clause-faults_err
+returns-in_err-touches-clause-faults_err g c =
+    let faults = g.D.Disk.faults c.args.self.now.disk in
+    subst (λ (r : Given). IfErr r (λ fault. faults ≡ faults_by fault faults)) (sym (no_memory c.from_residual.result c.from_residual.ensures.1)) refl
+
+pub returns-in_err-reserve-clause-faults_err : goal.returns-in_err-reserve-clause-faults_err
+returns-in_err-reserve-clause-faults_err g c =
+    let faults = g.D.Disk.faults c.args.self.now.disk in
+    subst (λ (r : Given). IfErr r (λ fault. g.D.Disk.faults c.self.inside.disk ≡ faults_by fault faults)) (sym (no_memory c.from_residual-in_err-reserve.result c.from_residual-in_err-reserve.ensures.1)) (ap (λ (k : KeeperState g.row.D.Denot). g.D.Disk.faults k.disk) c.self.view_is)
+
+pub returns-in_err-reserve-clause-err : goal.returns-in_err-reserve-clause-err
+returns-in_err-reserve-clause-err g c =
+    let inside = c.self.inside in
+    let made : List PlanState → KeeperState g.row.D.Denot = λ waiting. let plans = plans_of inside.plan waiting in record {
+      disk = inside.disk;
+      geometry = inside.header.geometry;
+      generation = inside.header.generation;
+      count = inside.count;
+      base = inside.header.base;
+      turned = turned_of plans;
+      lefts = lefts_of plans;
+      used = inside.area.gate;
+      phase = phase_of plans;
+      failed = inside.failed;
+      memory = record { header = inside.header; slot = inside.slot; map = inside.map; plans = plans; area = inside.area };
+    } in
+    subst (λ (r : Given). IfErr r (λ fault. made c.reserve.new.self.items ≡ refused_by fault c.args.self.now inside.disk)) (sym (no_memory c.from_residual-in_err-reserve.result c.from_residual-in_err-reserve.ensures.1)) (ap made c.reserve.ensures.items ∙ c.self.view_is)
