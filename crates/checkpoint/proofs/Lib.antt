@@ -1,4 +1,5 @@
 mod Added
+mod Answered
 mod Areas
 mod BaseRead
 mod Beginning

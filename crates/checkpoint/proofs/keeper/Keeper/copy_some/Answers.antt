@@ -1,9 +1,17 @@
-use Rattle.std.proofs.Common.{◌≡◌, ◌*◌, Option, length, refl, rules, sym, ◌∙◌, ap, subst, arith}
+use Rattle.std.proofs.Common.{◌≡◌, ◌<◌, ◌-◌, ◌*◌, ◌≤◌, ℕ, inl, Option, None, true, List, ◌∷◌, length, refl, rules, sym, ◌∙◌, ap, subst, arith}
+use Rattle.std.specs.Prelude.{IfSome}
+use Rattle.std.proofs.lemmas.Bool.{false≢true}
 use Rattle.disk_model.specs.Disk.{LeavesOnly}
+use Rattle.disk_model.specs.Faults.{counted}
 use Rattle.disk_model.specs.laws.Moments.{begins, weakens}
+use Rattle.image_model.specs.declared.command.Kind.{Kind}
 use Rattle.image_model.specs.declared.geometry.Geometry.{Geometry}
-use Rattle.checkpoint.specs.Keeper.{plans_of}
-use Rattle.device_image.specs.Keeper.{KeeperState, PlanState}
+use Rattle.checkpoint.specs.Keeper.{AreSized, IsSized, faults_by, plans_of, refused_by}
+use Rattle.checkpoint.specs.Steps.{IsCopyTime, IsStepFault, copied_by, left_in}
+use Rattle.checkpoint.specs.declared.fault.KeeperFault.{KeeperFault}
+use Rattle.checkpoint.proofs.Answered.{device_apart, memory_apart, if_err, ok_apart, on_ok, some_apart}
+use Rattle.device_image.specs.Keeper.{Copying, KeeperState, Memory, Phase, PlanState, last_turned, lefts_of, phase_in, phase_of, turned_of}
+use Rattle.device_image.specs.Remembers.{Remembers}
 use Rattle.device_image.specs.Keeps.{Keeps}
 use Rattle.device_image.specs.Stands.{StandsFor}
 use Rattle.device_image.specs.laws.Kept.{kept_content}
@@ -63,3 +71,295 @@ returns-clause-any_moment g c honest image number keeps =
     weakens (c.copy_over.ensures.any_moment sound)
     (copy_left _ (g.D.Disk.state c.self.inside.disk) image number inside c.in-Some.plan c.self.inside.waiting.items (ap (λ (p : Option PlanState). plans_of p c.self.inside.waiting.items) c.in-Some.is) put c.args.most c.in-Some-next_copy.ensures.some c.in-Some-next_copy.ensures.unmapped _ _ place count))
     honest keeps
+
+phase_less : (plan : PlanState) (blocks : ℕ) → plan.mapped ≡ None → phase_in (plan.left - blocks) plan.mapped ≡ Copying (left_in (phase_in plan.left plan.mapped) - blocks)
+phase_less plan blocks unmapped = subst (λ (m : Option (List Kind)). phase_in (plan.left - blocks) m ≡ Copying (left_in (phase_in plan.left m) - blocks)) (sym unmapped) refl
+
+copy_time : (plan : PlanState) → plan.mapped ≡ None → 0 < plan.left → IsCopyTime (phase_in plan.left plan.mapped)
+copy_time plan unmapped some = subst (λ (m : Option (List Kind)). IsCopyTime (phase_in plan.left m)) (sym unmapped) some
+
+pub returns-in-Ok-clause-failed : goal.returns-in-Ok-clause-failed
+returns-in-Ok-clause-failed g c =
+    let works = ap (λ (k : KeeperState g.row.D.Denot). k.failed) (sym c.self.view_is) ∙ c.if-self.false in
+    (λ is. absurd (ok_apart _ _ is), λ fails. absurd (false≢true (sym works ∙ fails)))
+
+pub returns-in-Ok-clause-not_now : goal.returns-in-Ok-clause-not_now
+returns-in-Ok-clause-not_now g c =
+    let plan = c.in-Some.plan in
+    let phase = ap (λ (p : Option PlanState). phase_of (plans_of p c.self.inside.waiting.items)) (sym c.in-Some.is) ∙ ap (λ (k : KeeperState g.row.D.Denot). k.phase) c.self.view_is in
+    let some : 0 < plan.left = omega (arith, c.in-Some-next_copy.ensures.some.some, c.in-Some-next_copy.ensures.some.left) in
+    let time : IsCopyTime c.args.self.now.phase = subst IsCopyTime phase (copy_time plan c.in-Some-next_copy.ensures.unmapped some) in
+    (λ is. absurd (ok_apart _ _ is), λ none. absurd (none.1 time))
+
+pub returns-in-Ok-clause-not_full : goal.returns-in-Ok-clause-not_full
+returns-in-Ok-clause-not_full g c =
+    λ is. absurd (ok_apart _ _ is)
+
+pub returns-in-Ok-clause-extent : goal.returns-in-Ok-clause-extent
+returns-in-Ok-clause-extent g c =
+    c.in-Ok.ensures.extent ∙ ap (λ (k : KeeperState g.row.D.Denot). g.D.Disk.extent k.disk) c.self.view_is
+
+pub returns-in-Ok-clause-honest : goal.returns-in-Ok-clause-honest
+returns-in-Ok-clause-honest g c =
+    let honest = c.in-Ok.ensures.honest in (
+      λ trusted. subst (λ (k : KeeperState g.row.D.Denot). g.D.Disk.honest k.disk) c.self.view_is (honest.0 trusted),
+      λ trusted. honest.1 (subst (λ (k : KeeperState g.row.D.Denot). g.D.Disk.honest k.disk) (sym c.self.view_is) trusted),
+    )
+
+pub returns-clause-failed : goal.returns-clause-failed
+returns-clause-failed g c =
+    let works = ap (λ (k : KeeperState g.row.D.Denot). k.failed) (sym c.self.view_is) ∙ c.if-self.false in
+    (λ is. absurd ((device_apart c.from.result c.from.ensures).failed is), λ fails. absurd (false≢true (sym works ∙ fails)))
+
+pub returns-clause-not_now : goal.returns-clause-not_now
+returns-clause-not_now g c =
+    let plan = c.in-Some.plan in
+    let phase = ap (λ (p : Option PlanState). phase_of (plans_of p c.self.inside.waiting.items)) (sym c.in-Some.is) ∙ ap (λ (k : KeeperState g.row.D.Denot). k.phase) c.self.view_is in
+    let some : 0 < plan.left = omega (arith, c.in-Some-next_copy.ensures.some.some, c.in-Some-next_copy.ensures.some.left) in
+    let time : IsCopyTime c.args.self.now.phase = subst IsCopyTime phase (copy_time plan c.in-Some-next_copy.ensures.unmapped some) in
+    (λ is. absurd ((device_apart c.from.result c.from.ensures).not_now is), λ none. absurd (none.1 time))
+
+pub returns-clause-not_full : goal.returns-clause-not_full
+returns-clause-not_full g c =
+    λ is. absurd ((device_apart c.from.result c.from.ensures).full is)
+
+pub returns-clause-extent : goal.returns-clause-extent
+returns-clause-extent g c =
+    c.in-Err.ensures.extent ∙ ap (λ (k : KeeperState g.row.D.Denot). g.D.Disk.extent k.disk) c.self.view_is
+
+pub returns-clause-honest : goal.returns-clause-honest
+returns-clause-honest g c =
+    let honest = c.in-Err.ensures.honest in (
+      λ trusted. subst (λ (k : KeeperState g.row.D.Denot). g.D.Disk.honest k.disk) c.self.view_is (honest.0 trusted),
+      λ trusted. honest.1 (subst (λ (k : KeeperState g.row.D.Denot). g.D.Disk.honest k.disk) (sym c.self.view_is) trusted),
+    )
+
+pub returns-in_err-buffer-clause-failed : goal.returns-in_err-buffer-clause-failed
+returns-in_err-buffer-clause-failed g c =
+    let works = ap (λ (k : KeeperState g.row.D.Denot). k.failed) (sym c.self.view_is) ∙ c.if-self.false in
+    (λ is. absurd ((memory_apart c.from_residual.result c.from_residual.ensures.1).failed is), λ fails. absurd (false≢true (sym works ∙ fails)))
+
+pub returns-in_err-buffer-clause-not_now : goal.returns-in_err-buffer-clause-not_now
+returns-in_err-buffer-clause-not_now g c =
+    let plan = c.in-Some.plan in
+    let phase = ap (λ (p : Option PlanState). phase_of (plans_of p c.self.inside.waiting.items)) (sym c.in-Some.is) ∙ ap (λ (k : KeeperState g.row.D.Denot). k.phase) c.self.view_is in
+    let some : 0 < plan.left = omega (arith, c.in-Some-next_copy.ensures.some.some, c.in-Some-next_copy.ensures.some.left) in
+    let time : IsCopyTime c.args.self.now.phase = subst IsCopyTime phase (copy_time plan c.in-Some-next_copy.ensures.unmapped some) in
+    (λ is. absurd ((memory_apart c.from_residual.result c.from_residual.ensures.1).not_now is), λ none. absurd (none.1 time))
+
+pub returns-in_err-buffer-clause-not_full : goal.returns-in_err-buffer-clause-not_full
+returns-in_err-buffer-clause-not_full g c =
+    λ is. absurd ((memory_apart c.from_residual.result c.from_residual.ensures.1).full is)
+
+pub returns-in-Ok-clause-faults_ok : goal.returns-in-Ok-clause-faults_ok
+returns-in-Ok-clause-faults_ok g c =
+    c.in-Ok.ensures.faults ∙ ap (λ (k : KeeperState g.row.D.Denot). g.D.Disk.faults k.disk) c.self.view_is
+
+pub returns-clause-only : goal.returns-clause-only
+returns-clause-only g c =
+    subst IsStepFault (sym c.from.ensures) tt
+
+pub returns-clause-unchanged : goal.returns-clause-unchanged
+returns-clause-unchanged g c =
+    inl c.from.ensures
+
+pub returns-clause-faults_err : goal.returns-clause-faults_err
+returns-clause-faults_err g c =
+    c.in-Err.ensures.faults ∙ ap (λ (k : KeeperState g.row.D.Denot). counted (g.D.Disk.faults k.disk)) c.self.view_is ∙ ap (λ (f : KeeperFault). faults_by f (g.D.Disk.faults c.args.self.now.disk)) (sym c.from.ensures)
+
+pub returns-clause-err : goal.returns-clause-err
+returns-clause-err g c =
+    let inside = c.self.inside in
+    let plan = c.in-Some.plan in
+    let waiting = inside.waiting.items in
+    let made : Option PlanState → KeeperState g.row.D.Denot = λ first. let plans = plans_of first waiting in record {
+      disk = inside.disk;
+      geometry = inside.header.geometry;
+      generation = inside.header.generation;
+      count = inside.count;
+      base = inside.header.base;
+      turned = turned_of plans;
+      lefts = lefts_of plans;
+      used = inside.area.gate;
+      phase = phase_of plans;
+      failed = inside.failed;
+      memory = record { header = inside.header; slot = inside.slot; map = inside.map; plans = plans; area = inside.area };
+    } in
+    let same = ap made (sym c.in-Some.is) ∙ c.self.view_is in
+    let disk = c.copy_over.new.disk in
+    ap (λ (k : KeeperState g.row.D.Denot). let next : KeeperState g.row.D.Denot = record k { disk = disk; failed = true } in next) same ∙ ap (λ (f : KeeperFault). refused_by f c.args.self.now disk) (sym c.from.ensures)
+
+pub returns-in-Ok-clause-left : goal.returns-in-Ok-clause-left
+returns-in-Ok-clause-left g c =
+    let plan = c.in-Some.plan in
+    let phase = ap (λ (p : Option PlanState). phase_of (plans_of p c.self.inside.waiting.items)) (sym c.in-Some.is) ∙ ap (λ (k : KeeperState g.row.D.Denot). k.phase) c.self.view_is in
+    subst (λ (p : Phase). c.in-Some-next_copy.put.blocks ≤ left_in p) phase
+    (subst (λ (m : Option (List Kind)). c.in-Some-next_copy.put.blocks ≤ left_in (phase_in plan.left m)) (sym c.in-Some-next_copy.ensures.unmapped) c.in-Some-next_copy.ensures.some.left)
+
+pub returns-in-Ok-clause-remembered : goal.returns-in-Ok-clause-remembered
+returns-in-Ok-clause-remembered g c commands remembers =
+    let inside = subst (λ (k : KeeperState g.row.D.Denot). Remembers k commands) (sym c.self.view_is) remembers in
+    record { takes = inside.takes; noted = inside.noted }
+
+pub invariant_of-self-in_default-next_copy : goal.invariant_of-self-in_default-next_copy
+invariant_of-self-in_default-next_copy g c =
+    let inside = c.self.inside in
+    let geometry = inside.header.geometry in
+    let base = inside.header.base in
+    let waiting = inside.waiting.items in
+    let extent = g.D.Disk.extent inside.disk in
+    let is = c.self.invariant in
+    let some = c.in-Some.is in
+    let first : IsSized c.in-Some.plan.first geometry extent = subst (λ (p : Option PlanState). IfSome p (λ f. IsSized f.first geometry extent)) some is.2 in (
+      is.0,
+      is.1,
+      first,
+      is.3,
+      λ none. absurd (some_apart _ none),
+      is.5 ∙ ap (λ (p : Option PlanState). length (plans_of p waiting)) some,
+      is.6,
+      is.7,
+      λ none. ((is.8 none).0, (is.8 none).1 ∙ ap (λ (p : Option PlanState). last_turned base (turned_of (plans_of p waiting))) some),
+      is.9,
+    )
+
+pub invariant_of-self-in-Err : goal.invariant_of-self-in-Err
+invariant_of-self-in-Err g c =
+    let inside = c.self.inside in
+    let geometry = inside.header.geometry in
+    let base = inside.header.base in
+    let waiting = inside.waiting.items in
+    let extent = g.D.Disk.extent inside.disk in
+    let is = c.self.invariant in
+    let extents = c.in-Err.ensures.extent in
+    let some = c.in-Some.is in
+    let first : IsSized c.in-Some.plan.first geometry extent = subst (λ (p : Option PlanState). IfSome p (λ f. IsSized f.first geometry extent)) some is.2 in (
+      extents ∙ is.0,
+      is.1,
+      subst (λ (e : ℕ). IsSized c.in-Some.plan.first geometry e) (sym extents) first,
+      subst (λ (e : ℕ). AreSized waiting geometry e) (sym extents) is.3,
+      λ none. absurd (some_apart _ none),
+      is.5 ∙ ap (λ (p : Option PlanState). length (plans_of p waiting)) some,
+      subst (λ (e : ℕ). IsSized inside.area geometry e) (sym extents) is.6,
+      is.7,
+      λ none. ((is.8 none).0, (is.8 none).1 ∙ ap (λ (p : Option PlanState). last_turned base (turned_of (plans_of p waiting))) some),
+      is.9,
+    )
+
+pub invariant_of-self-in-Ok : goal.invariant_of-self-in-Ok
+invariant_of-self-in-Ok g c =
+    let inside = c.self.inside in
+    let geometry = inside.header.geometry in
+    let base = inside.header.base in
+    let waiting = inside.waiting.items in
+    let extent = g.D.Disk.extent inside.disk in
+    let is = c.self.invariant in
+    let extents = c.in-Ok.ensures.extent in
+    let some = c.in-Some.is in
+    let first : IsSized c.in-Some.plan.first geometry extent = subst (λ (p : Option PlanState). IfSome p (λ f. IsSized f.first geometry extent)) some is.2 in (
+      extents ∙ is.0,
+      is.1,
+      subst (λ (p : PlanState). IsSized p.first geometry (g.D.Disk.extent c.copy_over.new.disk)) (sym c.advance.ensures) (subst (λ (e : ℕ). IsSized c.in-Some.plan.first geometry e) (sym extents) first),
+      subst (λ (e : ℕ). AreSized waiting geometry e) (sym extents) is.3,
+      λ none. absurd (some_apart _ none),
+      is.5 ∙ ap (λ (p : Option PlanState). length (plans_of p waiting)) some,
+      subst (λ (e : ℕ). IsSized inside.area geometry e) (sym extents) is.6,
+      is.7,
+      λ none. ((is.8 none).0, (is.8 none).1 ∙ ap (λ (p : Option PlanState). last_turned base (turned_of (plans_of p waiting))) some ∙ ap (λ (p : PlanState). last_turned base (turned_of (p ∷ waiting))) (sym c.advance.ensures)),
+      is.9,
+    )
+
+pub returns-in_err-buffer-clause-faults_ok : goal.returns-in_err-buffer-clause-faults_ok
+returns-in_err-buffer-clause-faults_ok g c =
+    on_ok c.from_residual.result _ c.from_residual.ensures.1
+
+pub returns-in_err-buffer-clause-remembered : goal.returns-in_err-buffer-clause-remembered
+returns-in_err-buffer-clause-remembered g c commands remembers =
+    on_ok c.from_residual.result _ c.from_residual.ensures.1
+
+pub returns-in_err-buffer-clause-held : goal.returns-in_err-buffer-clause-held
+returns-in_err-buffer-clause-held g c honest base fronts last_commands holds =
+    on_ok c.from_residual.result _ c.from_residual.ensures.1
+
+pub returns-in_err-buffer-clause-only : goal.returns-in_err-buffer-clause-only
+returns-in_err-buffer-clause-only g c =
+    if_err c.from_residual.result IsStepFault c.from_residual.ensures.1 tt
+
+pub returns-in-Ok-clause-ok : goal.returns-in-Ok-clause-ok
+returns-in-Ok-clause-ok g c =
+    let inside = c.self.inside in
+    let plan = c.in-Some.plan in
+    let waiting = inside.waiting.items in
+    let made : Option PlanState → KeeperState g.row.D.Denot = λ first. let plans = plans_of first waiting in record {
+      disk = inside.disk;
+      geometry = inside.header.geometry;
+      generation = inside.header.generation;
+      count = inside.count;
+      base = inside.header.base;
+      turned = turned_of plans;
+      lefts = lefts_of plans;
+      used = inside.area.gate;
+      phase = phase_of plans;
+      failed = inside.failed;
+      memory = record { header = inside.header; slot = inside.slot; map = inside.map; plans = plans; area = inside.area };
+    } in
+    let same = ap made (sym c.in-Some.is) ∙ c.self.view_is in
+    let put = c.in-Some-next_copy.put in
+    let put_is = c.in-Some-next_copy.ensures.some in
+    let next = c.advance.new.self in
+    let disk = c.copy_over.new.disk in
+    let memory : Memory = record { header = inside.header; slot = inside.slot; map = inside.map; plans = next ∷ waiting; area = inside.area } in
+    let turned = ap (λ (p : PlanState). turned_of (p ∷ waiting)) c.advance.ensures in
+    let lefts = ap (λ (p : PlanState). lefts_of (p ∷ waiting)) c.advance.ensures in
+    let phase = ap (λ (p : PlanState). phase_of (p ∷ waiting)) c.advance.ensures ∙ phase_less plan put.blocks c.in-Some-next_copy.ensures.unmapped in
+    let moved : KeeperState g.row.D.Denot = record {
+      disk = disk;
+      geometry = inside.header.geometry;
+      generation = inside.header.generation;
+      count = inside.count;
+      base = inside.header.base;
+      turned = turned_of (next ∷ waiting);
+      lefts = lefts_of (next ∷ waiting);
+      used = inside.area.gate;
+      phase = phase_of (next ∷ waiting);
+      failed = inside.failed;
+      memory = memory;
+    } in (
+      put_is.some,
+      put_is.few,
+      subst (λ (k : KeeperState g.row.D.Denot). moved ≡ copied_by k put.blocks disk memory) same
+          (λ i. record {
+            disk = disk;
+            geometry = inside.header.geometry;
+            generation = inside.header.generation;
+            count = inside.count;
+            base = inside.header.base;
+            turned = turned i;
+            lefts = lefts i;
+            used = inside.area.gate;
+            phase = phase i;
+            failed = inside.failed;
+            memory = memory;
+          }),
+    )
+
+pub returns-in_default-next_copy-clause-err : goal.returns-in_default-next_copy-clause-err
+returns-in_default-next_copy-clause-err g c =
+    let inside = c.self.inside in
+    let plan = c.in-Some.plan in
+    let waiting = inside.waiting.items in
+    let made : Option PlanState → KeeperState g.row.D.Denot = λ first. let plans = plans_of first waiting in record {
+      disk = inside.disk;
+      geometry = inside.header.geometry;
+      generation = inside.header.generation;
+      count = inside.count;
+      base = inside.header.base;
+      turned = turned_of plans;
+      lefts = lefts_of plans;
+      used = inside.area.gate;
+      phase = phase_of plans;
+      failed = inside.failed;
+      memory = record { header = inside.header; slot = inside.slot; map = inside.map; plans = plans; area = inside.area };
+    } in
+    let same = ap made (sym c.in-Some.is) ∙ c.self.view_is in
+    same

@@ -1,15 +1,13 @@
-use Rattle.std.proofs.Common.{◌≡◌, ◌<◌, ◌+◌, ◌%◌, inl, ℕ, zero, suc, false, true, None, Some, Result, Ok, Err, List, [], ◌∷◌, ◌++◌, length, refl, sym, ◌∙◌, ap, subst, arith, rules}
+use Rattle.std.proofs.Common.{◌≡◌, ◌<◌, ◌+◌, ◌%◌, inl, ℕ, zero, suc, false, true, None, Some, Err, List, [], ◌∷◌, ◌++◌, length, refl, sym, ◌∙◌, ap, subst, arith, rules}
 use Rattle.std.specs.FinMap.{len}
 use Rattle.std.specs.Bool.{◌==◌}
-use Rattle.std.specs.Prelude.{IfErr, IfSome, OnOk}
-use Rattle.std.specs.Result.{IsErrAnd}
+use Rattle.std.specs.Prelude.{IfErr, IfSome}
 use Rattle.std.proofs.lemmas.Bool.{false≢true}
 use Rattle.disk_model.specs.Disk.{IsSound, LeavesOnly}
 use Rattle.disk_model.specs.Faults.{counted}
 use Rattle.disk_model.specs.laws.Moments.{begins, weakens}
 use Rattle.header_slots.specs.Change.{IsRenewed}
 use Rattle.header_slots.specs.declared.change.HeaderChange.{HeaderChange}
-use Rattle.header_slots.specs.declared.header.Header.{Header}
 use Rattle.image_model.specs.Dirty.{dirty_blocks}
 use Rattle.image_model.specs.Geometry.{device_bytes_of}
 use Rattle.image_model.specs.declared.geometry.Geometry.{Geometry}
@@ -27,7 +25,8 @@ use Rattle.device_image.specs.laws.Kept.{kept_content}
 use Rattle.checkpoint.specs.Keeper.{AreSized, IsSized, faults_by, plans_of, refused_by}
 use Rattle.checkpoint.specs.Steps.{IsRotateTime, IsStepFault, phase_with, rotated_by}
 use Rattle.checkpoint.specs.declared.fault.KeeperFault.{KeeperFault}
-use Rattle.checkpoint.specs.declared.fault.KeeperFault.TheVariants.{NoMemory, DeviceFault, NumbersFull, NotNow, Failed}
+use Rattle.checkpoint.specs.declared.fault.KeeperFault.TheVariants.{NumbersFull, NotNow, Failed}
+use Rattle.checkpoint.proofs.Answered.{Given, device_apart, memory_apart, no_memory, ok_apart, on_ok, some_apart}
 use Rattle.checkpoint.proofs.Areas.{last-push}
 use Rattle.checkpoint.proofs.Rotating.{ArePlansSized, added, comes_next, current_held, from_above, last_counted, lefts-push, next_sized, phase-push, rotate_held, rotate_left, rotated_left, sized_after, slots_synced, turned-push, uncopied_after}
 use Rattle.checkpoint.proofs.keeper.Keeper.rotate.Goals as goal
@@ -287,40 +286,11 @@ above_zero : (n : ℕ) → false ≡ (n == 0) → 0 < n
 above_zero zero same = absurd (false≢true same)
 above_zero (suc n) same = omega arith
 
-abbrev Given : Type 0
-Given = Result (Unit {0}) KeeperFault
-
-abbrev given : KeeperFault → Given
-given fault = Err fault
-
-ok_apart : (fault : KeeperFault) → ◌≡◌ {A = Given} (Ok tt) (Err fault) → ⊥
-ok_apart fault is = cc
-
-some_apart : (header : Header) → Some header ≡ None → ⊥
-some_apart header is = cc
-
--- a refusal that is no memory or a fault of the device is none of three others
-device_apart : (fault : KeeperFault) → fault ≡ DeviceFault
-    → (◌≡◌ {A = Given} (Err fault) (Err Failed) → ⊥) × (◌≡◌ {A = Given} (Err fault) (Err NotNow) → ⊥) × (◌≡◌ {A = Given} (Err fault) (Err NumbersFull) → ⊥)
-device_apart fault is = (λ same. cc, λ same. cc, λ same. cc)
-
-full_apart : (◌≡◌ {A = Given} (Err NumbersFull) (Err Failed) → ⊥) × (◌≡◌ {A = Given} (Err NumbersFull) (Err NotNow) → ⊥)
+full_apart : (◌≡◌ {A = Given (Unit {0})} (Err NumbersFull) (Err Failed) → ⊥) × (◌≡◌ {A = Given (Unit {0})} (Err NumbersFull) (Err NotNow) → ⊥)
 full_apart = (λ same. cc, λ same. cc)
 
-failed_apart : (◌≡◌ {A = Given} (Err Failed) (Err NotNow) → ⊥) × (◌≡◌ {A = Given} (Err Failed) (Err NumbersFull) → ⊥)
+failed_apart : (◌≡◌ {A = Given (Unit {0})} (Err Failed) (Err NotNow) → ⊥) × (◌≡◌ {A = Given (Unit {0})} (Err Failed) (Err NumbersFull) → ⊥)
 failed_apart = (λ same. cc, λ same. cc)
-
-none_left : (result : Given) → IsErrAnd result (λ fault. fault ≡ NoMemory) → (result ≡ Err Failed → ⊥) × (result ≡ Err NotNow → ⊥) × (result ≡ Err NumbersFull → ⊥)
-none_left (Ok done) none = absurd none
-none_left (Err fault) is = (λ same. cc, λ same. cc, λ same. cc)
-
-no_memory : (result : Given) → IsErrAnd result (λ fault. fault ≡ NoMemory) → result ≡ Err NoMemory
-no_memory (Ok done) none = absurd none
-no_memory (Err fault) is = ap given is
-
-on_ok : (result : Given) (X : Type 0) → IsErrAnd result (λ fault. fault ≡ NoMemory) → OnOk result X
-on_ok (Ok done) X none = absurd none
-on_ok (Err fault) X is = tt
 
 pub returns-then-self-clause-not_now : goal.returns-then-self-clause-not_now
 returns-then-self-clause-not_now g c =
@@ -351,16 +321,16 @@ returns-in_default-clause-full g c =
 pub returns-in-Ok-clause-failed : goal.returns-in-Ok-clause-failed
 returns-in-Ok-clause-failed g c =
     let works = ap (λ (k : KeeperState g.row.D.Denot). k.failed) (sym c.self.view_is) ∙ c.if-self.false in
-    (λ is. absurd (ok_apart _ is), λ fails. absurd (false≢true (sym works ∙ fails)))
+    (λ is. absurd (ok_apart _ _ is), λ fails. absurd (false≢true (sym works ∙ fails)))
 
 pub returns-in-Ok-clause-not_now : goal.returns-in-Ok-clause-not_now
 returns-in-Ok-clause-not_now g c =
     let time : IsRotateTime c.args.self.now = (c.if-not-has_spare_area.ensures.spare.0 refl, subst (λ (k : KeeperState g.row.D.Denot). 0 < k.used) c.self.view_is (above_zero c.self.inside.area.gate c.if-is_empty.ensures)) in
-    (λ is. absurd (ok_apart _ is), λ none. absurd (none.1 time))
+    (λ is. absurd (ok_apart _ _ is), λ none. absurd (none.1 time))
 
 pub returns-in-Ok-clause-full : goal.returns-in-Ok-clause-full
 returns-in-Ok-clause-full g c =
-    (λ is. absurd (ok_apart _ is), λ full. let none : Some c.in-Some.header ≡ None = c.in-Some.ensures.none.1 (ap (λ (k : KeeperState g.row.D.Denot). k.generation) c.self.view_is ∙ full.2) in absurd (some_apart _ none))
+    (λ is. absurd (ok_apart _ _ is), λ full. let none : Some c.in-Some.header ≡ None = c.in-Some.ensures.none.1 (ap (λ (k : KeeperState g.row.D.Denot). k.generation) c.self.view_is ∙ full.2) in absurd (some_apart _ none))
 
 pub returns-in-Ok-clause-extent : goal.returns-in-Ok-clause-extent
 returns-in-Ok-clause-extent g c =
@@ -376,16 +346,16 @@ returns-in-Ok-clause-honest g c =
 pub returns-in-Err-clause-failed : goal.returns-in-Err-clause-failed
 returns-in-Err-clause-failed g c =
     let works = ap (λ (k : KeeperState g.row.D.Denot). k.failed) (sym c.self.view_is) ∙ c.if-self.false in
-    (λ is. absurd ((device_apart c.from.result c.from.ensures).0 is), λ fails. absurd (false≢true (sym works ∙ fails)))
+    (λ is. absurd ((device_apart c.from.result c.from.ensures).failed is), λ fails. absurd (false≢true (sym works ∙ fails)))
 
 pub returns-in-Err-clause-not_now : goal.returns-in-Err-clause-not_now
 returns-in-Err-clause-not_now g c =
     let time : IsRotateTime c.args.self.now = (c.if-not-has_spare_area.ensures.spare.0 refl, subst (λ (k : KeeperState g.row.D.Denot). 0 < k.used) c.self.view_is (above_zero c.self.inside.area.gate c.if-is_empty.ensures)) in
-    (λ is. absurd ((device_apart c.from.result c.from.ensures).1 is), λ none. absurd (none.1 time))
+    (λ is. absurd ((device_apart c.from.result c.from.ensures).not_now is), λ none. absurd (none.1 time))
 
 pub returns-in-Err-clause-full : goal.returns-in-Err-clause-full
 returns-in-Err-clause-full g c =
-    (λ is. absurd ((device_apart c.from.result c.from.ensures).2 is), λ full. let none : Some c.in-Some.header ≡ None = c.in-Some.ensures.none.1 (ap (λ (k : KeeperState g.row.D.Denot). k.generation) c.self.view_is ∙ full.2) in absurd (some_apart _ none))
+    (λ is. absurd ((device_apart c.from.result c.from.ensures).full is), λ full. let none : Some c.in-Some.header ≡ None = c.in-Some.ensures.none.1 (ap (λ (k : KeeperState g.row.D.Denot). k.generation) c.self.view_is ∙ full.2) in absurd (some_apart _ none))
 
 pub returns-in-Err-clause-extent : goal.returns-in-Err-clause-extent
 returns-in-Err-clause-extent g c =
@@ -516,23 +486,23 @@ add_plan-requires-clause-none g c =
 pub returns-in_err-touches-clause-failed : goal.returns-in_err-touches-clause-failed
 returns-in_err-touches-clause-failed g c =
     let works = ap (λ (k : KeeperState g.row.D.Denot). k.failed) (sym c.self.view_is) ∙ c.if-self.false in
-    let left = none_left c.from_residual.result c.from_residual.ensures.1 in
-    (λ is. absurd (left.0 is), λ fails. absurd (false≢true (sym works ∙ fails)))
+    let left = memory_apart c.from_residual.result c.from_residual.ensures.1 in
+    (λ is. absurd (left.failed is), λ fails. absurd (false≢true (sym works ∙ fails)))
 
 pub returns-in_err-touches-clause-not_now : goal.returns-in_err-touches-clause-not_now
 returns-in_err-touches-clause-not_now g c =
     let time : IsRotateTime c.args.self.now = (c.if-not-has_spare_area.ensures.spare.0 refl, subst (λ (k : KeeperState g.row.D.Denot). 0 < k.used) c.self.view_is (above_zero c.self.inside.area.gate c.if-is_empty.ensures)) in
-    let left = none_left c.from_residual.result c.from_residual.ensures.1 in
-    (λ is. absurd (left.1 is), λ none. absurd (none.1 time))
+    let left = memory_apart c.from_residual.result c.from_residual.ensures.1 in
+    (λ is. absurd (left.not_now is), λ none. absurd (none.1 time))
 
 pub returns-in_err-touches-clause-full : goal.returns-in_err-touches-clause-full
 returns-in_err-touches-clause-full g c =
-    let left = none_left c.from_residual.result c.from_residual.ensures.1 in
-    (λ is. absurd (left.2 is), λ full. let none : Some c.in-Some.header ≡ None = c.in-Some.ensures.none.1 (ap (λ (k : KeeperState g.row.D.Denot). k.generation) c.self.view_is ∙ full.2) in absurd (some_apart _ none))
+    let left = memory_apart c.from_residual.result c.from_residual.ensures.1 in
+    (λ is. absurd (left.full is), λ full. let none : Some c.in-Some.header ≡ None = c.in-Some.ensures.none.1 (ap (λ (k : KeeperState g.row.D.Denot). k.generation) c.self.view_is ∙ full.2) in absurd (some_apart _ none))
 
 pub returns-in_err-touches-clause-only : goal.returns-in_err-touches-clause-only
 returns-in_err-touches-clause-only g c =
-    subst (λ (r : Given). IfErr r IsStepFault) (sym (no_memory c.from_residual.result c.from_residual.ensures.1)) tt
+    subst (λ (r : Given (Unit {0})). IfErr r IsStepFault) (sym (no_memory c.from_residual.result c.from_residual.ensures.1)) tt
 
 pub returns-in_err-touches-clause-ok : goal.returns-in_err-touches-clause-ok
 returns-in_err-touches-clause-ok g c =
@@ -561,23 +531,23 @@ returns-in_err-touches-clause-held g c honest base fronts last_commands holds =
 pub returns-in_err-reserve-clause-failed : goal.returns-in_err-reserve-clause-failed
 returns-in_err-reserve-clause-failed g c =
     let works = ap (λ (k : KeeperState g.row.D.Denot). k.failed) (sym c.self.view_is) ∙ c.if-self.false in
-    let left = none_left c.from_residual-in_err-reserve.result c.from_residual-in_err-reserve.ensures.1 in
-    (λ is. absurd (left.0 is), λ fails. absurd (false≢true (sym works ∙ fails)))
+    let left = memory_apart c.from_residual-in_err-reserve.result c.from_residual-in_err-reserve.ensures.1 in
+    (λ is. absurd (left.failed is), λ fails. absurd (false≢true (sym works ∙ fails)))
 
 pub returns-in_err-reserve-clause-not_now : goal.returns-in_err-reserve-clause-not_now
 returns-in_err-reserve-clause-not_now g c =
     let time : IsRotateTime c.args.self.now = (c.if-not-has_spare_area.ensures.spare.0 refl, subst (λ (k : KeeperState g.row.D.Denot). 0 < k.used) c.self.view_is (above_zero c.self.inside.area.gate c.if-is_empty.ensures)) in
-    let left = none_left c.from_residual-in_err-reserve.result c.from_residual-in_err-reserve.ensures.1 in
-    (λ is. absurd (left.1 is), λ none. absurd (none.1 time))
+    let left = memory_apart c.from_residual-in_err-reserve.result c.from_residual-in_err-reserve.ensures.1 in
+    (λ is. absurd (left.not_now is), λ none. absurd (none.1 time))
 
 pub returns-in_err-reserve-clause-full : goal.returns-in_err-reserve-clause-full
 returns-in_err-reserve-clause-full g c =
-    let left = none_left c.from_residual-in_err-reserve.result c.from_residual-in_err-reserve.ensures.1 in
-    (λ is. absurd (left.2 is), λ full. let none : Some c.in-Some.header ≡ None = c.in-Some.ensures.none.1 (ap (λ (k : KeeperState g.row.D.Denot). k.generation) c.self.view_is ∙ full.2) in absurd (some_apart _ none))
+    let left = memory_apart c.from_residual-in_err-reserve.result c.from_residual-in_err-reserve.ensures.1 in
+    (λ is. absurd (left.full is), λ full. let none : Some c.in-Some.header ≡ None = c.in-Some.ensures.none.1 (ap (λ (k : KeeperState g.row.D.Denot). k.generation) c.self.view_is ∙ full.2) in absurd (some_apart _ none))
 
 pub returns-in_err-reserve-clause-only : goal.returns-in_err-reserve-clause-only
 returns-in_err-reserve-clause-only g c =
-    subst (λ (r : Given). IfErr r IsStepFault) (sym (no_memory c.from_residual-in_err-reserve.result c.from_residual-in_err-reserve.ensures.1)) tt
+    subst (λ (r : Given (Unit {0})). IfErr r IsStepFault) (sym (no_memory c.from_residual-in_err-reserve.result c.from_residual-in_err-reserve.ensures.1)) tt
 
 pub returns-in_err-reserve-clause-ok : goal.returns-in_err-reserve-clause-ok
 returns-in_err-reserve-clause-ok g c =
@@ -605,17 +575,17 @@ returns-in_err-reserve-clause-held g c honest base fronts last_commands holds =
 
 pub returns-in_err-touches-clause-err : goal.returns-in_err-touches-clause-err
 returns-in_err-touches-clause-err g c =
-    subst (λ (r : Given). IfErr r (λ fault. c.args.self.now ≡ refused_by fault c.args.self.now c.args.self.now.disk)) (sym (no_memory c.from_residual.result c.from_residual.ensures.1)) refl
+    subst (λ (r : Given (Unit {0})). IfErr r (λ fault. c.args.self.now ≡ refused_by fault c.args.self.now c.args.self.now.disk)) (sym (no_memory c.from_residual.result c.from_residual.ensures.1)) refl
 
 pub returns-in_err-touches-clause-faults_err : goal.returns-in_err-touches-clause-faults_err
 returns-in_err-touches-clause-faults_err g c =
     let faults = g.D.Disk.faults c.args.self.now.disk in
-    subst (λ (r : Given). IfErr r (λ fault. faults ≡ faults_by fault faults)) (sym (no_memory c.from_residual.result c.from_residual.ensures.1)) refl
+    subst (λ (r : Given (Unit {0})). IfErr r (λ fault. faults ≡ faults_by fault faults)) (sym (no_memory c.from_residual.result c.from_residual.ensures.1)) refl
 
 pub returns-in_err-reserve-clause-faults_err : goal.returns-in_err-reserve-clause-faults_err
 returns-in_err-reserve-clause-faults_err g c =
     let faults = g.D.Disk.faults c.args.self.now.disk in
-    subst (λ (r : Given). IfErr r (λ fault. g.D.Disk.faults c.self.inside.disk ≡ faults_by fault faults)) (sym (no_memory c.from_residual-in_err-reserve.result c.from_residual-in_err-reserve.ensures.1)) (ap (λ (k : KeeperState g.row.D.Denot). g.D.Disk.faults k.disk) c.self.view_is)
+    subst (λ (r : Given (Unit {0})). IfErr r (λ fault. g.D.Disk.faults c.self.inside.disk ≡ faults_by fault faults)) (sym (no_memory c.from_residual-in_err-reserve.result c.from_residual-in_err-reserve.ensures.1)) (ap (λ (k : KeeperState g.row.D.Denot). g.D.Disk.faults k.disk) c.self.view_is)
 
 pub returns-in_err-reserve-clause-err : goal.returns-in_err-reserve-clause-err
 returns-in_err-reserve-clause-err g c =
@@ -633,4 +603,4 @@ returns-in_err-reserve-clause-err g c =
       failed = inside.failed;
       memory = record { header = inside.header; slot = inside.slot; map = inside.map; plans = plans; area = inside.area };
     } in
-    subst (λ (r : Given). IfErr r (λ fault. made c.reserve.new.self.items ≡ refused_by fault c.args.self.now inside.disk)) (sym (no_memory c.from_residual-in_err-reserve.result c.from_residual-in_err-reserve.ensures.1)) (ap made c.reserve.ensures.items ∙ c.self.view_is)
+    subst (λ (r : Given (Unit {0})). IfErr r (λ fault. made c.reserve.new.self.items ≡ refused_by fault c.args.self.now inside.disk)) (sym (no_memory c.from_residual-in_err-reserve.result c.from_residual-in_err-reserve.ensures.1)) (ap made c.reserve.ensures.items ∙ c.self.view_is)

@@ -1,0 +1,44 @@
+-- which refusals an answer of the keeper isn't
+use Rattle.std.specs.Prelude.{IfErr, OnOk}
+use Rattle.std.specs.Result.{IsErrAnd}
+use Rattle.std.proofs.Common.{◌≡◌, None, Some, Result, Ok, Err, ap, subst, sym}
+use Rattle.checkpoint.specs.declared.fault.KeeperFault.{KeeperFault}
+use Rattle.checkpoint.specs.declared.fault.KeeperFault.TheVariants.{NoMemory, DeviceFault, NumbersFull, NotNow, Failed}
+
+abbrev pub Given : Type 0 → Type 0
+Given T = Result T KeeperFault
+
+pub ok_apart : {T : Type 0} (value : T) (fault : KeeperFault) → ◌≡◌ {A = Given T} (Ok value) (Err fault) → ⊥
+ok_apart value fault is = cc
+
+pub some_apart : {T : Type 0} (value : T) → Some value ≡ None → ⊥
+some_apart value is = cc
+
+module _ {T : Type 0} where
+  abbrev given : KeeperFault → Given T
+  given fault = Err fault
+
+  -- it isn't one of the three that tell of the keeper, and not of its memory or its device
+  pub record IsOther (result : Given T) : Type 0 where
+    pub failed : result ≡ Err Failed → ⊥
+    pub not_now : result ≡ Err NotNow → ⊥
+    pub full : result ≡ Err NumbersFull → ⊥
+
+  pub device_apart : (fault : KeeperFault) → fault ≡ DeviceFault → IsOther (Err fault)
+  device_apart fault is = record { failed = λ same. cc; not_now = λ same. cc; full = λ same. cc }
+
+  pub memory_apart : (result : Given T) → IsErrAnd result (λ fault. fault ≡ NoMemory) → IsOther result
+  memory_apart (Ok value) none = absurd none
+  memory_apart (Err fault) is = record { failed = λ same. cc; not_now = λ same. cc; full = λ same. cc }
+
+  pub no_memory : (result : Given T) → IsErrAnd result (λ fault. fault ≡ NoMemory) → result ≡ Err NoMemory
+  no_memory (Ok value) none = absurd none
+  no_memory (Err fault) is = ap given is
+
+  pub on_ok : (result : Given T) (X : Type 0) → IsErrAnd result (λ fault. fault ≡ NoMemory) → OnOk result X
+  on_ok (Ok value) X none = absurd none
+  on_ok (Err fault) X is = tt
+
+  pub if_err : (result : Given T) (P : KeeperFault → Type 0) → IsErrAnd result (λ fault. fault ≡ NoMemory) → P NoMemory → IfErr result P
+  if_err (Ok value) P none holds = tt
+  if_err (Err fault) P is holds = subst P (sym is) holds
