@@ -1,7 +1,11 @@
-use Rattle.std.proofs.Common.{ap}
+use Rattle.std.proofs.Common.{◌≡◌, ℕ, Ok, Err, sym, ◌∙◌, ap, subst}
+use Rattle.std.specs.Prelude.{IfErr, IsErr, OnOk}
+use Rattle.std.proofs.lemmas.Bool.{false≢true}
 use Rattle.device_image.specs.Keeper.{KeeperState}
 use Rattle.disk_model.specs.laws.Moments.{goes_on}
-use Rattle.checkpoint.proofs.Recovered.{count_ended, keeps_by, keeps_ended, never_one, still_kept}
+use Rattle.checkpoint.specs.Keeper.{faults_by, refused_by}
+use Rattle.checkpoint.proofs.Answered.{Given}
+use Rattle.checkpoint.proofs.Recovered.{count_ended, finished_last, keeps_by, keeps_ended, never_one, still_kept}
 use Rattle.checkpoint.proofs.keeper.Keeper.end_checkpoint.Goals as goal
 
 pub returns-in_err-write_map-clause-any_moment : goal.returns-in_err-write_map-clause-any_moment
@@ -38,3 +42,106 @@ returns-clause-kept g c honest image number keeps =
 pub returns-clause-remembered : goal.returns-clause-remembered
 returns-clause-remembered g c commands remembers =
     c.finish.ensures.remembered commands (c.in_ok-write_map.ensures.remembered commands (c.in_ok-copy_all.ensures.remembered commands remembers))
+
+ok_none : (result : Given (Unit {0})) (A : Type 0) → IsErr result → OnOk result A
+ok_none (Ok done) A none = absurd (false≢true none)
+ok_none (Err fault) A is = tt
+
+ok_more : (result : Given (Unit {0})) (A B : Type 0) → (A → B) → OnOk result A → OnOk result B
+ok_more (Ok done) A B more holds = more holds
+ok_more (Err fault) A B more holds = tt
+
+pub returns-clause-ok : goal.returns-clause-ok
+returns-clause-ok g c =
+    let first = c.in_ok-copy_all.ensures in
+    let second = c.in_ok-write_map.ensures in
+    ok_more c.finish.result _ _ (finished_last c.args.self.now c.copy_all.new.self c.write_map.new.self c.finish.new.self _ first.ok second.ok) c.finish.ensures.ok
+
+pub returns-clause-faults_ok : goal.returns-clause-faults_ok
+returns-clause-faults_ok g c =
+    let first = c.in_ok-copy_all.ensures in
+    let second = c.in_ok-write_map.ensures in
+    subst (λ (n : ℕ). OnOk c.finish.result (g.D.Disk.faults c.finish.new.self.disk ≡ n)) (second.faults_ok ∙ first.faults_ok) c.finish.ensures.faults_ok
+
+pub returns-clause-faults_err : goal.returns-clause-faults_err
+returns-clause-faults_err g c =
+    let first = c.in_ok-copy_all.ensures in
+    let second = c.in_ok-write_map.ensures in
+    subst (λ (n : ℕ). IfErr c.finish.result (λ fault. g.D.Disk.faults c.finish.new.self.disk ≡ faults_by fault n)) (second.faults_ok ∙ first.faults_ok) c.finish.ensures.faults_err
+
+pub returns-clause-extent : goal.returns-clause-extent
+returns-clause-extent g c =
+    let first = c.in_ok-copy_all.ensures in
+    let second = c.in_ok-write_map.ensures in
+    c.finish.ensures.extent ∙ second.extent ∙ first.extent
+
+pub returns-clause-honest : goal.returns-clause-honest
+returns-clause-honest g c =
+    let first = c.in_ok-copy_all.ensures in
+    let second = c.in_ok-write_map.ensures in
+    let third = c.finish.ensures in
+    (λ trusted. first.honest.0 (second.honest.0 (third.honest.0 trusted)), λ trusted. third.honest.1 (second.honest.1 (first.honest.1 trusted)))
+
+pub returns-clause-full : goal.returns-clause-full
+returns-clause-full g c is =
+    let unchanged : c.finish.new.self ≡ c.write_map.new.self = subst (λ (r : Given (Unit {0})). IfErr r (λ fault. c.finish.new.self ≡ refused_by fault c.write_map.new.self c.finish.new.self.disk)) is c.finish.ensures.err in
+    ap (λ (k : KeeperState g.row.D.Denot). k.generation) unchanged ∙ (c.finish.ensures.full.0 is).2
+
+pub returns-clause-wanted : goal.returns-clause-wanted
+returns-clause-wanted g c is one =
+    let unchanged : c.finish.new.self ≡ c.write_map.new.self = subst (λ (r : Given (Unit {0})). IfErr r (λ fault. c.finish.new.self ≡ refused_by fault c.write_map.new.self c.finish.new.self.disk)) is c.finish.ensures.err in
+    never_one c.write_map.new.self (ap (λ (k : KeeperState g.row.D.Denot). k.phase) c.in_ok-write_map.ensures.ok) (ap (λ (k : KeeperState g.row.D.Denot). k.phase) (sym unchanged) ∙ one)
+
+pub returns-in_err-write_map-clause-extent : goal.returns-in_err-write_map-clause-extent
+returns-in_err-write_map-clause-extent g c =
+    c.in_err-write_map.ensures.extent ∙ c.in_ok-copy_all.ensures.extent
+
+pub returns-in_err-write_map-clause-honest : goal.returns-in_err-write_map-clause-honest
+returns-in_err-write_map-clause-honest g c =
+    let first = c.in_ok-copy_all.ensures in
+    let second = c.in_err-write_map.ensures in
+    (λ trusted. first.honest.0 (second.honest.0 trusted), λ trusted. second.honest.1 (first.honest.1 trusted))
+
+pub returns-in_err-copy_all-clause-ok : goal.returns-in_err-copy_all-clause-ok
+returns-in_err-copy_all-clause-ok g c =
+    ok_none c.from_residual.result _ c.from_residual.ensures.0
+
+pub returns-in_err-copy_all-clause-faults_ok : goal.returns-in_err-copy_all-clause-faults_ok
+returns-in_err-copy_all-clause-faults_ok g c =
+    ok_none c.from_residual.result _ c.from_residual.ensures.0
+
+pub returns-in_err-copy_all-clause-remembered : goal.returns-in_err-copy_all-clause-remembered
+returns-in_err-copy_all-clause-remembered g c commands remembers =
+    ok_none c.from_residual.result _ c.from_residual.ensures.0
+
+pub returns-in_err-copy_all-clause-kept : goal.returns-in_err-copy_all-clause-kept
+returns-in_err-copy_all-clause-kept g c honest image number keeps =
+    ok_none c.from_residual.result _ c.from_residual.ensures.0
+
+pub returns-in_err-write_map-clause-ok : goal.returns-in_err-write_map-clause-ok
+returns-in_err-write_map-clause-ok g c =
+    ok_none c.from_residual-in_err-write_map.result _ c.from_residual-in_err-write_map.ensures.0
+
+pub returns-in_err-write_map-clause-faults_ok : goal.returns-in_err-write_map-clause-faults_ok
+returns-in_err-write_map-clause-faults_ok g c =
+    ok_none c.from_residual-in_err-write_map.result _ c.from_residual-in_err-write_map.ensures.0
+
+pub returns-in_err-write_map-clause-remembered : goal.returns-in_err-write_map-clause-remembered
+returns-in_err-write_map-clause-remembered g c commands remembers =
+    ok_none c.from_residual-in_err-write_map.result _ c.from_residual-in_err-write_map.ensures.0
+
+pub returns-in_err-write_map-clause-kept : goal.returns-in_err-write_map-clause-kept
+returns-in_err-write_map-clause-kept g c honest image number keeps =
+    ok_none c.from_residual-in_err-write_map.result _ c.from_residual-in_err-write_map.ensures.0
+
+pub returns-in_err-copy_all-clause-extent : goal.returns-in_err-copy_all-clause-extent
+returns-in_err-copy_all-clause-extent g c =
+    c.in_err-copy_all.ensures.extent
+
+pub returns-in_err-copy_all-clause-honest : goal.returns-in_err-copy_all-clause-honest
+returns-in_err-copy_all-clause-honest g c =
+    c.in_err-copy_all.ensures.honest
+
+pub returns-in_err-copy_all-clause-any_moment : goal.returns-in_err-copy_all-clause-any_moment
+returns-in_err-copy_all-clause-any_moment g c =
+    c.in_err-copy_all.ensures.any_moment
