@@ -143,7 +143,6 @@ impl Group {
     }
 
     // The head of the group and its commands.
-    #[tactic(auto, using(std::proofs::lemmas::List::Sums::sum_by_more, std::proofs::lemmas::List::Sums::sum_by_more_le))]
     fn spell_commands(&self, buffer: &mut Vec<u8>) -> Result<(), AllocError>
         requires { buffer.old.items ≡ [] }
         ensures { OnOk result (buffer.new.items ≡ group_bytes (stored_of self.now)) }
