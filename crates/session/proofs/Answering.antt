@@ -6,14 +6,16 @@ use Rattle.std.specs.List.{list_any}
 use Rattle.std.specs.Prelude.{IsErr, is_ok, reverse, ◌||◌}
 use Rattle.std.specs.Io.KnownBytes.{Appends}
 use Rattle.nbd_wire.specs.Request.{Message}
+use Rattle.nbd_reply.specs.Reply.{reply_text}
 use Rattle.nbd_wire.specs.declared.message.Reply.{Reply}
+use Rattle.nbd_wire.specs.declared.head.RequestHead.{RequestHead}
 use Rattle.nbd_wire.specs.declared.message.SessionFlags.{SessionFlags}
 use Rattle.negotiation.specs.Dialog.{HasNoDisc, is_disc}
 use Rattle.negotiation.specs.declared.end.End.{End}
 use Rattle.byte_streams.specs.Streams.{WritesPart}
 use Rattle.byte_streams.specs.declared.streams.StreamFault.{StreamFault}
 use Rattle.session.specs.Streams.{Writes}
-use Rattle.session.specs.Talk.{Answers, AreSteps, Exchange, asked, exchange_text, talk_text}
+use Rattle.session.specs.Talk.{Answers, AreSteps, Exchange, asked, exchange_text, is_whole, talk_text}
 use Rattle.session.specs.inner.Talk.{ServesOn}
 use Rattle.byte_streams.specs.laws.Bytes.{appends_none, appends_on}
 
@@ -51,6 +53,24 @@ writes_both old mid new before more between after ok none one two = record {
 pub err_not_ok : (result : Result (Unit {0}) End) → IsErr result → is_ok result ≡ true → ⊥
 err_not_ok (Ok done) is ok = cc
 err_not_ok (Err end) is ok = cc
+
+-- nothing was written, and what was due is lost
+pub writes_none : (output : Option (List ℕ)) (before after : List ℕ) (result : Result (Unit {0}) End) → IsErr result → Writes output output before after (is_ok result)
+writes_none output before after result is = record { text = []; unsent = before; begins = refl; written = appends_none output; left = λ ok. absurd (err_not_ok result is ok) }
+
+-- the same text under another name, and an error that passes a failed write on
+pub writes_as : (old new : Option (List ℕ)) (before named after : List ℕ) (is_kept : Bool) → before ≡ named → Writes old new before after is_kept → Writes old new named after is_kept
+writes_as old new before named after is_kept same writes = subst (λ (b : List ℕ). Writes old new b after is_kept) same writes
+
+pub writes_failed : (old new : Option (List ℕ)) (before after : List ℕ) (result : Result (Unit {0}) End) → IsErr result → Writes old new before after false → Writes old new before after (is_ok result)
+writes_failed old new before after (Ok done) is writes = cc
+writes_failed old new before after (Err end) is writes = writes
+
+-- a reply as it was encoded for the head that was read
+pub encoded : (flags : SessionFlags) (request : Message) (reply : Reply) (head : RequestHead) (df : Bool) (due bytes : List ℕ) → head ≡ request.head → df ≡ is_whole head
+    → bytes ≡ due ++ reply_text flags head.kind df reply → bytes ≡ due ++ exchange_text flags (record { request = request; reply = reply })
+encoded flags request reply head df due bytes read whole is =
+    is ∙ ap (λ (d : Bool). due ++ reply_text flags head.kind d reply) whole ∙ ap (λ (h : RequestHead). due ++ reply_text flags h.kind (is_whole h) reply) read
 
 -- ---- requests that are no DISC
 

@@ -1,4 +1,4 @@
-use Rattle.std.proofs.Common.{◌≡◌, [], Ok, Err, Result, arith, rules, vec_len}
+use Rattle.std.proofs.Common.{◌≡◌, ◌<◌, [], Ok, Err, Result, arith, rules, vec_len}
 use Rattle.std.specs.Global.{Vec}
 use Rattle.nbd_wire.specs.Request.{Message}
 use Rattle.negotiation.specs.declared.end.End.{End}
@@ -67,3 +67,8 @@ loop-preserved g c =
       no_disc = next.no_disc;
       hearing = heard_then old now input mid output made heard c.hear.new.session left later (ReadsOn now mid left) (Ok c.in_ok-requests-2.requests) next.hearing (λ bytes read. read);
     }
+
+pub returns-then-not-is_empty-clause-over : goal.returns-then-not-is_empty-clause-over
+returns-then-not-is_empty-clause-over g c =
+    let some : 0 < vec_len c.loop.requests = search rules in
+    c.loop.invariant.asks some
