@@ -95,3 +95,51 @@ returns-clause-found g c honest content known =
     (omega (arith, known.scanned.inside, c.if-end-bytes.false, c.requires.inside)) end_is _
     (moved_plain area.from c.args.place head.first head.blocks head.kind _ c.touch.ensures.plain)
     (moved_edged area.from c.args.place head.first head.blocks head.kind c.in_ok-edges.edges _ c.touch.ensures.edged)
+
+pub returns-in_err-edges-clause-honest : goal.returns-in_err-edges-clause-honest
+returns-in_err-edges-clause-honest g c =
+    let first = c.in_ok-head.ensures in
+    let second = c.in_err-edges.ensures in
+    (λ honest. first.honest.0 (second.honest.0 honest), λ honest. second.honest.1 (first.honest.1 honest))
+
+pub returns-in_err-edges-clause-read_as : goal.returns-in_err-edges-clause-read_as
+returns-in_err-edges-clause-read_as g c honest content known =
+    let first = c.in_ok-head.ensures in
+    c.in_err-edges.ensures.read_as (first.honest.1 honest) content (first.read_as honest content known)
+
+pub returns-in_default-clause-honest : goal.returns-in_default-clause-honest
+returns-in_default-clause-honest g c =
+    let first = c.in_ok-head.ensures in
+    let second = c.in_ok-edges.ensures in
+    (λ honest. first.honest.0 (second.honest.0 honest), λ honest. second.honest.1 (first.honest.1 honest))
+
+pub returns-in_default-clause-read_as : goal.returns-in_default-clause-read_as
+returns-in_default-clause-read_as g c honest content known =
+    let first = c.in_ok-head.ensures in
+    c.in_ok-edges.ensures.read_as (first.honest.1 honest) content (first.read_as honest content known)
+
+pub returns-then-end-bytes-clause-honest : goal.returns-then-end-bytes-clause-honest
+returns-then-end-bytes-clause-honest g c =
+    let first = c.in_ok-head.ensures in
+    let second = c.in_ok-edges.ensures in
+    (λ honest. first.honest.0 (second.honest.0 honest), λ honest. second.honest.1 (first.honest.1 honest))
+
+pub returns-then-end-bytes-clause-read_as : goal.returns-then-end-bytes-clause-read_as
+returns-then-end-bytes-clause-read_as g c honest content known =
+    let first = c.in_ok-head.ensures in
+    c.in_ok-edges.ensures.read_as (first.honest.1 honest) content (first.read_as honest content known)
+
+pub returns-clause-honest : goal.returns-clause-honest
+returns-clause-honest g c =
+    let first = c.in_ok-head.ensures in
+    let second = c.in_ok-edges.ensures in
+    (λ honest. first.honest.0 (second.honest.0 honest), λ honest. second.honest.1 (first.honest.1 honest))
+
+pub returns-clause-read_as : goal.returns-clause-read_as
+returns-clause-read_as g c honest content known =
+    let first = c.in_ok-head.ensures in
+    c.in_ok-edges.ensures.read_as (first.honest.1 honest) content (first.read_as honest content known)
+
+pub edges-requires-clause-inside : goal.edges-requires-clause-inside
+edges-requires-clause-inside g c edged =
+    omega (arith, c.bytes.ensures.edged edged, c.if-end-place.false, c.requires.order, c.requires.inside)
