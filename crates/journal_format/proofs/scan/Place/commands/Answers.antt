@@ -1,5 +1,7 @@
-use Rattle.std.proofs.Common.{◌+◌, ◌∙◌, List, sym, subst, refl, arith}
+use Rattle.std.proofs.Common.{◌≡◌, ◌≤◌, ◌+◌, ◌∙◌, ℕ, List, [], ◌∷◌, length, sym, subst, refl, arith}
+use Rattle.image_model.specs.Change.{Change}
 use Rattle.journal_format.specs.declared.touch.TouchedRange.{TouchedRange}
+use Rattle.journal_format.specs.inner.Scanning.{StandBetween}
 use Rattle.journal_format.specs.Touches.{AreWithin, ranges_of}
 use Rattle.journal_format.specs.laws.Chained.{none_read, reads_on}
 use Rattle.journal_format.specs.laws.Found.{found_none, left_none, found_more, left_more, none_next, within_append, within_more}
@@ -80,3 +82,15 @@ pub returns-in_err-note-clause-read_as : goal.returns-in_err-note-clause-read_as
 returns-in_err-note-clause-read_as g c honest content known =
     let loop = c.loop.invariant in
     c.in_ok-found.ensures.read_as (loop.honest.1 honest) content (loop.read_as honest content known)
+
+-- where all were read and the end isn't reached, so many changes don't stand up to it
+none_left : (image : ℕ) (content : List ℕ) (place end passed count : ℕ) (left : List Change) → StandBetween image content place end left → passed + length left ≡ count → count ≤ passed → (place ≡ end → ⊥) → ⊥
+none_left image content place end passed count [] between is all apart =
+    let same : place ≡ end = omega (arith, between.end_is) in
+    apart same
+none_left image content place end passed count (change ∷ left) between is all apart = absurd (omega (arith, is, all))
+
+pub returns-else-place-end-clause-damaged : goal.returns-else-place-end-clause-damaged
+returns-else-place-end-clause-damaged g c honest content known damaged changes between is =
+    let there = (c.loop.invariant.left honest content known).rest changes between is in
+    none_left c.args.self.now.blocks content _ _ _ _ there.0 there.1 there.2 c.loop-test.false (λ same. c.if-place-end.false (omega (arith, same)))

@@ -1,5 +1,5 @@
-use Rattle.std.proofs.Common.{◌∙◌, ◌<◌, length, arith}
-use Rattle.std.proofs.lemmas.List.{get_or-take, get_or_append_left}
+use Rattle.std.proofs.Common.{◌≡◌, ◌∙◌, ℕ, ◌<◌, List, ◌++◌, length, take, drop, arith}
+use Rattle.std.proofs.lemmas.List.{get_or-take, get_or_append_left, length-append, length-take-le}
 use Rattle.journal_format.specs.laws.Windows.{scanned_on}
 use Rattle.journal_format.proofs.window.Window.fill.Goals as goal
 
@@ -16,3 +16,18 @@ returns-clause-read_as g c honest content known =
           ∙ read.bytes honest k below
           ∙ scanned.same _ (omega arith, omega (arith, below, c.min-held.ensures, c.requires.inside));
     }
+
+-- a buffer whose front is read over keeps its length
+length_over : (len : ℕ) (old new : List ℕ) → length old ≡ len → length new ≡ len → length (take len (new ++ drop (length new) old)) ≡ len
+length_over len old new is same =
+    length-take-le len (new ++ drop (length new) old) (omega (arith, length-append new (drop (length new) old), is, same))
+
+pub invariant_of-self : goal.invariant_of-self
+invariant_of-self g c =
+    let buffer = c.self.inside.buffer in
+    (length_over buffer.len buffer.items c.read_front.new.buffer (omega arith) (omega (arith, c.read_front.auto.buffer)) ∙ omega (arith, c.self.invariant.0), omega arith)
+
+pub invariant_of-self-2 : goal.invariant_of-self-2
+invariant_of-self-2 g c =
+    let buffer = c.self.inside.buffer in
+    (length_over buffer.len buffer.items c.read_front.new.buffer (omega arith) (omega (arith, c.read_front.auto.buffer)) ∙ omega (arith, c.self.invariant.0), omega (arith, c.min-held.ensures, c.next_bytes-most.ensures))
