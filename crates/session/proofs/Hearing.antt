@@ -1,5 +1,6 @@
 -- How what a session heard goes on.
-use Rattle.std.proofs.Common.{◌≡◌, ℕ, ◌<◌, ◌≤◌, true, false, List, [], ◌∷◌, ◌++◌, Option, Some, None, Result, Ok, Err, ◌⊎◌, inl, inr, refl, sym, ap, subst, ◌∙◌, append_assoc, length, vec_len, arith}
+use Rattle.std.proofs.Common.{◌≡◌, ◌==◌, ℕ, ◌<◌, ◌≤◌, true, false, List, [], ◌∷◌, ◌++◌, Option, Some, None, Result, Ok, Err, ◌⊎◌, inl, inr, refl, sym, ap, subst, ◌∙◌, append_assoc, length, vec_len, arith}
+use Rattle.std.proofs.lemmas.Bool.Decides.{nat_tests}
 use Rattle.std.proofs.lemmas.List.{append-nil}
 use Rattle.std.specs.Global.{Vec}
 use Rattle.std.specs.Prelude.{IfErr, IfOk, IsErrAnd}
@@ -293,6 +294,13 @@ as_error P end (Err other) is holds = subst (λ (e : End). P (Err e)) (sym is) h
 nothing : {X : Type 0} (xs : List X) → length xs ≡ 0 → xs ≡ []
 nothing [] none = refl
 nothing (x ∷ xs) none = absurd (omega arith)
+
+-- what is asked of a number of requests
+pub some_left : (count : ℕ) → (count == 0) ≡ false → 0 < count
+some_left count is = grind (arith, nat_tests)
+
+pub none_left : (count : ℕ) → (count == 0) ≡ true → count ≡ 0
+none_left count is = grind (arith, nat_tests)
 
 pub items_none : (given : Vec Message) → vec_len given ≡ 0 → given.items ≡ []
 items_none given zero = nothing given.items (omega (arith, given.ok.0, zero))

@@ -1,4 +1,4 @@
-use Rattle.std.proofs.Common.{◌≡◌, ◌⊎◌, List, ℕ, [], Option, Ok, Err, Result, arith, refl, inr, rules, subst, sym, take, vec_len}
+use Rattle.std.proofs.Common.{◌≡◌, ◌∙◌, ◌⊎◌, List, ℕ, [], Option, Ok, Err, Result, arith, refl, inr, rules, subst, sym, take, vec_len}
 use Rattle.std.specs.Global.{Vec}
 use Rattle.std.specs.Io.KnownBytes.{Consumes}
 use Rattle.nbd_wire.specs.Request.{Message}
@@ -6,7 +6,7 @@ use Rattle.negotiation.specs.declared.end.End.{End}
 use Rattle.session.specs.Hearing.{Hearing, IsTimely, ReadsOn}
 use Rattle.negotiation.specs.Session.{SessionState, end_of}
 use Rattle.negotiation.specs.declared.end.End.TheVariants.{IoFault, PeerClosed}
-use Rattle.session.proofs.Hearing.{as_error, consumes_failed, reads_nothing, fault_tells, heard_last, heard_none, heard_then, if_ok, items_none, none_of, timely_piece, went_on}
+use Rattle.session.proofs.Hearing.{as_error, consumes_failed, reads_nothing, fault_tells, heard_last, heard_none, heard_then, if_ok, items_none, none_left, none_of, timely_piece, went_on}
 use Rattle.session.proofs.hear.hear.Goals as goal
 
 pub returns-in_err-requests-clause-hearing : goal.returns-in_err-requests-clause-hearing
@@ -44,7 +44,7 @@ returns-in_err-fill-clause-hearing g c =
     let now = c.take.new.session in
     let new = c.fill.new.session in
     let given = c.in_ok-requests.requests in
-    let zero : vec_len given ≡ 0 = search rules in
+    let zero : vec_len given ≡ 0 = none_left _ (sym c.is_empty.ensures ∙ c.if-not-is_empty.false) in
     let none = items_none given zero in
     let heard = went_on old now (λ bytes. bytes ≡ []) input input output made given c.in_ok-requests.ensures.hearing (reads_nothing old input) none (λ some. omega (arith, zero, some)) c.in_ok-requests.ensures.said in
     let end = c.in_err-fill.field-0.0 in
@@ -60,7 +60,7 @@ returns-then-room-len-clause-hearing g c =
     let old = c.args.session.now in
     let now = c.take.new.session in
     let given = c.in_ok-requests.requests in
-    let zero : vec_len given ≡ 0 = search rules in
+    let zero : vec_len given ≡ 0 = none_left _ (sym c.is_empty.ensures ∙ c.if-not-is_empty.false) in
     let none = items_none given zero in
     let heard = went_on old now (λ bytes. bytes ≡ []) input input output made given c.in_ok-requests.ensures.hearing (reads_nothing old input) none (λ some. omega (arith, zero, some)) c.in_ok-requests.ensures.said in
     heard_then old now input input output made heard c.fill.new.session left made (ReadsOn now input left) (Ok given) (c.in_ok-fill.ensures.hearing made given none) (λ bytes read. read)
@@ -74,7 +74,7 @@ returns-in_err-count-clause-hearing g c =
     let old = c.args.session.now in
     let now = c.take.new.session in
     let given = c.in_ok-requests.requests in
-    let zero : vec_len given ≡ 0 = search rules in
+    let zero : vec_len given ≡ 0 = none_left _ (sym c.is_empty.ensures ∙ c.if-not-is_empty.false) in
     let none = items_none given zero in
     let heard = went_on old now (λ bytes. bytes ≡ []) input input output made given c.in_ok-requests.ensures.hearing (reads_nothing old input) none (λ some. omega (arith, zero, some)) c.in_ok-requests.ensures.said in
     let outcome = c.from_residual-in_err-count.result in
@@ -90,7 +90,7 @@ returns-then-count-eq0-clause-hearing g c =
     let old = c.args.session.now in
     let now = c.take.new.session in
     let given = c.in_ok-requests.requests in
-    let zero : vec_len given ≡ 0 = search rules in
+    let zero : vec_len given ≡ 0 = none_left _ (sym c.is_empty.ensures ∙ c.if-not-is_empty.false) in
     let none = items_none given zero in
     let heard = went_on old now (λ bytes. bytes ≡ []) input input output made given c.in_ok-requests.ensures.hearing (reads_nothing old input) none (λ some. omega (arith, zero, some)) c.in_ok-requests.ensures.said in
     heard_last old now input input output made heard left (Err PeerClosed) (subst (λ (n : ℕ). Consumes input left (take n c.read_some.new.piece.items)) c.if-count-eq0.true c.in_ok-count.ensures.bytes.0)
@@ -110,7 +110,7 @@ returns-clause-hearing g c =
     let now = c.take.new.session in
     let given = c.in_ok-requests.requests in
     let piece = take c.in_ok-count.count c.deref.result.now in
-    let zero : vec_len given ≡ 0 = search rules in
+    let zero : vec_len given ≡ 0 = none_left _ (sym c.is_empty.ensures ∙ c.if-not-is_empty.false) in
     let none = items_none given zero in
     let heard = went_on old now (λ bytes. bytes ≡ []) input input output made given c.in_ok-requests.ensures.hearing (reads_nothing old input) none (λ some. omega (arith, zero, some)) c.in_ok-requests.ensures.said in
     let read = subst (λ (bytes : List ℕ). Consumes input left (take c.in_ok-count.count bytes)) (sym c.deref.ensures.value) c.in_ok-count.ensures.bytes.0 in

@@ -1,9 +1,9 @@
-use Rattle.std.proofs.Common.{◌≡◌, ◌<◌, [], Ok, Err, Result, arith, rules, vec_len}
+use Rattle.std.proofs.Common.{◌≡◌, ◌∙◌, [], Ok, Err, Result, sym, arith, vec_len}
 use Rattle.std.specs.Global.{Vec}
 use Rattle.nbd_wire.specs.Request.{Message}
 use Rattle.negotiation.specs.declared.end.End.{End}
 use Rattle.session.specs.Hearing.{Hearing, ReadsOn}
-use Rattle.session.proofs.Hearing.{as_error, hearing_read, heard_then, items_none, reads_nothing, went_on}
+use Rattle.session.proofs.Hearing.{as_error, hearing_read, heard_then, items_none, none_left, reads_nothing, some_left, went_on}
 use Rattle.session.proofs.hear.negotiate.Goals as goal
 
 pub returns-in_err-requests-clause-hearing : goal.returns-in_err-requests-clause-hearing
@@ -40,7 +40,7 @@ returns-in_err-requests-2-clause-hearing g c =
     let later = g.W.Write.contents c.hear.new.output in
     let old = c.args.session.now in
     let now = c.loop.session in
-    let zero : vec_len c.loop.requests ≡ 0 = search rules in
+    let zero : vec_len c.loop.requests ≡ 0 = none_left _ (sym c.is_empty.ensures ∙ c.if-not-is_empty.false) in
     let heard = went_on old now (ReadsOn old input mid) input mid output made c.loop.requests c.loop.invariant.hearing (λ bytes read. read) (items_none c.loop.requests zero) (λ some. omega (arith, zero, some)) c.loop.invariant.said in
     as_error (λ (r : Result (Vec Message) End). Hearing old (ReadsOn old input left) output later r c.hear.new.session) c.in_err-requests-2.field-0.0 c.from_residual-in_err-requests-2.result c.from_residual-in_err-requests-2.ensures.1
     (heard_then old now input mid output made heard c.hear.new.session left later (ReadsOn now mid left) (Err c.in_err-requests-2.field-0.0) c.in_err-requests-2.ensures.hearing (λ bytes read. read))
@@ -55,7 +55,7 @@ loop-preserved g c =
     let later = g.W.Write.contents c.hear.new.output in
     let old = c.args.session.now in
     let now = c.loop.session in
-    let zero : vec_len c.loop.requests ≡ 0 = search rules in
+    let zero : vec_len c.loop.requests ≡ 0 = none_left _ (sym c.is_empty.ensures ∙ c.if-not-is_empty.false) in
     let heard = went_on old now (ReadsOn old input mid) input mid output made c.loop.requests c.loop.invariant.hearing (λ bytes read. read) (items_none c.loop.requests zero) (λ some. omega (arith, zero, some)) c.loop.invariant.said in
     let next = c.in_ok-requests-2.ensures in
     record {
@@ -70,5 +70,4 @@ loop-preserved g c =
 
 pub returns-then-not-is_empty-clause-over : goal.returns-then-not-is_empty-clause-over
 returns-then-not-is_empty-clause-over g c =
-    let some : 0 < vec_len c.loop.requests = search rules in
-    c.loop.invariant.asks some
+    c.loop.invariant.asks (some_left _ (sym c.is_empty.ensures ∙ c.if-not-is_empty.true))
