@@ -10,7 +10,7 @@ use Rattle.clap.specs.declared.builder.arg.ArgPredicate.{ArgPredicate}
 use Rattle.clap.specs.declared.builder.command.Command.{Command}
 use Rattle.std.specs.Borrow.{Bor}
 use Rattle.clap.specs.Walk.{is_empty, is_free_arg}
-use Rattle.clap.specs.Words.{AddsConflicts, AddsRequiredUnless, AddsRequirements, App, Rule, Text, app_of, rule_of, with_rule, with_subcommand}
+use Rattle.clap.specs.Words.{AddsArg, AddsConflicts, AddsRequiredUnless, AddsRequirements, App, Rule, Text, app_of, rule_of, with_rule, with_subcommand}
 
 -- of a plain command's tests the third: it has no global argument
 pub third : (groups external globals rest : Bool) → (groups && (not external && (not globals && rest))) ≡ true → globals ≡ false
@@ -31,11 +31,28 @@ joins (Ok below) app shape above whole plain same is joined =
     joined (ap (λ (a : App). a.top.is_plain) is ∙ plain) ∙ ap (λ (a : App). with_subcommand a (app_of below).top) same ∙ ap (λ (a : App). with_subcommand shape a.top) is
 joins (Err error) app shape above whole plain same is joined = absurd joined
 
+-- the first argument
+pub starts : (made : Result Command AllocError) (command : Command) (arg : Arg) (shape : App) (rule : Rule) → app_of command ≡ shape → arg.global ≡ false → rule_of arg ≡ rule
+    → IfOk made (AddsArg command arg) → IfOk made (λ whole. app_of whole ≡ with_rule shape rule)
+starts made command arg shape rule same local is says =
+    IfOk-weaker made _ _ (λ whole added. added.shape local ∙ ap (λ (a : App). with_rule a (rule_of arg)) same ∙ ap (λ (r : Rule). with_rule shape r) is) says
+
 -- an argument stands behind those before it
-pub takes : (argument : Result Arg AllocError) (rule : Rule) (shape above whole : App) → above ≡ shape → IfOk argument (λ arg. (arg.global ≡ false) × (rule_of arg ≡ rule))
-    → IsOkAnd argument (λ arg. arg.global ≡ false → whole ≡ with_rule above (rule_of arg)) → whole ≡ with_rule shape rule
-takes (Ok arg) rule shape above whole same is taken = taken is.0 ∙ ap (λ (a : App). with_rule a (rule_of arg)) same ∙ ap (λ (r : Rule). with_rule shape r) is.1
-takes (Err error) rule shape above whole same is taken = absurd taken
+pub takes : (command made : Result Command AllocError) (arg : Arg) (shape : App) (rule : Rule) → arg.global ≡ false → rule_of arg ≡ rule
+    → IfOk command (λ above. app_of above ≡ shape)
+    → IfOk made (λ whole. IsOkAnd command (λ above. arg.global ≡ false → app_of whole ≡ with_rule (app_of above) (rule_of arg)))
+    → IfOk made (λ whole. app_of whole ≡ with_rule shape rule)
+takes (Ok above) made arg shape rule local is same says =
+    IfOk-weaker made _ _ (λ whole taken. taken local ∙ ap (λ (a : App). with_rule a (rule_of arg)) same ∙ ap (λ (r : Rule). with_rule shape r) is) says
+takes (Err error) made arg shape rule local is same says = IfOk-weaker made _ _ (λ whole taken. absurd taken) says
+
+-- and one that took memory of its own
+pub takes_tied : (command made : Result Command AllocError) (argument : Result Arg AllocError) (shape : App) (rule : Rule)
+    → IfOk argument (λ arg. (arg.global ≡ false) × (rule_of arg ≡ rule)) → IfOk command (λ above. app_of above ≡ shape)
+    → IfOk made (λ whole. IsOkAnd argument (λ arg. IsOkAnd command (λ above. arg.global ≡ false → app_of whole ≡ with_rule (app_of above) (rule_of arg))))
+    → IfOk made (λ whole. app_of whole ≡ with_rule shape rule)
+takes_tied command made (Ok arg) shape rule is same says = takes command made arg shape rule is.0 is.1 same says
+takes_tied command made (Err error) shape rule is same says = IfOk-weaker made _ _ (λ whole taken. absurd taken) says
 
 -- ---- rules on other arguments
 

@@ -1,9 +1,9 @@
-ghost use Rattle.std.specs.Prelude.{◌≡◌, codes, false, true, IfOk, IsOkAnd};
+ghost use Rattle.std.specs.Prelude.{◌≡◌, [], ◌∷◌, Some, codes, false, true, IfOk, IsOkAnd};
 ghost use Rattle.clap.specs.Words.{app_of, new_app, rule_of, with_rule, with_subcommand};
 ghost use Rattle.command_line.specs.Commands.{area_rule, bare_app, block_count_rule, blocks_rule, cache_rule, check_app, flag_rule, format_app, frames_rule, handshake_rule, interval_rule, layout_rule, listen_rule, loaded_app, nbdj_app, on_fault_rule, option_rule, path_rule, pipe_app, recover_app, rehearse_app, serve_app, served_app, sessions_rule, size_rule, timed_app, unix_rule, upgrade_app, verbose_rule, workers_rule};
 
 use clap::builder::ValueParser;
-use clap::{Arg, ArgAction, Command, value_parser};
+use clap::{Arg, ArgAction, Command};
 use front_end::{LEAST_FRAMES, MOST_FRAMES, MOST_WORKERS};
 use std::alloc::{AllocError, Global};
 
@@ -37,13 +37,24 @@ fn joined<'a>(
 
 // The command with an argument, where there is memory for it.
 fn with_argument<'a>(
-    command: Command<'a>,
+    command: Result<Command<'a>, AllocError>,
+    argument: Arg<'a>,
+) -> Result<Command<'a>, AllocError>
+    ensures { IfOk result (λ whole. IsOkAnd command.entry (λ above. argument.entry.global ≡ false
+        → app_of whole ≡ with_rule (app_of above) (rule_of argument.entry))) }
+{
+    command?.arg(argument)
+}
+
+// The command with an argument that took memory of its own.
+fn with_tied<'a>(
+    command: Result<Command<'a>, AllocError>,
     argument: Result<Arg<'a>, AllocError>,
 ) -> Result<Command<'a>, AllocError>
-    ensures { IfOk result (λ whole. IsOkAnd argument.entry (λ arg. arg.global ≡ false
-        → app_of whole ≡ with_rule (app_of command.entry) (rule_of arg))) }
+    ensures { IfOk result (λ whole. IsOkAnd argument.entry (λ arg. IsOkAnd command.entry (λ above. arg.global ≡ false
+        → app_of whole ≡ with_rule (app_of above) (rule_of arg)))) }
 {
-    command.arg(argument?)
+    with_argument(command, argument?)
 }
 
 // A subcommand without its arguments.
@@ -90,13 +101,13 @@ pub fn format<'a>(alloc: Global) -> Result<Command<'a>, AllocError>
         "Makes or replaces the file at its full size: an image of holes with an empty journal",
         "Example: nbdj format d.img --size 10G\n\nWhat the file held before is lost, unless the format is refused. A kill or a power cut before the end leaves what the file held, or a file that doesn't open.\n\nExit status: 0 done; 1 a fault of file, device or memory, or an area below 4M for layout 2; 2 a refused command line.",
     );
-    let command = command.override_usage(FORMAT_USAGE).arg(path(alloc))?;
-    let command = with_argument(command, size(alloc))?;
-    let command = with_argument(command, blocks(alloc))?;
-    let command = command.arg(area(alloc))?;
-    let command = command.arg(layout(alloc))?;
-    let command = command.arg(preallocate(alloc))?;
-    command.arg(verbose(alloc))
+    let command = command.override_usage(FORMAT_USAGE).arg(path(alloc));
+    let command = with_tied(command, size(alloc));
+    let command = with_tied(command, blocks(alloc));
+    let command = with_argument(command, area(alloc));
+    let command = with_argument(command, layout(alloc));
+    let command = with_argument(command, preallocate(alloc));
+    with_argument(command, verbose(alloc))
 }
 
 fn size<'a>(alloc: Global) -> Result<Arg<'a>, AllocError>
@@ -121,7 +132,7 @@ fn block_count<'a>(alloc: Global) -> Arg<'a>
     ensures rule { rule_of result ≡ block_count_rule }
 {
     option(alloc, "blocks", "N")
-        .value_parser(value_parser!(u64).range(1..=16_777_216))
+        .value_parser(ValueParser::Unsigned(1, 16_777_216))
         .help("Blocks of the image, of 4096 bytes each: 1 to 16777216")
 }
 
@@ -139,7 +150,7 @@ fn layout<'a>(alloc: Global) -> Arg<'a>
     ensures rule { rule_of result ≡ layout_rule }
 {
     option(alloc, "layout", "L")
-        .value_parser(value_parser!(u64).range(1..=2))
+        .value_parser(ValueParser::Unsigned(1, 2))
         .help(
             "The layout: 1 has two journal areas, 2 has four of half the bytes, where --area is 4M or more; with --size by default 2, where that can be, and with --blocks 1",
         )
@@ -161,31 +172,28 @@ const SERVE_USAGE: &str =
 pub fn serve<'a>(alloc: Global, modes: ValueParser<'a>) -> Result<Command<'a>, AllocError>
     ensures { IfOk result (λ command. app_of command ≡ serve_app modes.entry) }
 {
-    let command = timed(alloc, modes)?;
-    let command = command.arg(on_fault(alloc))?;
-    let command = command.arg(until_eof(alloc))?;
-    command.arg(verbose(alloc))
+    let command = with_argument(timed(alloc, modes), on_fault(alloc));
+    let command = with_argument(command, until_eof(alloc));
+    with_argument(command, verbose(alloc))
 }
 
 // The subcommand without what ends it.
 fn timed<'a>(alloc: Global, modes: ValueParser<'a>) -> Result<Command<'a>, AllocError>
     ensures { IfOk result (λ command. app_of command ≡ timed_app modes.entry) }
 {
-    let command = loaded(alloc, modes)?;
-    let command = command.arg(sessions(alloc))?;
-    let command = command.arg(handshake_timeout(alloc))?;
-    let command = command.arg(idle_timeout(alloc))?;
-    command.arg(flush_interval(alloc))
+    let command = with_argument(loaded(alloc, modes), sessions(alloc));
+    let command = with_argument(command, handshake_timeout(alloc));
+    let command = with_argument(command, idle_timeout(alloc));
+    with_argument(command, flush_interval(alloc))
 }
 
 // The subcommand without its times.
 fn loaded<'a>(alloc: Global, modes: ValueParser<'a>) -> Result<Command<'a>, AllocError>
     ensures { IfOk result (λ command. app_of command ≡ loaded_app modes.entry) }
 {
-    let command = served(alloc)?;
-    let command = command.arg(workers(alloc))?;
-    let command = command.arg(frames(alloc))?;
-    command.arg(cache(alloc, modes))
+    let command = with_argument(served(alloc), workers(alloc));
+    let command = with_argument(command, frames(alloc));
+    with_argument(command, cache(alloc, modes))
 }
 
 // The subcommand with the image and the address alone.
@@ -198,9 +206,9 @@ fn served<'a>(alloc: Global) -> Result<Command<'a>, AllocError>
         "Serves the image to clients of the Network Block Device protocol",
         "Example: nbdj serve d.img --listen 127.0.0.1:10809\n\nIt prints `listening PORT`, or `listening SOCKET`, once clients can come. A kill is as a power cut: every write that a FLUSH, or a FUA reply, has confirmed stays. So a service manager may stop it by any signal.\n\nExit status: 0 ended as asked; 1 a fault of file, image, address, device or memory; 2 a refused command line.",
     );
-    let command = command.override_usage(SERVE_USAGE).arg(path(alloc))?;
-    let command = with_argument(command, listen(alloc))?;
-    command.arg(unix(alloc))
+    let command = command.override_usage(SERVE_USAGE).arg(path(alloc));
+    let command = with_tied(command, listen(alloc));
+    with_argument(command, unix(alloc))
 }
 
 fn listen<'a>(alloc: Global) -> Result<Arg<'a>, AllocError>
@@ -226,30 +234,42 @@ fn workers<'a>(alloc: Global) -> Arg<'a>
     ensures local { result.global ≡ false }
     ensures rule { rule_of result ≡ workers_rule }
 {
-    option(alloc, "workers", "W")
-        .default_value("4")
-        .value_parser(value_parser!(u64).range(1..=MOST_WORKERS as i64))
-        .help("Clients that are served at a time, further ones wait: 1 to 16")
+    defaulted(
+        alloc,
+        "workers",
+        "W",
+        "4",
+        ValueParser::Unsigned(1, MOST_WORKERS),
+    )
+    .help("Clients that are served at a time, further ones wait: 1 to 16")
 }
 
 fn sessions<'a>(alloc: Global) -> Arg<'a>
     ensures local { result.global ≡ false }
     ensures rule { rule_of result ≡ sessions_rule }
 {
-    option(alloc, "sessions", "K")
-        .default_value("0")
-        .value_parser(value_parser!(u64))
-        .help("Ends once so many clients have been served; 0 for no end")
+    defaulted(
+        alloc,
+        "sessions",
+        "K",
+        "0",
+        ValueParser::Unsigned(0, u64::MAX),
+    )
+    .help("Ends once so many clients have been served; 0 for no end")
 }
 
 fn handshake_timeout<'a>(alloc: Global) -> Arg<'a>
     ensures local { result.global ≡ false }
     ensures rule { rule_of result ≡ handshake_rule }
 {
-    option(alloc, "handshake-timeout", "SECONDS")
-        .default_value("30")
-        .value_parser(value_parser!(u64).range(1..=86_400))
-        .help("For so long a client may say nothing before its handshake is over: 1 to 86400")
+    defaulted(
+        alloc,
+        "handshake-timeout",
+        "SECONDS",
+        "30",
+        ValueParser::Unsigned(1, 86_400),
+    )
+    .help("For so long a client may say nothing before its handshake is over: 1 to 86400")
 }
 
 fn idle_timeout<'a>(alloc: Global) -> Arg<'a>
@@ -275,9 +295,30 @@ fn interval<'a>(alloc: Global, name: &'a str, usual: &'a str) -> Arg<'a>
     ensures local { result.global ≡ false }
     ensures rule { rule_of result ≡ interval_rule name.now usual.now }
 {
-    option(alloc, name, "SECONDS")
+    defaulted(
+        alloc,
+        name,
+        "SECONDS",
+        usual,
+        ValueParser::Unsigned(0, 86_400),
+    )
+}
+
+// An option whose value this parser takes, with what stands for it where it is left out.
+fn defaulted<'a>(
+    alloc: Global,
+    name: &'a str,
+    value_name: &'a str,
+    usual: &'a str,
+    numbers: ValueParser<'a>,
+) -> Arg<'a>
+    ensures local { result.global ≡ false }
+    ensures rule { rule_of result
+        ≡ record (option_rule name.now) { parser = Some numbers.entry; defaults = usual.now ∷ [] } }
+{
+    option(alloc, name, value_name)
         .default_value(usual)
-        .value_parser(value_parser!(u64).range(0..=86_400))
+        .value_parser(numbers)
 }
 
 fn on_fault<'a>(alloc: Global) -> Arg<'a>
@@ -318,36 +359,39 @@ fn flag<'a>(alloc: Global, name: &'a str) -> Arg<'a>
 fn pipe<'a>(alloc: Global, modes: ValueParser<'a>) -> Result<Command<'a>, AllocError>
     ensures { IfOk result (λ command. app_of command ≡ pipe_app modes.entry) }
 {
-    described(
+    let command = described(
         alloc,
         "pipe",
         "Serves the transmission phase of one connection over standard input and output",
         "Example: nbdj pipe d.img --cache writethrough <requests >replies\n\nA kill or a power cut keeps every write that a FLUSH, or a FUA reply, has confirmed.\n\nExit status: 0 the client has ended the session; 1 a fault of file, image, device, stream or memory; 2 a refused command line.",
     )
-    .arg(path(alloc))?
-    .arg(frames(alloc))?
-    .arg(cache(alloc, modes))?
-    .arg(verbose(alloc))
+    .arg(path(alloc));
+    let command = with_argument(command, frames(alloc));
+    let command = with_argument(command, cache(alloc, modes));
+    with_argument(command, verbose(alloc))
 }
 
 fn frames<'a>(alloc: Global) -> Arg<'a>
     ensures local { result.global ≡ false }
     ensures rule { rule_of result ≡ frames_rule }
 {
-    option(alloc, "frames", "F")
-        .default_value("4096")
-        .value_parser(value_parser!(u64).range(LEAST_FRAMES as i64..=MOST_FRAMES as i64))
-        .help("Blocks that may be written and not yet copied to the image: 512 to 65536")
+    defaulted(
+        alloc,
+        "frames",
+        "F",
+        "4096",
+        ValueParser::Unsigned(LEAST_FRAMES, MOST_FRAMES),
+    )
+    .help("Blocks that may be written and not yet copied to the image: 512 to 65536")
 }
 
 fn cache<'a>(alloc: Global, modes: ValueParser<'a>) -> Arg<'a>
     ensures local { result.global ≡ false }
     ensures rule { rule_of result ≡ cache_rule modes.entry }
 {
-    option(alloc, "cache", "MODE")
-        .default_value("writeback")
-        .value_parser(modes)
-        .help("When a write is answered: once it has its place in the order, or once it is stored")
+    defaulted(alloc, "cache", "MODE", "writeback", modes).help(
+        "When a write is answered: once it has its place in the order, or once it is stored",
+    )
 }
 
 // An option `--NAME VALUE`, which takes any value so far.
@@ -400,7 +444,7 @@ fn check<'a>(alloc: Global) -> Result<Command<'a>, AllocError>
 fn rehearse<'a>(alloc: Global) -> Result<Command<'a>, AllocError>
     ensures { IfOk result (λ command. app_of command ≡ rehearse_app) }
 {
-    described(
+    let command = described(
         alloc,
         "rehearse",
         "Runs a script from standard input on a simulated device, crashes included",
@@ -408,11 +452,14 @@ fn rehearse<'a>(alloc: Global) -> Result<Command<'a>, AllocError>
     )
     .arg(flag(alloc, "sweep").help(
         "Runs it anew for each crash at a call of the device, and compares what is opened",
-    ))?
-    .arg(flag(alloc, "faults").help(
-        "Runs it anew for each fault of a call of the device, crashes it, and compares what is opened",
-    ))?
-    .arg(verbose(alloc))
+    ));
+    let command = with_argument(
+        command,
+        flag(alloc, "faults").help(
+            "Runs it anew for each fault of a call of the device, crashes it, and compares what is opened",
+        ),
+    );
+    with_argument(command, verbose(alloc))
 }
 
 fn path<'a>(alloc: Global) -> Arg<'a>

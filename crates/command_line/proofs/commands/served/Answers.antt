@@ -1,14 +1,13 @@
-use Rattle.std.proofs.Common.{◌∙◌, Ok, ap, codes}
-use Rattle.std.proofs.lemmas.Result.{IfOk-weaker}
+use Rattle.std.proofs.Common.{◌∙◌, ap, codes}
 use Rattle.clap.specs.Simple.{app_of_fields}
-use Rattle.clap.specs.Words.{app_of, new_app}
+use Rattle.clap.specs.Words.{new_app}
 use Rattle.command_line.specs.Commands.{listen_rule, path_rule, unix_rule}
-use Rattle.command_line.proofs.Builders.{takes}
+use Rattle.command_line.proofs.Builders.{starts, takes, takes_tied}
 use Rattle.command_line.proofs.commands.served.Goals as goal
 
 pub returns : goal.returns
 returns c =
     let named = ap app_of_fields c.override_usage.ensures ∙ c.described-command.ensures in
-    let one = takes (Ok c.path.result) path_rule (new_app (codes "serve")) _ (app_of c.in_ok-command.command) named (c.path.ensures.local, c.path.ensures.rule) c.in_ok-command.ensures.shape in
-    let two = takes c.listen.result listen_rule _ _ (app_of c.in_ok-command-2.command) one c.listen.ensures c.in_ok-command-2.ensures in
-    IfOk-weaker c.arg-2.result _ _ (λ whole added. takes (Ok c.unix.result) unix_rule _ _ (app_of whole) two (c.unix.ensures.local, c.unix.ensures.rule) added.shape) c.arg-2.ensures
+    let one = starts c.arg-command.result _ _ (new_app (codes "serve")) path_rule named c.path.ensures.local c.path.ensures.rule c.arg-command.ensures in
+    let two = takes_tied c.arg-command.result c.with_tied-command.result c.listen.result _ listen_rule c.listen.ensures one c.with_tied-command.ensures in
+    takes c.with_tied-command.result c.with_argument.result c.unix.result _ unix_rule c.unix.ensures.local c.unix.ensures.rule two c.with_argument.ensures

@@ -1,13 +1,11 @@
-use Rattle.std.proofs.Common.{Ok, codes}
-use Rattle.std.proofs.lemmas.Result.{IfOk-weaker}
-use Rattle.clap.specs.Words.{app_of}
-use Rattle.command_line.specs.Commands.{handshake_rule, interval_rule, loaded_app, sessions_rule}
+use Rattle.std.proofs.Common.{codes}
+use Rattle.command_line.specs.Commands.{handshake_rule, interval_rule, sessions_rule}
 use Rattle.command_line.proofs.Builders.{takes}
 use Rattle.command_line.proofs.commands.timed.Goals as goal
 
 pub returns : goal.returns
 returns c =
-    let one = takes (Ok c.sessions.result) sessions_rule (loaded_app c.args.modes) _ (app_of c.in_ok-command-2.command) c.in_ok-command.ensures (c.sessions.ensures.local, c.sessions.ensures.rule) c.in_ok-command-2.ensures.shape in
-    let two = takes (Ok c.handshake_timeout.result) handshake_rule _ _ (app_of c.in_ok-command-3.command) one (c.handshake_timeout.ensures.local, c.handshake_timeout.ensures.rule) c.in_ok-command-3.ensures.shape in
-    let three = takes (Ok c.idle_timeout.result) (interval_rule (codes "idle-timeout") (codes "0")) _ _ (app_of c.in_ok-command-4.command) two (c.idle_timeout.ensures.local, c.idle_timeout.ensures.rule) c.in_ok-command-4.ensures.shape in
-    IfOk-weaker c.arg-4.result _ _ (λ whole added. takes (Ok c.flush_interval.result) (interval_rule (codes "flush-interval") (codes "5")) _ _ (app_of whole) three (c.flush_interval.ensures.local, c.flush_interval.ensures.rule) added.shape) c.arg-4.ensures
+    let one = takes c.loaded.result c.with_argument-command.result c.sessions.result _ sessions_rule c.sessions.ensures.local c.sessions.ensures.rule c.loaded.ensures c.with_argument-command.ensures in
+    let two = takes c.with_argument-command.result c.with_argument-command-2.result c.handshake_timeout.result _ handshake_rule c.handshake_timeout.ensures.local c.handshake_timeout.ensures.rule one c.with_argument-command-2.ensures in
+    let three = takes c.with_argument-command-2.result c.with_argument-command-3.result c.idle_timeout.result _ (interval_rule (codes "idle-timeout") (codes "0")) c.idle_timeout.ensures.local c.idle_timeout.ensures.rule two c.with_argument-command-3.ensures in
+    takes c.with_argument-command-3.result c.with_argument.result c.flush_interval.result _ (interval_rule (codes "flush-interval") (codes "5")) c.flush_interval.ensures.local c.flush_interval.ensures.rule three c.with_argument.ensures
