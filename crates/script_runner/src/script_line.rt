@@ -119,23 +119,26 @@ pub fn parse(alloc: Global, text: &[u8]) -> Result<Option<Line>, AllocError> {
 
 fn line_of(words: &[&str]) -> Option<Line> {
     match words {
-        ["format", blocks, area, frames] => {
-            format(blocks, area, frames, Mode::Writeback, Layout::One)
-        }
-        ["format", blocks, area, frames, "writethrough"] => {
-            format(blocks, area, frames, Mode::Writethrough, Layout::One)
-        }
-        ["format", blocks, area, frames, "layout2"] => {
-            format(blocks, area, frames, Mode::Writeback, Layout::Two)
-        }
-        ["format", blocks, area, frames, "writethrough", "layout2"] => {
-            format(blocks, area, frames, Mode::Writethrough, Layout::Two)
+        ["format", blocks, area, frames, ..] => {
+            let (mode, layout) = ways_of(&words[4..])?;
+            format(blocks, area, frames, mode, layout)
         }
         ["upgrade"] => Some(Line::Upgrade),
         ["fault", kind, k] => Some(Line::Fault(kind_of(kind)?, count_of(k)?)),
         ["crash", fill] => Some(Line::Crash(fill_of(fill)?)),
         ["crash", "at", k, fill] => Some(Line::CrashAt(count_of(k)?, fill_of(fill)?)),
         _ => Some(Line::Step(step_of(words)?)),
+    }
+}
+
+// How a device is made, by the words behind its sizes.
+fn ways_of(words: &[&str]) -> Option<(Mode, Layout)> {
+    match words {
+        [] => Some((Mode::Writeback, Layout::One)),
+        ["writethrough"] => Some((Mode::Writethrough, Layout::One)),
+        ["layout2"] => Some((Mode::Writeback, Layout::Two)),
+        ["writethrough", "layout2"] => Some((Mode::Writethrough, Layout::Two)),
+        _ => None,
     }
 }
 
@@ -185,17 +188,26 @@ fn sent(connection: usize, words: &[&str]) -> Option<StepLine> {
 // A request that names a range, of blocks or of bytes.
 fn ranged(connection: usize, words: &[&str], fua: bool) -> Option<StepLine> {
     match words {
-        ["put", first, blocks, byte] => put(connection, blocks_of(first, blocks, fua)?, byte),
-        ["bytes", offset, length, byte] => put(connection, bytes_of(offset, length, fua)?, byte),
-        ["clear", kind, first, blocks] => {
-            let range = blocks_of(first, blocks, fua)?;
-            cleared(connection, kind, Clearing::Trim, range)
-        }
-        ["zeroes", offset, length, kind] => {
-            let range = bytes_of(offset, length, fua)?;
-            cleared(connection, kind, Clearing::Holes, range)
-        }
         [word, from, count] => plainly_ranged(connection, word, from, count, fua),
+        [word, one, two, three] => ranged_with(connection, word, one, two, three, fua),
+        _ => None,
+    }
+}
+
+// One that names its range and a byte, or by which request.
+fn ranged_with(
+    connection: usize,
+    word: &str,
+    one: &str,
+    two: &str,
+    three: &str,
+    fua: bool,
+) -> Option<StepLine> {
+    match word {
+        "put" => put(connection, blocks_of(one, two, fua)?, three),
+        "bytes" => put(connection, bytes_of(one, two, fua)?, three),
+        "clear" => cleared(connection, one, Clearing::Trim, blocks_of(two, three, fua)?),
+        "zeroes" => cleared(connection, three, Clearing::Holes, bytes_of(one, two, fua)?),
         _ => None,
     }
 }

@@ -16,3 +16,16 @@ returns-in-Ok-open g c =
       keeps = (opened.image, opened.keeps);
       found = (opened.image, c.in-Err.ensures.refused tt (seen_bytes crashed) opened.image keeper.count c.crash.ensures.allowed again);
     }
+
+pub returns-in-Ok-clause-recovered : goal.returns-in-Ok-clause-recovered
+returns-in-Ok-clause-recovered g c = c.in-Ok.ensures.recovered
+
+pub returns-in-Ok-clause-keeps : goal.returns-in-Ok-clause-keeps
+returns-in-Ok-clause-keeps g c =
+    let opened = c.in-Ok.ensures.opened tt in
+    (opened.image, opened.keeps)
+
+pub returns-in-Ok-clause-found : goal.returns-in-Ok-clause-found
+returns-in-Ok-clause-found g c =
+    let opened = c.in-Ok.ensures.opened tt in
+    (opened.image, (opened.content, opened.fixed, opened.stands))
