@@ -16,3 +16,6 @@ returns g c = λ world of.
       c.next_life_law.ensures world life.order life.keeper life.bench.connections content image c.in_ok-keeper.keeper.count tt of.of_export
           (subst (MayLeave (state_now life.keeper.disk)) (sym (same ∙ c.crash.ensures.found.seen)) left) stands,
     )
+
+pub invariant_of-result : goal.invariant_of-result
+invariant_of-result g c = record { recovered = c.in_ok-keeper.ensures.recovered; keeps = ∣ (λ _. c.in_ok-keeper.ensures.keeps) ∣₁ }
