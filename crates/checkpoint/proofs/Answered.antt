@@ -1,7 +1,7 @@
 -- which refusals an answer of the keeper isn't
-use Rattle.std.specs.Prelude.{IfErr, OnOk}
+use Rattle.std.specs.Prelude.{IfErr, IfOk, OnOk}
 use Rattle.std.specs.Result.{IsErrAnd}
-use Rattle.std.proofs.Common.{◌≡◌, None, Some, Result, Ok, Err, ap, subst, sym}
+use Rattle.std.proofs.Common.{◌≡◌, ◌↔◌, None, Some, Result, Ok, Err, ap, subst, sym}
 use Rattle.checkpoint.specs.declared.fault.KeeperFault.{KeeperFault}
 use Rattle.checkpoint.specs.declared.fault.KeeperFault.TheVariants.{NoMemory, DeviceFault, NumbersFull, NotNow, Failed}
 
@@ -13,6 +13,24 @@ ok_apart value fault is = cc
 
 pub some_apart : {T : Type 0} (value : T) → Some value ≡ None → ⊥
 some_apart value is = cc
+
+-- one says no more and no less than another, over one between them
+pub both_ways : {A B C : Type 0} → (A ↔ B) → (B ↔ C) → A ↔ C
+both_ways first second = (λ given. second.0 (first.0 given), λ given. first.1 (second.1 given))
+
+-- what is said of an answer that is Ok holds of one that is a refusal
+pub unless_ok : {T : Type 0} (P : T → Type 0) (result : Given T) (Q : KeeperFault → Type 0) → IsErrAnd result Q → IfOk result P
+unless_ok P (Ok value) Q none = absurd none
+unless_ok P (Err fault) Q is = tt
+
+pub unless_on_ok : {T : Type 0} (X : Type 0) (result : Given T) (Q : KeeperFault → Type 0) → IsErrAnd result Q → OnOk result X
+unless_on_ok X (Ok value) Q none = absurd none
+unless_on_ok X (Err fault) Q is = tt
+
+-- what holds of a refusal holds of an answer that is this one
+pub at_err : {T : Type 0} (P : KeeperFault → Type 0) (result : Given T) (fault : KeeperFault) → IsErrAnd result (λ given. given ≡ fault) → P fault → IfErr result P
+at_err P (Ok value) fault none holds = tt
+at_err P (Err given) fault is holds = subst P (sym is) holds
 
 module _ {T : Type 0} where
   abbrev given : KeeperFault → Given T

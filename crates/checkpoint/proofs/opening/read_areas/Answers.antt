@@ -7,10 +7,129 @@ use Rattle.device_image.specs.Keeper.{AreUncopied, PlanState, last_turned, turne
 use Rattle.device_image.specs.Keeps.{IsPlaced}
 use Rattle.device_image.specs.Stands.{area_of, last_area, next_number}
 use Rattle.device_image.specs.laws.CheckpointBounds.{uncopied_more}
-use Rattle.checkpoint.specs.Keeper.{AreSized}
+use Rattle.checkpoint.specs.Keeper.{AreSized, faults_by}
+use Rattle.checkpoint.specs.declared.fault.KeeperFault.TheVariants.{NoMemory}
+use Rattle.checkpoint.proofs.Answered.{at_err, both_ways, unless_ok, unless_on_ok}
 use Rattle.checkpoint.proofs.Areas.{AreHeldSoFar, all_held, area_damaged, last-push, more_held, next_after, placed_sized, sized_more}
 use Rattle.checkpoint.proofs.Readings.{at_refusal, damage_weaker, seen_same, still_synced}
 use Rattle.checkpoint.proofs.opening.read_areas.Goals as goal
+
+pub returns-in_err-plan-clause-placed : goal.returns-in_err-plan-clause-placed
+returns-in_err-plan-clause-placed g c =
+    unless_ok _ c.from_residual.result _ c.from_residual.ensures.1
+
+pub returns-in_err-plan-clause-none : goal.returns-in_err-plan-clause-none
+returns-in_err-plan-clause-none g c =
+    unless_ok _ c.from_residual.result _ c.from_residual.ensures.1
+
+pub returns-in_err-plan-clause-sized : goal.returns-in_err-plan-clause-sized
+returns-in_err-plan-clause-sized g c =
+    unless_ok _ c.from_residual.result _ c.from_residual.ensures.1
+
+pub returns-in_err-plan-clause-uncopied : goal.returns-in_err-plan-clause-uncopied
+returns-in_err-plan-clause-uncopied g c =
+    unless_ok _ c.from_residual.result _ c.from_residual.ensures.1
+
+pub returns-in_err-plan-clause-many : goal.returns-in_err-plan-clause-many
+returns-in_err-plan-clause-many g c =
+    unless_ok _ c.from_residual.result _ c.from_residual.ensures.1
+
+pub returns-in_err-plan-clause-faults_ok : goal.returns-in_err-plan-clause-faults_ok
+returns-in_err-plan-clause-faults_ok g c =
+    unless_on_ok _ c.from_residual.result _ c.from_residual.ensures.1
+
+pub returns-in_err-plan-clause-faults_err : goal.returns-in_err-plan-clause-faults_err
+returns-in_err-plan-clause-faults_err g c =
+    at_err _ c.from_residual.result c.in_err-plan.field-0.0 c.from_residual.ensures.1 (c.in_err-plan.ensures.faults_err ∙ ap (faults_by c.in_err-plan.field-0.0) c.loop-place.invariant.faults)
+
+pub returns-in_err-map_err-clause-placed : goal.returns-in_err-map_err-clause-placed
+returns-in_err-map_err-clause-placed g c =
+    unless_ok _ c.from_residual-in_err-map_err.result _ c.from_residual-in_err-map_err.ensures.1
+
+pub returns-in_err-map_err-clause-none : goal.returns-in_err-map_err-clause-none
+returns-in_err-map_err-clause-none g c =
+    unless_ok _ c.from_residual-in_err-map_err.result _ c.from_residual-in_err-map_err.ensures.1
+
+pub returns-in_err-map_err-clause-sized : goal.returns-in_err-map_err-clause-sized
+returns-in_err-map_err-clause-sized g c =
+    unless_ok _ c.from_residual-in_err-map_err.result _ c.from_residual-in_err-map_err.ensures.1
+
+pub returns-in_err-map_err-clause-uncopied : goal.returns-in_err-map_err-clause-uncopied
+returns-in_err-map_err-clause-uncopied g c =
+    unless_ok _ c.from_residual-in_err-map_err.result _ c.from_residual-in_err-map_err.ensures.1
+
+pub returns-in_err-map_err-clause-many : goal.returns-in_err-map_err-clause-many
+returns-in_err-map_err-clause-many g c =
+    unless_ok _ c.from_residual-in_err-map_err.result _ c.from_residual-in_err-map_err.ensures.1
+
+pub returns-in_err-map_err-clause-faults_ok : goal.returns-in_err-map_err-clause-faults_ok
+returns-in_err-map_err-clause-faults_ok g c =
+    unless_on_ok _ c.from_residual-in_err-map_err.result _ c.from_residual-in_err-map_err.ensures.1
+
+pub returns-in_err-area-clause-placed : goal.returns-in_err-area-clause-placed
+returns-in_err-area-clause-placed g c =
+    unless_ok _ c.from_residual-in_err-area.result _ c.from_residual-in_err-area.ensures.1
+
+pub returns-in_err-area-clause-none : goal.returns-in_err-area-clause-none
+returns-in_err-area-clause-none g c =
+    unless_ok _ c.from_residual-in_err-area.result _ c.from_residual-in_err-area.ensures.1
+
+pub returns-in_err-area-clause-sized : goal.returns-in_err-area-clause-sized
+returns-in_err-area-clause-sized g c =
+    unless_ok _ c.from_residual-in_err-area.result _ c.from_residual-in_err-area.ensures.1
+
+pub returns-in_err-area-clause-uncopied : goal.returns-in_err-area-clause-uncopied
+returns-in_err-area-clause-uncopied g c =
+    unless_ok _ c.from_residual-in_err-area.result _ c.from_residual-in_err-area.ensures.1
+
+pub returns-in_err-area-clause-many : goal.returns-in_err-area-clause-many
+returns-in_err-area-clause-many g c =
+    unless_ok _ c.from_residual-in_err-area.result _ c.from_residual-in_err-area.ensures.1
+
+pub returns-in_err-area-clause-faults_ok : goal.returns-in_err-area-clause-faults_ok
+returns-in_err-area-clause-faults_ok g c =
+    unless_on_ok _ c.from_residual-in_err-area.result _ c.from_residual-in_err-area.ensures.1
+
+pub returns-in_err-area-clause-faults_err : goal.returns-in_err-area-clause-faults_err
+returns-in_err-area-clause-faults_err g c =
+    at_err _ c.from_residual-in_err-area.result c.in_err-area.field-0.0 c.from_residual-in_err-area.ensures.1 (c.in_err-area.ensures.faults_err ∙ ap (faults_by c.in_err-area.field-0.0) c.loop-place.invariant.faults)
+
+pub returns-in_err-plan-clause-extent : goal.returns-in_err-plan-clause-extent
+returns-in_err-plan-clause-extent g c =
+    c.in_err-plan.ensures.extent ∙ c.loop-place.invariant.extent
+
+pub returns-in_err-plan-clause-honest : goal.returns-in_err-plan-clause-honest
+returns-in_err-plan-clause-honest g c =
+    both_ways c.in_err-plan.ensures.honest c.loop-place.invariant.honest
+
+pub returns-in_err-map_err-clause-extent : goal.returns-in_err-map_err-clause-extent
+returns-in_err-map_err-clause-extent g c =
+    c.in_ok-plan.ensures.extent ∙ c.loop-place.invariant.extent
+
+pub returns-in_err-map_err-clause-honest : goal.returns-in_err-map_err-clause-honest
+returns-in_err-map_err-clause-honest g c =
+    both_ways c.in_ok-plan.ensures.honest c.loop-place.invariant.honest
+
+pub returns-in_err-area-clause-extent : goal.returns-in_err-area-clause-extent
+returns-in_err-area-clause-extent g c =
+    c.in_err-area.ensures.extent ∙ c.loop-place.invariant.extent
+
+pub returns-in_err-area-clause-honest : goal.returns-in_err-area-clause-honest
+returns-in_err-area-clause-honest g c =
+    both_ways c.in_err-area.ensures.honest c.loop-place.invariant.honest
+
+pub returns-in_err-map_err-clause-faults_err : goal.returns-in_err-map_err-clause-faults_err
+returns-in_err-map_err-clause-faults_err g c =
+    at_err _ c.from_residual-in_err-map_err.result NoMemory c.from_residual-in_err-map_err.ensures.1 (c.in_ok-plan.ensures.faults_ok ∙ c.loop-place.invariant.faults)
+
+pub returns-in_err-map_err-clause-read : goal.returns-in_err-map_err-clause-read
+returns-in_err-map_err-clause-read g c honest synced =
+    at_refusal _ _ _ NoMemory c.from_residual-in_err-map_err.ensures.1 tt
+
+pub returns-in_err-plan-clause-only_read : goal.returns-in_err-plan-clause-only_read
+returns-in_err-plan-clause-only_read g c honest =
+    let so_far = c.loop-place.invariant in
+    reads_on (g.met.D.Disk.sound c.args.disk.now honest) (so_far.only_read honest) (c.in_err-plan.ensures.only_read (so_far.honest.1 honest))
 
 pub returns-in_err-plan-clause-read : goal.returns-in_err-plan-clause-read
 returns-in_err-plan-clause-read g c honest synced =
@@ -124,3 +243,15 @@ returns-clause-read g c honest synced =
     c.area_behind-last.ensures.area ∙ ap (λ (size : Geometry). behind (areas_in size) header.in_front header.first_area) c.of-regions.ensures in
     all_held header c.loop-place.plans.items before after c.loop-place.next held same (still_synced mid_synced read) c.in_ok-area.area
     (subst (λ (i : ℕ). IsPlaced c.in_ok-area.area header.geometry i) index call.placed) (call.read mid_honest mid_synced)
+
+pub returns-clause-extent : goal.returns-clause-extent
+returns-clause-extent g c =
+    c.in_ok-area.ensures.extent ∙ c.loop-place.invariant.extent
+
+pub returns-clause-honest : goal.returns-clause-honest
+returns-clause-honest g c =
+    both_ways c.in_ok-area.ensures.honest c.loop-place.invariant.honest
+
+pub returns-clause-faults_ok : goal.returns-clause-faults_ok
+returns-clause-faults_ok g c =
+    c.in_ok-area.ensures.faults_ok ∙ c.loop-place.invariant.faults
