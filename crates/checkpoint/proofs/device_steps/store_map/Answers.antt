@@ -1,4 +1,6 @@
 use Rattle.std.proofs.lemmas.Result.{on_ok_weaker}
+use Rattle.disk_model.specs.laws.Moments.{stays_on}
+use Rattle.checkpoint.proofs.Answered.{both_ways}
 use Rattle.checkpoint.proofs.MapStored.{map_stored}
 use Rattle.checkpoint.proofs.device_steps.store_map.Goals as goal
 
@@ -14,3 +16,17 @@ returns-clause-stored g c honest steady =
     on_ok_weaker c.sync.result
     (map_stored before mid after c.args.regions.now.geometry c.args.slot c.args.map.now sound mid_sound write.extent steady (write.holds honest (λ place within. steady place)) (write.written honest) (write.others honest))
     (c.sync.ensures.synced mid_honest)
+
+pub returns-in_err-write_slot-clause-any_moment : goal.returns-in_err-write_slot-clause-any_moment
+returns-in_err-write_slot-clause-any_moment g c =
+    c.in_err-write_slot.ensures.any_moment
+
+pub returns-clause-honest : goal.returns-clause-honest
+returns-clause-honest g c =
+    both_ways c.sync.ensures.honest c.in_ok-write_slot.ensures.honest
+
+pub returns-clause-any_moment : goal.returns-clause-any_moment
+returns-clause-any_moment g c honest =
+    let write = c.in_ok-write_slot.ensures in
+    let mid_honest = write.honest.1 honest in
+    stays_on (write.any_moment honest) (g.met.D.Disk.sound c.write_slot.new.disk mid_honest) (c.sync.ensures.any_moment mid_honest)

@@ -1,12 +1,17 @@
-use Rattle.std.proofs.Common.{◌≡◌, List, Option, refl, rules, sym, ◌∙◌, ap, subst, arith}
+use Rattle.std.proofs.Common.{◌≡◌, inl, List, Option, refl, rules, sym, ◌∙◌, ap, subst, arith}
+use Rattle.std.proofs.lemmas.Bool.{false≢true}
 use Rattle.disk_model.specs.Disk.{LeavesOnly, State}
+use Rattle.disk_model.specs.Faults.{counted}
 use Rattle.disk_model.specs.laws.Moments.{begins, weakens}
 use Rattle.image_model.specs.Side.{other_of}
 use Rattle.image_model.specs.declared.command.Kind.{Kind}
 use Rattle.image_model.specs.declared.geometry.Geometry.{Geometry}
 use Rattle.image_model.specs.declared.side.Side.{Side}
 use Rattle.header_slots.specs.declared.header.Header.{Header}
-use Rattle.checkpoint.specs.Keeper.{plans_of}
+use Rattle.checkpoint.specs.Keeper.{faults_by, plans_of}
+use Rattle.checkpoint.specs.Steps.{IsStepFault}
+use Rattle.checkpoint.specs.declared.fault.KeeperFault.{KeeperFault}
+use Rattle.checkpoint.proofs.Answered.{device_apart, if_err, ok_apart, on_ok}
 use Rattle.device_image.specs.Keeper.{KeeperState, PlanState}
 use Rattle.device_image.specs.Keeps.{Keeps}
 use Rattle.device_image.specs.Stands.{StandsFor}
@@ -81,3 +86,79 @@ returns-in-Err-clause-any_moment g c honest image number keeps =
     weakens (c.store_map.ensures.any_moment sound)
     (map_left _ (g.D.Disk.state c.self.inside.disk) image number inside _ _ (place_there geometry (search rules) (ap (λ (h : Header). other_of h.map_slot) inside.headed)) (ap (λ (size : Geometry). map_bytes_of size.blocks) geometry)))
     honest keeps
+
+pub returns-in-Ok-clause-failed : goal.returns-in-Ok-clause-failed
+returns-in-Ok-clause-failed g c =
+    let works = ap (λ (k : KeeperState g.row.D.Denot). k.failed) (sym c.self.view_is) ∙ c.if-self.false in
+    (λ is. absurd (ok_apart _ _ is), λ fails. absurd (false≢true (sym works ∙ fails)))
+
+pub returns-in-Ok-clause-full : goal.returns-in-Ok-clause-full
+returns-in-Ok-clause-full g c =
+    λ is. absurd (ok_apart _ _ is)
+
+pub returns-in-Ok-clause-extent : goal.returns-in-Ok-clause-extent
+returns-in-Ok-clause-extent g c =
+    c.in-Ok.ensures.extent ∙ ap (λ (k : KeeperState g.row.D.Denot). g.D.Disk.extent k.disk) c.self.view_is
+
+pub returns-in-Ok-clause-faults_ok : goal.returns-in-Ok-clause-faults_ok
+returns-in-Ok-clause-faults_ok g c =
+    c.in-Ok.ensures.faults ∙ ap (λ (k : KeeperState g.row.D.Denot). g.D.Disk.faults k.disk) c.self.view_is
+
+pub returns-in-Ok-clause-honest : goal.returns-in-Ok-clause-honest
+returns-in-Ok-clause-honest g c =
+    let honest = c.in-Ok.ensures.honest in (
+      λ trusted. subst (λ (k : KeeperState g.row.D.Denot). g.D.Disk.honest k.disk) c.self.view_is (honest.0 trusted),
+      λ trusted. honest.1 (subst (λ (k : KeeperState g.row.D.Denot). g.D.Disk.honest k.disk) (sym c.self.view_is) trusted),
+    )
+
+pub returns-in-Err-clause-failed : goal.returns-in-Err-clause-failed
+returns-in-Err-clause-failed g c =
+    let works = ap (λ (k : KeeperState g.row.D.Denot). k.failed) (sym c.self.view_is) ∙ c.if-self.false in
+    (λ is. absurd ((device_apart c.from.result c.from.ensures).failed is), λ fails. absurd (false≢true (sym works ∙ fails)))
+
+pub returns-in-Err-clause-full : goal.returns-in-Err-clause-full
+returns-in-Err-clause-full g c =
+    λ is. absurd ((device_apart c.from.result c.from.ensures).full is)
+
+pub returns-in-Err-clause-extent : goal.returns-in-Err-clause-extent
+returns-in-Err-clause-extent g c =
+    c.in-Err.ensures.extent ∙ ap (λ (k : KeeperState g.row.D.Denot). g.D.Disk.extent k.disk) c.self.view_is
+
+pub returns-in-Err-clause-honest : goal.returns-in-Err-clause-honest
+returns-in-Err-clause-honest g c =
+    let honest = c.in-Err.ensures.honest in (
+      λ trusted. subst (λ (k : KeeperState g.row.D.Denot). g.D.Disk.honest k.disk) c.self.view_is (honest.0 trusted),
+      λ trusted. honest.1 (subst (λ (k : KeeperState g.row.D.Denot). g.D.Disk.honest k.disk) (sym c.self.view_is) trusted),
+    )
+
+pub returns-in-Err-clause-only : goal.returns-in-Err-clause-only
+returns-in-Err-clause-only g c =
+    subst IsStepFault (sym c.from.ensures) tt
+
+pub returns-in-Err-clause-unchanged : goal.returns-in-Err-clause-unchanged
+returns-in-Err-clause-unchanged g c =
+    inl c.from.ensures
+
+pub returns-in-Err-clause-faults_err : goal.returns-in-Err-clause-faults_err
+returns-in-Err-clause-faults_err g c =
+    c.in-Err.ensures.faults ∙ ap (λ (k : KeeperState g.row.D.Denot). counted (g.D.Disk.faults k.disk)) c.self.view_is ∙ ap (λ (f : KeeperFault). faults_by f (g.D.Disk.faults c.args.self.now.disk)) (sym c.from.ensures)
+
+pub returns-in_err-map-clause-ok : goal.returns-in_err-map-clause-ok
+returns-in_err-map-clause-ok g c =
+    on_ok c.from_residual.result _ c.from_residual.ensures.1
+
+pub returns-in_err-map-clause-faults_ok : goal.returns-in_err-map-clause-faults_ok
+returns-in_err-map-clause-faults_ok g c =
+    on_ok c.from_residual.result _ c.from_residual.ensures.1
+
+pub returns-in_err-map-clause-remembered : goal.returns-in_err-map-clause-remembered
+returns-in_err-map-clause-remembered g c commands remembers =
+    on_ok c.from_residual.result _ c.from_residual.ensures.1
+
+pub returns-in_err-map-clause-held : goal.returns-in_err-map-clause-held
+returns-in_err-map-clause-held g c honest base fronts last holds =
+    on_ok c.from_residual.result _ c.from_residual.ensures.1
+
+pub returns-in_err-map-clause-only : goal.returns-in_err-map-clause-only
+returns-in_err-map-clause-only g c =
+    if_err c.from_residual.result IsStepFault c.from_residual.ensures.1 tt

@@ -1,0 +1,17 @@
+use Rattle.disk_model.specs.laws.Moments.{stays_on}
+use Rattle.checkpoint.proofs.Answered.{both_ways}
+use Rattle.checkpoint.proofs.device_steps.empty_area.Goals as goal
+
+pub returns-in_err-close_first-clause-any_moment : goal.returns-in_err-close_first-clause-any_moment
+returns-in_err-close_first-clause-any_moment g c =
+    c.in_err-close_first.ensures.any_moment
+
+pub returns-clause-honest : goal.returns-clause-honest
+returns-clause-honest g c =
+    both_ways c.sync.ensures.honest c.in_ok-close_first.ensures.honest
+
+pub returns-clause-any_moment : goal.returns-clause-any_moment
+returns-clause-any_moment g c honest =
+    let first = c.in_ok-close_first.ensures in
+    let mid_honest = first.honest.1 honest in
+    stays_on (first.any_moment honest) (g.met.D.Disk.sound c.close_first.new.disk mid_honest) (c.sync.ensures.any_moment mid_honest)
