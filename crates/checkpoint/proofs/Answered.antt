@@ -18,19 +18,10 @@ some_apart value is = cc
 pub both_ways : {A B C : Type 0} → (A ↔ B) → (B ↔ C) → A ↔ C
 both_ways first second = (λ given. second.0 (first.0 given), λ given. first.1 (second.1 given))
 
--- what is said of an answer that is Ok holds of one that is a refusal
-pub unless_ok : {T : Type 0} (P : T → Type 0) (result : Given T) (Q : KeeperFault → Type 0) → IsErrAnd result Q → IfOk result P
-unless_ok P (Ok value) Q none = absurd none
-unless_ok P (Err fault) Q is = tt
-
-pub unless_on_ok : {T : Type 0} (X : Type 0) (result : Given T) (Q : KeeperFault → Type 0) → IsErrAnd result Q → OnOk result X
-unless_on_ok X (Ok value) Q none = absurd none
-unless_on_ok X (Err fault) Q is = tt
-
 -- what holds of a refusal holds of an answer that is this one
-pub at_err : {T : Type 0} (P : KeeperFault → Type 0) (result : Given T) (fault : KeeperFault) → IsErrAnd result (λ given. given ≡ fault) → P fault → IfErr result P
-at_err P (Ok value) fault none holds = tt
-at_err P (Err given) fault is holds = subst P (sym is) holds
+pub err_given : {T : Type 0} (P : KeeperFault → Type 0) (result : Given T) (fault : KeeperFault) → IsErrAnd result (λ given. given ≡ fault) → P fault → IfErr result P
+err_given P (Ok value) fault none holds = tt
+err_given P (Err given) fault is holds = subst P (sym is) holds
 
 module _ {T : Type 0} where
   abbrev given : KeeperFault → Given T
@@ -52,11 +43,3 @@ module _ {T : Type 0} where
   pub no_memory : (result : Given T) → IsErrAnd result (λ fault. fault ≡ NoMemory) → result ≡ Err NoMemory
   no_memory (Ok value) none = absurd none
   no_memory (Err fault) is = ap given is
-
-  pub on_ok : (result : Given T) (X : Type 0) → IsErrAnd result (λ fault. fault ≡ NoMemory) → OnOk result X
-  on_ok (Ok value) X none = absurd none
-  on_ok (Err fault) X is = tt
-
-  pub if_err : (result : Given T) (P : KeeperFault → Type 0) → IsErrAnd result (λ fault. fault ≡ NoMemory) → P NoMemory → IfErr result P
-  if_err (Ok value) P none holds = tt
-  if_err (Err fault) P is holds = subst P (sym is) holds

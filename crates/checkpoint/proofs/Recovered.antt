@@ -16,11 +16,6 @@ use Rattle.checkpoint.specs.declared.fault.KeeperFault.TheVariants.{NoMemory, De
 use Rattle.device_image.specs.Remembers.{Remembers}
 use Rattle.checkpoint.specs.Recovery.{IsBegun, IsRecovered}
 
--- what is said of a refusal that is handed on
-pub err_given : {X : Type 0} (P : KeeperFault → Type 0) (result : Result X KeeperFault) (fault : KeeperFault) → IsErrAnd result (λ given. given ≡ fault) → P fault → IfErr result P
-err_given P (Ok given) fault is holds = tt
-err_given P (Err given) fault is holds = subst P (sym is) holds
-
 -- a keeper of which some blocks more were copied
 abbrev pub copied_to : {D : Type 0} → KeeperState D → D → ℕ → List ℕ → Memory → KeeperState D
 copied_to keeper disk left lefts memory = record keeper { disk = disk; lefts = lefts; phase = Copying left; memory = memory }

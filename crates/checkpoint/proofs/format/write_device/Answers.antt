@@ -1,4 +1,5 @@
 use Rattle.std.proofs.Common.{◌≡◌, inl, inr, rules, subst, ◌∙◌}
+use Rattle.std.proofs.lemmas.Result.{IfOk-from_err}
 use Rattle.disk_model.specs.Disk.{State}
 use Rattle.disk_model.specs.laws.Moments.{goes_on, weakens}
 use Rattle.checkpoint.specs.inner.Format.{AreClosed}
@@ -39,3 +40,31 @@ returns-clause-honest g c =
     let second = c.in_ok-write_parts.ensures in
     let third = c.open_header.ensures in
     (λ honest. first.honest.0 (second.honest.0 (third.honest.0 honest)), λ honest. third.honest.1 (second.honest.1 (first.honest.1 honest)))
+
+pub returns-in_err-close_headers-clause-synced : goal.returns-in_err-close_headers-clause-synced
+returns-in_err-close_headers-clause-synced g c honest steady =
+    IfOk-from_err c.from_residual.result _ c.from_residual.ensures.0
+
+pub returns-in_err-close_headers-clause-formatted : goal.returns-in_err-close_headers-clause-formatted
+returns-in_err-close_headers-clause-formatted g c honest steady =
+    IfOk-from_err c.from_residual.result _ c.from_residual.ensures.0
+
+pub returns-in_err-write_parts-clause-synced : goal.returns-in_err-write_parts-clause-synced
+returns-in_err-write_parts-clause-synced g c honest steady =
+    IfOk-from_err c.from_residual-in_err-write_parts.result _ c.from_residual-in_err-write_parts.ensures.0
+
+pub returns-in_err-write_parts-clause-formatted : goal.returns-in_err-write_parts-clause-formatted
+returns-in_err-write_parts-clause-formatted g c honest steady =
+    IfOk-from_err c.from_residual-in_err-write_parts.result _ c.from_residual-in_err-write_parts.ensures.0
+
+pub returns-in_err-write_parts-clause-extent : goal.returns-in_err-write_parts-clause-extent
+returns-in_err-write_parts-clause-extent g c =
+    c.in_err-write_parts.ensures.extent ∙ c.in_ok-close_headers.ensures.extent
+
+pub returns-clause-extent : goal.returns-clause-extent
+returns-clause-extent g c =
+    c.open_header.ensures.extent ∙ c.in_ok-write_parts.ensures.extent ∙ c.in_ok-close_headers.ensures.extent
+
+pub returns-in_err-close_headers-clause-honest : goal.returns-in_err-close_headers-clause-honest
+returns-in_err-close_headers-clause-honest g c =
+    c.in_err-close_headers.ensures.honest

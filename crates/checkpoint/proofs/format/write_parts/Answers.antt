@@ -1,5 +1,5 @@
 use Rattle.std.proofs.Common.{◌≡◌, ℕ, [], ◌∷◌, subst, ◌∙◌, ap, arith}
-use Rattle.std.proofs.lemmas.Result.{on_ok_weaker}
+use Rattle.std.proofs.lemmas.Result.{on_ok_weaker, IfOk-from_err}
 use Rattle.disk_model.specs.Disk.{IsWritten}
 use Rattle.header_slots.specs.Slots.{IsBodyWritten}
 use Rattle.header_slots.specs.declared.header.Header.{Header}
@@ -62,3 +62,19 @@ returns-clause-honest g c =
     let second = c.in_ok-write_at.ensures in
     let third = c.fill_slot.ensures in
     (λ honest. first.honest.0 (second.honest.0 (third.honest.0 honest)), λ honest. third.honest.1 (second.honest.1 (first.honest.1 honest)))
+
+pub returns-in_err-close_first-clause-closed : goal.returns-in_err-close_first-clause-closed
+returns-in_err-close_first-clause-closed g c honest closed =
+    IfOk-from_err c.from_residual.result _ c.from_residual.ensures.0
+
+pub returns-in_err-close_first-clause-fresh : goal.returns-in_err-close_first-clause-fresh
+returns-in_err-close_first-clause-fresh g c honest closed =
+    IfOk-from_err c.from_residual.result _ c.from_residual.ensures.0
+
+pub returns-in_err-write_at-clause-closed : goal.returns-in_err-write_at-clause-closed
+returns-in_err-write_at-clause-closed g c honest closed =
+    IfOk-from_err c.from_residual-in_err-write_at.result _ c.from_residual-in_err-write_at.ensures.0
+
+pub returns-in_err-write_at-clause-fresh : goal.returns-in_err-write_at-clause-fresh
+returns-in_err-write_at-clause-fresh g c honest closed =
+    IfOk-from_err c.from_residual-in_err-write_at.result _ c.from_residual-in_err-write_at.ensures.0

@@ -1,4 +1,5 @@
 use Rattle.std.proofs.Common.{◌≡◌, ◌<◌, ◌+◌, ℕ, suc, List, [], ◌∷◌, ◌++◌, length, if◌then◌else◌, refl, sym, ◌∙◌, ap, subst, arith, length-append}
+use Rattle.std.proofs.lemmas.Result.{IfOk-from_err}
 use Rattle.image_model.specs.declared.geometry.Geometry.{Geometry}
 use Rattle.journal_format.specs.GroupList.{IsDamaged}
 use Rattle.journal_format.specs.laws.Chained.{reads_on}
@@ -9,90 +10,90 @@ use Rattle.device_image.specs.Stands.{area_of, last_area, next_number}
 use Rattle.device_image.specs.laws.CheckpointBounds.{uncopied_more}
 use Rattle.checkpoint.specs.Keeper.{AreSized, faults_by}
 use Rattle.checkpoint.specs.declared.fault.KeeperFault.TheVariants.{NoMemory}
-use Rattle.checkpoint.proofs.Answered.{at_err, both_ways, unless_ok, unless_on_ok}
+use Rattle.checkpoint.proofs.Answered.{err_given, both_ways}
 use Rattle.checkpoint.proofs.Areas.{AreHeldSoFar, all_held, area_damaged, last-push, more_held, next_after, placed_sized, sized_more}
 use Rattle.checkpoint.proofs.Readings.{at_refusal, damage_weaker, seen_same, still_synced}
 use Rattle.checkpoint.proofs.opening.read_areas.Goals as goal
 
 pub returns-in_err-plan-clause-placed : goal.returns-in_err-plan-clause-placed
 returns-in_err-plan-clause-placed g c =
-    unless_ok _ c.from_residual.result _ c.from_residual.ensures.1
+    IfOk-from_err c.from_residual.result _ c.from_residual.ensures.0
 
 pub returns-in_err-plan-clause-none : goal.returns-in_err-plan-clause-none
 returns-in_err-plan-clause-none g c =
-    unless_ok _ c.from_residual.result _ c.from_residual.ensures.1
+    IfOk-from_err c.from_residual.result _ c.from_residual.ensures.0
 
 pub returns-in_err-plan-clause-sized : goal.returns-in_err-plan-clause-sized
 returns-in_err-plan-clause-sized g c =
-    unless_ok _ c.from_residual.result _ c.from_residual.ensures.1
+    IfOk-from_err c.from_residual.result _ c.from_residual.ensures.0
 
 pub returns-in_err-plan-clause-uncopied : goal.returns-in_err-plan-clause-uncopied
 returns-in_err-plan-clause-uncopied g c =
-    unless_ok _ c.from_residual.result _ c.from_residual.ensures.1
+    IfOk-from_err c.from_residual.result _ c.from_residual.ensures.0
 
 pub returns-in_err-plan-clause-many : goal.returns-in_err-plan-clause-many
 returns-in_err-plan-clause-many g c =
-    unless_ok _ c.from_residual.result _ c.from_residual.ensures.1
+    IfOk-from_err c.from_residual.result _ c.from_residual.ensures.0
 
 pub returns-in_err-plan-clause-faults_ok : goal.returns-in_err-plan-clause-faults_ok
 returns-in_err-plan-clause-faults_ok g c =
-    unless_on_ok _ c.from_residual.result _ c.from_residual.ensures.1
+    IfOk-from_err c.from_residual.result _ c.from_residual.ensures.0
 
 pub returns-in_err-plan-clause-faults_err : goal.returns-in_err-plan-clause-faults_err
 returns-in_err-plan-clause-faults_err g c =
-    at_err _ c.from_residual.result c.in_err-plan.field-0.0 c.from_residual.ensures.1 (c.in_err-plan.ensures.faults_err ∙ ap (faults_by c.in_err-plan.field-0.0) c.loop-place.invariant.faults)
+    err_given _ c.from_residual.result c.in_err-plan.field-0.0 c.from_residual.ensures.1 (c.in_err-plan.ensures.faults_err ∙ ap (faults_by c.in_err-plan.field-0.0) c.loop-place.invariant.faults)
 
 pub returns-in_err-map_err-clause-placed : goal.returns-in_err-map_err-clause-placed
 returns-in_err-map_err-clause-placed g c =
-    unless_ok _ c.from_residual-in_err-map_err.result _ c.from_residual-in_err-map_err.ensures.1
+    IfOk-from_err c.from_residual-in_err-map_err.result _ c.from_residual-in_err-map_err.ensures.0
 
 pub returns-in_err-map_err-clause-none : goal.returns-in_err-map_err-clause-none
 returns-in_err-map_err-clause-none g c =
-    unless_ok _ c.from_residual-in_err-map_err.result _ c.from_residual-in_err-map_err.ensures.1
+    IfOk-from_err c.from_residual-in_err-map_err.result _ c.from_residual-in_err-map_err.ensures.0
 
 pub returns-in_err-map_err-clause-sized : goal.returns-in_err-map_err-clause-sized
 returns-in_err-map_err-clause-sized g c =
-    unless_ok _ c.from_residual-in_err-map_err.result _ c.from_residual-in_err-map_err.ensures.1
+    IfOk-from_err c.from_residual-in_err-map_err.result _ c.from_residual-in_err-map_err.ensures.0
 
 pub returns-in_err-map_err-clause-uncopied : goal.returns-in_err-map_err-clause-uncopied
 returns-in_err-map_err-clause-uncopied g c =
-    unless_ok _ c.from_residual-in_err-map_err.result _ c.from_residual-in_err-map_err.ensures.1
+    IfOk-from_err c.from_residual-in_err-map_err.result _ c.from_residual-in_err-map_err.ensures.0
 
 pub returns-in_err-map_err-clause-many : goal.returns-in_err-map_err-clause-many
 returns-in_err-map_err-clause-many g c =
-    unless_ok _ c.from_residual-in_err-map_err.result _ c.from_residual-in_err-map_err.ensures.1
+    IfOk-from_err c.from_residual-in_err-map_err.result _ c.from_residual-in_err-map_err.ensures.0
 
 pub returns-in_err-map_err-clause-faults_ok : goal.returns-in_err-map_err-clause-faults_ok
 returns-in_err-map_err-clause-faults_ok g c =
-    unless_on_ok _ c.from_residual-in_err-map_err.result _ c.from_residual-in_err-map_err.ensures.1
+    IfOk-from_err c.from_residual-in_err-map_err.result _ c.from_residual-in_err-map_err.ensures.0
 
 pub returns-in_err-area-clause-placed : goal.returns-in_err-area-clause-placed
 returns-in_err-area-clause-placed g c =
-    unless_ok _ c.from_residual-in_err-area.result _ c.from_residual-in_err-area.ensures.1
+    IfOk-from_err c.from_residual-in_err-area.result _ c.from_residual-in_err-area.ensures.0
 
 pub returns-in_err-area-clause-none : goal.returns-in_err-area-clause-none
 returns-in_err-area-clause-none g c =
-    unless_ok _ c.from_residual-in_err-area.result _ c.from_residual-in_err-area.ensures.1
+    IfOk-from_err c.from_residual-in_err-area.result _ c.from_residual-in_err-area.ensures.0
 
 pub returns-in_err-area-clause-sized : goal.returns-in_err-area-clause-sized
 returns-in_err-area-clause-sized g c =
-    unless_ok _ c.from_residual-in_err-area.result _ c.from_residual-in_err-area.ensures.1
+    IfOk-from_err c.from_residual-in_err-area.result _ c.from_residual-in_err-area.ensures.0
 
 pub returns-in_err-area-clause-uncopied : goal.returns-in_err-area-clause-uncopied
 returns-in_err-area-clause-uncopied g c =
-    unless_ok _ c.from_residual-in_err-area.result _ c.from_residual-in_err-area.ensures.1
+    IfOk-from_err c.from_residual-in_err-area.result _ c.from_residual-in_err-area.ensures.0
 
 pub returns-in_err-area-clause-many : goal.returns-in_err-area-clause-many
 returns-in_err-area-clause-many g c =
-    unless_ok _ c.from_residual-in_err-area.result _ c.from_residual-in_err-area.ensures.1
+    IfOk-from_err c.from_residual-in_err-area.result _ c.from_residual-in_err-area.ensures.0
 
 pub returns-in_err-area-clause-faults_ok : goal.returns-in_err-area-clause-faults_ok
 returns-in_err-area-clause-faults_ok g c =
-    unless_on_ok _ c.from_residual-in_err-area.result _ c.from_residual-in_err-area.ensures.1
+    IfOk-from_err c.from_residual-in_err-area.result _ c.from_residual-in_err-area.ensures.0
 
 pub returns-in_err-area-clause-faults_err : goal.returns-in_err-area-clause-faults_err
 returns-in_err-area-clause-faults_err g c =
-    at_err _ c.from_residual-in_err-area.result c.in_err-area.field-0.0 c.from_residual-in_err-area.ensures.1 (c.in_err-area.ensures.faults_err ∙ ap (faults_by c.in_err-area.field-0.0) c.loop-place.invariant.faults)
+    err_given _ c.from_residual-in_err-area.result c.in_err-area.field-0.0 c.from_residual-in_err-area.ensures.1 (c.in_err-area.ensures.faults_err ∙ ap (faults_by c.in_err-area.field-0.0) c.loop-place.invariant.faults)
 
 pub returns-in_err-plan-clause-extent : goal.returns-in_err-plan-clause-extent
 returns-in_err-plan-clause-extent g c =
@@ -120,7 +121,7 @@ returns-in_err-area-clause-honest g c =
 
 pub returns-in_err-map_err-clause-faults_err : goal.returns-in_err-map_err-clause-faults_err
 returns-in_err-map_err-clause-faults_err g c =
-    at_err _ c.from_residual-in_err-map_err.result NoMemory c.from_residual-in_err-map_err.ensures.1 (c.in_ok-plan.ensures.faults_ok ∙ c.loop-place.invariant.faults)
+    err_given _ c.from_residual-in_err-map_err.result NoMemory c.from_residual-in_err-map_err.ensures.1 (c.in_ok-plan.ensures.faults_ok ∙ c.loop-place.invariant.faults)
 
 pub returns-in_err-map_err-clause-read : goal.returns-in_err-map_err-clause-read
 returns-in_err-map_err-clause-read g c honest synced =

@@ -1,4 +1,5 @@
 use Rattle.std.proofs.Common.{◌≡◌, ℕ, List, length, Err, rules, sym, ◌∙◌, subst}
+use Rattle.std.proofs.lemmas.Result.{IfOk-from_err}
 use Rattle.disk_model.specs.Disk.{IsSound}
 use Rattle.header_slots.specs.Slots.{HoldsHeader}
 use Rattle.image_model.specs.declared.command.Kind.{Kind}
@@ -131,3 +132,99 @@ returns-clause-honest g c =
     let second = c.in_ok-map.ensures in
     let third = c.in_ok-plans.ensures in
     (λ honest. first.honest.0 (second.honest.0 (third.honest.0 honest)), λ honest. third.honest.1 (second.honest.1 (first.honest.1 honest)))
+
+pub returns-in_err-header-clause-faults_ok : goal.returns-in_err-header-clause-faults_ok
+returns-in_err-header-clause-faults_ok g c =
+    IfOk-from_err c.from_residual.result _ c.from_residual.ensures.0
+
+pub returns-in_err-header-clause-whole : goal.returns-in_err-header-clause-whole
+returns-in_err-header-clause-whole g c =
+    IfOk-from_err c.from_residual.result _ c.from_residual.ensures.0
+
+pub returns-in_err-header-clause-placed : goal.returns-in_err-header-clause-placed
+returns-in_err-header-clause-placed g c =
+    IfOk-from_err c.from_residual.result _ c.from_residual.ensures.0
+
+pub returns-in_err-header-clause-none : goal.returns-in_err-header-clause-none
+returns-in_err-header-clause-none g c =
+    IfOk-from_err c.from_residual.result _ c.from_residual.ensures.0
+
+pub returns-in_err-header-clause-sized : goal.returns-in_err-header-clause-sized
+returns-in_err-header-clause-sized g c =
+    IfOk-from_err c.from_residual.result _ c.from_residual.ensures.0
+
+pub returns-in_err-header-clause-blocks : goal.returns-in_err-header-clause-blocks
+returns-in_err-header-clause-blocks g c =
+    IfOk-from_err c.from_residual.result _ c.from_residual.ensures.0
+
+pub returns-in_err-header-clause-uncopied : goal.returns-in_err-header-clause-uncopied
+returns-in_err-header-clause-uncopied g c =
+    IfOk-from_err c.from_residual.result _ c.from_residual.ensures.0
+
+pub returns-in_err-header-clause-many : goal.returns-in_err-header-clause-many
+returns-in_err-header-clause-many g c =
+    IfOk-from_err c.from_residual.result _ c.from_residual.ensures.0
+
+pub returns-in_err-map-clause-faults_ok : goal.returns-in_err-map-clause-faults_ok
+returns-in_err-map-clause-faults_ok g c =
+    IfOk-from_err c.from_residual-in_err-map.result _ c.from_residual-in_err-map.ensures.0
+
+pub returns-in_err-map-clause-whole : goal.returns-in_err-map-clause-whole
+returns-in_err-map-clause-whole g c =
+    IfOk-from_err c.from_residual-in_err-map.result _ c.from_residual-in_err-map.ensures.0
+
+pub returns-in_err-map-clause-placed : goal.returns-in_err-map-clause-placed
+returns-in_err-map-clause-placed g c =
+    IfOk-from_err c.from_residual-in_err-map.result _ c.from_residual-in_err-map.ensures.0
+
+pub returns-in_err-map-clause-none : goal.returns-in_err-map-clause-none
+returns-in_err-map-clause-none g c =
+    IfOk-from_err c.from_residual-in_err-map.result _ c.from_residual-in_err-map.ensures.0
+
+pub returns-in_err-map-clause-sized : goal.returns-in_err-map-clause-sized
+returns-in_err-map-clause-sized g c =
+    IfOk-from_err c.from_residual-in_err-map.result _ c.from_residual-in_err-map.ensures.0
+
+pub returns-in_err-map-clause-blocks : goal.returns-in_err-map-clause-blocks
+returns-in_err-map-clause-blocks g c =
+    IfOk-from_err c.from_residual-in_err-map.result _ c.from_residual-in_err-map.ensures.0
+
+pub returns-in_err-map-clause-uncopied : goal.returns-in_err-map-clause-uncopied
+returns-in_err-map-clause-uncopied g c =
+    IfOk-from_err c.from_residual-in_err-map.result _ c.from_residual-in_err-map.ensures.0
+
+pub returns-in_err-map-clause-many : goal.returns-in_err-map-clause-many
+returns-in_err-map-clause-many g c =
+    IfOk-from_err c.from_residual-in_err-map.result _ c.from_residual-in_err-map.ensures.0
+
+pub returns-in_err-plans-clause-faults_ok : goal.returns-in_err-plans-clause-faults_ok
+returns-in_err-plans-clause-faults_ok g c =
+    IfOk-from_err c.from_residual-in_err-plans.result _ c.from_residual-in_err-plans.ensures.0
+
+pub returns-in_err-plans-clause-whole : goal.returns-in_err-plans-clause-whole
+returns-in_err-plans-clause-whole g c =
+    IfOk-from_err c.from_residual-in_err-plans.result _ c.from_residual-in_err-plans.ensures.0
+
+pub returns-in_err-plans-clause-placed : goal.returns-in_err-plans-clause-placed
+returns-in_err-plans-clause-placed g c =
+    IfOk-from_err c.from_residual-in_err-plans.result _ c.from_residual-in_err-plans.ensures.0
+
+pub returns-in_err-plans-clause-none : goal.returns-in_err-plans-clause-none
+returns-in_err-plans-clause-none g c =
+    IfOk-from_err c.from_residual-in_err-plans.result _ c.from_residual-in_err-plans.ensures.0
+
+pub returns-in_err-plans-clause-sized : goal.returns-in_err-plans-clause-sized
+returns-in_err-plans-clause-sized g c =
+    IfOk-from_err c.from_residual-in_err-plans.result _ c.from_residual-in_err-plans.ensures.0
+
+pub returns-in_err-plans-clause-blocks : goal.returns-in_err-plans-clause-blocks
+returns-in_err-plans-clause-blocks g c =
+    IfOk-from_err c.from_residual-in_err-plans.result _ c.from_residual-in_err-plans.ensures.0
+
+pub returns-in_err-plans-clause-uncopied : goal.returns-in_err-plans-clause-uncopied
+returns-in_err-plans-clause-uncopied g c =
+    IfOk-from_err c.from_residual-in_err-plans.result _ c.from_residual-in_err-plans.ensures.0
+
+pub returns-in_err-plans-clause-many : goal.returns-in_err-plans-clause-many
+returns-in_err-plans-clause-many g c =
+    IfOk-from_err c.from_residual-in_err-plans.result _ c.from_residual-in_err-plans.ensures.0

@@ -1,9 +1,10 @@
 use Rattle.device_image.specs.Keeper.{KeeperState}
+use Rattle.std.proofs.lemmas.Result.{IfOk-from_err}
 use Rattle.std.proofs.Common.{ap, ◌∙◌, refl, arith}
 use Rattle.disk_model.specs.laws.Moments.{begins, goes_on}
 use Rattle.device_image.specs.laws.Kept.{kept_content}
 use Rattle.checkpoint.specs.Keeper.{faults_by}
-use Rattle.checkpoint.proofs.Answered.{at_err, both_ways, unless_on_ok}
+use Rattle.checkpoint.proofs.Answered.{err_given, both_ways}
 use Rattle.checkpoint.proofs.Recovered.{copied_first, copied_last, copied_next, keeps_by, left_next}
 use Rattle.checkpoint.proofs.keeper.Keeper.copy_all.Goals as goal
 
@@ -50,19 +51,19 @@ returns-clause-remembered g c commands remembers = c.loop-self.invariant.remembe
 
 pub returns-in_err-_blocks-clause-ok : goal.returns-in_err-_blocks-clause-ok
 returns-in_err-_blocks-clause-ok g c =
-    unless_on_ok _ c.from_residual.result _ c.from_residual.ensures.1
+    IfOk-from_err c.from_residual.result _ c.from_residual.ensures.0
 
 pub returns-in_err-_blocks-clause-faults_ok : goal.returns-in_err-_blocks-clause-faults_ok
 returns-in_err-_blocks-clause-faults_ok g c =
-    unless_on_ok _ c.from_residual.result _ c.from_residual.ensures.1
+    IfOk-from_err c.from_residual.result _ c.from_residual.ensures.0
 
 pub returns-in_err-_blocks-clause-remembered : goal.returns-in_err-_blocks-clause-remembered
 returns-in_err-_blocks-clause-remembered g c commands remembers =
-    unless_on_ok _ c.from_residual.result _ c.from_residual.ensures.1
+    IfOk-from_err c.from_residual.result _ c.from_residual.ensures.0
 
 pub returns-in_err-_blocks-clause-kept : goal.returns-in_err-_blocks-clause-kept
 returns-in_err-_blocks-clause-kept g c honest image number keeps =
-    unless_on_ok _ c.from_residual.result _ c.from_residual.ensures.1
+    IfOk-from_err c.from_residual.result _ c.from_residual.ensures.0
 
 pub returns-in_err-_blocks-clause-extent : goal.returns-in_err-_blocks-clause-extent
 returns-in_err-_blocks-clause-extent g c =
@@ -71,7 +72,7 @@ returns-in_err-_blocks-clause-extent g c =
 pub returns-in_err-_blocks-clause-faults_err : goal.returns-in_err-_blocks-clause-faults_err
 returns-in_err-_blocks-clause-faults_err g c =
     let fault = c.in_err-_blocks.field-0.0 in
-    at_err _ c.from_residual.result fault c.from_residual.ensures.1 (c.in_err-_blocks.ensures.faults_err ∙ ap (faults_by fault) c.loop-self.invariant.faults)
+    err_given _ c.from_residual.result fault c.from_residual.ensures.1 (c.in_err-_blocks.ensures.faults_err ∙ ap (faults_by fault) c.loop-self.invariant.faults)
 
 pub returns-in_err-_blocks-clause-honest : goal.returns-in_err-_blocks-clause-honest
 returns-in_err-_blocks-clause-honest g c =

@@ -1,4 +1,6 @@
 use Rattle.std.proofs.Common.{◌≡◌, ◌<◌, ◌-◌, ◌*◌, ◌≤◌, ℕ, inl, Option, None, true, List, ◌∷◌, length, refl, rules, sym, ◌∙◌, ap, subst, arith}
+use Rattle.checkpoint.specs.declared.fault.KeeperFault.TheVariants.{NoMemory}
+use Rattle.std.proofs.lemmas.Result.{IfOk-from_err}
 use Rattle.std.specs.Prelude.{IfSome}
 use Rattle.std.proofs.lemmas.Bool.{false≢true}
 use Rattle.disk_model.specs.Disk.{LeavesOnly}
@@ -9,7 +11,7 @@ use Rattle.image_model.specs.declared.geometry.Geometry.{Geometry}
 use Rattle.checkpoint.specs.Keeper.{AreSized, IsSized, faults_by, plans_of, refused_by}
 use Rattle.checkpoint.specs.Steps.{IsCopyTime, IsStepFault, copied_by, left_in}
 use Rattle.checkpoint.specs.declared.fault.KeeperFault.{KeeperFault}
-use Rattle.checkpoint.proofs.Answered.{device_apart, memory_apart, if_err, ok_apart, on_ok, some_apart}
+use Rattle.checkpoint.proofs.Answered.{device_apart, memory_apart, ok_apart, some_apart, err_given}
 use Rattle.device_image.specs.Keeper.{Copying, KeeperState, Memory, Phase, PlanState, last_turned, lefts_of, phase_in, phase_of, turned_of}
 use Rattle.device_image.specs.Remembers.{Remembers}
 use Rattle.device_image.specs.Keeps.{Keeps}
@@ -271,19 +273,19 @@ invariant_of-self-in-Ok g c =
 
 pub returns-in_err-buffer-clause-faults_ok : goal.returns-in_err-buffer-clause-faults_ok
 returns-in_err-buffer-clause-faults_ok g c =
-    on_ok c.from_residual.result _ c.from_residual.ensures.1
+    IfOk-from_err c.from_residual.result _ c.from_residual.ensures.0
 
 pub returns-in_err-buffer-clause-remembered : goal.returns-in_err-buffer-clause-remembered
 returns-in_err-buffer-clause-remembered g c commands remembers =
-    on_ok c.from_residual.result _ c.from_residual.ensures.1
+    IfOk-from_err c.from_residual.result _ c.from_residual.ensures.0
 
 pub returns-in_err-buffer-clause-held : goal.returns-in_err-buffer-clause-held
 returns-in_err-buffer-clause-held g c honest base fronts last_commands holds =
-    on_ok c.from_residual.result _ c.from_residual.ensures.1
+    IfOk-from_err c.from_residual.result _ c.from_residual.ensures.0
 
 pub returns-in_err-buffer-clause-only : goal.returns-in_err-buffer-clause-only
 returns-in_err-buffer-clause-only g c =
-    if_err c.from_residual.result IsStepFault c.from_residual.ensures.1 tt
+    err_given IsStepFault c.from_residual.result NoMemory c.from_residual.ensures.1 tt
 
 pub returns-in-Ok-clause-ok : goal.returns-in-Ok-clause-ok
 returns-in-Ok-clause-ok g c =

@@ -1,11 +1,13 @@
 use Rattle.std.proofs.Common.{◌≢◌, refl, sym, ◌∙◌, ap, subst}
+use Rattle.std.proofs.lemmas.Result.{IfOk-from_err}
+use Rattle.checkpoint.proofs.Answered.{err_given, both_ways}
 use Rattle.disk_model.specs.laws.Moments.{begins, goes_on}
 use Rattle.device_image.specs.Keeper.{KeeperState}
 use Rattle.device_image.specs.laws.Kept.{kept_content}
 use Rattle.checkpoint.specs.Recovery.{IsBegun}
 use Rattle.checkpoint.specs.declared.fault.KeeperFault.TheVariants.{DeviceFault}
 use Rattle.device_image.specs.Keeps.{Keeps}
-use Rattle.checkpoint.proofs.Recovered.{begun_left, err_given}
+use Rattle.checkpoint.proofs.Recovered.{begun_left}
 use Rattle.checkpoint.proofs.keeper.Keeper.end_begun.Goals as goal
 
 pub loop-self-init : goal.loop-self-init
@@ -50,3 +52,27 @@ returns-in_err-end_checkpoint-clause-any_moment g c honest image number keeps =
     let so_far = c.loop-self.invariant in
     goes_on (so_far.any_moment honest image number keeps)
     (c.in_err-end_checkpoint.ensures.any_moment (so_far.honest.1 honest) image number (so_far.kept honest image number keeps)) (λ content stands. stands)
+
+pub returns-in_err-end_checkpoint-clause-ok : goal.returns-in_err-end_checkpoint-clause-ok
+returns-in_err-end_checkpoint-clause-ok g c =
+    IfOk-from_err c.from_residual.result _ c.from_residual.ensures.0
+
+pub returns-in_err-end_checkpoint-clause-sizes : goal.returns-in_err-end_checkpoint-clause-sizes
+returns-in_err-end_checkpoint-clause-sizes g c =
+    IfOk-from_err c.from_residual.result _ c.from_residual.ensures.0
+
+pub returns-in_err-end_checkpoint-clause-faults_ok : goal.returns-in_err-end_checkpoint-clause-faults_ok
+returns-in_err-end_checkpoint-clause-faults_ok g c =
+    IfOk-from_err c.from_residual.result _ c.from_residual.ensures.0
+
+pub returns-in_err-end_checkpoint-clause-kept : goal.returns-in_err-end_checkpoint-clause-kept
+returns-in_err-end_checkpoint-clause-kept g c honest image number keeps =
+    IfOk-from_err c.from_residual.result _ c.from_residual.ensures.0
+
+pub returns-in_err-end_checkpoint-clause-extent : goal.returns-in_err-end_checkpoint-clause-extent
+returns-in_err-end_checkpoint-clause-extent g c =
+    c.in_err-end_checkpoint.ensures.extent ∙ c.loop-self.invariant.extent
+
+pub returns-in_err-end_checkpoint-clause-honest : goal.returns-in_err-end_checkpoint-clause-honest
+returns-in_err-end_checkpoint-clause-honest g c =
+    both_ways c.in_err-end_checkpoint.ensures.honest c.loop-self.invariant.honest

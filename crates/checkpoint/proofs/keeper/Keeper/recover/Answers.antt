@@ -1,8 +1,11 @@
 use Rattle.std.proofs.Common.{ap, Err, List, [], ◌∷◌, ◌++◌, ◌∙◌, ◌≡◌, ◌≢◌, arith, ℕ, true, ◌==◌, sym}
+use Rattle.checkpoint.specs.Keeper.{faults_by}
+use Rattle.std.proofs.lemmas.Result.{IfOk-from_err, IfOk-weaker, IfErr-weaker}
+use Rattle.checkpoint.proofs.Answered.{err_given, both_ways}
 use Rattle.device_image.specs.Keeper.{KeeperState, count_puts, last_turned}
 use Rattle.device_image.specs.Keeps.{Keeps}
 use Rattle.checkpoint.specs.declared.fault.KeeperFault.TheVariants.{DeviceFault}
-use Rattle.checkpoint.proofs.Recovered.{err_given, keeps_begun, recovered_by, sizes_ended, still_kept}
+use Rattle.checkpoint.proofs.Recovered.{keeps_begun, recovered_by, sizes_ended, still_kept}
 use Rattle.disk_model.specs.laws.Moments.{goes_on}
 use Rattle.checkpoint.proofs.keeper.Keeper.recover.Goals as goal
 use Rattle.device_image.specs.laws.Counted.{remembers_none}
@@ -70,3 +73,74 @@ returns-clause-ok g c =
     (ap (λ (k : KeeperState g.row.D.Denot). k.turned) second.ok ∙ ap (λ (turned : List ℕ). turned ++ begun.count ∷ []) first.ok.2 ∙ ap (λ (n : ℕ). n ∷ []) (sym (ap (λ (k : KeeperState g.row.D.Denot). k.count) second.ok)))
     (ap (λ (k : KeeperState g.row.D.Denot). k.lefts) second.ok ∙ ap (λ (lefts : List ℕ). lefts ++ count_puts begun.geometry.blocks begun.memory.area.touched ∷ []) first.ok.3)
     (c.end_checkpoint.ensures.remembered [] second.fresh)
+
+pub returns-in_err-end_begun-clause-ok : goal.returns-in_err-end_begun-clause-ok
+returns-in_err-end_begun-clause-ok g c =
+    IfOk-from_err c.from_residual.result _ c.from_residual.ensures.0
+
+pub returns-in_err-end_begun-clause-sizes : goal.returns-in_err-end_begun-clause-sizes
+returns-in_err-end_begun-clause-sizes g c =
+    IfOk-from_err c.from_residual.result _ c.from_residual.ensures.0
+
+pub returns-in_err-end_begun-clause-faults_ok : goal.returns-in_err-end_begun-clause-faults_ok
+returns-in_err-end_begun-clause-faults_ok g c =
+    IfOk-from_err c.from_residual.result _ c.from_residual.ensures.0
+
+pub returns-in_err-end_begun-clause-kept : goal.returns-in_err-end_begun-clause-kept
+returns-in_err-end_begun-clause-kept g c honest image number keeps =
+    IfOk-from_err c.from_residual.result _ c.from_residual.ensures.0
+
+pub returns-in_err-end_begun-clause-any_moment : goal.returns-in_err-end_begun-clause-any_moment
+returns-in_err-end_begun-clause-any_moment g c =
+    c.in_err-end_begun.ensures.any_moment
+
+pub returns-in_err-end_begun-clause-faults_err : goal.returns-in_err-end_begun-clause-faults_err
+returns-in_err-end_begun-clause-faults_err g c =
+    err_given _ c.from_residual.result c.in_err-end_begun.field-0.0 c.from_residual.ensures.1 c.in_err-end_begun.ensures.faults_err
+
+pub returns-in_err-rotate-clause-ok : goal.returns-in_err-rotate-clause-ok
+returns-in_err-rotate-clause-ok g c =
+    IfOk-from_err c.from_residual-in_err-rotate.result _ c.from_residual-in_err-rotate.ensures.0
+
+pub returns-in_err-rotate-clause-sizes : goal.returns-in_err-rotate-clause-sizes
+returns-in_err-rotate-clause-sizes g c =
+    IfOk-from_err c.from_residual-in_err-rotate.result _ c.from_residual-in_err-rotate.ensures.0
+
+pub returns-in_err-rotate-clause-faults_ok : goal.returns-in_err-rotate-clause-faults_ok
+returns-in_err-rotate-clause-faults_ok g c =
+    IfOk-from_err c.from_residual-in_err-rotate.result _ c.from_residual-in_err-rotate.ensures.0
+
+pub returns-in_err-rotate-clause-kept : goal.returns-in_err-rotate-clause-kept
+returns-in_err-rotate-clause-kept g c honest image number keeps =
+    IfOk-from_err c.from_residual-in_err-rotate.result _ c.from_residual-in_err-rotate.ensures.0
+
+pub returns-in_err-rotate-clause-extent : goal.returns-in_err-rotate-clause-extent
+returns-in_err-rotate-clause-extent g c =
+    c.in_err-rotate.ensures.extent ∙ c.in_ok-end_begun.ensures.extent
+
+pub returns-in_err-rotate-clause-honest : goal.returns-in_err-rotate-clause-honest
+returns-in_err-rotate-clause-honest g c =
+    both_ways c.in_err-rotate.ensures.honest c.in_ok-end_begun.ensures.honest
+
+pub returns-in_err-rotate-clause-faults_err : goal.returns-in_err-rotate-clause-faults_err
+returns-in_err-rotate-clause-faults_err g c =
+    let fault = c.in_err-rotate.field-0.0 in
+    err_given _ c.from_residual-in_err-rotate.result fault c.from_residual-in_err-rotate.ensures.1 (c.in_err-rotate.ensures.faults_err ∙ ap (faults_by fault) c.in_ok-end_begun.ensures.faults_ok)
+
+pub returns-clause-extent : goal.returns-clause-extent
+returns-clause-extent g c =
+    c.end_checkpoint.ensures.extent ∙ c.in_ok-rotate.ensures.extent ∙ c.in_ok-end_begun.ensures.extent
+
+pub returns-clause-honest : goal.returns-clause-honest
+returns-clause-honest g c =
+    both_ways c.end_checkpoint.ensures.honest (both_ways c.in_ok-rotate.ensures.honest c.in_ok-end_begun.ensures.honest)
+
+pub returns-clause-faults_ok : goal.returns-clause-faults_ok
+returns-clause-faults_ok g c =
+    let before = c.in_ok-rotate.ensures.faults_ok ∙ c.in_ok-end_begun.ensures.faults_ok in
+    IfOk-weaker c.end_checkpoint.result _ _ (λ done same. same ∙ before) c.end_checkpoint.ensures.faults_ok
+
+pub returns-clause-faults_err : goal.returns-clause-faults_err
+returns-clause-faults_err g c =
+    let before = c.in_ok-rotate.ensures.faults_ok ∙ c.in_ok-end_begun.ensures.faults_ok in
+    IfErr-weaker c.end_checkpoint.result _ _ (λ fault same. same ∙ ap (faults_by fault) before) c.end_checkpoint.ensures.faults_err

@@ -1,4 +1,5 @@
 use Rattle.std.proofs.Common.{◌≡◌, ◌<◌, ◌+◌, ◌%◌, inl, ℕ, zero, suc, false, true, None, Some, Err, List, [], ◌∷◌, ◌++◌, length, refl, sym, ◌∙◌, ap, subst, arith, rules}
+use Rattle.std.proofs.lemmas.Result.{IfOk-from_err}
 use Rattle.std.specs.FinMap.{len}
 use Rattle.std.specs.Bool.{◌==◌}
 use Rattle.std.specs.Prelude.{IfErr, IfSome}
@@ -26,7 +27,7 @@ use Rattle.checkpoint.specs.Keeper.{AreSized, IsSized, faults_by, plans_of, refu
 use Rattle.checkpoint.specs.Steps.{IsRotateTime, IsStepFault, phase_with, rotated_by}
 use Rattle.checkpoint.specs.declared.fault.KeeperFault.{KeeperFault}
 use Rattle.checkpoint.specs.declared.fault.KeeperFault.TheVariants.{NumbersFull, NotNow, Failed}
-use Rattle.checkpoint.proofs.Answered.{Given, device_apart, memory_apart, no_memory, ok_apart, on_ok, some_apart}
+use Rattle.checkpoint.proofs.Answered.{Given, device_apart, memory_apart, no_memory, ok_apart, some_apart}
 use Rattle.checkpoint.proofs.Areas.{last-push}
 use Rattle.checkpoint.proofs.Rotating.{ArePlansSized, added, comes_next, current_held, from_above, last_counted, lefts-push, next_sized, phase-push, rotate_held, rotate_left, rotated_left, sized_after, slots_synced, turned-push, uncopied_after}
 use Rattle.checkpoint.proofs.keeper.Keeper.rotate.Goals as goal
@@ -506,27 +507,27 @@ returns-in_err-touches-clause-only g c =
 
 pub returns-in_err-touches-clause-ok : goal.returns-in_err-touches-clause-ok
 returns-in_err-touches-clause-ok g c =
-    on_ok c.from_residual.result _ c.from_residual.ensures.1
+    IfOk-from_err c.from_residual.result _ c.from_residual.ensures.0
 
 pub returns-in_err-touches-clause-faults_ok : goal.returns-in_err-touches-clause-faults_ok
 returns-in_err-touches-clause-faults_ok g c =
-    on_ok c.from_residual.result _ c.from_residual.ensures.1
+    IfOk-from_err c.from_residual.result _ c.from_residual.ensures.0
 
 pub returns-in_err-touches-clause-fresh : goal.returns-in_err-touches-clause-fresh
 returns-in_err-touches-clause-fresh g c =
-    on_ok c.from_residual.result _ c.from_residual.ensures.1
+    IfOk-from_err c.from_residual.result _ c.from_residual.ensures.0
 
 pub returns-in_err-touches-clause-left : goal.returns-in_err-touches-clause-left
 returns-in_err-touches-clause-left g c commands remembers =
-    on_ok c.from_residual.result _ c.from_residual.ensures.1
+    IfOk-from_err c.from_residual.result _ c.from_residual.ensures.0
 
 pub returns-in_err-touches-clause-phase : goal.returns-in_err-touches-clause-phase
 returns-in_err-touches-clause-phase g c commands remembers =
-    on_ok c.from_residual.result _ c.from_residual.ensures.1
+    IfOk-from_err c.from_residual.result _ c.from_residual.ensures.0
 
 pub returns-in_err-touches-clause-held : goal.returns-in_err-touches-clause-held
 returns-in_err-touches-clause-held g c honest base fronts last_commands holds =
-    on_ok c.from_residual.result _ c.from_residual.ensures.1
+    IfOk-from_err c.from_residual.result _ c.from_residual.ensures.0
 
 pub returns-in_err-reserve-clause-failed : goal.returns-in_err-reserve-clause-failed
 returns-in_err-reserve-clause-failed g c =
@@ -551,27 +552,27 @@ returns-in_err-reserve-clause-only g c =
 
 pub returns-in_err-reserve-clause-ok : goal.returns-in_err-reserve-clause-ok
 returns-in_err-reserve-clause-ok g c =
-    on_ok c.from_residual-in_err-reserve.result _ c.from_residual-in_err-reserve.ensures.1
+    IfOk-from_err c.from_residual-in_err-reserve.result _ c.from_residual-in_err-reserve.ensures.0
 
 pub returns-in_err-reserve-clause-faults_ok : goal.returns-in_err-reserve-clause-faults_ok
 returns-in_err-reserve-clause-faults_ok g c =
-    on_ok c.from_residual-in_err-reserve.result _ c.from_residual-in_err-reserve.ensures.1
+    IfOk-from_err c.from_residual-in_err-reserve.result _ c.from_residual-in_err-reserve.ensures.0
 
 pub returns-in_err-reserve-clause-fresh : goal.returns-in_err-reserve-clause-fresh
 returns-in_err-reserve-clause-fresh g c =
-    on_ok c.from_residual-in_err-reserve.result _ c.from_residual-in_err-reserve.ensures.1
+    IfOk-from_err c.from_residual-in_err-reserve.result _ c.from_residual-in_err-reserve.ensures.0
 
 pub returns-in_err-reserve-clause-left : goal.returns-in_err-reserve-clause-left
 returns-in_err-reserve-clause-left g c commands remembers =
-    on_ok c.from_residual-in_err-reserve.result _ c.from_residual-in_err-reserve.ensures.1
+    IfOk-from_err c.from_residual-in_err-reserve.result _ c.from_residual-in_err-reserve.ensures.0
 
 pub returns-in_err-reserve-clause-phase : goal.returns-in_err-reserve-clause-phase
 returns-in_err-reserve-clause-phase g c commands remembers =
-    on_ok c.from_residual-in_err-reserve.result _ c.from_residual-in_err-reserve.ensures.1
+    IfOk-from_err c.from_residual-in_err-reserve.result _ c.from_residual-in_err-reserve.ensures.0
 
 pub returns-in_err-reserve-clause-held : goal.returns-in_err-reserve-clause-held
 returns-in_err-reserve-clause-held g c honest base fronts last_commands holds =
-    on_ok c.from_residual-in_err-reserve.result _ c.from_residual-in_err-reserve.ensures.1
+    IfOk-from_err c.from_residual-in_err-reserve.result _ c.from_residual-in_err-reserve.ensures.0
 
 pub returns-in_err-touches-clause-err : goal.returns-in_err-touches-clause-err
 returns-in_err-touches-clause-err g c =

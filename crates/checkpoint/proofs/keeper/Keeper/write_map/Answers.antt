@@ -1,4 +1,6 @@
 use Rattle.std.proofs.Common.{◌≡◌, inl, List, Option, refl, rules, sym, ◌∙◌, ap, subst, arith}
+use Rattle.checkpoint.specs.declared.fault.KeeperFault.TheVariants.{NoMemory}
+use Rattle.std.proofs.lemmas.Result.{IfOk-from_err}
 use Rattle.std.proofs.lemmas.Bool.{false≢true}
 use Rattle.disk_model.specs.Disk.{LeavesOnly, State}
 use Rattle.disk_model.specs.Faults.{counted}
@@ -11,7 +13,7 @@ use Rattle.header_slots.specs.declared.header.Header.{Header}
 use Rattle.checkpoint.specs.Keeper.{faults_by, plans_of}
 use Rattle.checkpoint.specs.Steps.{IsStepFault}
 use Rattle.checkpoint.specs.declared.fault.KeeperFault.{KeeperFault}
-use Rattle.checkpoint.proofs.Answered.{device_apart, if_err, ok_apart, on_ok}
+use Rattle.checkpoint.proofs.Answered.{device_apart, ok_apart, err_given}
 use Rattle.device_image.specs.Keeper.{KeeperState, PlanState}
 use Rattle.device_image.specs.Keeps.{Keeps}
 use Rattle.device_image.specs.Stands.{StandsFor}
@@ -145,20 +147,20 @@ returns-in-Err-clause-faults_err g c =
 
 pub returns-in_err-map-clause-ok : goal.returns-in_err-map-clause-ok
 returns-in_err-map-clause-ok g c =
-    on_ok c.from_residual.result _ c.from_residual.ensures.1
+    IfOk-from_err c.from_residual.result _ c.from_residual.ensures.0
 
 pub returns-in_err-map-clause-faults_ok : goal.returns-in_err-map-clause-faults_ok
 returns-in_err-map-clause-faults_ok g c =
-    on_ok c.from_residual.result _ c.from_residual.ensures.1
+    IfOk-from_err c.from_residual.result _ c.from_residual.ensures.0
 
 pub returns-in_err-map-clause-remembered : goal.returns-in_err-map-clause-remembered
 returns-in_err-map-clause-remembered g c commands remembers =
-    on_ok c.from_residual.result _ c.from_residual.ensures.1
+    IfOk-from_err c.from_residual.result _ c.from_residual.ensures.0
 
 pub returns-in_err-map-clause-held : goal.returns-in_err-map-clause-held
 returns-in_err-map-clause-held g c honest base fronts last holds =
-    on_ok c.from_residual.result _ c.from_residual.ensures.1
+    IfOk-from_err c.from_residual.result _ c.from_residual.ensures.0
 
 pub returns-in_err-map-clause-only : goal.returns-in_err-map-clause-only
 returns-in_err-map-clause-only g c =
-    if_err c.from_residual.result IsStepFault c.from_residual.ensures.1 tt
+    err_given IsStepFault c.from_residual.result NoMemory c.from_residual.ensures.1 tt
