@@ -1,5 +1,5 @@
 use Rattle.std.proofs.Common.{ℕ, sym, subst}
-use Rattle.std.proofs.lemmas.Result.{on_ok_weaker}
+use Rattle.std.proofs.lemmas.Result.{on_ok_weaker, IfOk-from_err}
 use Rattle.disk_model.specs.Disk.{IsSound}
 use Rattle.disk_model.specs.laws.Moments.{goes_on, weakens}
 use Rattle.header_slots.specs.Change.{IsInPlace, LeavesEither}
@@ -46,3 +46,11 @@ returns-clause-any_moment g c honest calm synced behind current held next =
     (c.change_header.ensures.any_moment mid_honest (slots_synced before extent c.args.area.now.from calm synced behind current c.args.slot held c.args.header.now mid sound mid_sound stored) current there next)
     (λ content left. change_left before extent c.args.area.now.from calm synced behind current c.args.slot held c.args.header.now mid sound mid_sound stored content
     (subst (λ (e : ℕ). LeavesEither mid e current c.args.slot c.args.header.now content) first.extent left))
+
+pub returns-in_err-empty_area-clause-ok : goal.returns-in_err-empty_area-clause-ok
+returns-in_err-empty_area-clause-ok g c =
+    IfOk-from_err c.from_residual.result _ c.from_residual.ensures.0
+
+pub returns-in_err-empty_area-clause-begun : goal.returns-in_err-empty_area-clause-begun
+returns-in_err-empty_area-clause-begun g c given given1 given2 given3 current given4 given5 =
+    IfOk-from_err c.from_residual.result _ c.from_residual.ensures.0

@@ -1,4 +1,5 @@
 use Rattle.disk_model.specs.laws.Moments.{stays_on}
+use Rattle.std.proofs.lemmas.Result.{IfOk-from_err}
 use Rattle.checkpoint.proofs.Answered.{both_ways}
 use Rattle.checkpoint.proofs.device_steps.empty_area.Goals as goal
 
@@ -15,3 +16,11 @@ returns-clause-any_moment g c honest =
     let first = c.in_ok-close_first.ensures in
     let mid_honest = first.honest.1 honest in
     stays_on (first.any_moment honest) (g.met.D.Disk.sound c.close_first.new.disk mid_honest) (c.sync.ensures.any_moment mid_honest)
+
+pub returns-in_err-close_first-clause-ok : goal.returns-in_err-close_first-clause-ok
+returns-in_err-close_first-clause-ok g c =
+    IfOk-from_err c.from_residual.result _ c.from_residual.ensures.0
+
+pub returns-in_err-close_first-clause-stored : goal.returns-in_err-close_first-clause-stored
+returns-in_err-close_first-clause-stored g c given =
+    IfOk-from_err c.from_residual.result _ c.from_residual.ensures.0

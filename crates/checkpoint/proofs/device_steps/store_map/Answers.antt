@@ -1,4 +1,4 @@
-use Rattle.std.proofs.lemmas.Result.{on_ok_weaker}
+use Rattle.std.proofs.lemmas.Result.{on_ok_weaker, IfOk-from_err}
 use Rattle.disk_model.specs.laws.Moments.{stays_on}
 use Rattle.checkpoint.proofs.Answered.{both_ways}
 use Rattle.checkpoint.proofs.MapStored.{map_stored}
@@ -30,3 +30,7 @@ returns-clause-any_moment g c honest =
     let write = c.in_ok-write_slot.ensures in
     let mid_honest = write.honest.1 honest in
     stays_on (write.any_moment honest) (g.met.D.Disk.sound c.write_slot.new.disk mid_honest) (c.sync.ensures.any_moment mid_honest)
+
+pub returns-in_err-write_slot-clause-stored : goal.returns-in_err-write_slot-clause-stored
+returns-in_err-write_slot-clause-stored g c given given1 =
+    IfOk-from_err c.from_residual.result _ c.from_residual.ensures.0

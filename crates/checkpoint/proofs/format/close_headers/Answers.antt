@@ -1,5 +1,5 @@
 use Rattle.std.proofs.Common.{◌≡◌, ◌∷◌, [], ℕ, rules, subst}
-use Rattle.std.proofs.lemmas.Result.{on_ok_weaker}
+use Rattle.std.proofs.lemmas.Result.{on_ok_weaker, IfOk-from_err}
 use Rattle.disk_model.specs.Disk.{IsSound, IsWritten, LeavesOnly, MayLeaveTorn, State}
 use Rattle.disk_model.specs.laws.Moments.{stays_on}
 use Rattle.checkpoint.proofs.Formatted.{closed_after, gates_moments}
@@ -42,3 +42,11 @@ returns-clause-any_moment g c honest =
     let mid = subst (λ e. IsSound e (g.D.Disk.state c.close_gate.new.disk)) first.extent (g.met.D.Disk.sound c.close_gate.new.disk mid_honest) in
     stays_on (gates_moments sound mid (first.any_moment honest) (first.written honest) (closing_there (second.any_moment mid_honest) (search rules)))
     (g.met.D.Disk.sound c.close_gate-2.new.disk both_honest) (c.sync.ensures.any_moment both_honest)
+
+pub returns-in_err-close_gate-clause-closed : goal.returns-in_err-close_gate-clause-closed
+returns-in_err-close_gate-clause-closed g c given given1 =
+    IfOk-from_err c.from_residual.result _ c.from_residual.ensures.0
+
+pub returns-in_err-close_gate-2-clause-closed : goal.returns-in_err-close_gate-2-clause-closed
+returns-in_err-close_gate-2-clause-closed g c given given1 =
+    IfOk-from_err c.from_residual-in_err-close_gate-2.result _ c.from_residual-in_err-close_gate-2.ensures.0

@@ -1,5 +1,5 @@
 use Rattle.std.proofs.Common.{inl, subst, ◌∙◌}
-use Rattle.std.proofs.lemmas.Result.{on_ok_weaker}
+use Rattle.std.proofs.lemmas.Result.{on_ok_weaker, IfOk-from_err}
 use Rattle.disk_model.specs.Disk.{IsSound}
 use Rattle.disk_model.specs.laws.Moments.{goes_on, stays_on, weakens}
 use Rattle.checkpoint.proofs.Formatted.{closed_left, opened_formatted, opened_torn}
@@ -43,3 +43,19 @@ returns-clause-any_moment g c honest closed geometry size fresh =
     (second.any_moment synced_honest)
     (opened_torn _ geometry _ _ (g.met.D.Disk.sound c.args.disk.now honest) synced size closed fresh (first.synced honest)))
     (g.met.D.Disk.sound c.open_gate.new.disk open_honest) (c.sync-2.ensures.any_moment open_honest)
+
+pub returns-in_err-sync-clause-synced : goal.returns-in_err-sync-clause-synced
+returns-in_err-sync-clause-synced g c given =
+    IfOk-from_err c.from_residual.result _ c.from_residual.ensures.0
+
+pub returns-in_err-sync-clause-opened : goal.returns-in_err-sync-clause-opened
+returns-in_err-sync-clause-opened g c given given1 geometry given2 given3 =
+    IfOk-from_err c.from_residual.result _ c.from_residual.ensures.0
+
+pub returns-in_err-open_gate-clause-synced : goal.returns-in_err-open_gate-clause-synced
+returns-in_err-open_gate-clause-synced g c given =
+    IfOk-from_err c.from_residual-in_err-open_gate.result _ c.from_residual-in_err-open_gate.ensures.0
+
+pub returns-in_err-open_gate-clause-opened : goal.returns-in_err-open_gate-clause-opened
+returns-in_err-open_gate-clause-opened g c given given1 geometry given2 given3 =
+    IfOk-from_err c.from_residual-in_err-open_gate.result _ c.from_residual-in_err-open_gate.ensures.0

@@ -1,4 +1,5 @@
 use Rattle.std.proofs.Common.{◌≡◌, ℕ, Err, List, ◌∙◌, ap, subst}
+use Rattle.std.proofs.lemmas.Result.{IfOk-from_err}
 use Rattle.image_model.specs.declared.geometry.Geometry.{Geometry}
 use Rattle.journal_format.specs.Area.{AreaState}
 use Rattle.journal_format.specs.GroupList.{IsDamaged}
@@ -23,3 +24,15 @@ returns-in_err-scan-clause-read g c honest synced =
     moved_damage area (area_of c.args.geometry.now c.args.index) c.args.next after.seen from (ap (λ (a : AreaState). a.bytes) new ∙ c.area_size.ensures) (ap (λ (a : AreaState). a.blocks) new)
     (subst (λ (content : List ℕ). IsDamaged area c.args.next content) same
     (subst (λ (n : ℕ). IsDamaged area n before.seen) first (call.damaged honest (λ place within. synced place) (ap Err is))))))
+
+pub returns-in_err-scan-clause-faults_ok : goal.returns-in_err-scan-clause-faults_ok
+returns-in_err-scan-clause-faults_ok g c =
+    IfOk-from_err c.from_residual.result _ c.from_residual.ensures.0
+
+pub returns-in_err-scan-clause-placed : goal.returns-in_err-scan-clause-placed
+returns-in_err-scan-clause-placed g c =
+    IfOk-from_err c.from_residual.result _ c.from_residual.ensures.0
+
+pub returns-in_err-scan-clause-none : goal.returns-in_err-scan-clause-none
+returns-in_err-scan-clause-none g c =
+    IfOk-from_err c.from_residual.result _ c.from_residual.ensures.0

@@ -1,4 +1,5 @@
 use Rattle.std.proofs.Common.{◌≡◌, ◌+◌, List, [], ◌∷◌, ◌++◌, take, sym, ◌∙◌, ap, subst}
+use Rattle.std.proofs.lemmas.Result.{IfOk-from_err}
 use Rattle.std.proofs.lemmas.List.{take_more}
 use Rattle.device_image.specs.Keeper.{PlanState}
 use Rattle.checkpoint.specs.inner.Report.{AreOf, AreStatesTurned}
@@ -27,3 +28,7 @@ loop-plan-preserved c =
 
 pub map_behind-requires-clause-count : goal.map_behind-requires-clause-count
 map_behind-requires-clause-count c = turned_count _ c.args.map c.loop-plan.turned c.loop-plan.invariant ∙ c.requires.count
+
+pub returns-in_err-turned : goal.returns-in_err-turned
+returns-in_err-turned c =
+    IfOk-from_err c.from_residual.result _ c.from_residual.ensures.0

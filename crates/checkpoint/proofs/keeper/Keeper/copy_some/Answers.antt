@@ -365,3 +365,11 @@ returns-in_default-next_copy-clause-err g c =
     } in
     let same = ap made (sym c.in-Some.is) ∙ c.self.view_is in
     same
+
+pub returns-in_err-buffer-clause-ok : goal.returns-in_err-buffer-clause-ok
+returns-in_err-buffer-clause-ok g c =
+    IfOk-from_err c.from_residual.result _ c.from_residual.ensures.0
+
+pub returns-in_err-buffer-clause-left : goal.returns-in_err-buffer-clause-left
+returns-in_err-buffer-clause-left g c =
+    IfOk-from_err c.from_residual.result _ c.from_residual.ensures.0
