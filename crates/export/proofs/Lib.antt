@@ -1,7 +1,10 @@
 mod Begun
 mod Fits
 mod Found
+mod Lists
 mod Opened
+mod Same
 mod Stored
 mod Submits
 mod Told
+mod Waits

@@ -1,6 +1,6 @@
 -- what serving leaves a pass with is what an answer promises
 use Rattle.std.specs.Prelude.{MatchBool}
-use Rattle.std.proofs.Common.{◌≡◌, ◌≢◌, ◌⊎◌, ◌∙◌, ◌<◌, ◌≤◌, ◌+◌, ◌==◌, inl, inr, ℕ, Bool, false, true, nat_lt, if◌then◌else◌, List, [], ◌∷◌, ◌++◌, length, Result, Ok, Err, ap, refl, sym, subst, arith, length-append}
+use Rattle.std.proofs.Common.{◌≡◌, ◌≢◌, ◌⊎◌, ◌∙◌, ◌<◌, ◌≤◌, ◌+◌, ◌==◌, inl, inr, ℕ, Bool, false, true, nat_lt, if◌then◌else◌, List, [], ◌∷◌, ◌++◌, length, Result, Ok, Err, ap, refl, sym, subst, arith}
 use Rattle.std.proofs.lemmas.Bool.{true≢false}
 use Rattle.std.proofs.lemmas.Bool.Decides.{nat_tests}
 use Rattle.alloc_map.specs.Codes.{state_at}
@@ -35,6 +35,7 @@ use Rattle.export_model.specs.Shown.{shown_by}
 use Rattle.export_model.specs.declared.action.Action.{Action}
 use Rattle.export_model.specs.declared.action.Action.TheVariants.{End, Serve}
 use Rattle.export_model.specs.declared.step.Mode.{Mode}
+use Rattle.export.proofs.Lists.{last_same}
 use Rattle.export.specs.Submits.{IsAccepted, IsSubmitted}
 use Rattle.export.specs.inner.Submits.{IsServedFor, IsWaitedFor}
 
@@ -59,16 +60,6 @@ known_on : (opening : ℕ) (first : Image) (Sure : Type 0 → Type 0) (request :
 known_on opening first Sure request number old new is =
     let own : List Change = becomes (edit_asked request) is.image ∷ [] in
     prefix_trans old.history (is.earlier ++ own) new.history (prefix_trans old.history is.earlier (is.earlier ++ own) is.knew (prefix_of_append is.earlier own)) is.within
-
--- of equal lists the last elements are equal, and what stands before them
-last_same : {A : Type 0} (xs ys : List A) (x y : A) → xs ++ x ∷ [] ≡ ys ++ y ∷ [] → (xs ≡ ys) × (x ≡ y)
-last_same [] [] x y is = (refl, cc)
-last_same [] (b ∷ ys) x y is = absurd (let size = ap length is in omega (arith, size, length-append ys (y ∷ [])))
-last_same (a ∷ xs) [] x y is = absurd (let size = ap length is in omega (arith, size, length-append xs (x ∷ [])))
-last_same (a ∷ xs) (b ∷ ys) x y is =
-    let heads : a ≡ b = cc in
-    let rest = last_same xs ys x y (cc) in
-    (λ i. heads i ∷ rest.0 i, rest.1)
 
 less_next : (number : ℕ) → nat_lt number (number + 1) ≡ true
 less_next number = grind (arith, nat_tests)

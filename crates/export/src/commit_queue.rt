@@ -31,7 +31,7 @@ use std::alloc::Global;
 const MOST_PENDING_BYTES: u64 = 4_194_304;
 
 /// What of the device is read with no lock held.
-#[derive(Clone, Copy, Debug, PartialEq, Eq)]
+#[derive(Clone, Copy)]
 pub(crate) struct Planned {
     /// The blocks.
     pub span: Span,

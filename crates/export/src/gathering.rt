@@ -10,7 +10,7 @@ const LEAST_APPEND: u64 = 500;
 const MOST_GATHERED: u64 = 25;
 
 /// Who waits until a number is durable, counted.
-#[derive(Clone, Copy, Debug, PartialEq, Eq)]
+#[derive(Clone, Copy)]
 pub(crate) struct Waiters {
     // Those whose number is in a group, and those whose number isn't yet.
     sealed: usize,

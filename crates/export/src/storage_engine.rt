@@ -31,7 +31,7 @@ const MOST_RANGES: u32 = 16;
 const GROUP_BYTES: u64 = 17;
 
 // What is next of the first area that waits to be copied.
-#[derive(Clone, Copy, Debug, PartialEq, Eq)]
+#[derive(Clone, Copy)]
 enum Stage {
     // Its blocks are copied into the image.
     Copy,
@@ -42,7 +42,7 @@ enum Stage {
 }
 
 /// What a step of copying did.
-#[derive(Clone, Copy, Debug, PartialEq, Eq)]
+#[derive(Clone, Copy)]
 pub(crate) enum CopyStep {
     /// It copied so many blocks.
     Blocks(u64),

@@ -364,7 +364,7 @@ impl<B: ExportName, D: Disk, H: ReadBeside> Export<B, D, H> {
 }
 
 // What a request comes to once there was room for its command.
-#[derive(Debug, Drop)]
+#[derive(Drop)]
 pub(crate) enum Outcome {
     // It is answered.
     Answered(Answer),

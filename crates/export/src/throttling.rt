@@ -23,7 +23,7 @@ const LEAST_WAIT: u64 = 1_000;
 const MOST_WAIT: u64 = 10_000;
 
 /// The microseconds by which clients are still to be slowed down.
-#[derive(Clone, Copy, Debug, PartialEq, Eq)]
+#[derive(Clone, Copy)]
 pub(crate) struct Throttle {
     due: u64,
 }

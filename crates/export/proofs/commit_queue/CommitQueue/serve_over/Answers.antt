@@ -1,4 +1,4 @@
-use Rattle.std.proofs.Common.{ℕ, List, subst, sym}
+use Rattle.std.proofs.Common.{ℕ, List, refl, subst, sym}
 use Rattle.image_model.specs.Image.{apply_all}
 use Rattle.nbd_wire.specs.declared.head.RequestHead.{RequestHead}
 use Rattle.order_book.specs.Order.{OrderState}
@@ -47,3 +47,15 @@ serve_over-requires-clause-vouched g c =
     (subst (λ (l : List ℕ). vouched c.of.result.first l c.args.self.now.order) c.deref.ensures.value
     (subst (λ (o : OrderState). vouched c.of.result.first c.deref.result.now o) c.order.ensures
     (c.requires.vouched _ (c.vouch-is_vouched.ensures c.if-not-is_vouched.false))))
+
+pub returns-clause-rest : goal.returns-clause-rest
+returns-clause-rest g c = (refl, refl, refl, refl, refl, refl, refl, refl, refl, refl)
+
+pub returns-in_err-served-clause-rest : goal.returns-in_err-served-clause-rest
+returns-in_err-served-clause-rest g c = (refl, refl, refl, refl, refl, refl, refl, refl, refl, refl)
+
+pub returns-then-planned-self-clause-rest : goal.returns-then-planned-self-clause-rest
+returns-then-planned-self-clause-rest g c = (refl, refl, refl, refl, refl, refl, refl, refl, refl, refl)
+
+pub returns-then-not-is_vouched-clause-rest : goal.returns-then-not-is_vouched-clause-rest
+returns-then-not-is_vouched-clause-rest g c = (refl, refl, refl, refl, refl, refl, refl, refl, refl, refl)

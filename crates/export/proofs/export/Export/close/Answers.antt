@@ -1,7 +1,10 @@
 use Rattle.std.proofs.Common.{ℕ, ◌≡◌, ap, arith, sym, ◌∙◌, subst}
 use Rattle.std.proofs.lemmas.Bool.{le-leb, leb-true}
+use mathlib.Core.List.{IsPrefix}
 use Rattle.device_image.specs.Keeper.{KeeperState}
 use Rattle.disk_model.specs.Disk.{MayLeave}
+use Rattle.marks.specs.Known.{PassState}
+use Rattle.marks.specs.laws.Beginnings.{prefix_trans}
 use Rattle.shared_store.specs.Keepers.{HasLeft}
 use Rattle.shared_store.specs.Parts.{StandsWithin}
 use Rattle.export.proofs.export.Export.close.Goals as goal
@@ -23,3 +26,25 @@ returns-clause-stored g c =
       λ stored. omega (arith, leb-true c.meet_all-mark.result c.look_durable-durable.result stored, met.mark, looked),
       λ covered. le-leb c.meet_all-mark.result c.look_durable-durable.result (omega (arith, met.mark, looked, covered)),
     )
+
+pub returns-clause-knew : goal.returns-clause-knew
+returns-clause-knew g c =
+    let met = c.meet_all-mark.new.pass.history in
+    subst (λ (p : PassState). IsPrefix p.history met) c.pass.view_is
+    (prefix_trans c.pass.inside.pass.history c.look_durable-durable.new.pass.history met c.look_durable-durable.ensures.seen c.meet_all-mark.ensures.knew)
+
+pub returns-clause-durable : goal.returns-clause-durable
+returns-clause-durable g c =
+    let entered : c.pass.inside.pass.durable ≡ c.args.pass.now.durable = ap (λ (p : PassState). p.durable) c.pass.view_is in
+    let looked = ap (λ (p : PassState). p.durable) c.look_durable-durable.ensures.pass in let known = c.look_durable-durable.ensures.known in let met = c.meet_all-mark.ensures.durable in
+    omega (arith, entered, looked, known, met)
+
+pub returns-clause-own : goal.returns-clause-own
+returns-clause-own g c =
+    let entered : c.pass.inside.pass.own ≡ c.args.pass.now.own = ap (λ (p : PassState). p.own) c.pass.view_is in
+    c.meet_all-mark.ensures.own ∙ (ap (λ (p : PassState). p.own) c.look_durable-durable.ensures.pass ∙ entered)
+
+pub returns-clause-honest : goal.returns-clause-honest
+returns-clause-honest g c = λ sure.
+    let disk = c.into_disk.ensures ∙ ap (λ (k : KeeperState g.row.D.Denot). k.disk) (c.into_keeper.ensures ∙ c.meet_all-mark.ensures.same) in
+    subst g.D.Disk.honest (sym disk) (c.meet_all-mark.ensures.honest sure)
