@@ -1,6 +1,7 @@
 mod Begun
 mod Fits
 mod Found
+mod Given
 mod Lists
 mod Opened
 mod Same

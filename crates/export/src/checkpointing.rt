@@ -54,7 +54,7 @@ impl<B: ExportName, D: Disk, H: ReadBeside> Export<B, D, H> {
             if queue.is_checkpoint_due() {
                 return true;
             }
-            let _woken = self.checkpoint_due.wait(rt, queue);
+            let _woken = self.signals.checkpoint_due.wait(rt, queue);
         }
         unreachable!()
     }
@@ -104,7 +104,7 @@ impl<B: ExportName, D: Disk, H: ReadBeside> Export<B, D, H> {
                 Err(KeeperFault::NotNow) => {
                     // Nothing was stored since the last one.
                     self.queue.lock(rt).forget_wish();
-                    self.settled.notify_all();
+                    self.signals.settled.notify_all();
                     return Hold::Idle;
                 }
                 Err(fault) => return self.refused(rt, fault),
@@ -121,7 +121,7 @@ impl<B: ExportName, D: Disk, H: ReadBeside> Export<B, D, H> {
     // An area has been taken into use, and what didn't fit the last one is stored at once.
     fn note_rotated<R: Wait>(&self, rt: &R) {
         self.queue.lock(rt).find_empty();
-        self.work.notify_one();
+        self.signals.work.notify_one();
     }
 
     // Copies a part of the first area. Where that is let go so are the frames, in the same hold: the order knows of a base before there
@@ -135,8 +135,8 @@ impl<B: ExportName, D: Disk, H: ReadBeside> Export<B, D, H> {
             let mut queue = self.queue.lock(rt);
             store.clean(&mut queue, &self.board);
             drop(queue);
-            self.settled.notify_all();
-            self.signal(true, true);
+            self.signals.settled.notify_all();
+            self.signals.notify(true, true);
         }
         Hold::Copied(step)
     }

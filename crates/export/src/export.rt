@@ -18,6 +18,7 @@ use crate::buffer_pool::BufferPool;
 use crate::commit_queue::CommitQueue;
 use crate::name::ExportName;
 use crate::retired::RetiredPass;
+use crate::signals::Signals;
 use crate::storage_engine::StorageEngine;
 use checkpoint::{Keeper, KeeperFault};
 use device_image::keeper_laws;
@@ -27,7 +28,7 @@ use marks::{BlankBoard, Board, KeeperSeat, Opened, Pass};
 use request_core::{Mode, fresh_order};
 use shared_store::{SharedKeeper, SharedOrder};
 use std::alloc::{AllocError, Global};
-use std::sync::{Condvar, Mutex, Wait};
+use std::sync::{Mutex, Wait};
 
 /// A device that was opened, and a board for it that has no name yet.
 #[derive(Drop)]
@@ -109,11 +110,7 @@ pub struct Export<B: ExportName, D: Disk, H: ReadBeside> {
     pub(crate) beside: Option<H>,
     // Into which it is read.
     pub(crate) buffers: Mutex<BufferPool>,
-    // Told after each publish, after each clean and after the stop.
-    pub(crate) settled: Condvar,
-    // Told where the flusher has work, and the checkpointer.
-    pub(crate) work: Condvar,
-    pub(crate) checkpoint_due: Condvar,
+    pub(crate) signals: Signals,
     ghost sized: { geometry ≡ B.geometry },
     ghost vouched: { (handle : H) → beside ≡ Some handle → (read : SpanRead) → H.vouches handle read → ∥ B.vouches read ∥₁ },
 }
@@ -130,9 +127,7 @@ impl<B: ExportName, D: Disk + Drop, H: ReadBeside> Drop for Export<B, D, H> {
             queue: _,
             beside: _,
             buffers: _,
-            settled: _,
-            work: _,
-            checkpoint_due: _,
+            signals: _,
         } = self;
     }
 }
@@ -179,9 +174,7 @@ impl<B: ExportName, D: Disk, H: ReadBeside> Export<B, D, H> {
                     queue: Mutex::new(CommitQueue::new(order, frames, workers, settled)),
                     beside,
                     buffers: Mutex::new(BufferPool::new(alloc)),
-                    settled: Condvar::new(),
-                    work: Condvar::new(),
-                    checkpoint_due: Condvar::new(),
+                    signals: Signals::new(),
                 };
                 Ok((made, passes, last))
             }
@@ -216,9 +209,7 @@ impl<B: ExportName, D: Disk, H: ReadBeside> Export<B, D, H> {
             queue,
             beside: _,
             buffers: _,
-            settled: _,
-            work: _,
-            checkpoint_due: _,
+            signals: _,
         } = self;
         let mut engine = store.into_inner();
         let mut queue = queue.into_inner();

@@ -28,7 +28,7 @@ impl<B: ExportName, D: Disk, H: ReadBeside> Export<B, D, H> {
             self.store_group(rt, points, &mut pace, group);
         }
         self.queue.lock(rt).end();
-        self.checkpoint_due.notify_all();
+        self.signals.checkpoint_due.notify_all();
     }
 
     // The next group that is to be stored, once there is one.
@@ -41,7 +41,7 @@ impl<B: ExportName, D: Disk, H: ReadBeside> Export<B, D, H> {
             if !queue.is_group_due() {
                 self.wait_for_work(rt, queue);
             } else if let Some(left) = time_to_gather(rt, &*queue, pace) {
-                let _woken = self.work.wait_timeout(rt, queue, left);
+                let _woken = self.signals.work.wait_timeout(rt, queue, left);
             } else if let Ok(Some(group)) = queue.seal(&self.board) {
                 pace.seal();
                 return Some(group);
@@ -118,8 +118,8 @@ impl<B: ExportName, D: Disk, H: ReadBeside> Export<B, D, H> {
         queue.look_at_frames();
         let wanted = queue.wants_checkpoint();
         drop(queue);
-        self.settled.notify_all();
-        self.signal(false, wanted);
+        self.signals.settled.notify_all();
+        self.signals.notify(false, wanted);
     }
 
     // Makes a group pending again that doesn't fit the area.
@@ -128,13 +128,13 @@ impl<B: ExportName, D: Disk, H: ReadBeside> Export<B, D, H> {
         queue.take_back(&self.board, group);
         queue.find_full();
         drop(queue);
-        self.signal(false, true);
+        self.signals.notify(false, true);
     }
 
     // A call of the device has failed: commands are refused from now on.
     pub(crate) fn fail<R: Wait>(&self, rt: &R) {
         self.queue.lock(rt).stop();
-        self.tell_all();
+        self.signals.notify_all();
     }
 }
 

@@ -13,6 +13,7 @@ mod laws;
 mod name;
 mod retired;
 mod settling;
+mod signals;
 mod storage_engine;
 mod submitting;
 mod sync_points;

@@ -96,10 +96,10 @@ impl<B: ExportName, D: Disk, H: ReadBeside> Export<B, D, H> {
         };
         match left {
             Some(left) => {
-                let _woken = self.work.wait_timeout(rt, queue, left);
+                let _woken = self.signals.work.wait_timeout(rt, queue, left);
             }
             None => {
-                let _woken = self.work.wait(rt, queue);
+                let _woken = self.signals.work.wait(rt, queue);
             }
         }
     }

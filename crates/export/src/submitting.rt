@@ -137,15 +137,15 @@ impl<B: ExportName, D: Disk, H: ReadBeside> Export<B, D, H> {
                 Ok(Served::Ready(reply)) => {
                     let (work, is_due) = queue.next_work();
                     drop(queue);
-                    self.signal(work, is_due);
+                    self.signals.notify(work, is_due);
                     return Outcome::Answered(reply.answer);
                 }
                 Ok(Served::Wait(number)) => return Outcome::Waits(number),
                 Ok(Served::NoRoom(back)) => {
                     request = back;
                     queue.miss_room();
-                    self.signal(true, true);
-                    let _woken = self.settled.wait(rt, queue);
+                    self.signals.notify(true, true);
+                    let _woken = self.signals.settled.wait(rt, queue);
                 }
                 Err(NeedsKeeper(back)) => {
                     let planned = queue.plan(&back, &terms);
@@ -161,23 +161,6 @@ impl<B: ExportName, D: Disk, H: ReadBeside> Export<B, D, H> {
             }
         }
         unreachable!()
-    }
-
-    // Tells the flusher and the checkpointer to look for work.
-    pub(crate) fn signal(&self, flusher: bool, checkpointer: bool) {
-        if flusher {
-            self.work.notify_one();
-        }
-        if checkpointer {
-            self.checkpoint_due.notify_one();
-        }
-    }
-
-    // Tells all threads to look again: a call of the device has failed.
-    pub(crate) fn tell_all(&self) {
-        self.settled.notify_all();
-        self.work.notify_all();
-        self.checkpoint_due.notify_all();
     }
 
     // Serves a request for which the device is needed: a planned one beside the locks, where that can be, else with the keeper.
@@ -304,13 +287,13 @@ impl<B: ExportName, D: Disk, H: ReadBeside> Export<B, D, H> {
         let mut queue = self.queue.lock(rt);
         let served = store.serve(&mut queue, self.alloc, request, &self.board, pass, terms);
         if queue.stopped() {
-            self.tell_all();
+            self.signals.notify_all();
             return served;
         }
         let (work, is_due) = queue.next_work();
         drop(queue);
         drop(store);
-        self.signal(work, is_due);
+        self.signals.notify(work, is_due);
         served
     }
 
@@ -327,7 +310,7 @@ impl<B: ExportName, D: Disk, H: ReadBeside> Export<B, D, H> {
             return Answer::Done;
         }
         queue.begin_wait(number);
-        self.work.notify_one();
+        self.signals.work.notify_one();
         for _ in rt.forever() {
             if self.board.look_durable(pass) >= number {
                 return Answer::Done;
@@ -335,7 +318,7 @@ impl<B: ExportName, D: Disk, H: ReadBeside> Export<B, D, H> {
             if queue.stopped() {
                 return Answer::Refused(Errno::Io);
             }
-            queue = self.settled.wait(rt, queue);
+            queue = self.signals.settled.wait(rt, queue);
         }
         unreachable!()
     }
@@ -345,7 +328,7 @@ impl<B: ExportName, D: Disk, H: ReadBeside> Export<B, D, H> {
         ensures { result ≡ pass }
     {
         self.queue.lock(rt).leave();
-        self.work.notify_one();
+        self.signals.work.notify_one();
         RetiredPass { pass }
     }
 

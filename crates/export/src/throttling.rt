@@ -67,6 +67,7 @@ impl<B: ExportName, D: Disk, H: ReadBeside> Export<B, D, H> {
         if micros > 0 {
             // Frames that are let go end it.
             let _woken = self
+                .signals
                 .settled
                 .wait_timeout(rt, queue, Duration::from_micros(micros));
         }

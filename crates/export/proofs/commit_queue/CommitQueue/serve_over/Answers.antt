@@ -1,12 +1,14 @@
-use Rattle.std.proofs.Common.{ℕ, List, refl, subst, sym}
+use Rattle.std.proofs.Common.{◌∙◌, ◌/◌, ℕ, List, ap, refl, subst, sym}
 use Rattle.image_model.specs.Image.{apply_all}
 use Rattle.nbd_wire.specs.declared.head.RequestHead.{RequestHead}
 use Rattle.order_book.specs.Order.{OrderState}
+use Rattle.regions.specs.Layout.{block_at}
 use Rattle.request_core.specs.Reading.{IsReadOverServed}
 use Rattle.shared_store.specs.Answers.{ServesImage}
 use Rattle.shared_store.specs.Orders.{Trusting}
 use Rattle.shared_store.specs.laws.Trust.{trusting}
 use Rattle.export.proofs.Fits.{over_fits}
+use Rattle.export.proofs.Given.{given_same}
 use Rattle.export.proofs.Submits.{over_served_for}
 use Rattle.export.proofs.Told.{shown_for, told}
 use Rattle.export.proofs.commit_queue.CommitQueue.serve_over.Goals as goal
@@ -46,7 +48,14 @@ serve_over-requires-clause-vouched g c =
     subst (λ (n : ℕ). vouched n c.args.bytes.items c.args.self.now.order) c.of.ensures.first
     (subst (λ (l : List ℕ). vouched c.of.result.first l c.args.self.now.order) c.deref.ensures.value
     (subst (λ (o : OrderState). vouched c.of.result.first c.deref.result.now o) c.order.ensures
-    (c.requires.vouched _ (c.vouch-is_vouched.ensures c.if-not-is_vouched.false))))
+    (c.requires.vouched (record { first = c.of.result.first; span = c.args.planned.span; bytes = c.deref.result.now; order = c.order.result.now }) (c.vouch-is_vouched.ensures c.if-not-is_vouched.false))))
+
+pub vouch-is_vouched-requires-clause-given : goal.vouch-is_vouched-requires-clause-given
+vouch-is_vouched-requires-clause-given g c =
+    let span = c.args.planned.span in
+    given_same (λ (l : List ℕ). g.H.ReadBeside.gives c.args.handle.now (block_at c.args.terms.now.geometry span.first) l) span.first span.end
+    (c.args.request.now.head.offset / 4096) c.of.result.first c.args.bytes.items c.deref.result.now
+    (sym (c.of.ensures.first ∙ ap (λ (h : RequestHead). h.offset / 4096) c.head-head.ensures)) (sym c.deref.ensures.value) c.requires.given
 
 pub returns-clause-rest : goal.returns-clause-rest
 returns-clause-rest g c = (refl, refl, refl, refl, refl, refl, refl, refl, refl, refl)
