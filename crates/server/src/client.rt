@@ -41,17 +41,8 @@ impl Client {
         }
     }
 
-    /// Ends its input: a read that waits finds the end.
-    pub(crate) fn end_input(&self) {
-        self.shut_down(Shutdown::Read);
-    }
-
-    /// Ends its input and its output, and wakes who waits at it.
-    pub(crate) fn shut(&self) {
-        self.shut_down(Shutdown::Both);
-    }
-
-    fn shut_down(&self, how: Shutdown) {
+    /// Ends its input, its output or both. A read that waits finds the end; and who waits at a listener that is shut wakes.
+    pub(crate) fn shut_down(&self, how: Shutdown) {
         // Where it fails the client has gone.
         let _ = match self {
             Client::Tcp(stream) => stream.shutdown(how),

@@ -2,6 +2,7 @@ use crate::client::Client;
 use crate::listener::Listener;
 use std::alloc::{AllocError, Global};
 use std::io;
+use std::net::Shutdown;
 use std::rt::Clock;
 use std::sync::atomic::{AtomicBool, AtomicU64, Ordering};
 use std::sync::{Arc, Condvar, CondvarTimeouts, Mutex, Wait};
@@ -84,19 +85,22 @@ impl ClientRegistry {
     pub(crate) fn close<R: Wait + Clock>(&self, rt: &R) {
         let clients = self.clients.lock(rt);
         self.is_closed.store(true, Ordering::SeqCst);
-        self.wake.shut();
-        for served in clients.iter().flatten() {
-            served.end_input();
-        }
+        self.wake.shut_down(Shutdown::Both);
+        shut_down_all(&*clients, Shutdown::Read);
         let is_served = |clients: &mut Vec<Option<Arc<Client, Global>>>| clients
             .iter()
             .any(|served| served.is_some());
         let (clients, _) = self
             .left
             .wait_timeout_while(rt, clients, Duration::from_secs(GRACE), is_served);
-        for served in clients.iter().flatten() {
-            served.shut();
-        }
+        shut_down_all(&*clients, Shutdown::Both);
+    }
+}
+
+// Shuts down the sockets of all that are served.
+fn shut_down_all(clients: &[Option<Arc<Client, Global>>], how: Shutdown) {
+    for served in clients.iter().flatten() {
+        served.shut_down(how);
     }
 }
 

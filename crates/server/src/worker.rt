@@ -22,7 +22,7 @@ use std::time::Duration;
 const PAUSE: u64 = 10;
 
 // How many sessions may still begin.
-#[derive(Debug, Drop)]
+#[derive(Drop)]
 enum Sessions {
     // Any number.
     Endless,

@@ -34,3 +34,24 @@ returns-clause-stored g c =
     let keeper = c.args.device.keeper in let image = image_found g.D.Disk.state keeper in
     subst (λ (n : ℕ). OnOk c.serve_over.result.0 (IsTrusted g.D.Disk.state g.D.Disk.honest keeper image → (history : List Change)
     × LeavesHistory (g.D.Disk.state keeper.disk) (g.D.Disk.state c.serve_over.result.1) n image history (n + length history))) c.args.device.opening c.serve_over.ensures.stored
+
+pub returns-in-Err-clause-honest : goal.returns-in-Err-clause-honest
+returns-in-Err-clause-honest g c = λ sure. subst g.D.Disk.honest (sym c.into_disk.ensures) sure.sure
+
+pub returns-then-not-close_at_end-clause-honest : goal.returns-then-not-close_at_end-clause-honest
+returns-then-not-close_at_end-clause-honest g c = λ sure. subst g.D.Disk.honest (sym c.into_disk-then-not-close_at_end.ensures) sure.sure
+
+pub serve_over-requires-clause-vouches : goal.serve_over-requires-clause-vouches
+serve_over-requires-clause-vouches g c = λ lifetimes bounds handle is read vouches. (handle, is, vouches)
+
+pub returns-clause-left : goal.returns-clause-left
+returns-clause-left g c =
+    let keeper = c.args.device.keeper in let image = image_found g.D.Disk.state keeper in
+    subst (λ (n : ℕ). IsTrusted g.D.Disk.state g.D.Disk.honest keeper image → (history : List Change)
+    × LeavesHistory (g.D.Disk.state keeper.disk) (g.D.Disk.state c.serve_over.result.1) n image history n) c.args.device.opening c.serve_over.ensures.left
+
+pub returns-clause-honest : goal.returns-clause-honest
+returns-clause-honest g c = c.serve_over.ensures.honest
+
+pub returns-clause-faults : goal.returns-clause-faults
+returns-clause-faults g c = c.serve_over.ensures.faults

@@ -22,3 +22,9 @@ returns-in-Err-clause-left g c = λ sure.
     let law = c.opened_device_law.ensures.history keeper g.B.ImageName.image (c.requires.trusted sure) c.args.device.recovered in
     let left = from_start g.B.ImageName.start (g.D.Disk.state keeper.disk) g.B.BoardName.opening keeper.count g.B.ImageName.image (sym c.requires.named ∙ c.args.device.opening) (c.requires.start sure) law in
     ([], subst (λ (d : g.row.D.Denot). LeavesHistory g.B.ImageName.start (g.D.Disk.state d) g.B.BoardName.opening g.B.ImageName.image [] g.B.BoardName.opening) (sym c.in-Err.ensures.back) left)
+
+pub returns-after-pending-clause-honest : goal.returns-after-pending-clause-honest
+returns-after-pending-clause-honest g c = c.close-disk.ensures.honest
+
+pub returns-in-Err-clause-honest : goal.returns-in-Err-clause-honest
+returns-in-Err-clause-honest g c = λ sure. subst g.D.Disk.honest (sym c.in-Err.ensures.back) (c.requires.trusted sure).sure
