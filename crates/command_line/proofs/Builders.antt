@@ -1,7 +1,8 @@
 -- What the builders of a command line make, as what a parse reads of it.
-use Rattle.std.proofs.Common.{◌≡◌, ◌&&◌, ◌++◌, ◌∷◌, ◌==◌, Bool, List, [], Result, Ok, Err, true, false, not, length, refl, ap, sym, subst, ◌∙◌}
+use Rattle.std.proofs.Common.{ℕ, ◌+◌, ◌<◌, drop, get_or, ◌≡◌, ◌&&◌, ◌++◌, ◌∷◌, ◌==◌, Bool, List, [], Result, Ok, Err, true, false, not, length, refl, ap, sym, subst, ◌∙◌}
 use Rattle.std.specs.Prelude.{IfOk, IsOkAnd}
 use Rattle.std.proofs.lemmas.Bool.{false≢true}
+use Rattle.std.proofs.lemmas.List.{at_drop_more}
 use Rattle.std.proofs.lemmas.Result.{IfOk-weaker}
 use Rattle.std.proofs.Math.Dec.{eqb-suc-zero}
 use Rattle.std.specs.declared.alloc.AllocError.{AllocError}
@@ -9,8 +10,12 @@ use Rattle.clap.specs.declared.builder.arg.Arg.{Arg}
 use Rattle.clap.specs.declared.builder.arg.ArgPredicate.{ArgPredicate}
 use Rattle.clap.specs.declared.builder.command.Command.{Command}
 use Rattle.std.specs.Borrow.{Bor}
+use Rattle.command_line.specs.Rows.{rule_of_row, tied_rule, app_of_row, with_rows}
+use Rattle.command_line.specs.declared.commands.ArgumentRow.{ArgumentRow}
+use Rattle.command_line.specs.declared.commands.SubcommandRow.{SubcommandRow}
+use Rattle.command_line.specs.declared.commands.Tie.{Tie}
 use Rattle.clap.specs.Walk.{is_empty, is_free_arg}
-use Rattle.clap.specs.Words.{AddsArg, AddsConflicts, AddsRequiredUnless, AddsRequirements, App, Rule, Text, app_of, rule_of, with_rule, with_subcommand}
+use Rattle.clap.specs.Words.{AddsArg, AddsSubcommand, new_app, AddsConflicts, AddsRequiredUnless, AddsRequirements, App, Rule, Shape, Text, app_of, rule_of, with_rule, with_subcommand}
 
 -- of a plain command's tests the third: it has no global argument
 pub third : (groups external globals rest : Bool) → (groups && (not external && (not globals && rest))) ≡ true → globals ≡ false
@@ -18,41 +23,6 @@ third groups external false rest plain = refl
 third true true true rest plain = absurd (false≢true plain)
 third true false true rest plain = absurd (false≢true plain)
 third false external true rest plain = absurd (false≢true plain)
-
--- what is said of a value, at the Ok that has it
-pub at_ok : {T U E F : Type 0} (r : Result T E) (value : T) (P : T → U → Type 0) (made : Result U F) → r ≡ Ok value → IfOk made (P value)
-    → IfOk made (λ whole. IsOkAnd r (λ v. P v whole))
-at_ok r value P made was says = IfOk-weaker made _ _ (λ whole said. subst (λ o. IsOkAnd o (λ v. P v whole)) (sym was) said) says
-
--- a plain subcommand stands behind those before it
-pub joins : (subcommand : Result Command AllocError) (app shape above whole : App) → app.top.is_plain ≡ true → above ≡ shape → IfOk subcommand (λ below. app_of below ≡ app)
-    → IsOkAnd subcommand (λ below. (app_of below).top.is_plain ≡ true → whole ≡ with_subcommand above (app_of below).top) → whole ≡ with_subcommand shape app.top
-joins (Ok below) app shape above whole plain same is joined =
-    joined (ap (λ (a : App). a.top.is_plain) is ∙ plain) ∙ ap (λ (a : App). with_subcommand a (app_of below).top) same ∙ ap (λ (a : App). with_subcommand shape a.top) is
-joins (Err error) app shape above whole plain same is joined = absurd joined
-
--- the first argument
-pub starts : (made : Result Command AllocError) (command : Command) (arg : Arg) (shape : App) (rule : Rule) → app_of command ≡ shape → arg.global ≡ false → rule_of arg ≡ rule
-    → IfOk made (AddsArg command arg) → IfOk made (λ whole. app_of whole ≡ with_rule shape rule)
-starts made command arg shape rule same local is says =
-    IfOk-weaker made _ _ (λ whole added. added.shape local ∙ ap (λ (a : App). with_rule a (rule_of arg)) same ∙ ap (λ (r : Rule). with_rule shape r) is) says
-
--- an argument stands behind those before it
-pub takes : (command made : Result Command AllocError) (arg : Arg) (shape : App) (rule : Rule) → arg.global ≡ false → rule_of arg ≡ rule
-    → IfOk command (λ above. app_of above ≡ shape)
-    → IfOk made (λ whole. IsOkAnd command (λ above. arg.global ≡ false → app_of whole ≡ with_rule (app_of above) (rule_of arg)))
-    → IfOk made (λ whole. app_of whole ≡ with_rule shape rule)
-takes (Ok above) made arg shape rule local is same says =
-    IfOk-weaker made _ _ (λ whole taken. taken local ∙ ap (λ (a : App). with_rule a (rule_of arg)) same ∙ ap (λ (r : Rule). with_rule shape r) is) says
-takes (Err error) made arg shape rule local is same says = IfOk-weaker made _ _ (λ whole taken. absurd taken) says
-
--- and one that took memory of its own
-pub takes_tied : (command made : Result Command AllocError) (argument : Result Arg AllocError) (shape : App) (rule : Rule)
-    → IfOk argument (λ arg. (arg.global ≡ false) × (rule_of arg ≡ rule)) → IfOk command (λ above. app_of above ≡ shape)
-    → IfOk made (λ whole. IsOkAnd argument (λ arg. IsOkAnd command (λ above. arg.global ≡ false → app_of whole ≡ with_rule (app_of above) (rule_of arg))))
-    → IfOk made (λ whole. app_of whole ≡ with_rule shape rule)
-takes_tied command made (Ok arg) shape rule is same says = takes command made arg shape rule is.0 is.1 same says
-takes_tied command made (Err error) shape rule is same says = IfOk-weaker made _ _ (λ whole taken. absurd taken) says
 
 -- ---- rules on other arguments
 
@@ -103,3 +73,41 @@ wanted_unless old new id adds =
 -- an argument of this rule that got a rule on another one
 pub ruled : (old new : Arg) (rule : Rule) → old.global ≡ false → rule_of old ≡ rule → IsTied old new → (new.global ≡ false) × (rule_of new ≡ record rule { is_free = false })
 ruled old new rule local is held = (held.0 ∙ local, held.1 ∙ ap (λ (r : Rule). record r { is_free = false }) is)
+
+-- and of the rule that a row of this tie says
+pub tied_by : (made : Result Arg AllocError) (tie kind : Tie) (rule : Rule) → tie ≡ kind
+    → IfOk made (λ arg. (arg.global ≡ false) × (rule_of arg ≡ tied_rule kind rule)) → IfOk made (λ arg. (arg.global ≡ false) × (rule_of arg ≡ tied_rule tie rule))
+tied_by made tie kind rule is said = subst (λ t. IfOk made (λ arg. (arg.global ≡ false) × (rule_of arg ≡ tied_rule t rule))) (sym is) said
+
+-- a subcommand of rows is as plain as one without them
+pub plain_rows : (app : App) (rows : List ArgumentRow) → (with_rows app rows).top.is_plain ≡ app.top.is_plain
+plain_rows app [] = refl
+plain_rows app (row ∷ rows) = plain_rows (with_rule app (rule_of_row row)) rows
+
+-- ---- one more row of a table
+
+pub argument_added : (above next : Command) (arg : Arg) (whole : App) (rows : List ArgumentRow) (i : ℕ) (row : ArgumentRow) → i < length rows
+    → with_rows (app_of above) (drop i rows) ≡ whole → (arg.global ≡ false) × (rule_of arg ≡ rule_of_row (get_or rows i row)) → AddsArg above arg next
+    → with_rows (app_of next) (drop (i + 1) rows) ≡ whole
+argument_added above next arg whole rows i row inside so_far is adds =
+    let grown : app_of next ≡ with_rule (app_of above) (rule_of_row (get_or rows i row)) = adds.shape is.0 ∙ ap (with_rule (app_of above)) is.1 in
+    ap (λ (a : App). with_rows a (drop (i + 1) rows)) grown ∙ sym (at_drop_more (with_rows (app_of above)) rows i row inside) ∙ so_far
+
+-- what is said of a value, at the Ok that has it
+pub at_ok : {T U E F : Type 0} (r : Result T E) (value : T) (P : T → U → Type 0) (made : Result U F) → r ≡ Ok value → IfOk made (P value)
+    → IfOk made (λ whole. IsOkAnd r (λ v. P v whole))
+at_ok r value P made was says = IfOk-weaker made _ _ (λ whole said. subst (λ o. IsOkAnd o (λ v. P v whole)) (sym was) said) says
+
+-- a subcommand of a row, behind those that the command has
+pub subcommand_added : (above below : Command) (made : Result Command AllocError) (row : SubcommandRow) → app_of below ≡ app_of_row row → IfOk made (AddsSubcommand above below)
+    → IfOk made (λ whole. app_of whole ≡ with_subcommand (app_of above) (app_of_row row).top)
+subcommand_added above below made row is says =
+    let plain : (app_of below).top.is_plain ≡ true = ap (λ (a : App). a.top.is_plain) is ∙ plain_rows (new_app row.name.now) row.arguments.now in
+    IfOk-weaker made _ _ (λ whole adds. adds.shape (third _ _ _ _ plain) ∙ ap (λ (a : App). with_subcommand (app_of above) a.top) is) says
+
+-- and behind those before it
+pub joins : (command made : Result Command AllocError) (so_far : App) (below : Shape) → IfOk command (λ above. app_of above ≡ so_far)
+    → IfOk made (λ whole. IsOkAnd command (λ above. app_of whole ≡ with_subcommand (app_of above) below))
+    → IfOk made (λ whole. app_of whole ≡ with_subcommand so_far below)
+joins (Ok above) made so_far below same says = IfOk-weaker made _ _ (λ whole joined. joined ∙ ap (λ (a : App). with_subcommand a below) same) says
+joins (Err error) made so_far below same says = IfOk-weaker made _ _ (λ whole joined. absurd joined) says

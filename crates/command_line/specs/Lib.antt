@@ -1,3 +1,4 @@
 pub mod Commands
 pub mod Line
 pub mod Size
+pub mod Rows

@@ -6,7 +6,7 @@ ghost use Rattle.command_line.specs.Line.{fault_name, layout_number, mode_name, 
 ghost use Rattle.command_line.specs.Size.{IsSize};
 ghost use Rattle.image_model.specs.declared.layout.Layout.TheVariants as Layout;
 
-use crate::commands::{self, modes, program};
+use crate::commands::{FORMAT, SERVE, program, subcommand};
 use crate::size::bytes_of;
 use clap::error::ErrorKind;
 use clap::{ArgMatches, Command, Error};
@@ -23,7 +23,7 @@ use std::alloc::{AllocError, Global};
 pub fn line<'a>(alloc: Global, words: &'a [&'a str]) -> Result<Invocation<'a>, Error>
     ensures { IfOk result (λ invocation. (modes : ValueParser) × (others : ValueParser) × IsInvocation (subcommand_of (nbdj_app modes others) (map (λ word. word.now) words.now)) invocation) }
 {
-    let matches = program(alloc, modes(), modes())?.try_get_matches_from(words)?;
+    let matches = program(alloc)?.try_get_matches_from(words)?;
     match matches.subcommand() {
         Some((name, matches)) => invocation(alloc, name, matches),
         None => Err(fault(alloc, "no command")),
@@ -361,17 +361,17 @@ fn flag(matches: &ArgMatches<'_>, name: &str) -> bool
 
 // A fault of what the words of `format` mean, told as one of the words themselves.
 fn format_fault(alloc: Global, message: &str) -> Error {
-    fault_of(commands::format(alloc), message)
+    fault_of(subcommand(alloc, &FORMAT), message)
 }
 
 // The like of `serve`.
 fn serve_fault(alloc: Global, message: &str) -> Error {
-    fault_of(commands::serve(alloc, modes()), message)
+    fault_of(subcommand(alloc, &SERVE), message)
 }
 
 // The like of another subcommand's words.
 fn fault(alloc: Global, message: &str) -> Error {
-    fault_of(program(alloc, modes(), modes()), message)
+    fault_of(program(alloc), message)
 }
 
 fn fault_of(command: Result<Command<'_>, AllocError>, message: &str) -> Error {

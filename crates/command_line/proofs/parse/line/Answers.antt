@@ -8,10 +8,10 @@ use Rattle.command_line.proofs.parse.line.Goals as goal
 
 pub returns-in-Some : goal.returns-in-Some
 returns-in-Some c =
-    let modes = c.modes.result in
-    let others = c.modes-2.result in
+    let modes = c.in_ok-program.ensures.0 in
+    let others = c.in_ok-program.ensures.1 in
     let words = map (λ word. word.now) c.args.words.now in
-    let app_is : app_of c.in_ok-program.field-0 ≡ nbdj_app modes others = c.in_ok-program.ensures in
+    let app_is : app_of c.in_ok-program.field-0 ≡ nbdj_app modes others = c.in_ok-program.ensures.2 in
     let simple : is_simple (nbdj_app modes others) ≡ true = refl in
     let matched = (c.in_ok-matches.ensures.matches (ap is_simple app_is ∙ simple)).1 ∙ ap (λ (app : App). subcommand_of app words) app_is in
     let whole = found_whole _ _ c.in-Some.name.now (rows_of (found_of c.in-Some.matches.now)) c.in-Some.ensures.name c.in-Some.ensures.rows in
