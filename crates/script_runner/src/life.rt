@@ -31,6 +31,7 @@ use nbd_wire::{
 use order_book::Order;
 use request_core::{Bench, Event, Step, StepFault, fresh_order, fresh_parts_law, rehearse};
 use std::alloc::{AllocError, Global};
+use std::slice;
 
 // What a script's connections have agreed on.
 const FLAGS: SessionFlags = SessionFlags {
@@ -39,7 +40,7 @@ const FLAGS: SessionFlags = SessionFlags {
 };
 
 /// What a step did, as a script tells it.
-#[derive(Clone, Copy, Debug, PartialEq, Eq)]
+#[derive(Clone, Copy, PartialEq, Eq)]
 pub enum Told {
     Done,
     Held,
@@ -50,7 +51,7 @@ pub enum Told {
 }
 
 /// Neighbouring blocks of one state that begin with the same byte.
-#[derive(Clone, Copy, Debug, PartialEq, Eq)]
+#[derive(Clone, Copy)]
 pub struct BlockRun {
     pub first: u64,
     pub blocks: u64,
@@ -253,9 +254,8 @@ impl<B: BoardName, D: Disk> Life<B, D> {
             × IsRehearsed world next (take done (step ∷ [])) self.new.order self.new.keeper (D.faults self.new.keeper.disk) self.new.bench
             (D.honest self.new.keeper.disk) (D.state self.old.keeper.disk) (D.state self.new.keeper.disk) }
     {
-        let steps = [step];
         let ran = rehearse(
-            &steps,
+            slice::from_ref(&step),
             &mut self.order,
             &mut self.keeper,
             &self.board,
@@ -292,21 +292,20 @@ impl<B: BoardName> Life<B, SimDisk> {
 
 // Adds the block behind the runs: to the last of them, or as a run of its own.
 fn add_block(runs: &mut Vec<BlockRun>, first: u64, kind: Kind, byte: u8) -> Result<(), AllocError> {
-    match runs.last_mut() {
-        Some(run) if run.kind == kind && run.byte == byte => {
-            run.blocks = run.blocks.saturating_add(1);
-            Ok(())
-        }
-        _ => {
-            runs.push(BlockRun {
-                first,
-                blocks: 1,
-                kind,
-                byte,
-            })?;
-            Ok(())
-        }
+    if let Some(run) = runs.last_mut()
+        && run.kind == kind
+        && run.byte == byte
+    {
+        run.blocks = run.blocks.saturating_add(1);
+        return Ok(());
     }
+    runs.push(BlockRun {
+        first,
+        blocks: 1,
+        kind,
+        byte,
+    })?;
+    Ok(())
 }
 
 // What the last event of a log says.

@@ -3,6 +3,7 @@ use crate::script_line::{Line, Setup, StepLine, parse};
 use front_end::Refusal;
 use std::alloc::{AllocError, Global};
 use std::io::{BufRead, BufReader, ErrorKind, Read};
+use std::mem;
 
 /// The lines of a script, one after the other.
 #[derive(Drop)]
@@ -75,22 +76,28 @@ impl Schedule {
         let setup = lines.setup(alloc)?;
         let mut lives = Vec::new(alloc);
         let mut steps = Vec::new(alloc);
-        for _ in 0..u64::MAX {
-            match lines.next(alloc)? {
-                Some(Line::Step(step)) => keep(&mut steps, step)?,
-                Some(Line::Upgrade) => {
-                    keep(&mut lives, steps)?;
-                    steps = Vec::new(alloc);
-                }
-                Some(_) => return Err(End::NotAStep(lines.count())),
-                None => {
-                    keep(&mut lives, steps)?;
-                    return Ok(Schedule { setup, lives });
-                }
-            }
-        }
-        Err(End::Refused(Refusal::StreamFault))
+        gather(alloc, &mut lines, &mut lives, &mut steps)?;
+        keep(&mut lives, steps)?;
+        Ok(Schedule { setup, lives })
     }
+}
+
+// Reads the lines to their end: the steps of each life but the last, and those of the last.
+fn gather<R: Read + Drop>(
+    alloc: Global,
+    lines: &mut Lines<R>,
+    lives: &mut Vec<Vec<StepLine>>,
+    steps: &mut Vec<StepLine>,
+) -> Result<(), End> {
+    for _ in 0..u64::MAX {
+        match lines.next(alloc)? {
+            Some(Line::Step(step)) => keep(steps, step)?,
+            Some(Line::Upgrade) => keep(lives, mem::replace(steps, Vec::new(alloc)))?,
+            Some(_) => return Err(End::NotAStep(lines.count())),
+            None => return Ok(()),
+        }
+    }
+    Err(End::Refused(Refusal::StreamFault))
 }
 
 /// Adds one behind the others.

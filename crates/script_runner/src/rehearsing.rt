@@ -38,28 +38,46 @@ pub fn script<R: Read, W: Write, E: Write>(
 
 fn run<R: Read, W: Write>(alloc: Global, input: &mut R, output: &mut W) -> Result<(), End> {
     let mut lines = Lines::new(alloc, input)?;
-    let setup = lines.setup(alloc)?;
-    let keeper = match begin(alloc, setup) {
-        Ok(keeper) => keeper,
-        Err(fault) => return Err(failed(fault, output)),
-    };
-    let mut course = Course {
-        setup,
-        keeper,
-        found: None,
-        armed: CrashChoice::Old,
-        cookie: 0,
-    };
+    let mut course = first(alloc, &mut lines, output)?;
     for _ in 0..u64::MAX {
-        let Ok(blank) = BlankBoard::new(alloc, course.keeper.count()) else {
-            return Err(failed(KeeperFault::NoMemory, output));
-        };
-        match live::<Brand, R, W>(alloc, blank, course, &mut lines, output)? {
+        match lived(alloc, course, &mut lines, output)? {
             Some(next) => course = next,
             None => return Ok(()),
         }
     }
     Err(End::Refused(Refusal::StreamFault))
+}
+
+// What the first life begins with: the device that the first line makes.
+fn first<R: Read, W: Write>(
+    alloc: Global,
+    lines: &mut Lines<&mut R>,
+    output: &mut W,
+) -> Result<Course, End> {
+    let setup = lines.setup(alloc)?;
+    match begin(alloc, setup) {
+        Ok(keeper) => Ok(Course {
+            setup,
+            keeper,
+            found: None,
+            armed: CrashChoice::Old,
+            cookie: 0,
+        }),
+        Err(fault) => Err(failed(fault, output)),
+    }
+}
+
+// Carries out the lines of one life of the device, on a board of its own.
+fn lived<R: Read, W: Write>(
+    alloc: Global,
+    course: Course,
+    lines: &mut Lines<&mut R>,
+    output: &mut W,
+) -> Result<Option<Course>, End> {
+    match BlankBoard::new(alloc, course.keeper.count()) {
+        Ok(blank) => live::<Brand, R, W>(alloc, blank, course, lines, output),
+        Err(_) => Err(failed(KeeperFault::NoMemory, output)),
+    }
 }
 
 // Carries out the lines of one life of the device, whose board gets its name here; what the next life begins with, where it

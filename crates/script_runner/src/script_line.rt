@@ -15,7 +15,7 @@ pub const CONNECTIONS: usize = 16;
 const MOST_WRITTEN: u32 = 33_554_432;
 
 /// A line of a script, by `docs/SCRIPTS.md`.
-#[derive(Clone, Copy, Debug)]
+#[derive(Clone, Copy)]
 pub enum Line {
     /// A new device.
     Format(Setup),
@@ -118,16 +118,30 @@ pub fn parse(alloc: Global, text: &[u8]) -> Result<Option<Line>, AllocError> {
 }
 
 fn line_of(words: &[&str]) -> Option<Line> {
-    match words {
-        ["format", blocks, area, frames, ..] => {
-            let (mode, layout) = ways_of(&words[4..])?;
-            format(blocks, area, frames, mode, layout)
-        }
-        ["upgrade"] => Some(Line::Upgrade),
-        ["fault", kind, k] => Some(Line::Fault(kind_of(kind)?, count_of(k)?)),
-        ["crash", fill] => Some(Line::Crash(fill_of(fill)?)),
-        ["crash", "at", k, fill] => Some(Line::CrashAt(count_of(k)?, fill_of(fill)?)),
-        _ => Some(Line::Step(step_of(words)?)),
+    let [word, operands @ ..] = words else {
+        return None;
+    };
+    match *word {
+        "format" => format(operands),
+        "upgrade" if operands.is_empty() => Some(Line::Upgrade),
+        "fault" => fault(operands),
+        "crash" => crash(operands),
+        word => Some(Line::Step(step_of(word, operands)?)),
+    }
+}
+
+fn fault(operands: &[&str]) -> Option<Line> {
+    match operands {
+        [kind, k] => Some(Line::Fault(kind_of(kind)?, count_of(k)?)),
+        _ => None,
+    }
+}
+
+fn crash(operands: &[&str]) -> Option<Line> {
+    match operands {
+        [fill] => Some(Line::Crash(fill_of(fill)?)),
+        ["at", k, fill] => Some(Line::CrashAt(count_of(k)?, fill_of(fill)?)),
+        _ => None,
     }
 }
 
@@ -142,11 +156,11 @@ fn ways_of(words: &[&str]) -> Option<(Mode, Layout)> {
     }
 }
 
-fn step_of(words: &[&str]) -> Option<StepLine> {
-    match words {
-        ["send", connection, ..] => sent(connection_of(connection)?, &words[2..]),
-        [word] => step_alone(word),
-        [word, operand] => step_with(word, operand),
+fn step_of(word: &str, operands: &[&str]) -> Option<StepLine> {
+    match operands {
+        [] => step_alone(word),
+        [operand] => step_with(word, operand),
+        [connection, request @ ..] if word == "send" => sent(connection_of(connection)?, request),
         _ => None,
     }
 }
@@ -180,7 +194,7 @@ fn step_with(word: &str, operand: &str) -> Option<StepLine> {
 fn sent(connection: usize, words: &[&str]) -> Option<StepLine> {
     match words {
         ["flush"] => Some(StepLine::Flush(connection)),
-        [.., "fua"] => ranged(connection, &words[..words.len() - 1], true),
+        [request @ .., "fua"] => ranged(connection, request, true),
         _ => ranged(connection, words, false),
     }
 }
@@ -240,7 +254,11 @@ fn cleared(connection: usize, kind: &str, hole: Clearing, range: Range) -> Optio
     }
 }
 
-fn format(blocks: &str, area: &str, frames: &str, mode: Mode, layout: Layout) -> Option<Line> {
+fn format(operands: &[&str]) -> Option<Line> {
+    let [blocks, area, frames, ways @ ..] = operands else {
+        return None;
+    };
+    let (mode, layout) = ways_of(ways)?;
     let area = u32::try_from(number_of(area)?).ok()?;
     let geometry = Geometry::new(number_of(blocks)?, area)?;
     let frames = number_of(frames)?;

@@ -18,9 +18,9 @@ invariant_of-self g c = record {
 pub returns-in-Ok-clause-world : goal.returns-in-Ok-clause-world
 returns-in-Ok-clause-world g c = λ honest world of.
     let ran = c.rehearse-ran.ensures.world world true of in
-    (ran.0, ran.1, ran.4)
+    (ran.0, ran.1, rw c.from_ref.ensures.value at ran.4)
 
 pub returns-clause-world : goal.returns-clause-world
 returns-clause-world g c = λ honest world of.
     let ran = c.rehearse-ran.ensures.world world true of in
-    (ran.0, ran.1, ran.4)
+    (ran.0, ran.1, rw c.from_ref.ensures.value at ran.4)
