@@ -1,4 +1,6 @@
 use Rattle.std.proofs.Common.{◌≡◌, ◌∙◌, ap, false, sym, subst, ℕ}
+use Rattle.checkpoint.specs.Recovery.{IsRecovered}
+use Rattle.device_image.specs.Keeper.{KeeperState}
 use Rattle.device_image.specs.Keeps.{Keeps}
 use Rattle.device_image.specs.Stands.{StandsFor}
 use Rattle.disk_model.specs.Disk.{MayLeave}
@@ -41,3 +43,9 @@ returns-in-Err-clause-refused g c = λ honest.
     let disk = g.D.Disk in
     let (found, fixed, crash) = c.in-Err.ensures.left honest in
     finds_no_more (disk.state c.args.disk) (disk.state c.in-Err.disk) found fixed crash (g.met.D.Disk.sound c.in-Err.disk (c.in-Err.ensures.honest.1 honest))
+
+pub returns-in-Ok-runs-clause-recovered : goal.returns-in-Ok-runs-clause-recovered
+returns-in-Ok-runs-clause-recovered g c =
+    let is = c.in-Ok.ensures.recovered in
+    subst (λ (keeper : KeeperState g.row.D.Denot). IsRecovered keeper) (sym c.in-Ok-runs.ensures.ok)
+    (record { works = is.works; phase = is.phase; used = is.used; turned = is.turned; lefts = is.lefts; base = is.base; remembers = record { takes = is.remembers.takes; noted = is.remembers.noted } })
