@@ -1,4 +1,5 @@
-use Rattle.std.proofs.Common.{◌≡◌, inl, List, Option, refl, rules, sym, ◌∙◌, ap, subst, arith}
+use Rattle.std.proofs.Common.{◌≡◌, inl, List, Option, refl, rules, sym, ◌∙◌, ap, subst, arith, ◌∷◌}
+use Rattle.device_image.specs.Remembers.{Remembers}
 use Rattle.checkpoint.specs.declared.fault.KeeperFault.TheVariants.{NoMemory}
 use Rattle.std.proofs.lemmas.Result.{IfOk-from_err}
 use Rattle.std.proofs.lemmas.Bool.{false≢true}
@@ -11,10 +12,10 @@ use Rattle.image_model.specs.declared.geometry.Geometry.{Geometry}
 use Rattle.image_model.specs.declared.side.Side.{Side}
 use Rattle.header_slots.specs.declared.header.Header.{Header}
 use Rattle.checkpoint.specs.Keeper.{faults_by, plans_of}
-use Rattle.checkpoint.specs.Steps.{IsStepFault}
+use Rattle.checkpoint.specs.Steps.{IsStepFault, mapped_by}
 use Rattle.checkpoint.specs.declared.fault.KeeperFault.{KeeperFault}
 use Rattle.checkpoint.proofs.Answered.{device_apart, ok_apart, err_given}
-use Rattle.device_image.specs.Keeper.{KeeperState, PlanState}
+use Rattle.device_image.specs.Keeper.{KeeperState, PlanState, Memory, lefts_of, phase_of, turned_of}
 use Rattle.device_image.specs.Keeps.{Keeps}
 use Rattle.device_image.specs.Stands.{StandsFor}
 use Rattle.device_image.specs.laws.Kept.{kept_content}
@@ -164,3 +165,60 @@ returns-in_err-map-clause-held g c honest base fronts last holds =
 pub returns-in_err-map-clause-only : goal.returns-in_err-map-clause-only
 returns-in_err-map-clause-only g c =
     err_given IsStepFault c.from_residual.result NoMemory c.from_residual.ensures.1 tt
+
+pub returns-in-Ok-clause-ok : goal.returns-in-Ok-clause-ok
+returns-in-Ok-clause-ok g c =
+    let inside = c.self.inside in
+    let waiting = inside.waiting.items in
+    let made : Option PlanState → KeeperState g.row.D.Denot = λ first. let plans = plans_of first waiting in record {
+      disk = inside.disk;
+      geometry = inside.header.geometry;
+      generation = inside.header.generation;
+      count = inside.count;
+      base = inside.header.base;
+      turned = turned_of plans;
+      lefts = lefts_of plans;
+      used = inside.area.gate;
+      phase = phase_of plans;
+      failed = inside.failed;
+      memory = record { header = inside.header; slot = inside.slot; map = inside.map; plans = plans; area = inside.area };
+    } in
+    let same = ap made (sym c.in-Some.is) ∙ c.self.view_is in
+    let next = c.set_map.new.self in
+    let disk = c.store_map.new.disk in
+    let memory : Memory = record { header = inside.header; slot = inside.slot; map = inside.map; plans = next ∷ waiting; area = inside.area } in
+    let turned = ap (λ (p : PlanState). turned_of (p ∷ waiting)) c.set_map.ensures in
+    let lefts = ap (λ (p : PlanState). lefts_of (p ∷ waiting)) c.set_map.ensures in
+    let phase = ap (λ (p : PlanState). phase_of (p ∷ waiting)) c.set_map.ensures in
+    let mapped : KeeperState g.row.D.Denot = record {
+      disk = disk;
+      geometry = inside.header.geometry;
+      generation = inside.header.generation;
+      count = inside.count;
+      base = inside.header.base;
+      turned = turned_of (next ∷ waiting);
+      lefts = lefts_of (next ∷ waiting);
+      used = inside.area.gate;
+      phase = phase_of (next ∷ waiting);
+      failed = inside.failed;
+      memory = memory;
+    } in
+    subst (λ (k : KeeperState g.row.D.Denot). mapped ≡ mapped_by k disk memory) same
+    (λ i. record {
+      disk = disk;
+      geometry = inside.header.geometry;
+      generation = inside.header.generation;
+      count = inside.count;
+      base = inside.header.base;
+      turned = turned i;
+      lefts = lefts i;
+      used = inside.area.gate;
+      phase = phase i;
+      failed = inside.failed;
+      memory = memory;
+    })
+
+pub returns-in-Ok-clause-remembered : goal.returns-in-Ok-clause-remembered
+returns-in-Ok-clause-remembered g c commands remembers =
+    let inside = subst (λ (k : KeeperState g.row.D.Denot). Remembers k commands) (sym c.self.view_is) remembers in
+    record { takes = inside.takes; noted = inside.noted }
