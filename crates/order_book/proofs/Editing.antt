@@ -55,6 +55,13 @@ missing_ends edit cache some lacks = elim (needed_ends edit lacks.0 some lacks.1
   | inr is ↦ inr (subst (IsMissing edit cache) is lacks.1)
 ]
 
+pub ends_missing : (edit : ByteEdit) (cache : CacheState) (start end : ℕ) → 1 ≤ count_of edit → start ≡ offset_of edit / 4096 → end ≡ (offset_of edit + count_of edit - 1) / 4096
+    → LacksOld edit cache → IsMissing edit cache start ⊎ IsMissing edit cache end
+ends_missing edit cache start end some start_is end_is lacks = elim (missing_ends edit cache some lacks) [
+  | inl at ↦ inl (subst (IsMissing edit cache) (sym start_is) at)
+  | inr at ↦ inr (subst (IsMissing edit cache) (sym end_is) at)
+]
+
 -- the images that stand for memory, where nothing that the edit needs is missing, and where what is missing was read
 pub same_held : (edit : ByteEdit) (image : Image) (cache : CacheState) (first : ℕ) (head tail : List ℕ) → ShowsImage image cache → (LacksOld edit cache → ⊥)
     → IsSameFor edit (image_with cache first head tail) image

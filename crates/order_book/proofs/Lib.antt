@@ -1,11 +1,15 @@
+mod Answered
 mod Edges
 mod Editing
 mod Filled
 mod Frames
+mod Handed
 mod Imaged
 mod Maps
 mod Missing
+mod Sealed
 mod Shown
 mod Small
+mod Taken
 mod Taking
 mod Written

@@ -1,5 +1,5 @@
 -- a command that an image takes fits a group, and one that isn't refused fits the backlog
-use Rattle.std.proofs.Common.{◌≡◌, ℕ, ◌+◌, ◌≤◌, Bool, true, false, if◌then◌else◌, Some, None, List, [], ◌∷◌, ◌++◌, refl, arith}
+use Rattle.std.proofs.Common.{◌≡◌, ℕ, ◌+◌, ◌≤◌, Bool, true, false, if◌then◌else◌, nat_le, Some, None, List, [], ◌∷◌, ◌++◌, refl, arith}
 use Rattle.std.specs.List.{sum}
 use Rattle.std.proofs.lemmas.Bool.{and_parts, leb-true}
 use Rattle.std.proofs.lemmas.Grind.{common_steps}
@@ -29,12 +29,19 @@ small_body image (Edged first blocks kind edges bytes) is = let whole = is.4 in 
 pub sum_push : (bodies : List ℕ) (body : ℕ) → sum (bodies ++ body ∷ []) ≡ sum bodies + body
 sum_push bodies body = grind (arith, common_steps)
 
-pub room_left : (order : OrderState) (command : Command) → refusal_of order command ≡ None → sum order.bodies + body_of command ≤ 67108864
-room_left order command none =
-    leb-true _ _ (and_parts (frames_suffice order.frames order.dirty (order.mark + 1) (change_of command)) _ (last order.stopped _ (has_room order command) _ _ _ none)).1
-  where
-    last : (stopped full room : Bool) (x y z : OrderFault) → (if stopped then Some x else (if full then Some y else (if room then None else Some z))) ≡ None → room ≡ true
-    last true full room x y z is = cc
-    last false true room x y z is = cc
-    last false false true x y z is = refl
-    last false false false x y z is = cc
+-- the room of a command that isn't refused
+module _ (order : OrderState) (command : Command) (none : refusal_of order command ≡ None) where
+  parts : (frames_suffice order.frames order.dirty (order.mark + 1) (change_of command) ≡ true) × (nat_le (sum order.bodies + body_of command) 67108864 ≡ true)
+  parts = and_parts (frames_suffice order.frames order.dirty (order.mark + 1) (change_of command)) _ (last order.stopped _ (has_room order command) _ _ _ none)
+    where
+      last : (stopped full room : Bool) (x y z : OrderFault) → (if stopped then Some x else (if full then Some y else (if room then None else Some z))) ≡ None → room ≡ true
+      last true full room x y z is = cc
+      last false true room x y z is = cc
+      last false false true x y z is = refl
+      last false false false x y z is = cc
+
+  pub frames_left : frames_suffice order.frames order.dirty (order.mark + 1) (change_of command) ≡ true
+  frames_left = parts.0
+
+  pub room_left : sum order.bodies + body_of command ≤ 67108864
+  room_left = leb-true _ _ parts.1

@@ -2,7 +2,7 @@
 use Rattle.std.proofs.Common.{◌≡◌, ◌≢◌, ◌↔◌, ◌⊎◌, inl, inr, ⊎_elim, ℕ, ◌+◌, ◌-◌, ◌*◌, ◌/◌, ◌≤◌, ◌<◌, ◌&&◌, Bool, true, false, not, nat_eq, if◌then◌else◌, List, ◌++◌, length, get_or, Some, None, Result, Ok, Err, ap, sym, subst, ◌∙◌, refl, arith, length-append}
 use Rattle.std.specs.Bool.{IsTrue}
 use Rattle.std.specs.Result.{IfErr, OnOk}
-use Rattle.std.proofs.lemmas.Bool.{and_parts, both_ways, eq-eqb, eqb-true, ne_eqb, not-true}
+use Rattle.std.proofs.lemmas.Bool.{and_parts, eq-eqb, ne_eqb, not-true}
 use Rattle.std.proofs.lemmas.Bool.Decides.{eqb_tells}
 use Rattle.checkpoint.specs.Keeper.{refused_by}
 use Rattle.checkpoint.specs.declared.fault.KeeperFault.{KeeperFault}
@@ -27,8 +27,6 @@ use Rattle.shared_cache.specs.Cache.{CacheState, bytes_seen}
 use Rattle.order_book.specs.Cached.{ShowsCommand, dirty_of, frames_of, head_count}
 use Rattle.order_book.specs.Edits.{IsMissing, TakesEdit, bytes_or, image_in, image_with}
 use Rattle.order_book.specs.inner.Edits.{IsWholePut, edge_bytes, edges_given, put_bytes, whole_change, zeroed_block}
-use Rattle.order_book.specs.declared.fault.OrderFault.{OrderFault}
-use Rattle.order_book.specs.declared.fault.OrderFault.TheVariants.{NumbersFull, NoRoom, Stopped}
 use Rattle.order_book.specs.Order.{OrderState, with_command}
 use Rattle.order_book.specs.Shown.{ShowsImage}
 use Rattle.order_book.specs.laws.Edited.{byte-image_with}
@@ -235,28 +233,3 @@ refused_on {D} old mid new (Err fault) kept same only refused = elim only [
 pub map_ok : {X E P Q : Type 0} (outcome : Result X E) → (P → Q) → OnOk outcome P → OnOk outcome Q
 map_ok (Ok value) to holds = to holds
 map_ok (Err fault) to holds = tt
-
--- which refusal is that for want of numbers
-pub full_is : (stopped : Bool) (mark : ℕ) (room : Bool) (fault : OrderFault)
-    → Some fault ≡ (if stopped then Some Stopped else (if nat_eq mark 18446744073709551615 then Some NumbersFull else (if room then None else Some NoRoom)))
-    → (fault ≡ NumbersFull) ↔ ((stopped ≡ false) × (mark ≡ 18446744073709551615))
-full_is stopped mark room fault is = by stopped (nat_eq mark 18446744073709551615) room refl is
-  where
-    stopped_apart : (f : OrderFault) → Some f ≡ Some Stopped → f ≡ NumbersFull → ⊥
-    stopped_apart f is e = cc
-
-    room_apart : (f : OrderFault) → Some f ≡ Some NoRoom → f ≡ NumbersFull → ⊥
-    room_apart f is e = cc
-
-    none_apart : (f : OrderFault) → Some f ≡ None → ⊥
-    none_apart f is = cc
-
-    some_same : (f g : OrderFault) → Some f ≡ Some g → f ≡ g
-    some_same f g is = cc
-
-    by : (halted full free : Bool) → nat_eq mark 18446744073709551615 ≡ full → Some fault ≡ (if halted then Some Stopped else (if full then Some NumbersFull else (if free then None else Some NoRoom)))
-        → (fault ≡ NumbersFull) ↔ ((halted ≡ false) × (mark ≡ 18446744073709551615))
-    by true full free at is = (λ e. absurd (stopped_apart fault is e), λ both. absurd (both_ways true both.0 refl))
-    by false true free at is = (λ e. (refl, eqb-true mark 18446744073709551615 at), λ both. some_same fault NumbersFull is)
-    by false false true at is = absurd (none_apart fault is)
-    by false false false at is = (λ e. absurd (room_apart fault is e), λ both. absurd (both_ways true (sym (eq-eqb mark 18446744073709551615 both.1) ∙ at) refl))

@@ -1,41 +1,15 @@
-use Rattle.std.proofs.Common.{◌≡◌, inl, inr, ◌<◌, ◌+◌, ◌*◌, ◌/◌, ◌∙◌, ap, sym, refl, ℕ, Bool, true, false, List, Option, Some, None, length, arith, Result, Ok, Err, subst}
+use Rattle.std.proofs.Common.{◌≡◌, inl, inr, ◌<◌, ◌+◌, ◌*◌, ◌/◌, ◌∙◌, ap, sym, refl, ℕ, List, Option, Some, None, length, arith, subst}
 use Rattle.std.specs.Bool.{IsTrue}
-use Rattle.std.specs.Result.{IsErrAnd, OnErr}
-use Rattle.checkpoint.specs.declared.fault.KeeperFault.{KeeperFault}
 use Rattle.device_image.specs.Keeper.{KeeperState}
-use Rattle.std.proofs.lemmas.Bool.{cases_lt, true≢false}
+use Rattle.std.proofs.lemmas.Bool.{cases_lt}
 use Rattle.journal_format.specs.laws.Chained.{none_read, reads_on}
 use Rattle.shared_cache.specs.laws.Views.{seen_missing}
+use Rattle.order_book.proofs.Handed.{failed_on, is_not, not_failed, ok_is_none, on_err}
 use Rattle.order_book.proofs.Missing.{lacks_at}
 use Rattle.order_book.proofs.reading.read_blocks.Goals as goal
 
 none_and_some : (seen : Option (List ℕ)) (bytes : List ℕ) → seen ≡ None → seen ≡ Some bytes → ⊥
 none_and_some seen bytes none some = cc
-
-not_failed : (failed : Bool) → IsTrue failed → failed ≡ false → ⊥
-not_failed failed is never = true≢false (sym is ∙ never)
-
-is_not : (failed : Bool) → (IsTrue failed → ⊥) → failed ≡ false
-is_not true never = absurd (never refl)
-is_not false never = refl
-
--- a refusal that is handed on
-err_is : {X : Type 0} (result : Result X KeeperFault) (fault : KeeperFault) → IsErrAnd result (λ given. given ≡ fault) → result ≡ Err fault
-err_is (Ok value) fault is = absurd is
-err_is (Err given) fault is = ap Err is
-
-err_same : {X : Type 0} (result : Result X KeeperFault) (fault other : KeeperFault) → result ≡ Err fault → result ≡ Err other → fault ≡ other
-err_same result fault other is also = cc
-
-err_of : (fault other : KeeperFault) → ◌≡◌ {A = Result (Unit {0}) KeeperFault} (Err fault) (Err other) → fault ≡ other
-err_of fault other is = cc
-
-ok_is_none : (value : Unit {0}) (fault : KeeperFault) → ◌≡◌ {A = Result (Unit {0}) KeeperFault} (Ok value) (Err fault) → ⊥
-ok_is_none value fault is = cc
-
-on_err : {X : Type 0} {P : Type 0} (result : Result X KeeperFault) → P → OnErr result P
-on_err (Ok value) holds = tt
-on_err (Err given) holds = holds
 
 pub loop-done-init : goal.loop-done-init
 loop-done-init g c =
@@ -89,18 +63,14 @@ pub returns-in_err-read_run-clause-failed : goal.returns-in_err-read_run-clause-
 returns-in_err-read_run-clause-failed g c =
     let lacks = lacks_at c.args.cache.now c.args.first (length c.args.into.now / 4096) c.loop-done.done (omega (arith, c.loop-done-test.true, c.loop-done.invariant.size))
     (c.loop-done.invariant.missing (omega (arith, c.loop-done-test.true, c.loop-done.invariant.size, c.requires.whole))) in
-    let given = err_is c.from_residual.result c.in_err-read_run.field-0.0 c.from_residual.ensures.1 in
-    let run = c.in_err-read_run.ensures.failed in
-    let same = ap (λ (keeper : KeeperState g.row.D.Denot). keeper.failed) c.loop-done.invariant.only in (
-      λ e. (subst IsTrue same (run.0 (ap Err (err_same c.from_residual.result _ _ given e))), lacks),
-      λ both. given ∙ ap Err (err_of _ _ (run.1 (subst IsTrue (sym same) both.0))),
-    )
+    let same = ap (λ (keeper : KeeperState g.row.D.Denot). keeper.failed) c.loop-done.invariant.only in
+    failed_on c.from_residual.result c.in_err-read_run.field-0.0 c.from_residual.ensures.1 c.in_err-read_run.ensures.failed (λ failed. (subst IsTrue same failed, lacks)) (λ both. subst IsTrue (sym same) both.0)
 
 pub returns-in_err-read_run-clause-lacks : goal.returns-in_err-read_run-clause-lacks
 returns-in_err-read_run-clause-lacks g c =
     let lacks = lacks_at c.args.cache.now c.args.first (length c.args.into.now / 4096) c.loop-done.done (omega (arith, c.loop-done-test.true, c.loop-done.invariant.size))
     (c.loop-done.invariant.missing (omega (arith, c.loop-done-test.true, c.loop-done.invariant.size, c.requires.whole))) in
-    on_err c.from_residual.result lacks
+    on_err c.from_residual.result c.in_err-read_run.field-0.0 c.from_residual.ensures.1 lacks
 
 pub returns-in_err-read_run-clause-only_read : goal.returns-in_err-read_run-clause-only_read
 returns-in_err-read_run-clause-only_read g c honest =
