@@ -5,6 +5,7 @@ mod Fresh
 mod Here
 mod InMemory
 mod Lifted
+mod Needing
 mod Olds
 mod Performed
 mod Runs

@@ -1,3 +1,4 @@
+use Rattle.device_image.specs.Keeper.{KeeperState}
 use Rattle.std.proofs.Common.{◌≡◌, ◌≢◌, ◌+◌, ◌-◌, ◌*◌, ◌/◌, ◌%◌, ℕ, false, inl, inr, List, drop, take, get_or, length, None, Some, sym, ◌∙◌, ap, refl, arith}
 use Rattle.alloc_map.specs.Codes.{state_at}
 use Rattle.device_image.specs.Holds.{is_written, joined}
@@ -70,3 +71,36 @@ returns-clause-read g c =
       there = λ failed. part_holds head.offset head.length into items part long (λ block r byte. bytes_seen old.cache block ≢ None)
           (λ j r under inside none. let wrong = read.failed.1 (failed, lacks_at old.cache c.of-blocks.result.first (length c.deref_mut.result.now / 4096) j (let size = read.size in omega (arith, under, size)) (seen j ∙ none)) in cc);
     }))
+
+pub returns-in_default-clause-read : goal.returns-in_default-clause-read
+returns-in_default-clause-read g c = inl (refl, refl, c.refused.ensures)
+
+pub returns-in_default-vec-clause-read : goal.returns-in_default-vec-clause-read
+returns-in_default-vec-clause-read g c = inl (refl, refl, c.refused-in_default-vec.ensures)
+
+pub returns-in_default-clause-hit : goal.returns-in_default-clause-hit
+returns-in_default-clause-hit g c held = (refl, refl)
+
+pub returns-in_default-clause-honest : goal.returns-in_default-clause-honest
+returns-in_default-clause-honest g c = (λ honest. honest, λ honest. honest)
+
+pub returns-in_default-vec-clause-hit : goal.returns-in_default-vec-clause-hit
+returns-in_default-vec-clause-hit g c held = (refl, refl)
+
+pub returns-in_default-vec-clause-honest : goal.returns-in_default-vec-clause-honest
+returns-in_default-vec-clause-honest g c = (λ honest. honest, λ honest. honest)
+
+pub returns-clause-honest : goal.returns-clause-honest
+returns-clause-honest g c = c.in-Ok-read_with.ensures.honest
+
+pub returns-in_default-read_with-clause-honest : goal.returns-in_default-read_with-clause-honest
+returns-in_default-read_with-clause-honest g c = c.in_default-read_with.ensures.honest
+
+pub returns-clause-extent : goal.returns-clause-extent
+returns-clause-extent g c = c.in-Ok-read_with.ensures.extent
+
+pub returns-in_default-read_with-clause-extent : goal.returns-in_default-read_with-clause-extent
+returns-in_default-read_with-clause-extent g c = c.in_default-read_with.ensures.extent
+
+pub returns-clause-count : goal.returns-clause-count
+returns-clause-count g c = ap (λ (k : KeeperState g.row.D.Denot). k.count) c.in-Ok-read_with.ensures.keeper_ok

@@ -1,3 +1,8 @@
+use Rattle.std.proofs.Common.{length, true}
+use Rattle.std.proofs.lemmas.Bool.{true≢false}
+use Rattle.device_image.specs.Keeper.{KeeperState}
+use Rattle.order_book.specs.Order.{has_room_for}
+use Rattle.request_core.proofs.Passes.{not_grown, refused_passes}
 use Rattle.std.proofs.Common.{◌∙◌, inl, inr, ap, refl, subst, sym, true, ℕ, Bool, arith}
 use Rattle.image_model.specs.Edit.{ByteEdit, IsEdit, becomes, edit_of}
 use Rattle.image_model.specs.Image.{Image}
@@ -137,3 +142,159 @@ returns-in-Err-Failed-default-clause-asked g c =
       level = c.in-Err-Failed-default.ensures.faults_err ∙ ap (λ (f : OrderFault). faults_after f (g.D.Disk.faults keeper.disk)) fault_is;
       only_read = c.in-Err-Failed-default.ensures.only_read;
     }))
+
+pub returns-in-Ok-clause-blocks : goal.returns-in-Ok-clause-blocks
+returns-in-Ok-clause-blocks g c = c.in-Ok.ensures.blocks
+
+pub returns-in-Ok-clause-geometry : goal.returns-in-Ok-clause-geometry
+returns-in-Ok-clause-geometry g c = ap (λ (k : KeeperState g.row.D.Denot). k.geometry) c.in-Ok.ensures.keeper_ok
+
+pub returns-in-Ok-clause-count : goal.returns-in-Ok-clause-count
+returns-in-Ok-clause-count g c = ap (λ (k : KeeperState g.row.D.Denot). k.count) c.in-Ok.ensures.keeper_ok
+
+pub returns-in-Ok-clause-extent : goal.returns-in-Ok-clause-extent
+returns-in-Ok-clause-extent g c = c.in-Ok.ensures.extent
+
+pub returns-in-Ok-clause-honest : goal.returns-in-Ok-clause-honest
+returns-in-Ok-clause-honest g c = c.in-Ok.ensures.honest
+
+pub returns-in-Err-NoRoom-default-clause-geometry : goal.returns-in-Err-NoRoom-default-clause-geometry
+returns-in-Err-NoRoom-default-clause-geometry g c = ap (λ (k : KeeperState g.row.D.Denot). k.geometry) (c.in-Err-NoRoom-default.ensures.keeper_err ∙ ap (λ (f : OrderFault). keeper_after f c.args.keeper.now c.accept_edit.new.keeper.disk) c.in-Err-NoRoom-default.field-0-0-is)
+
+pub returns-in-Err-NoRoom-default-clause-count : goal.returns-in-Err-NoRoom-default-clause-count
+returns-in-Err-NoRoom-default-clause-count g c = ap (λ (k : KeeperState g.row.D.Denot). k.count) (c.in-Err-NoRoom-default.ensures.keeper_err ∙ ap (λ (f : OrderFault). keeper_after f c.args.keeper.now c.accept_edit.new.keeper.disk) c.in-Err-NoRoom-default.field-0-0-is)
+
+pub returns-in-Err-NoRoom-default-clause-extent : goal.returns-in-Err-NoRoom-default-clause-extent
+returns-in-Err-NoRoom-default-clause-extent g c = c.in-Err-NoRoom-default.ensures.extent
+
+pub returns-in-Err-NoRoom-default-clause-honest : goal.returns-in-Err-NoRoom-default-clause-honest
+returns-in-Err-NoRoom-default-clause-honest g c = c.in-Err-NoRoom-default.ensures.honest
+
+pub returns-in-Err-NoRoom-default-clause-blocks : goal.returns-in-Err-NoRoom-default-clause-blocks
+returns-in-Err-NoRoom-default-clause-blocks g c = c.in-Err-NoRoom-default.ensures.blocks
+
+pub returns-in-Err-NoRoom-default-clause-pass : goal.returns-in-Err-NoRoom-default-clause-pass
+returns-in-Err-NoRoom-default-clause-pass g c = c.in-Err-NoRoom-default.ensures.pass_unchanged
+
+pub returns-in-Err-NoRoom-default-clause-grown : goal.returns-in-Err-NoRoom-default-clause-grown
+returns-in-Err-NoRoom-default-clause-grown g c = not_grown _ _ (ap (λ (o : OrderState). o.mark) c.in-Err-NoRoom-default.ensures.unchanged)
+
+pub returns-in-Err-NoMemory-default-clause-geometry : goal.returns-in-Err-NoMemory-default-clause-geometry
+returns-in-Err-NoMemory-default-clause-geometry g c = ap (λ (k : KeeperState g.row.D.Denot). k.geometry) (c.in-Err-NoMemory-default.ensures.keeper_err ∙ ap (λ (f : OrderFault). keeper_after f c.args.keeper.now c.accept_edit.new.keeper.disk) c.in-Err-NoMemory-default.field-0-0-is)
+
+pub returns-in-Err-NoMemory-default-clause-count : goal.returns-in-Err-NoMemory-default-clause-count
+returns-in-Err-NoMemory-default-clause-count g c = ap (λ (k : KeeperState g.row.D.Denot). k.count) (c.in-Err-NoMemory-default.ensures.keeper_err ∙ ap (λ (f : OrderFault). keeper_after f c.args.keeper.now c.accept_edit.new.keeper.disk) c.in-Err-NoMemory-default.field-0-0-is)
+
+pub returns-in-Err-NoMemory-default-clause-extent : goal.returns-in-Err-NoMemory-default-clause-extent
+returns-in-Err-NoMemory-default-clause-extent g c = c.in-Err-NoMemory-default.ensures.extent
+
+pub returns-in-Err-NoMemory-default-clause-honest : goal.returns-in-Err-NoMemory-default-clause-honest
+returns-in-Err-NoMemory-default-clause-honest g c = c.in-Err-NoMemory-default.ensures.honest
+
+pub returns-in-Err-NoMemory-default-clause-blocks : goal.returns-in-Err-NoMemory-default-clause-blocks
+returns-in-Err-NoMemory-default-clause-blocks g c = c.in-Err-NoMemory-default.ensures.blocks
+
+pub returns-in-Err-NoMemory-default-clause-pass : goal.returns-in-Err-NoMemory-default-clause-pass
+returns-in-Err-NoMemory-default-clause-pass g c = refused_passes g.B.BoardName.opening c.args.request c.args.order.now.mark c.refused.result c.args.pass.now _ _ _ _ c.refused.ensures (ap (λ (o : OrderState). o.mark) c.in-Err-NoMemory-default.ensures.unchanged) c.in-Err-NoMemory-default.ensures.pass_unchanged
+
+pub returns-in-Err-NoMemory-default-clause-grown : goal.returns-in-Err-NoMemory-default-clause-grown
+returns-in-Err-NoMemory-default-clause-grown g c = not_grown _ _ (ap (λ (o : OrderState). o.mark) c.in-Err-NoMemory-default.ensures.unchanged)
+
+pub returns-in-Err-NumbersFull-default-clause-geometry : goal.returns-in-Err-NumbersFull-default-clause-geometry
+returns-in-Err-NumbersFull-default-clause-geometry g c = ap (λ (k : KeeperState g.row.D.Denot). k.geometry) (c.in-Err-NumbersFull-default.ensures.keeper_err ∙ ap (λ (f : OrderFault). keeper_after f c.args.keeper.now c.accept_edit.new.keeper.disk) c.in-Err-NumbersFull-default.field-0-0-is)
+
+pub returns-in-Err-NumbersFull-default-clause-count : goal.returns-in-Err-NumbersFull-default-clause-count
+returns-in-Err-NumbersFull-default-clause-count g c = ap (λ (k : KeeperState g.row.D.Denot). k.count) (c.in-Err-NumbersFull-default.ensures.keeper_err ∙ ap (λ (f : OrderFault). keeper_after f c.args.keeper.now c.accept_edit.new.keeper.disk) c.in-Err-NumbersFull-default.field-0-0-is)
+
+pub returns-in-Err-NumbersFull-default-clause-extent : goal.returns-in-Err-NumbersFull-default-clause-extent
+returns-in-Err-NumbersFull-default-clause-extent g c = c.in-Err-NumbersFull-default.ensures.extent
+
+pub returns-in-Err-NumbersFull-default-clause-honest : goal.returns-in-Err-NumbersFull-default-clause-honest
+returns-in-Err-NumbersFull-default-clause-honest g c = c.in-Err-NumbersFull-default.ensures.honest
+
+pub returns-in-Err-NumbersFull-default-clause-blocks : goal.returns-in-Err-NumbersFull-default-clause-blocks
+returns-in-Err-NumbersFull-default-clause-blocks g c = c.in-Err-NumbersFull-default.ensures.blocks
+
+pub returns-in-Err-NumbersFull-default-clause-pass : goal.returns-in-Err-NumbersFull-default-clause-pass
+returns-in-Err-NumbersFull-default-clause-pass g c = refused_passes g.B.BoardName.opening c.args.request c.args.order.now.mark c.refused-in-Err-NumbersFull-default.result c.args.pass.now _ _ _ _ c.refused-in-Err-NumbersFull-default.ensures (ap (λ (o : OrderState). o.mark) c.in-Err-NumbersFull-default.ensures.unchanged) c.in-Err-NumbersFull-default.ensures.pass_unchanged
+
+pub returns-in-Err-NumbersFull-default-clause-grown : goal.returns-in-Err-NumbersFull-default-clause-grown
+returns-in-Err-NumbersFull-default-clause-grown g c = not_grown _ _ (ap (λ (o : OrderState). o.mark) c.in-Err-NumbersFull-default.ensures.unchanged)
+
+pub returns-in-Err-DeviceFault-default-clause-geometry : goal.returns-in-Err-DeviceFault-default-clause-geometry
+returns-in-Err-DeviceFault-default-clause-geometry g c = ap (λ (k : KeeperState g.row.D.Denot). k.geometry) (c.in-Err-DeviceFault-default.ensures.keeper_err ∙ ap (λ (f : OrderFault). keeper_after f c.args.keeper.now c.accept_edit.new.keeper.disk) c.in-Err-DeviceFault-default.field-0-0-is)
+
+pub returns-in-Err-DeviceFault-default-clause-count : goal.returns-in-Err-DeviceFault-default-clause-count
+returns-in-Err-DeviceFault-default-clause-count g c = ap (λ (k : KeeperState g.row.D.Denot). k.count) (c.in-Err-DeviceFault-default.ensures.keeper_err ∙ ap (λ (f : OrderFault). keeper_after f c.args.keeper.now c.accept_edit.new.keeper.disk) c.in-Err-DeviceFault-default.field-0-0-is)
+
+pub returns-in-Err-DeviceFault-default-clause-extent : goal.returns-in-Err-DeviceFault-default-clause-extent
+returns-in-Err-DeviceFault-default-clause-extent g c = c.in-Err-DeviceFault-default.ensures.extent
+
+pub returns-in-Err-DeviceFault-default-clause-honest : goal.returns-in-Err-DeviceFault-default-clause-honest
+returns-in-Err-DeviceFault-default-clause-honest g c = c.in-Err-DeviceFault-default.ensures.honest
+
+pub returns-in-Err-DeviceFault-default-clause-blocks : goal.returns-in-Err-DeviceFault-default-clause-blocks
+returns-in-Err-DeviceFault-default-clause-blocks g c = ap (λ (o : OrderState). length o.cache.states) c.failed.ensures.order ∙ c.in-Err-DeviceFault-default.ensures.blocks
+
+pub returns-in-Err-DeviceFault-default-clause-pass : goal.returns-in-Err-DeviceFault-default-clause-pass
+returns-in-Err-DeviceFault-default-clause-pass g c = refused_passes g.B.BoardName.opening c.args.request c.args.order.now.mark c.failed.result c.args.pass.now _ _ _ _ c.failed.ensures.answer (ap (λ (o : OrderState). o.mark) c.failed.ensures.order ∙ ap (λ (o : OrderState). o.mark) c.in-Err-DeviceFault-default.ensures.unchanged) c.in-Err-DeviceFault-default.ensures.pass_unchanged
+
+pub returns-in-Err-DeviceFault-default-clause-grown : goal.returns-in-Err-DeviceFault-default-clause-grown
+returns-in-Err-DeviceFault-default-clause-grown g c = not_grown _ _ (ap (λ (o : OrderState). o.mark) c.failed.ensures.order ∙ ap (λ (o : OrderState). o.mark) c.in-Err-DeviceFault-default.ensures.unchanged)
+
+pub returns-in-Err-Failed-default-clause-geometry : goal.returns-in-Err-Failed-default-clause-geometry
+returns-in-Err-Failed-default-clause-geometry g c = ap (λ (k : KeeperState g.row.D.Denot). k.geometry) (c.in-Err-Failed-default.ensures.keeper_err ∙ ap (λ (f : OrderFault). keeper_after f c.args.keeper.now c.accept_edit.new.keeper.disk) c.in-Err-Failed-default.field-0-0-is)
+
+pub returns-in-Err-Failed-default-clause-count : goal.returns-in-Err-Failed-default-clause-count
+returns-in-Err-Failed-default-clause-count g c = ap (λ (k : KeeperState g.row.D.Denot). k.count) (c.in-Err-Failed-default.ensures.keeper_err ∙ ap (λ (f : OrderFault). keeper_after f c.args.keeper.now c.accept_edit.new.keeper.disk) c.in-Err-Failed-default.field-0-0-is)
+
+pub returns-in-Err-Failed-default-clause-extent : goal.returns-in-Err-Failed-default-clause-extent
+returns-in-Err-Failed-default-clause-extent g c = c.in-Err-Failed-default.ensures.extent
+
+pub returns-in-Err-Failed-default-clause-honest : goal.returns-in-Err-Failed-default-clause-honest
+returns-in-Err-Failed-default-clause-honest g c = c.in-Err-Failed-default.ensures.honest
+
+pub returns-in-Err-Failed-default-clause-blocks : goal.returns-in-Err-Failed-default-clause-blocks
+returns-in-Err-Failed-default-clause-blocks g c = ap (λ (o : OrderState). length o.cache.states) c.failed-in-Err-Failed-default.ensures.order ∙ c.in-Err-Failed-default.ensures.blocks
+
+pub returns-in-Err-Failed-default-clause-pass : goal.returns-in-Err-Failed-default-clause-pass
+returns-in-Err-Failed-default-clause-pass g c = refused_passes g.B.BoardName.opening c.args.request c.args.order.now.mark c.failed-in-Err-Failed-default.result c.args.pass.now _ _ _ _ c.failed-in-Err-Failed-default.ensures.answer (ap (λ (o : OrderState). o.mark) c.failed-in-Err-Failed-default.ensures.order ∙ ap (λ (o : OrderState). o.mark) c.in-Err-Failed-default.ensures.unchanged) c.in-Err-Failed-default.ensures.pass_unchanged
+
+pub returns-in-Err-Failed-default-clause-grown : goal.returns-in-Err-Failed-default-clause-grown
+returns-in-Err-Failed-default-clause-grown g c = not_grown _ _ (ap (λ (o : OrderState). o.mark) c.failed-in-Err-Failed-default.ensures.order ∙ ap (λ (o : OrderState). o.mark) c.in-Err-Failed-default.ensures.unchanged)
+
+pub returns-in-Err-Stopped-default-clause-geometry : goal.returns-in-Err-Stopped-default-clause-geometry
+returns-in-Err-Stopped-default-clause-geometry g c = ap (λ (k : KeeperState g.row.D.Denot). k.geometry) (c.in-Err-Stopped-default.ensures.keeper_err ∙ ap (λ (f : OrderFault). keeper_after f c.args.keeper.now c.accept_edit.new.keeper.disk) c.in-Err-Stopped-default.field-0-0-is)
+
+pub returns-in-Err-Stopped-default-clause-count : goal.returns-in-Err-Stopped-default-clause-count
+returns-in-Err-Stopped-default-clause-count g c = ap (λ (k : KeeperState g.row.D.Denot). k.count) (c.in-Err-Stopped-default.ensures.keeper_err ∙ ap (λ (f : OrderFault). keeper_after f c.args.keeper.now c.accept_edit.new.keeper.disk) c.in-Err-Stopped-default.field-0-0-is)
+
+pub returns-in-Err-Stopped-default-clause-extent : goal.returns-in-Err-Stopped-default-clause-extent
+returns-in-Err-Stopped-default-clause-extent g c = c.in-Err-Stopped-default.ensures.extent
+
+pub returns-in-Err-Stopped-default-clause-honest : goal.returns-in-Err-Stopped-default-clause-honest
+returns-in-Err-Stopped-default-clause-honest g c = c.in-Err-Stopped-default.ensures.honest
+
+pub returns-in-Err-Stopped-default-clause-blocks : goal.returns-in-Err-Stopped-default-clause-blocks
+returns-in-Err-Stopped-default-clause-blocks g c = ap (λ (o : OrderState). length o.cache.states) c.failed-in-Err-Stopped-default.ensures.order ∙ c.in-Err-Stopped-default.ensures.blocks
+
+pub returns-in-Err-Stopped-default-clause-pass : goal.returns-in-Err-Stopped-default-clause-pass
+returns-in-Err-Stopped-default-clause-pass g c = refused_passes g.B.BoardName.opening c.args.request c.args.order.now.mark c.failed-in-Err-Stopped-default.result c.args.pass.now _ _ _ _ c.failed-in-Err-Stopped-default.ensures.answer (ap (λ (o : OrderState). o.mark) c.failed-in-Err-Stopped-default.ensures.order ∙ ap (λ (o : OrderState). o.mark) c.in-Err-Stopped-default.ensures.unchanged) c.in-Err-Stopped-default.ensures.pass_unchanged
+
+pub returns-in-Err-Stopped-default-clause-grown : goal.returns-in-Err-Stopped-default-clause-grown
+returns-in-Err-Stopped-default-clause-grown g c = not_grown _ _ (ap (λ (o : OrderState). o.mark) c.failed-in-Err-Stopped-default.ensures.order ∙ ap (λ (o : OrderState). o.mark) c.in-Err-Stopped-default.ensures.unchanged)
+
+pub returns-in-Err-NumbersFull-default-clause-asked : goal.returns-in-Err-NumbersFull-default-clause-asked
+returns-in-Err-NumbersFull-default-clause-asked g c =
+    let left = not_refused c.args.order.now (becomes (edit_asked c.args.request) (image_in c.args.order.now.cache)) c.requires.needs.accepted c.in-Err-NumbersFull-default.ensures.numbers.mark in
+    let full = c.in-Err-NumbersFull-default.ensures.numbers_full.0 c.in-Err-NumbersFull-default.field-0-0-is in
+    absurd (omega (arith, left.0, full.1))
+
+pub returns-in-Err-NoRoom-default-clause-asked : goal.returns-in-Err-NoRoom-default-clause-asked
+returns-in-Err-NoRoom-default-clause-asked g c =
+    let left = not_refused c.args.order.now (becomes (edit_asked c.args.request) (image_in c.args.order.now.cache)) c.requires.needs.accepted c.in-Err-NoRoom-default.ensures.numbers.mark in
+    let none = c.in-Err-NoRoom-default.ensures.no_room.0 c.in-Err-NoRoom-default.field-0-0-is in
+    absurd (true≢false (sym left.1 ∙ ap (λ (e : ByteEdit). has_room_for c.args.order.now (becomes e (image_in c.args.order.now.cache))) (sym c.split-edit.ensures.edit) ∙ none.2))
+
+pub returns-in-Err-Stopped-default-clause-asked : goal.returns-in-Err-Stopped-default-clause-asked
+returns-in-Err-Stopped-default-clause-asked g c = absurd (true≢false (sym (c.in-Err-Stopped-default.ensures.stopped.0 c.in-Err-Stopped-default.field-0-0-is) ∙ c.requires.works))

@@ -1,3 +1,9 @@
+use Rattle.std.proofs.Common.{refl}
+use Rattle.std.proofs.lemmas.Bool.{true≢false}
+use Rattle.order_book.specs.Edits.{NeedsDevice as NeedsOld}
+use Rattle.order_book.specs.Order.{OrderState}
+use Rattle.nbd_wire.specs.declared.error.Errno.TheVariants.{NoSpace}
+use Rattle.request_core.proofs.Passes.{not_grown, refused_passes}
 use Rattle.std.proofs.Common.{◌≡◌, ◌∙◌, inl, inr, ap, subst, sym, true, false, ℕ, Bool, arith}
 use Rattle.image_model.specs.Edit.{ByteEdit, IsEdit, becomes, edit_of}
 use Rattle.image_model.specs.Image.{Image}
@@ -103,3 +109,71 @@ returns-in-Err-NoMemory-default-clause-served g c =
         c.refused.ensures ∙ ap (λ (h : RequestHead). ready_for h.cookie (Refused NoMemory)) c.split-edit.ensures.head,
       )),
     )
+
+pub returns-then-needs_device-clause-needs : goal.returns-then-needs_device-clause-needs
+returns-then-needs_device-clause-needs g c = (λ e. subst (NeedsOld c.args.order.now) c.split-edit.ensures.edit (c.needs_device.ensures.0 c.if-needs_device.true), λ needs. refl)
+
+pub returns-then-needs_device-clause-handed_back : goal.returns-then-needs_device-clause-handed_back
+returns-then-needs_device-clause-handed_back g c = c.joined.ensures c.args.request (sym c.split-edit.ensures.head) (c.split-edit.ensures.whole ∙ ap handed_len (sym c.split-edit.ensures.head)) c.split-edit.ensures.edit
+
+pub returns-then-needs_device-clause-blocks : goal.returns-then-needs_device-clause-blocks
+returns-then-needs_device-clause-blocks g c = refl
+
+pub returns-then-needs_device-clause-unchanged : goal.returns-then-needs_device-clause-unchanged
+returns-then-needs_device-clause-unchanged g c = (refl, refl)
+
+pub returns-then-needs_device-clause-grown : goal.returns-then-needs_device-clause-grown
+returns-then-needs_device-clause-grown g c = not_grown _ _ refl
+
+pub returns-in-Ok-clause-needs : goal.returns-in-Ok-clause-needs
+returns-in-Ok-clause-needs g c = (λ e. absurd (true≢false (sym e)), λ needs. absurd (true≢false (sym (c.needs_device.ensures.1 (subst (NeedsOld c.args.order.now) (sym c.split-edit.ensures.edit) needs)) ∙ c.if-needs_device.false)))
+
+pub returns-in-Ok-clause-blocks : goal.returns-in-Ok-clause-blocks
+returns-in-Ok-clause-blocks g c = c.in-Ok.ensures.blocks
+
+pub returns-in-Err-NoRoom-default-clause-needs : goal.returns-in-Err-NoRoom-default-clause-needs
+returns-in-Err-NoRoom-default-clause-needs g c = (λ e. absurd (true≢false (sym e)), λ needs. absurd (true≢false (sym (c.needs_device.ensures.1 (subst (NeedsOld c.args.order.now) (sym c.split-edit.ensures.edit) needs)) ∙ c.if-needs_device.false)))
+
+pub returns-in-Err-NoRoom-default-clause-blocks : goal.returns-in-Err-NoRoom-default-clause-blocks
+returns-in-Err-NoRoom-default-clause-blocks g c = c.in-Err-NoRoom-default.ensures.blocks
+
+pub returns-in-Err-NoRoom-default-clause-pass : goal.returns-in-Err-NoRoom-default-clause-pass
+returns-in-Err-NoRoom-default-clause-pass g c = c.in-Err-NoRoom-default.ensures.pass_unchanged
+
+pub returns-in-Err-NoRoom-default-clause-grown : goal.returns-in-Err-NoRoom-default-clause-grown
+returns-in-Err-NoRoom-default-clause-grown g c = not_grown _ _ (ap (λ (o : OrderState). o.mark) c.in-Err-NoRoom-default.ensures.unchanged)
+
+pub returns-in-Err-NoMemory-default-clause-needs : goal.returns-in-Err-NoMemory-default-clause-needs
+returns-in-Err-NoMemory-default-clause-needs g c = (λ e. absurd (true≢false (sym e)), λ needs. absurd (true≢false (sym (c.needs_device.ensures.1 (subst (NeedsOld c.args.order.now) (sym c.split-edit.ensures.edit) needs)) ∙ c.if-needs_device.false)))
+
+pub returns-in-Err-NoMemory-default-clause-blocks : goal.returns-in-Err-NoMemory-default-clause-blocks
+returns-in-Err-NoMemory-default-clause-blocks g c = c.in-Err-NoMemory-default.ensures.blocks
+
+pub returns-in-Err-NoMemory-default-clause-pass : goal.returns-in-Err-NoMemory-default-clause-pass
+returns-in-Err-NoMemory-default-clause-pass g c = refused_passes g.B.BoardName.opening c.args.request c.args.order.now.mark c.refused.result c.args.pass.now _ _ _ _ c.refused.ensures (ap (λ (o : OrderState). o.mark) c.in-Err-NoMemory-default.ensures.unchanged) c.in-Err-NoMemory-default.ensures.pass_unchanged
+
+pub returns-in-Err-NoMemory-default-clause-grown : goal.returns-in-Err-NoMemory-default-clause-grown
+returns-in-Err-NoMemory-default-clause-grown g c = not_grown _ _ (ap (λ (o : OrderState). o.mark) c.in-Err-NoMemory-default.ensures.unchanged)
+
+pub returns-in-Err-NumbersFull-default-clause-needs : goal.returns-in-Err-NumbersFull-default-clause-needs
+returns-in-Err-NumbersFull-default-clause-needs g c = (λ e. absurd (true≢false (sym e)), λ needs. absurd (true≢false (sym (c.needs_device.ensures.1 (subst (NeedsOld c.args.order.now) (sym c.split-edit.ensures.edit) needs)) ∙ c.if-needs_device.false)))
+
+pub returns-in-Err-NumbersFull-default-clause-blocks : goal.returns-in-Err-NumbersFull-default-clause-blocks
+returns-in-Err-NumbersFull-default-clause-blocks g c = c.in-Err-NumbersFull-default.ensures.blocks
+
+pub returns-in-Err-NumbersFull-default-clause-pass : goal.returns-in-Err-NumbersFull-default-clause-pass
+returns-in-Err-NumbersFull-default-clause-pass g c = refused_passes g.B.BoardName.opening c.args.request c.args.order.now.mark c.refused-in-Err-NumbersFull-default.result c.args.pass.now _ _ _ _ c.refused-in-Err-NumbersFull-default.ensures (ap (λ (o : OrderState). o.mark) c.in-Err-NumbersFull-default.ensures.unchanged) c.in-Err-NumbersFull-default.ensures.pass_unchanged
+
+pub returns-in-Err-NumbersFull-default-clause-grown : goal.returns-in-Err-NumbersFull-default-clause-grown
+returns-in-Err-NumbersFull-default-clause-grown g c = not_grown _ _ (ap (λ (o : OrderState). o.mark) c.in-Err-NumbersFull-default.ensures.unchanged)
+
+pub returns-in-Err-NumbersFull-default-clause-served : goal.returns-in-Err-NumbersFull-default-clause-served
+returns-in-Err-NumbersFull-default-clause-served g c =
+    inl (
+      (c.in-Err-NumbersFull-default.ensures.numbers_full.0 c.in-Err-NumbersFull-default.field-0-0-is).1,
+      c.in-Err-NumbersFull-default.ensures.unchanged,
+      c.refused-in-Err-NumbersFull-default.ensures ∙ ap (λ (h : RequestHead). ready_for h.cookie (Refused NoSpace)) c.split-edit.ensures.head,
+    )
+
+pub returns-in-Err-clause-needs : goal.returns-in-Err-clause-needs
+returns-in-Err-clause-needs g c = (λ e. absurd (true≢false (sym e)), λ needs. absurd (true≢false (sym (c.needs_device.ensures.1 (subst (NeedsOld c.args.order.now) (sym c.split-edit.ensures.edit) needs)) ∙ c.if-needs_device.false)))
