@@ -93,14 +93,8 @@ returns-in_default-vec-clause-honest g c = (λ honest. honest, λ honest. honest
 pub returns-clause-honest : goal.returns-clause-honest
 returns-clause-honest g c = c.in-Ok-read_with.ensures.honest
 
-pub returns-in_default-read_with-clause-honest : goal.returns-in_default-read_with-clause-honest
-returns-in_default-read_with-clause-honest g c = c.in_default-read_with.ensures.honest
-
 pub returns-clause-extent : goal.returns-clause-extent
 returns-clause-extent g c = c.in-Ok-read_with.ensures.extent
-
-pub returns-in_default-read_with-clause-extent : goal.returns-in_default-read_with-clause-extent
-returns-in_default-read_with-clause-extent g c = c.in_default-read_with.ensures.extent
 
 pub returns-clause-count : goal.returns-clause-count
 returns-clause-count g c = ap (λ (k : KeeperState g.row.D.Denot). k.count) c.in-Ok-read_with.ensures.keeper_ok

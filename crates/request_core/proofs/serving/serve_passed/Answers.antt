@@ -1,13 +1,6 @@
-use Rattle.std.proofs.Common.{◌∙◌, ◌+◌, Bool, List, ap, inl, inr, length, refl, subst, sym}
-use Rattle.std.specs.Prelude.{MatchBool}
-use mathlib.Core.List.{IsPrefix}
-use Rattle.image_model.specs.Change.{Change}
-use Rattle.marks.specs.Known.{PassState}
-use Rattle.request_core.specs.Serving.{IsAcceptedFor, IsShownTo}
-use Rattle.request_core.specs.declared.serving.Served.TheVariants.{Wait}
-use Rattle.std.proofs.lemmas.Bool.{eq-eqb, false≢true}
+use Rattle.std.proofs.Common.{◌∙◌, ap, inl, inr, refl, subst, sym}
+use Rattle.std.proofs.lemmas.Bool.{false≢true}
 use Rattle.nbd_wire.specs.declared.head.RequestHead.{RequestHead}
-use Rattle.order_book.specs.Order.{OrderState}
 use Rattle.request_core.specs.Reading.{IsHeldReadServed, IsStatusServed}
 use Rattle.request_core.proofs.Needing.{lacks_blocks, lacks_given, neither_3, neither_7, not_read}
 use Rattle.request_core.proofs.Passes.{held_passes, not_grown, status_passes}
@@ -25,9 +18,6 @@ pub returns-in-7-clause-needs : goal.returns-in-7-clause-needs
 returns-in-7-clause-needs g c =
     (λ e. absurd (false≢true e), λ needs. absurd (neither_7 c.args.request c.args.order.now (sym (ap (λ (h : RequestHead). h.kind) c.head-head.ensures) ∙ c.in-7.is) needs.2))
 
-pub returns-in-3-clause-grown : goal.returns-in-3-clause-grown
-returns-in-3-clause-grown g c = not_grown _ _ (ap (λ (o : OrderState). o.mark) c.show_mark.ensures.same)
-
 pub returns-in-7-clause-grown : goal.returns-in-7-clause-grown
 returns-in-7-clause-grown g c = not_grown _ _ refl
 
@@ -37,42 +27,11 @@ returns-then-holds-clause-grown g c = not_grown _ _ refl
 pub returns-else-holds-clause-grown : goal.returns-else-holds-clause-grown
 returns-else-holds-clause-grown g c = not_grown _ _ refl
 
-pub returns-in_default-clause-grown : goal.returns-in_default-clause-grown
-returns-in_default-clause-grown g c = c.serve_held_edit.ensures.grown
-
-pub returns-in_default-clause-pass : goal.returns-in_default-clause-pass
-returns-in_default-clause-pass g c = c.serve_held_edit.ensures.pass
-
-pub returns-in_default-clause-unchanged : goal.returns-in_default-clause-unchanged
-returns-in_default-clause-unchanged g c = c.serve_held_edit.ensures.unchanged
-
-pub returns-in_default-clause-handed_back : goal.returns-in_default-clause-handed_back
-returns-in_default-clause-handed_back g c = c.serve_held_edit.ensures.handed_back
-
-pub returns-in_default-clause-blocks : goal.returns-in_default-clause-blocks
-returns-in_default-clause-blocks g c = c.serve_held_edit.ensures.blocks
-
 pub returns-in-7-clause-serves : goal.returns-in-7-clause-serves
 returns-in-7-clause-serves g c = inl (inr (inr (inl (c.requires.works, (sym (ap (λ (h : RequestHead). h.kind) c.head-head.ensures) ∙ c.in-7.is), refl, subst (λ (h : RequestHead). IsStatusServed h c.args.order.now c.serve_status.result) c.head-head.ensures c.serve_status.ensures))))
 
 pub returns-then-holds-clause-serves : goal.returns-then-holds-clause-serves
 returns-then-holds-clause-serves g c = inr (c.requires.works, (sym (ap (λ (h : RequestHead). h.kind) c.head-head.ensures) ∙ c.in-0.is), refl, subst (λ (h : RequestHead). IsHeldReadServed h c.args.order.now c.serve_held_read.result) c.head-head.ensures c.serve_held_read.ensures)
-
-pub returns-in-3-clause-serves : goal.returns-in-3-clause-serves
-returns-in-3-clause-serves g c = inl (inr (inl (c.requires.works, (eq-eqb c.args.request.head.kind 3 (sym (ap (λ (h : RequestHead). h.kind) c.head-head.ensures) ∙ c.in-3.is)), c.show_mark.ensures.same, ap Wait c.show_mark.ensures.mark)))
-
-pub returns-in-3-clause-pass : goal.returns-in-3-clause-pass
-returns-in-3-clause-pass g c =
-    let pass = c.args.pass.now in
-    let shown = c.show_mark.ensures in
-    let history = ap (λ (p : PassState). p.history) shown.pass in
-    subst (λ (b : Bool). MatchBool b (IsShownTo g.B.BoardName.opening c.show_mark.result pass c.show_mark.new.pass) (IsAcceptedFor g.B.BoardName.opening c.args.request c.show_mark.result pass c.show_mark.new.pass)) (sym (eq-eqb c.args.request.head.kind 3 (sym (ap (λ (h : RequestHead). h.kind) c.head-head.ensures) ∙ c.in-3.is)))
-    (record {
-      known_is = shown.known;
-      knew = subst (λ (h : List Change). IsPrefix pass.history h) (sym history) shown.knew;
-      place = shown.place ∙ ap (λ (h : List Change). g.B.BoardName.opening + length h) (sym history);
-      pass = shown.pass ∙ ap (λ (h : List Change). let p : PassState = record pass { history = h; accepted = c.show_mark.result } in p) (sym history);
-    })
 
 pub returns-then-holds-clause-needs : goal.returns-then-holds-clause-needs
 returns-then-holds-clause-needs g c = (
