@@ -11,6 +11,7 @@
 - Each wrong body, of crates/CRATE/must-fail/ and of wrong-bodies/CRATE/, changes texts that stand once in the crate's sources.
 - docs/DESIGN.md has the table of the crates that tools/crate-table makes of crates.txt, and docs/HEADLINE.md those of the definitions
   that tools/headline-definitions makes of the sources.
+- The files of crates that documents name are there.
 - Prose wraps at 100 columns.
 """
 import glob
@@ -195,6 +196,12 @@ def check_wrong_bodies():
     check("each wrong body is of a crate", [], [it for it in sorted(os.listdir(f"{TOP}/wrong-bodies")) if it not in crates])
 
 
+def check_files():
+    for path in documents():
+        named = re.findall(r"`(\w+/(?:src|specs|proofs)/[\w/]+\.(?:rt|antt))`", read(path))
+        check(f"the files of crates that {os.path.basename(path)} names are there", [], [it for it in named if not os.path.isfile(f"{TOP}/crates/{it}")])
+
+
 def check_columns():
     """Lines of prose and of lists; a table's row can't be broken, and a block of code has its own width."""
     for path in documents():
@@ -207,6 +214,7 @@ def main():
     check_refusals()
     check_design()
     check_headline()
+    check_files()
     check_columns()
     check_wrong_bodies()
     program = os.environ.get("NBDJ")

@@ -8,9 +8,9 @@ use Rattle.image_model.specs.declared.command.Edges.TheVariants.{Head, Tail, Bot
 use Rattle.image_model.specs.Change.{Change, Written, Cleared, Edged, AreChanges, IsChange, edge_count}
 use Rattle.order_book.specs.Order.{OrderState}
 use Rattle.order_book.specs.Pending.{most_body}
-use Rattle.request_core.specs.Bench.{ConnectionsState}
-use Rattle.request_core.specs.Parts.{IsOrderOf}
-use Rattle.request_core.specs.laws.Lives.{all_behind}
+use Rattle.export_steps.specs.Bench.{ConnectionsState}
+use Rattle.export_steps.specs.Parts.{IsOrderOf}
+use Rattle.request_core.specs.laws.Commands.{all_behind}
 use Rattle.export_model.specs.declared.connection.Connection.TheVariants.{Waiting}
 use Rattle.export_model.specs.declared.event.Event.{Event}
 use Rattle.export_model.specs.declared.event.Event.TheVariants.{Took, Held, Failed}

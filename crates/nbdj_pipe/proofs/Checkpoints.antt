@@ -21,9 +21,9 @@ use Rattle.nbd_wire.specs.Request.{Message}
 use Rattle.device_image.specs.Keeper.{KeeperState}
 use Rattle.disk_model.specs.Disk.{State}
 use Rattle.order_book.specs.Order.{OrderState}
-use Rattle.request_core.specs.Bench.{ConnectionsState}
-use Rattle.request_core.specs.Copies.{copied}
-use Rattle.request_core.specs.Life.{IsStepped, Leads, LeadsLaw, Trusts}
+use Rattle.export_steps.specs.Bench.{ConnectionsState}
+use Rattle.export_steps.specs.Copies.{copied}
+use Rattle.export_steps.specs.Life.{IsStepped, Leads, LeadsLaw, Trusts}
 use Rattle.export_model.specs.declared.connection.Connection.{Connection}
 use Rattle.export_model.specs.declared.event.Event.{Event}
 use Rattle.export_model.specs.declared.event.Event.TheVariants.{Took, Failed}

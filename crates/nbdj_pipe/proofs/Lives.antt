@@ -18,9 +18,9 @@ use Rattle.nbd_wire.specs.declared.message.Answer.TheVariants.{Refused}
 use Rattle.nbd_wire.specs.declared.message.SessionFlags.{SessionFlags}
 use Rattle.order_book.specs.Order.{OrderState, new_order}
 use Rattle.order_book.specs.Shown.{ShowsImage}
-use Rattle.request_core.specs.Bench.{ConnectionsState, new_connections}
-use Rattle.request_core.specs.Life.{LeadsLaw, Trusts, first_world}
-use Rattle.request_core.specs.Parts.{IsExportOf, StandsAfter}
+use Rattle.export_steps.specs.Bench.{ConnectionsState, new_connections}
+use Rattle.export_steps.specs.Life.{LeadsLaw, Trusts, first_world}
+use Rattle.export_steps.specs.Parts.{IsExportOf, StandsAfter}
 use Rattle.export_model.specs.Fits.{EditsFit, ReadsFit}
 use Rattle.export_model.specs.Log.{StandsAt}
 use Rattle.export_model.specs.Run.{IsReached, Fresh}

@@ -8,9 +8,9 @@ use Rattle.nbd_wire.specs.declared.message.Answer.{Answer}
 use Rattle.nbd_wire.specs.declared.error.WireFault.{WireFault}
 use Rattle.nbd_wire.specs.declared.error.WireFault.TheVariants.{NoMemory, Malformed}
 use Rattle.order_book.specs.Order.{OrderState}
-use Rattle.request_core.specs.Bench.{ConnectionsState}
-use Rattle.request_core.specs.Life.{LeadsLaw, Trusts}
-use Rattle.request_core.specs.Parts.{IsExportOf}
+use Rattle.export_steps.specs.Bench.{ConnectionsState}
+use Rattle.export_steps.specs.Life.{LeadsLaw, Trusts}
+use Rattle.export_steps.specs.Parts.{IsExportOf}
 use Rattle.export_model.specs.World.{World, Setting}
 use Rattle.export_model.specs.declared.connection.Connection.TheVariants.{Idle}
 use Rattle.export_model.specs.declared.event.Event.{Event}

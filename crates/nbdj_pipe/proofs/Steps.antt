@@ -17,9 +17,9 @@ use Rattle.image_model.specs.Change.{Change}
 use Rattle.image_model.specs.Edit.{becomes}
 use Rattle.image_model.specs.Image.{Image}
 use Rattle.order_book.specs.Order.{OrderState}
-use Rattle.request_core.specs.Bench.{ConnectionsState}
-use Rattle.request_core.specs.Life.{LeadsLaw, Trusts}
-use Rattle.request_core.specs.Parts.{IsExportOf}
+use Rattle.export_steps.specs.Bench.{ConnectionsState}
+use Rattle.export_steps.specs.Life.{LeadsLaw, Trusts}
+use Rattle.export_steps.specs.Parts.{IsExportOf}
 use Rattle.export_model.specs.declared.action.Action.{Action}
 use Rattle.export_model.specs.declared.action.Action.TheVariants.{End}
 use Rattle.export_model.specs.declared.connection.Connection.{Connection}

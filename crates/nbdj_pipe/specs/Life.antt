@@ -8,8 +8,8 @@ use Rattle.disk_model.specs.Faults.{HasRisen}
 use Rattle.nbd_wire.specs.Request.{Message}
 use Rattle.nbd_wire.specs.declared.error.Errno.TheVariants.{Io}
 use Rattle.nbd_wire.specs.declared.message.Answer.TheVariants.{Refused}
-use Rattle.request_core.specs.Life.{IsDurable}
-use Rattle.request_core.specs.Parts.{StandsAfter}
+use Rattle.export_steps.specs.Life.{IsDurable}
+use Rattle.export_steps.specs.Parts.{StandsAfter}
 use Rattle.export_model.specs.Fits.{EditsFit, ReadsFit}
 use Rattle.export_model.specs.Run.{IsRun}
 use Rattle.export_model.specs.World.{Setting, World, fresh}

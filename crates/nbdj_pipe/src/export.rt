@@ -9,8 +9,8 @@ ghost use Rattle.nbdj_pipe.specs.inner.Export.{AwaitsAnswer, CameTo, Follows, Ge
 ghost use Rattle.nbdj_pipe.specs.inner.Refusals.{IsOfExport};
 ghost use Rattle.nbdj_pipe.specs.Talk.{plain, spoken, verdict_on};
 ghost use Rattle.order_book.specs.Order.{IsInHand};
-ghost use Rattle.request_core.specs.Life.{Trusts};
-ghost use Rattle.request_core.specs.Parts.{IsExportOf};
+ghost use Rattle.export_steps.specs.Life.{Trusts};
+ghost use Rattle.export_steps.specs.Parts.{IsExportOf};
 ghost use Rattle.export_model.specs.Serve.{Failure};
 ghost use Rattle.export_model.specs.Step.{after_step};
 ghost use Rattle.export_model.specs.World.{World};
@@ -20,11 +20,11 @@ ghost use Rattle.export_model.specs.declared.event.Event.TheVariants as Event;
 use checkpoint::Keeper;
 use disk_model::Disk;
 use export_model_laws::schedule_law;
+use export_steps::{Connections, Event, Step, StepFault, copy_some, leads_law, take_step};
 use front_end::Refusal;
 use marks::{Board, BoardName, KeeperSeat};
 use nbd_wire::{Answer, DISCONNECT, Request};
 use order_book::Order;
-use request_core::{Connections, Event, Step, StepFault, copy_some, leads_law, take_step};
 use std::alloc::Global;
 
 // The most blocks that are copied at once: 1 MiB.

@@ -8,7 +8,7 @@ use Rattle.order_book.specs.Edits.{NeedsDevice}
 use Rattle.order_book.specs.Order.{OrderState}
 use Rattle.shared_cache.specs.Cache.{LacksBytes}
 use Rattle.export_model.specs.Log.{edit_asked, is_write}
-use Rattle.request_core.proofs.Serves.{write_others}
+use Rattle.request_core.specs.laws.Requests.{write_others}
 
 module _ (request : Message) (order : OrderState) where
   abbrev lacks : Type 0

@@ -1,8 +1,4 @@
-pub mod Bench
-pub mod Copies
-pub mod Life
 pub mod Outcomes
-pub mod Parts
 pub mod Reading
 pub mod Serving
 pub mod inner

@@ -87,16 +87,3 @@ IsPassServed opening request before after (served.Ready reply) old new = MatchBo
 IsPassServed opening request before after (served.Wait number) old new =
     MatchBool (is_flush request) (IsShownTo opening number old new) (IsAcceptedFor opening request number old new)
 IsPassServed opening request before after (served.NoRoom back) old new = new ≡ old
-
--- whether a connection has no request open
-abbrev pub is_idle : Connection → Bool
-is_idle Idle = true
-is_idle (Requested request) = false
-is_idle (Waiting number) = false
-is_idle (Ready outcome) = false
-is_idle Closed = false
-
--- the connections once one of them has sent a request, where it had none open
-abbrev pub sent_state : List Connection → ℕ → Message → List Connection
-sent_state old connection request =
-    if is_idle (slice_index_or old connection Closed) then slice_set old connection (Requested request) else old

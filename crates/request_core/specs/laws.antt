@@ -1,3 +1,2 @@
-pub mod Clean
-pub mod Lives
-pub mod Orders
+pub mod Commands
+pub mod Requests

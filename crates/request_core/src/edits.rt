@@ -3,7 +3,7 @@
 ghost use Rattle.std.specs.Prelude.{◌≡◌, ◌<◌, true, length};
 ghost use Rattle.image_model.specs.Edit.{edit_of};
 ghost use Rattle.nbd_wire.specs.Request.{Message, handed_len};
-ghost use Rattle.request_core.specs.inner.Serving.{IsHandedBack};
+ghost use Rattle.request_core.specs.inner.Edits.{IsHandedBack};
 ghost use Rattle.export_model.specs.Log.{cleared_as, edit_asked, is_write};
 
 use bitflags::Flags;

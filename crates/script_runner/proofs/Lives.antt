@@ -15,8 +15,8 @@ use Rattle.image_model.specs.Change.{Change}
 use Rattle.image_model.specs.Image.{Image}
 use Rattle.script_runner.specs.Life.{FindsNoMore, IsOpened}
 use Rattle.order_book.specs.Order.{OrderState}
-use Rattle.request_core.specs.Bench.{BenchState}
-use Rattle.request_core.specs.Parts.{IsWorldOf}
+use Rattle.export_steps.specs.Bench.{BenchState}
+use Rattle.export_steps.specs.Parts.{IsWorldOf}
 use Rattle.export_model.specs.World.{World}
 
 pub read_leaves : (extent : ℕ) (before after : State) → IsSound extent before → IsKept before after → (content : List ℕ) → MayLeave after content → MayLeave before content

@@ -6,8 +6,8 @@ use Rattle.device_image.specs.Stands.{StandsFor}
 use Rattle.disk_model.specs.Disk.{State, MayLeave}
 use Rattle.image_model.specs.Image.{Image}
 use Rattle.order_book.specs.Order.{OrderState}
-use Rattle.request_core.specs.Bench.{BenchState}
-use Rattle.request_core.specs.Parts.{IsWorldOf}
+use Rattle.export_steps.specs.Bench.{BenchState}
+use Rattle.export_steps.specs.Parts.{IsWorldOf}
 use Rattle.export_model.specs.World.{World}
 
 -- A life with these parts is one of this world, where the device keeps to the model.

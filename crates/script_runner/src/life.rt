@@ -13,8 +13,8 @@ ghost use Rattle.script_runner.specs.Life.{FindsNoMore, IsLifeOf, IsOpened};
 ghost use Rattle.script_runner.specs.inner.Life.{LeavesNoMore};
 ghost use Rattle.order_book.specs.Order.{IsInHand, new_order};
 ghost use Rattle.order_book.specs.Shown.{ShowsImage};
-ghost use Rattle.request_core.specs.Bench.{new_bench};
-ghost use Rattle.request_core.specs.Life.{IsRehearsed};
+ghost use Rattle.export_steps.specs.Bench.{new_bench};
+ghost use Rattle.export_steps.specs.Life.{IsRehearsed};
 ghost use Rattle.export_model.specs.World.{World};
 
 use crate::script_line::{CONNECTIONS, Clearing, Filling, Range, Setup};
@@ -22,6 +22,7 @@ use bitflags::Flags;
 use checkpoint::{Keeper, KeeperFault};
 use device_image::keeper_laws;
 use disk_model::{CallKind, Disk, SimDisk};
+use export_steps::{Bench, Event, Step, StepFault, fresh_parts_law, rehearse};
 use image_model::{BLOCK_BYTES, Kind};
 use marks::{BlankBoard, Board, BoardName, KeeperSeat, Opened};
 use nbd_wire::{
@@ -29,7 +30,7 @@ use nbd_wire::{
     SessionFlags, TRIM, WRITE, WRITE_ZEROES,
 };
 use order_book::Order;
-use request_core::{Bench, Event, Step, StepFault, fresh_order, fresh_parts_law, rehearse};
+use request_core::fresh_order;
 use std::alloc::{AllocError, Global};
 use std::slice;
 

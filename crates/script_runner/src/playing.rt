@@ -9,8 +9,8 @@ use crate::script_line::{Setup, StepLine};
 use crate::stepping::carry_out;
 use checkpoint::{Keeper, KeeperFault};
 use disk_model::{CallKind, Disk, SimDisk};
+use export_steps::{Event, StepFault};
 use marks::{BlankBoard, BoardName};
-use request_core::{Event, StepFault};
 use std::alloc::Global;
 use std::marker::Brand;
 

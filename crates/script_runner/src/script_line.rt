@@ -2,9 +2,9 @@ ghost use Rattle.std.specs.Prelude.{◌≡◌, ◌≤◌, ◌<◌, IfSome, Match
 ghost use Rattle.image_model.specs.declared.layout.Layout.TheVariants as Layout;
 
 use disk_model::{CallKind, CrashChoice};
+use export_steps::Mode;
 use front_end::{LEAST_FRAMES, MOST_FRAMES};
 use image_model::{BLOCK_BYTES, Geometry, Layout};
-use request_core::Mode;
 use std::alloc::{AllocError, Global};
 use std::str;
 

@@ -3,8 +3,8 @@ ghost use Rattle.std.specs.Prelude.{◌≡◌};
 use crate::life::{Life, Told, clear, flush, read, status, write};
 use crate::script_line::StepLine;
 use disk_model::{Disk, SimDisk};
+use export_steps::{Step, StepFault};
 use marks::BoardName;
-use request_core::{Step, StepFault};
 use std::alloc::{AllocError, Global};
 
 /// Carries out a line; a request that it sends has this cookie.

@@ -10,7 +10,7 @@ use Rattle.image_model.specs.Image.{Image, apply_all, touches}
 use Rattle.image_model.specs.declared.command.Kind.TheVariants.{Data}
 use Rattle.image_model.specs.laws.DirtyMaps.{get-dirty_blocks}
 use Rattle.order_book.specs.Reading.{IsCleanAt}
-use Rattle.request_core.specs.laws.Clean.{byte_stays, data_untouched, kind_stays}
+use Rattle.request_core.specs.laws.Commands.{byte_stays, data_untouched, kind_stays}
 
 none_both : {A : Type 0} (p : A → Bool) (xs ys : List A) → list_any p (xs ++ ys) ≡ false → (list_any p xs ≡ false) × (list_any p ys ≡ false)
 none_both p [] ys none = (refl, none)

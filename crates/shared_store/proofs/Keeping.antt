@@ -25,8 +25,7 @@ use Rattle.journal_format.specs.Reading.{IsOnlyRead}
 use Rattle.marks.specs.Known.{KeeperKnows}
 use Rattle.marks.specs.laws.Beginnings.{prefix_none, prefix_self, prefix_trans}
 use Rattle.order_book.specs.Order.{IsPublishedTo, OrderState}
-use Rattle.request_core.specs.laws.Lives.{apply_append}
-use Rattle.request_core.specs.laws.Orders.{commands_length}
+use Rattle.request_core.specs.laws.Commands.{apply_append, commands_length}
 use Rattle.regions.specs.Layout.{area_size}
 use Rattle.shared_store.specs.Keepers.{HasLeft, IsOfHistory, KeepsHistory, ends_of}
 use Rattle.shared_store.specs.Parts.{IsPartOf, IsSealed, SealedState, StandsWithin}

@@ -19,8 +19,7 @@ use Rattle.shared_store.specs.Keepers.{IsOfHistory}
 use Rattle.order_book.specs.Order.{OrderState, IsInHand, Seals, is_published, new_order, with_clean, with_command, with_durable, with_group}
 use Rattle.order_book.specs.Reading.{IsCleanAt}
 use Rattle.order_book.specs.Shown.{ShowsImage}
-use Rattle.request_core.specs.laws.Lives.{all_behind, all_both, all_front, apply_append}
-use Rattle.request_core.specs.laws.Orders.{commands_length}
+use Rattle.request_core.specs.laws.Commands.{all_behind, all_both, all_front, apply_append, commands_length}
 use Rattle.shared_store.specs.Orders.{IsOrderOfHistory, behind_noted, noted_base}
 use Rattle.shared_store.specs.Parts.{IsPartOf, IsSealed, SealedState}
 use Rattle.shared_store.proofs.CleanBlocks.{clean_behind}

@@ -1,7 +1,7 @@
 -- what a checkpoint that is carried to its end makes of the world of an export
 use Rattle.std.specs.Prelude.{ℕ, ◌≡◌, ◌≢◌, ◌-◌, ◌<◌, ◌≤◌, ◌⊎◌, ◌∷◌, ◌++◌, true, false, [], length, Result, Ok, Err}
 use Rattle.std.specs.FinMap.{len}
-use Rattle.request_core.specs.Copies.{copied}
+use Rattle.export_steps.specs.Copies.{copied}
 use Rattle.export_model.specs.declared.event.Event.{Event}
 use Rattle.export_model.specs.declared.event.Event.TheVariants.{Failed}
 use Rattle.export_model.specs.declared.event.StepFault.TheVariants as fault

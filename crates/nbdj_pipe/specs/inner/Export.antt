@@ -8,8 +8,8 @@ use Rattle.nbd_wire.specs.declared.head.RequestHead.{RequestHead}
 use Rattle.nbd_wire.specs.declared.message.Answer.{Answer}
 use Rattle.nbd_wire.specs.declared.message.Answer.TheVariants.{Done, Refused}
 use Rattle.order_book.specs.Order.{OrderState}
-use Rattle.request_core.specs.Bench.{ConnectionsState}
-use Rattle.request_core.specs.Life.{Leads}
+use Rattle.export_steps.specs.Bench.{ConnectionsState}
+use Rattle.export_steps.specs.Life.{Leads}
 use Rattle.export_model.specs.declared.action.Action.{Action}
 use Rattle.export_model.specs.declared.action.Action.TheVariants.{End}
 use Rattle.export_model.specs.declared.connection.Connection.{Connection}

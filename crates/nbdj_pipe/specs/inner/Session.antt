@@ -6,9 +6,9 @@ use Rattle.nbd_wire.specs.Request.{Message}
 use Rattle.nbd_wire.specs.Stream.{Reader}
 use Rattle.nbd_wire.specs.declared.message.Answer.{Answer}
 use Rattle.order_book.specs.Order.{OrderState}
-use Rattle.request_core.specs.Bench.{ConnectionsState}
-use Rattle.request_core.specs.Life.{Trusts}
-use Rattle.request_core.specs.Parts.{IsExportOf}
+use Rattle.export_steps.specs.Bench.{ConnectionsState}
+use Rattle.export_steps.specs.Life.{Trusts}
+use Rattle.export_steps.specs.Parts.{IsExportOf}
 use Rattle.export_model.specs.World.{World}
 use Rattle.export_model.specs.declared.connection.Connection.TheVariants.{Idle}
 use Rattle.nbdj_pipe.specs.Causes.{HasCause}

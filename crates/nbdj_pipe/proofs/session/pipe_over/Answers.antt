@@ -8,7 +8,7 @@ use Rattle.image_model.specs.Layout.{area_size_of}
 use Rattle.nbd_wire.specs.Request.{Message}
 use Rattle.order_book.specs.Order.{OrderState, new_order}
 use Rattle.order_book.specs.Shown.{ShowsImage}
-use Rattle.request_core.specs.Bench.{ConnectionsState}
+use Rattle.export_steps.specs.Bench.{ConnectionsState}
 use Rattle.nbdj_pipe.specs.Life.{IsLived}
 use Rattle.nbdj_pipe.specs.Pipe.{IsPiped}
 use Rattle.nbdj_pipe.specs.inner.Session.{Runs}

@@ -18,7 +18,8 @@ use Rattle.order_book.specs.laws.Edited.{room_shown}
 use Rattle.request_core.specs.Reading.{IsKnownBy}
 use Rattle.request_core.specs.Serving.{ready_for, served_after}
 use Rattle.request_core.proofs.Owned.{edit_refused, faults_apart, not_refused, room_over, taken_over, taken_passes}
-use Rattle.request_core.proofs.Serves.{edit_takes, waits_same, write_others}
+use Rattle.request_core.proofs.Writes.{edit_takes, waits_same}
+use Rattle.request_core.specs.laws.Requests.{write_others}
 use Rattle.request_core.proofs.serving.serve_edit.Goals as goal
 use Rattle.export_model.specs.Log.{edit_asked, waits_for_store}
 

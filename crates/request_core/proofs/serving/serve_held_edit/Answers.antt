@@ -19,7 +19,8 @@ use Rattle.order_book.specs.laws.Edited.{shows_in}
 use Rattle.request_core.specs.Serving.{ready_for, served_after}
 use Rattle.request_core.specs.declared.serving.Served.TheVariants.{NoRoom}
 use Rattle.request_core.proofs.Owned.{faults_apart, room_over, taken_over, taken_passes}
-use Rattle.request_core.proofs.Serves.{edit_takes, some_left, waits_same, write_others}
+use Rattle.request_core.proofs.Writes.{edit_takes, some_left, waits_same}
+use Rattle.request_core.specs.laws.Requests.{write_others}
 use Rattle.request_core.proofs.serving.serve_held_edit.Goals as goal
 use Rattle.export_model.specs.Log.{edit_asked, waits_for_store}
 

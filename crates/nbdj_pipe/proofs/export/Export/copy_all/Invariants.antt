@@ -2,8 +2,8 @@ use Rattle.std.proofs.Common.{◌≡◌, ◌↔◌, Bool}
 use Rattle.std.specs.Prelude.{IfSome}
 use Rattle.checkpoint.specs.Steps.{left_in}
 use Rattle.order_book.specs.Order.{IsInHand}
-use Rattle.request_core.specs.Life.{Trusts}
-use Rattle.request_core.specs.Parts.{IsExportOf}
+use Rattle.export_steps.specs.Life.{Trusts}
+use Rattle.export_steps.specs.Parts.{IsExportOf}
 use Rattle.export_model.specs.World.{World}
 use Rattle.nbdj_pipe.specs.inner.Checkpoint.{HasCopied}
 use Rattle.nbdj_pipe.specs.inner.Export.{Settles}

@@ -1,7 +1,7 @@
 use Rattle.std.proofs.Common.{◌≡◌, List, [], ◌∷◌, ap, sym, subst, refl, ◌∙◌}
 use Rattle.nbd_wire.specs.declared.head.RequestHead.{RequestHead}
-use Rattle.request_core.specs.Bench.{ConnectionsState}
-use Rattle.request_core.specs.Life.{Leads, Trusts}
+use Rattle.export_steps.specs.Bench.{ConnectionsState}
+use Rattle.export_steps.specs.Life.{Leads, Trusts}
 use Rattle.export_model.specs.declared.event.Event.{Event}
 use Rattle.export_model.specs.declared.event.Event.TheVariants.{Sent, Answered}
 use Rattle.export_model.specs.declared.step.Step.TheVariants.{Send}

@@ -1,7 +1,7 @@
 use Rattle.std.proofs.Common.{◌≡◌, Bool, IfSome, ◌↔◌}
 use Rattle.order_book.specs.Order.{IsInHand}
-use Rattle.request_core.specs.Life.{Trusts}
-use Rattle.request_core.specs.Parts.{IsExportOf}
+use Rattle.export_steps.specs.Life.{Trusts}
+use Rattle.export_steps.specs.Parts.{IsExportOf}
 use Rattle.export_model.specs.World.{World}
 use Rattle.nbdj_pipe.specs.inner.Export.{Settles}
 use Rattle.nbdj_pipe.proofs.Causes.{HasStored}

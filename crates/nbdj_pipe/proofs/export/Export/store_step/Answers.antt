@@ -1,5 +1,5 @@
 use Rattle.std.proofs.Common.{List, [], ◌∷◌, ap, sym, subst, ◌∙◌}
-use Rattle.request_core.specs.Life.{Trusts}
+use Rattle.export_steps.specs.Life.{Trusts}
 use Rattle.nbdj_pipe.specs.inner.Export.{Follows}
 use Rattle.nbdj_pipe.specs.Talk.{spoken}
 use Rattle.nbdj_pipe.proofs.Steps.{last_same, still_step}

@@ -1,6 +1,6 @@
 use Rattle.std.proofs.Common.{◌≡◌, inl, inr, ℕ, ◌++◌, List, [], ◌∷◌, ap, sym, subst, ◌∙◌}
 use Rattle.nbd_wire.specs.declared.message.Answer.{Answer}
-use Rattle.request_core.specs.Life.{Trusts}
+use Rattle.export_steps.specs.Life.{Trusts}
 use Rattle.export_model.specs.declared.connection.Connection.TheVariants.{Idle}
 use Rattle.export_model.specs.declared.event.Event.{Event}
 use Rattle.export_model.specs.declared.event.Event.TheVariants.{Answered, Held}

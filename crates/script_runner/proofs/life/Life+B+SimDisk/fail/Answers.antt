@@ -4,7 +4,7 @@ use Rattle.device_image.specs.Keeper.{KeeperState}
 use Rattle.disk_model.specs.FaultPlan.{armed}
 use Rattle.disk_model.specs.SimDisk.{plan_of, state_now, with_plan}
 use Rattle.disk_model.specs.declared.sim.SimDisk.{SimDisk}
-use Rattle.request_core.specs.Parts.{IsWorldOf}
+use Rattle.export_steps.specs.Parts.{IsWorldOf}
 use Rattle.script_runner.proofs.Lives.{life_with}
 use Rattle.script_runner.proofs.life.Life+B+SimDisk.fail.Goals as goal
 

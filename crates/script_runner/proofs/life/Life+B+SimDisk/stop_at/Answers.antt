@@ -3,7 +3,7 @@ use Rattle.std.proofs.Math.Logic.{∥∥₁_map}
 use Rattle.device_image.specs.Keeper.{KeeperState}
 use Rattle.disk_model.specs.SimDisk.{plan_of, state_now, with_plan}
 use Rattle.disk_model.specs.declared.sim.SimDisk.{SimDisk}
-use Rattle.request_core.specs.Parts.{IsWorldOf}
+use Rattle.export_steps.specs.Parts.{IsWorldOf}
 use Rattle.script_runner.proofs.Lives.{life_with}
 use Rattle.script_runner.proofs.life.Life+B+SimDisk.stop_at.Goals as goal
 

@@ -3,9 +3,9 @@ use Rattle.std.proofs.Math.Logic.{∥∥₁_map}
 use Rattle.nbd_wire.specs.declared.message.SessionFlags.{SessionFlags}
 use Rattle.order_book.specs.Order.{OrderState}
 use Rattle.order_book.specs.Shown.{ShowsImage}
-use Rattle.request_core.specs.Bench.{BenchState, new_bench}
-use Rattle.request_core.specs.Life.{first_world}
-use Rattle.request_core.specs.Parts.{IsWorldOf}
+use Rattle.export_steps.specs.Bench.{BenchState, new_bench}
+use Rattle.export_steps.specs.Life.{first_world}
+use Rattle.export_steps.specs.Parts.{IsWorldOf}
 use Rattle.script_runner.proofs.life.Life.begin.Goals as goal
 
 pub invariant_of-result : goal.invariant_of-result

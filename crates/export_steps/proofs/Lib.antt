@@ -1,0 +1,13 @@
+mod Appended
+mod Asked
+mod CheckpointSteps
+mod Copied
+mod Fresh
+mod Lifted
+mod Performed
+mod Runs
+mod Serves
+mod Steady
+mod Stored
+mod Talks
+mod Times

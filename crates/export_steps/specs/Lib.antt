@@ -1,0 +1,6 @@
+pub mod Bench
+pub mod Copies
+pub mod Life
+pub mod Parts
+pub mod inner
+pub mod laws

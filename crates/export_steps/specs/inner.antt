@@ -1,0 +1,4 @@
+pub mod Outcomes
+pub mod Serving
+pub mod Steps
+pub mod Storing
