@@ -1,18 +1,12 @@
 -- what serving a connection makes of the world
-use Rattle.std.proofs.Common.{◌≡◌, ◌⊎◌, inl, inr, ℕ, ◌+◌, ◌<◌, ◌<◌, ◌==◌, ◌&&◌, ◌↔◌, Bool, true, false, nat_le, if◌then◌else◌, Option, None, List, [], ◌∷◌, append-nil, length, bit_and, sym, ◌∙◌, ap, subst, refl, arith}
-use Rattle.std.proofs.lemmas.Bool.{both_ways, cases_eq, cases_Bool, eq-eqb, le-leb, le-ltb, lt-ltb, ne_eqb}
+use Rattle.std.proofs.Common.{◌≡◌, ◌⊎◌, inl, inr, ℕ, ◌+◌, ◌<◌, ◌<◌, ◌==◌, Bool, true, false, if◌then◌else◌, Option, None, List, [], ◌∷◌, append-nil, length, sym, ◌∙◌, ap, subst, refl, arith}
+use Rattle.std.proofs.lemmas.Bool.{cases_eq, eq-eqb, le-ltb, lt-ltb, ne_eqb}
 use Rattle.image_model.specs.declared.command.Command.{Command}
-use Rattle.image_model.specs.declared.geometry.Geometry.{Geometry}
-use Rattle.nbd_wire.specs.declared.head.RequestHead.{RequestHead}
-use Rattle.export_model.specs.declared.step.Mode.{Mode}
-use Rattle.export_model.specs.declared.step.Mode.TheVariants.{Writeback, Writethrough}
-use Rattle.export_model.specs.Verdict.{IsServedRange}
-use Rattle.image_model.specs.Change.{Change, IsChange, IsCleared, change_of}
-use Rattle.image_model.specs.Edit.{BytesPut, BytesTrimmed, BytesZeroed, IsEdit, becomes}
+use Rattle.image_model.specs.Change.{Change, IsChange, change_of}
+use Rattle.image_model.specs.Edit.{becomes}
 use Rattle.image_model.specs.Image.{Image}
-use Rattle.image_model.specs.declared.command.Kind.TheVariants.{Zero, Hole}
 use Rattle.journal_format.specs.Group.{Numbered}
-use Rattle.nbd_wire.specs.Request.{Message, data_len, handed_len, payload_limit}
+use Rattle.nbd_wire.specs.Request.{Message}
 use Rattle.nbd_wire.specs.declared.error.Errno.TheVariants.{NoSpace}
 use Rattle.order_book.specs.Order.{OrderState, has_room_for, with_command}
 use Rattle.export_steps.specs.Parts.{IsOrderOf}
@@ -25,7 +19,7 @@ use Rattle.export_model.specs.declared.connection.Connection.TheVariants.{Idle, 
 use Rattle.export_model.specs.declared.event.Event.{Event}
 use Rattle.export_model.specs.declared.event.Event.TheVariants.{Numbered as numbered, Held}
 use Rattle.nbd_wire.specs.declared.message.Answer.TheVariants.{Refused}
-use Rattle.export_model.specs.Log.{cleared_as, edit_asked, is_write_type, waits_for_store}
+use Rattle.export_model.specs.Log.{edit_asked, waits_for_store}
 use Rattle.export_model.specs.Serve.{Failure, logged, held, moved, ready, accepted, numbered as got_number, write_served, state_after}
 use Rattle.export_model.specs.World.{World, put, last_number, has_room, Stage}
 use Rattle.export_model_laws.specs.Law.{IsWithin}

@@ -1,5 +1,5 @@
 -- what serving and answering a connection do
-use Rattle.std.specs.Prelude.{ℕ, ◌≡◌, ◌+◌, ◌<◌, ◌≤◌, ◌⊎◌, MatchBool, slice_index_or, slice_set, Bool, true, false, nat_lt, if◌then◌else◌, Some, List, [], ◌∷◌, ◌++◌, length}
+use Rattle.std.specs.Prelude.{ℕ, ◌≡◌, ◌+◌, ◌<◌, ◌≤◌, ◌⊎◌, MatchBool, Bool, true, false, nat_lt, Some, List, [], ◌∷◌, ◌++◌, length}
 use mathlib.Core.List.{IsPrefix}
 use Rattle.image_model.specs.Change.{Change, IsChange, change_of}
 use Rattle.image_model.specs.Edit.{becomes}
@@ -14,8 +14,6 @@ use Rattle.order_book.specs.Shown.{ShowsImage}
 use Rattle.request_core.specs.declared.serving.Served.{Served}
 use Rattle.request_core.specs.declared.serving.Served.TheVariants as served
 use Rattle.export_model.specs.Log.{edit_asked, is_flush, waits_for_store}
-use Rattle.export_model.specs.declared.connection.Connection.{Connection}
-use Rattle.export_model.specs.declared.connection.Connection.TheVariants.{Idle, Requested, Waiting, Ready, Closed}
 use Rattle.nbd_wire.specs.declared.message.Answer.{Answer}
 use Rattle.nbd_wire.specs.declared.message.Answer.TheVariants.{Done, Refused}
 use Rattle.export_model.specs.declared.step.Mode.{Mode}

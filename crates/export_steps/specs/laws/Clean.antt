@@ -1,19 +1,15 @@
 -- blocks of an image that are data and not dirty: the base has them as they are
-use Rattle.std.proofs.Common.{◌≡◌, ◌⊎◌, ℕ, Option, zero, suc, ◌+◌, ◌-◌, ◌*◌, ◌<◌, ◌≤◌, ◌||◌, inl, inr, Bool, true, false, if◌then◌else◌, Some, None, List, [], ◌∷◌, drop, take, length, sym, ◌∙◌, ap, subst, refl, arith}
+use Rattle.std.proofs.Common.{◌≡◌, ℕ, zero, suc, ◌+◌, ◌-◌, ◌*◌, ◌≤◌, ◌||◌, false, None, List, [], ◌∷◌, drop, take, length, sym, ◌∙◌, ap, subst, refl, arith}
 use Rattle.std.specs.FinMap.{get}
 use Rattle.std.specs.List.{list_any}
-use Rattle.std.specs.Option.{is_some}
-use Rattle.std.proofs.lemmas.Bool.{both_ways, cases_Bool, or_parts}
+use Rattle.std.proofs.lemmas.Bool.{or_parts}
 use Rattle.std.proofs.lemmas.List.{drop-drop, take-append-drop, take_all}
 use Rattle.device_image.specs.Holds.{joined}
 use Rattle.device_image.specs.laws.Written.{untouched_unwritten}
-use Rattle.image_model.specs.Change.{AreChanges, Change, Cleared, Edged, IsChange, IsCleared, Written}
-use Rattle.image_model.specs.Dirty.{last_write}
-use Rattle.image_model.specs.Image.{Image, apply, apply_all, kind_given, kind_in, slot, touches, writes}
-use Rattle.image_model.specs.declared.command.Kind.{Kind}
-use Rattle.image_model.specs.declared.command.Kind.TheVariants.{Data, Zero, Hole}
+use Rattle.image_model.specs.Change.{AreChanges, Change, IsChange}
+use Rattle.image_model.specs.Image.{Image, apply_all, touches}
+use Rattle.image_model.specs.declared.command.Kind.TheVariants.{Data}
 use Rattle.image_model.specs.laws.DirtyMaps.{get-dirty_blocks}
-use Rattle.image_model.specs.laws.Slots.{byte-apply, untouched_byte}
 use Rattle.order_book.specs.Reading.{IsCleanAt}
 use Rattle.export_steps.specs.Parts.{first_commands, fronts_at, part, turned_at}
 use Rattle.export_steps.specs.laws.Lives.{IsOrdered, joined_at, take_part}

@@ -7,7 +7,7 @@ use Rattle.device_image.specs.Keeps.{Keeps}
 use Rattle.device_image.specs.Stands.{StandsFor}
 use Rattle.disk_model.specs.Disk.{State}
 use Rattle.image_model.specs.Change.{Change, AreChanges, change_of}
-use Rattle.image_model.specs.Image.{Image, apply, apply_all}
+use Rattle.image_model.specs.Image.{Image, apply_all}
 use Rattle.image_model.specs.declared.geometry.Geometry.{Geometry}
 use Rattle.journal_format.specs.Group.{Numbered}
 use Rattle.order_book.specs.Order.{OrderState}
