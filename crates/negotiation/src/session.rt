@@ -18,7 +18,6 @@ use std::mem;
 
 /// One connection as the server sees it, from its first byte on: the handshake, and the requests behind it. What the
 /// client sent may come in any pieces.
-#[derive(Drop)]
 pub struct Session {
     alloc: Global,
     size: u64,
@@ -34,6 +33,18 @@ impl Model for Session {
     ghost view = { λ session. record { size = session.size; agreed = session.agreed; standing = standing_of session.stage } };
 
     ghost invariant = { λ session. IsStage session.stage };
+}
+
+// Written out, it is proved once, and not again in each function that lets a session go.
+impl Drop for Session {
+    fn drop(self) {
+        let Session {
+            alloc: _,
+            size: _,
+            agreed: _,
+            stage: _,
+        } = self;
+    }
 }
 
 impl Session {
