@@ -1,6 +1,7 @@
 //! The program `nbdj`: the command line, files and streams round the plans of `subcommands`.
 #![tactic(auto)]
 
+ghost use Rattle.std.specs.Prelude.{ℕ};
 ghost use Rattle.subcommands.specs.Plan.{Suits};
 
 mod beside;
@@ -17,6 +18,7 @@ use front_end::{Course, Invocation, Plan, Refusal};
 use image_files::{
     ClosedStreams, FileFault, Opened, ToldFile, fill, open, open_for_reading, open_fresh, try_fresh,
 };
+use image_model::Geometry;
 use nbdj_sweep::{faults, sweep};
 use script_runner::script;
 use std::fs::File;
@@ -73,16 +75,7 @@ where
             path,
             geometry,
             preallocates,
-        } => match open_fresh(rt, path, geometry.device_bytes()) {
-            Ok((file, size)) => {
-                let file = ToldFile::new(rt, file, path, invocation.is_verbose);
-                if preallocates && fill(rt, &file, size).is_err() {
-                    return exit_status(Err(Refusal::DeviceFault), &mut rt.stderr());
-                }
-                run_on(rt, &invocation.plan, FileDisk::new(file, size))
-            }
-            Err(fault) => no_file(rt, teller, path, fault),
-        },
+        } => format(rt, teller, path, geometry, preallocates),
         Plan::Serve {
             path,
             address,
@@ -96,26 +89,66 @@ where
             Err(fault) => no_file(rt, teller, path, fault),
         },
         Plan::Pipe { path, .. } | Plan::Recover { path } | Plan::Upgrade { path } => {
-            match open(rt, path) {
-                Ok(opened) => {
-                    let disk = disk_of(rt, teller, opened, path, invocation.is_verbose);
-                    run_on(rt, &invocation.plan, disk)
-                }
-                Err(fault) => no_file(rt, teller, path, fault),
-            }
+            run_opened(rt, teller, &invocation.plan, path, open(rt, path))
         }
-        Plan::Check { path } => match open_for_reading(rt, path) {
-            Ok(opened) => {
-                let disk = disk_of(rt, teller, opened, path, invocation.is_verbose);
-                run_on(rt, &invocation.plan, disk)
-            }
-            Err(fault) => no_file(rt, teller, path, fault),
-        },
+        Plan::Check { path } => {
+            run_opened(
+                rt,
+                teller,
+                &invocation.plan,
+                path,
+                open_for_reading(rt, path),
+            )
+        }
         Plan::Rehearse { course } => run_script(rt, course),
         Plan::Refuse { path, refusal } => match try_fresh(rt, path) {
             Ok(()) => exit_status(Err(refusal), &mut rt.stderr()),
             Err(fault) => no_file(rt, teller, path, fault),
         },
+    }
+}
+
+// Makes an image of a file, all of which is written before where it preallocates.
+fn format(
+    rt: &HostRuntime,
+    teller: Teller,
+    path: &str,
+    geometry: Geometry,
+    preallocates: bool,
+) -> u8 {
+    match open_fresh(rt, path, geometry.device_bytes()) {
+        Ok((file, size)) => {
+            let file = ToldFile::new(rt, file, path, teller.is_verbose());
+            if preallocates && fill(rt, &file, size).is_err() {
+                return exit_status(Err(Refusal::DeviceFault), &mut rt.stderr());
+            }
+            let plan = Plan::Format {
+                path,
+                geometry,
+                preallocates,
+            };
+            run_on(rt, &plan, FileDisk::new(file, size))
+        }
+        Err(fault) => no_file(rt, teller, path, fault),
+    }
+}
+
+// Carries out the plan on the file of a device, where it was opened.
+fn run_opened(
+    rt: &HostRuntime,
+    teller: Teller,
+    plan: &Plan<'_>,
+    path: &str,
+    found: Result<Opened, FileFault>,
+) -> u8
+    requires { (extent : ℕ) → Suits plan.now extent }
+{
+    match found {
+        Ok(opened) => {
+            let disk = disk_of(rt, teller, opened, path, teller.is_verbose());
+            run_on(rt, plan, disk)
+        }
+        Err(fault) => no_file(rt, teller, path, fault),
     }
 }
 
