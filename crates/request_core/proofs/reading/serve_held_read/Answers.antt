@@ -1,4 +1,4 @@
-use Rattle.std.proofs.Common.{◌≡◌, ◌≢◌, ◌+◌, ◌-◌, ◌*◌, ◌/◌, ◌%◌, ℕ, inr, List, drop, take, get_or, length, None, Some, sym, ◌∙◌, ap, refl, arith}
+use Rattle.std.proofs.Common.{◌≡◌, ◌≢◌, ◌+◌, ◌-◌, ◌*◌, ◌/◌, ◌%◌, ℕ, inr, List, drop, take, get_or, length, None, Some, sym, ◌∙◌, ap, refl, arith, inl, rules}
 use Rattle.alloc_map.specs.Codes.{state_at}
 use Rattle.image_model.specs.Edit.{blocks_met}
 use Rattle.image_model.specs.Image.{Image}
@@ -49,3 +49,68 @@ returns g c =
           ∙ ap image.byte (let same : 4096 * ((head.offset + k) / 4096) + (head.offset + k) % 4096 ≡ head.offset + k = omega arith in same);
       answer = ap (λ (a : Answer). ready_for head.cookie a) answer_is;
     })
+
+pub read_runs-requires-clause-some : goal.read_runs-requires-clause-some
+read_runs-requires-clause-some g c = c.requires.some
+
+pub read_runs-requires-clause-most : goal.read_runs-requires-clause-most
+read_runs-requires-clause-most g c = c.requires.most
+
+pub read_runs-requires-clause-few : goal.read_runs-requires-clause-few
+read_runs-requires-clause-few g c = c.requires.few
+
+pub read_runs-requires-clause-inside : goal.read_runs-requires-clause-inside
+read_runs-requires-clause-inside g c = c.requires.inside
+
+pub returns-in_default : goal.returns-in_default
+returns-in_default g c = inl c.refused.ensures
+
+pub returns-in_default-vec : goal.returns-in_default-vec
+returns-in_default-vec g c = inl c.refused-in_default-vec.ensures
+
+pub of-blocks-requires : goal.of-blocks-requires
+of-blocks-requires g c = search rules
+
+pub bytes-requires : goal.bytes-requires
+bytes-requires g c = search rules
+
+pub read_held-requires-clause-whole : goal.read_held-requires-clause-whole
+read_held-requires-clause-whole g c = search rules
+
+pub read_held-requires-clause-range : goal.read_held-requires-clause-range
+read_held-requires-clause-range g c = search rules
+
+pub read_held-requires-clause-held : goal.read_held-requires-clause-held
+read_held-requires-clause-held g c = search rules
+
+pub cut-requires : goal.cut-requires
+cut-requires g c = search rules
+
+pub bytes_answer-requires-clause-kind : goal.bytes_answer-requires-clause-kind
+bytes_answer-requires-clause-kind g c = c.requires.kind
+
+pub bytes_answer-requires-clause-some : goal.bytes_answer-requires-clause-some
+bytes_answer-requires-clause-some g c = c.requires.some
+
+pub bytes_answer-requires-clause-most : goal.bytes_answer-requires-clause-most
+bytes_answer-requires-clause-most g c = c.requires.most
+
+pub bytes_answer-requires-clause-few : goal.bytes_answer-requires-clause-few
+bytes_answer-requires-clause-few g c = c.requires.few
+
+pub bytes_answer-requires-clause-inside : goal.bytes_answer-requires-clause-inside
+bytes_answer-requires-clause-inside g c = c.requires.inside
+
+pub bytes_answer-requires-clause-runs : goal.bytes_answer-requires-clause-runs
+bytes_answer-requires-clause-runs g c = search rules
+
+pub bytes_answer-requires-clause-size : goal.bytes_answer-requires-clause-size
+bytes_answer-requires-clause-size g c =
+    let head = c.args.head.now in
+    let into = c.read_held.new.into in
+    let items = c.cut.new.bytes.items in
+    let read = c.read_held.ensures in
+    let size : length into ≡ c.in-Ok-vec.bytes.len = read.size ∙ ap length c.deref_mut.ensures.value ∙ sym c.in-Ok-vec.bytes.ok.0 in
+    let long : length into ≡ 4096 * blocks_met head.offset head.length = size ∙ c.in-Ok-vec.ensures.len ∙ c.bytes.ensures ∙ ap (λ (n : ℕ). 4096 * n) c.of-blocks.ensures.count in
+    let part : items ≡ take head.length (drop (head.offset % 4096) into) = c.cut.ensures ∙ ap (λ (l : List ℕ). take head.length (drop (head.offset % 4096) l)) (whole c.in-Ok-vec.bytes.len into c.in-Ok-vec.bytes.items size) in
+    c.cut.new.bytes.ok.0 ∙ part_size head.offset head.length into items part long

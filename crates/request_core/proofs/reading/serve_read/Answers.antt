@@ -1,11 +1,12 @@
 use Rattle.device_image.specs.Keeper.{KeeperState}
-use Rattle.std.proofs.Common.{◌≡◌, ◌≢◌, ◌+◌, ◌-◌, ◌*◌, ◌/◌, ◌%◌, ℕ, false, inl, inr, List, drop, take, get_or, length, None, Some, sym, ◌∙◌, ap, refl, arith}
+use Rattle.std.proofs.Common.{◌≡◌, ◌≢◌, ◌+◌, ◌-◌, ◌*◌, ◌/◌, ◌%◌, ℕ, false, inl, inr, List, drop, take, get_or, length, None, Some, sym, ◌∙◌, ap, refl, arith, rules}
 use Rattle.alloc_map.specs.Codes.{state_at}
 use Rattle.device_image.specs.Holds.{is_written, joined}
 use Rattle.image_model.specs.Edit.{blocks_met}
 use Rattle.image_model.specs.Image.{Image}
 use Rattle.image_model.specs.declared.command.Kind.{Kind}
 use Rattle.image_model.specs.declared.command.Kind.TheVariants.{Data}
+use Rattle.export_model.specs.Shown.{cut_to, read_status_of, runs_met}
 use Rattle.nbd_wire.specs.declared.message.Answer.{Answer}
 use Rattle.request_core.specs.Serving.{ready_for}
 use Rattle.request_core.proofs.InMemory.{lacks_at, part_holds, part_size, part_zero, whole}
@@ -98,3 +99,94 @@ returns-clause-extent g c = c.in-Ok-read_with.ensures.extent
 
 pub returns-clause-count : goal.returns-clause-count
 returns-clause-count g c = ap (λ (k : KeeperState g.row.D.Denot). k.count) c.in-Ok-read_with.ensures.keeper_ok
+
+pub read_runs-requires-clause-some : goal.read_runs-requires-clause-some
+read_runs-requires-clause-some g c = c.requires.some
+
+pub read_runs-requires-clause-most : goal.read_runs-requires-clause-most
+read_runs-requires-clause-most g c = c.requires.most
+
+pub read_runs-requires-clause-few : goal.read_runs-requires-clause-few
+read_runs-requires-clause-few g c = c.requires.few
+
+pub read_runs-requires-clause-inside : goal.read_runs-requires-clause-inside
+read_runs-requires-clause-inside g c = c.requires.inside
+
+pub returns-in_default-clause-count : goal.returns-in_default-clause-count
+returns-in_default-clause-count g c = refl
+
+pub returns-in_default-clause-extent : goal.returns-in_default-clause-extent
+returns-in_default-clause-extent g c = refl
+
+pub returns-in_default-vec-clause-count : goal.returns-in_default-vec-clause-count
+returns-in_default-vec-clause-count g c = refl
+
+pub returns-in_default-vec-clause-extent : goal.returns-in_default-vec-clause-extent
+returns-in_default-vec-clause-extent g c = refl
+
+pub of-blocks-requires : goal.of-blocks-requires
+of-blocks-requires g c = search rules
+
+pub bytes-requires : goal.bytes-requires
+bytes-requires g c = search rules
+
+pub read_with-requires-clause-whole : goal.read_with-requires-clause-whole
+read_with-requires-clause-whole g c = search rules
+
+pub read_with-requires-clause-range : goal.read_with-requires-clause-range
+read_with-requires-clause-range g c = search rules
+
+pub read_with-requires-clause-device : goal.read_with-requires-clause-device
+read_with-requires-clause-device g c = search rules
+
+pub returns-in_default-read_with-clause-read : goal.returns-in_default-read_with-clause-read
+returns-in_default-read_with-clause-read g c = search rules
+
+pub returns-in_default-read_with-clause-hit : goal.returns-in_default-read_with-clause-hit
+returns-in_default-read_with-clause-hit g c = search rules
+
+pub returns-in_default-read_with-clause-count : goal.returns-in_default-read_with-clause-count
+returns-in_default-read_with-clause-count g c = search rules
+
+pub returns-in_default-read_with-clause-extent : goal.returns-in_default-read_with-clause-extent
+returns-in_default-read_with-clause-extent g c = c.in_default-read_with.ensures.extent
+
+pub returns-in_default-read_with-clause-honest : goal.returns-in_default-read_with-clause-honest
+returns-in_default-read_with-clause-honest g c = c.in_default-read_with.ensures.honest
+
+pub cut-requires : goal.cut-requires
+cut-requires g c = search rules
+
+pub bytes_answer-requires-clause-kind : goal.bytes_answer-requires-clause-kind
+bytes_answer-requires-clause-kind g c = c.requires.kind
+
+pub bytes_answer-requires-clause-some : goal.bytes_answer-requires-clause-some
+bytes_answer-requires-clause-some g c = c.requires.some
+
+pub bytes_answer-requires-clause-most : goal.bytes_answer-requires-clause-most
+bytes_answer-requires-clause-most g c = c.requires.most
+
+pub bytes_answer-requires-clause-few : goal.bytes_answer-requires-clause-few
+bytes_answer-requires-clause-few g c = search rules
+
+pub bytes_answer-requires-clause-inside : goal.bytes_answer-requires-clause-inside
+bytes_answer-requires-clause-inside g c = search rules
+
+pub returns-clause-hit : goal.returns-clause-hit
+returns-clause-hit g c = search rules
+
+pub bytes_answer-requires-clause-size : goal.bytes_answer-requires-clause-size
+bytes_answer-requires-clause-size g c =
+    let head = c.args.head.now in
+    let into = c.read_with.new.into in
+    let items = c.cut.new.bytes.items in
+    let read = c.in-Ok-read_with.ensures in
+    let size : length into ≡ c.in-Ok-vec.bytes.len = read.size ∙ ap length c.deref_mut.ensures.value ∙ sym c.in-Ok-vec.bytes.ok.0 in
+    let long : length into ≡ 4096 * blocks_met head.offset head.length = size ∙ c.in-Ok-vec.ensures.len ∙ c.bytes.ensures ∙ ap (λ (n : ℕ). 4096 * n) c.of-blocks.ensures.count in
+    let part : items ≡ take head.length (drop (head.offset % 4096) into) = c.cut.ensures ∙ ap (λ (l : List ℕ). take head.length (drop (head.offset % 4096) l)) (whole c.in-Ok-vec.bytes.len into c.in-Ok-vec.bytes.items size) in
+    c.cut.new.bytes.ok.0 ∙ part_size head.offset head.length into items part long
+
+pub bytes_answer-requires-clause-runs : goal.bytes_answer-requires-clause-runs
+bytes_answer-requires-clause-runs g c =
+    let head = c.args.head.now in
+    c.in-Ok.ensures ∙ ap (λ (states : List Kind). cut_to head.offset head.length (runs_met (λ block. read_status_of (state_at states block)) head.offset head.length)) (sym c.in-Ok-read_with.ensures.view.states)

@@ -1,4 +1,4 @@
-use Rattle.std.proofs.Common.{◌≡◌, ◌+◌, ◌-◌, ◌*◌, ◌/◌, ◌%◌, ℕ, inr, List, drop, take, get_or, length, None, Some, sym, ◌∙◌, ap, subst, refl, arith}
+use Rattle.std.proofs.Common.{◌≡◌, ◌+◌, ◌-◌, ◌*◌, ◌/◌, ◌%◌, ℕ, inr, List, drop, take, get_or, length, None, Some, sym, ◌∙◌, ap, subst, refl, arith, rules}
 use Rattle.alloc_map.specs.Codes.{state_at}
 use Rattle.image_model.specs.Edit.{blocks_met}
 use Rattle.image_model.specs.Image.{Image}
@@ -67,3 +67,131 @@ returns-clause-read g c =
       order = read.new;
       states = states;
     })
+
+pub returns-then-stopped-clause-read : goal.returns-then-stopped-clause-read
+returns-then-stopped-clause-read g c = search rules
+
+pub returns-then-stopped-clause-stopped : goal.returns-then-stopped-clause-stopped
+returns-then-stopped-clause-stopped g c = search rules
+
+pub returns-then-stopped-clause-back : goal.returns-then-stopped-clause-back
+returns-then-stopped-clause-back g c = search rules
+
+pub returns-in_default-clause-read : goal.returns-in_default-clause-read
+returns-in_default-clause-read g c = search rules
+
+pub returns-in_default-clause-stopped : goal.returns-in_default-clause-stopped
+returns-in_default-clause-stopped g c = search rules
+
+pub returns-in_default-clause-back : goal.returns-in_default-clause-back
+returns-in_default-clause-back g c = search rules
+
+pub read_over-requires-clause-whole : goal.read_over-requires-clause-whole
+read_over-requires-clause-whole g c = search rules
+
+pub read_over-requires-clause-range : goal.read_over-requires-clause-range
+read_over-requires-clause-range g c = search rules
+
+pub read_over-requires-clause-end : goal.read_over-requires-clause-end
+read_over-requires-clause-end g c = search rules
+
+pub returns-then-not-read_over-clause-read : goal.returns-then-not-read_over-clause-read
+returns-then-not-read_over-clause-read g c = search rules
+
+pub returns-then-not-read_over-clause-stopped : goal.returns-then-not-read_over-clause-stopped
+returns-then-not-read_over-clause-stopped g c = search rules
+
+pub returns-then-not-read_over-clause-size : goal.returns-then-not-read_over-clause-size
+returns-then-not-read_over-clause-size g c = search rules
+
+pub returns-then-not-read_over-clause-unchanged : goal.returns-then-not-read_over-clause-unchanged
+returns-then-not-read_over-clause-unchanged g c = search rules
+
+pub returns-then-not-read_over-clause-blocks : goal.returns-then-not-read_over-clause-blocks
+returns-then-not-read_over-clause-blocks g c = search rules
+
+pub returns-then-not-read_over-clause-back : goal.returns-then-not-read_over-clause-back
+returns-then-not-read_over-clause-back g c = search rules
+
+pub cut-requires : goal.cut-requires
+cut-requires g c = search rules
+
+pub bytes_answer-requires-clause-few : goal.bytes_answer-requires-clause-few
+bytes_answer-requires-clause-few g c = search rules
+
+pub bytes_answer-requires-clause-inside : goal.bytes_answer-requires-clause-inside
+bytes_answer-requires-clause-inside g c = search rules
+
+pub bytes_answer-requires-clause-runs : goal.bytes_answer-requires-clause-runs
+bytes_answer-requires-clause-runs g c = search rules
+
+pub returns-clause-blocks : goal.returns-clause-blocks
+returns-clause-blocks g c = search rules
+
+pub returns-clause-stopped : goal.returns-clause-stopped
+returns-clause-stopped g c = search rules
+
+pub returns-clause-back : goal.returns-clause-back
+returns-clause-back g c = search rules
+
+pub read_runs-requires-clause-some : goal.read_runs-requires-clause-some
+read_runs-requires-clause-some g c = search rules
+
+pub read_runs-requires-clause-most : goal.read_runs-requires-clause-most
+read_runs-requires-clause-most g c = search rules
+
+pub read_runs-requires-clause-few : goal.read_runs-requires-clause-few
+read_runs-requires-clause-few g c = search rules
+
+pub read_runs-requires-clause-inside : goal.read_runs-requires-clause-inside
+read_runs-requires-clause-inside g c = search rules
+
+pub bytes_answer-requires-clause-some : goal.bytes_answer-requires-clause-some
+bytes_answer-requires-clause-some g c = search rules
+
+pub bytes_answer-requires-clause-most : goal.bytes_answer-requires-clause-most
+bytes_answer-requires-clause-most g c = search rules
+
+pub read_over-requires-clause-some : goal.read_over-requires-clause-some
+read_over-requires-clause-some g c = search rules
+
+pub returns-in_default-clause-unchanged : goal.returns-in_default-clause-unchanged
+returns-in_default-clause-unchanged g c = search rules
+
+pub returns-then-stopped-clause-blocks : goal.returns-then-stopped-clause-blocks
+returns-then-stopped-clause-blocks g c = refl
+
+pub returns-in_default-clause-blocks : goal.returns-in_default-clause-blocks
+returns-in_default-clause-blocks g c = refl
+
+pub returns-then-stopped-clause-size : goal.returns-then-stopped-clause-size
+returns-then-stopped-clause-size g c = c.requires.size
+
+pub returns-then-stopped-clause-unchanged : goal.returns-then-stopped-clause-unchanged
+returns-then-stopped-clause-unchanged g c = refl
+
+pub returns-in_default-clause-size : goal.returns-in_default-clause-size
+returns-in_default-clause-size g c = tt
+
+pub read_over-requires-clause-from : goal.read_over-requires-clause-from
+read_over-requires-clause-from g c = c.requires.planned.from
+
+pub bytes_answer-requires-clause-kind : goal.bytes_answer-requires-clause-kind
+bytes_answer-requires-clause-kind g c = c.requires.planned.reads
+
+pub returns-clause-size : goal.returns-clause-size
+returns-clause-size g c = tt
+
+pub returns-clause-unchanged : goal.returns-clause-unchanged
+returns-clause-unchanged g c = tt
+
+pub bytes_answer-requires-clause-size : goal.bytes_answer-requires-clause-size
+bytes_answer-requires-clause-size g c =
+    let head = c.args.head.now in
+    let into = c.read_over.new.into in
+    let items = c.cut.new.bytes.items in
+    let read = c.if-not-read_over.ensures in
+    let size : length into ≡ c.args.bytes.len = read.size ∙ ap length c.deref_mut.ensures.value ∙ sym c.args.bytes.ok.0 in
+    let long : length into ≡ 4096 * blocks_met head.offset head.length = size ∙ c.requires.size in
+    let part : items ≡ take head.length (drop (head.offset % 4096) into) = c.cut.ensures ∙ ap (λ (l : List ℕ). take head.length (drop (head.offset % 4096) l)) (whole c.args.bytes.len into c.args.bytes.items size) in
+    c.cut.new.bytes.ok.0 ∙ part_size head.offset head.length into items part long

@@ -3,7 +3,7 @@ use Rattle.std.proofs.lemmas.Bool.{true≢false}
 use Rattle.device_image.specs.Keeper.{KeeperState}
 use Rattle.order_book.specs.Order.{has_room_for}
 use Rattle.request_core.proofs.Passes.{not_grown, refused_passes}
-use Rattle.std.proofs.Common.{◌∙◌, inl, inr, ap, refl, subst, sym, true, ℕ, Bool, arith}
+use Rattle.std.proofs.Common.{◌∙◌, inl, inr, ap, refl, subst, sym, true, ℕ, Bool, arith, rules}
 use Rattle.image_model.specs.Edit.{ByteEdit, IsEdit, becomes, edit_of}
 use Rattle.image_model.specs.Image.{Image}
 use Rattle.marks.specs.Known.{PassState}
@@ -299,3 +299,22 @@ returns-in-Err-NoRoom-default-clause-asked g c =
 
 pub returns-in-Err-Stopped-default-clause-asked : goal.returns-in-Err-Stopped-default-clause-asked
 returns-in-Err-Stopped-default-clause-asked g c = absurd (true≢false (sym (c.in-Err-Stopped-default.ensures.stopped.0 c.in-Err-Stopped-default.field-0-0-is) ∙ c.requires.works))
+
+pub split-edit-requires : goal.split-edit-requires
+split-edit-requires g c = record { write = c.requires.write }
+
+pub accept_edit-requires-clause-few : goal.accept_edit-requires-clause-few
+accept_edit-requires-clause-few g c = search rules
+
+pub accept_edit-requires-clause-device : goal.accept_edit-requires-clause-device
+accept_edit-requires-clause-device g c = search rules
+
+pub joined-requires : goal.joined-requires
+joined-requires g c = search rules
+
+pub accept_edit-requires-clause-edit : goal.accept_edit-requires-clause-edit
+accept_edit-requires-clause-edit g c =
+    let request = c.args.request in
+    let takes = edit_takes request c.args.terms.geometry c.requires.range c.split-edit.ensures.whole c.split-edit.ensures.few in
+    subst (λ (e : ByteEdit). IsEdit (length c.args.order.now.cache.states) e) (sym c.split-edit.ensures.edit)
+    (subst (λ (n : ℕ). IsEdit n (edit_asked request)) (sym c.requires.blocks) takes)

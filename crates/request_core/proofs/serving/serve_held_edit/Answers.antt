@@ -1,10 +1,10 @@
-use Rattle.std.proofs.Common.{refl}
+use Rattle.std.proofs.Common.{length, refl}
 use Rattle.std.proofs.lemmas.Bool.{true≢false}
 use Rattle.order_book.specs.Edits.{NeedsDevice as NeedsOld}
 use Rattle.order_book.specs.Order.{OrderState}
 use Rattle.nbd_wire.specs.declared.error.Errno.TheVariants.{NoSpace}
 use Rattle.request_core.proofs.Passes.{not_grown, refused_passes}
-use Rattle.std.proofs.Common.{◌≡◌, ◌∙◌, inl, inr, ap, subst, sym, true, false, ℕ, Bool, arith}
+use Rattle.std.proofs.Common.{◌≡◌, ◌∙◌, inl, inr, ap, subst, sym, true, false, ℕ, Bool, arith, rules}
 use Rattle.image_model.specs.Edit.{ByteEdit, IsEdit, becomes, edit_of}
 use Rattle.image_model.specs.Image.{Image}
 use Rattle.marks.specs.Known.{PassState}
@@ -178,3 +178,83 @@ returns-in-Err-NumbersFull-default-clause-served g c =
 
 pub returns-in-Err-clause-needs : goal.returns-in-Err-clause-needs
 returns-in-Err-clause-needs g c = (λ e. absurd (true≢false (sym e)), λ needs. absurd (true≢false (sym (c.needs_device.ensures.1 (subst (NeedsOld c.args.order.now) (sym c.split-edit.ensures.edit) needs)) ∙ c.if-needs_device.false)))
+
+pub split-edit-requires : goal.split-edit-requires
+split-edit-requires g c = record { write = c.requires.write }
+
+pub needs_device-requires-clause-few : goal.needs_device-requires-clause-few
+needs_device-requires-clause-few g c = search rules
+
+pub joined-requires : goal.joined-requires
+joined-requires g c = search rules
+
+pub accept_held-requires-clause-few : goal.accept_held-requires-clause-few
+accept_held-requires-clause-few g c = search rules
+
+pub accept_held-requires-clause-held : goal.accept_held-requires-clause-held
+accept_held-requires-clause-held g c = search rules
+
+pub joined-requires-in-Err-NoRoom-default : goal.joined-requires-in-Err-NoRoom-default
+joined-requires-in-Err-NoRoom-default g c = search rules
+
+pub returns-in-Err-clause-blocks : goal.returns-in-Err-clause-blocks
+returns-in-Err-clause-blocks g c = search rules
+
+pub returns-in-Err-clause-served : goal.returns-in-Err-clause-served
+returns-in-Err-clause-served g c = search rules
+
+pub returns-in-Err-clause-pass : goal.returns-in-Err-clause-pass
+returns-in-Err-clause-pass g c = search rules
+
+pub returns-in-Err-clause-grown : goal.returns-in-Err-clause-grown
+returns-in-Err-clause-grown g c = search rules
+
+pub returns-then-needs_device-clause-served : goal.returns-then-needs_device-clause-served
+returns-then-needs_device-clause-served g c = tt
+
+pub returns-then-needs_device-clause-pass : goal.returns-then-needs_device-clause-pass
+returns-then-needs_device-clause-pass g c = tt
+
+pub returns-in-Ok-clause-handed_back : goal.returns-in-Ok-clause-handed_back
+returns-in-Ok-clause-handed_back g c = tt
+
+pub returns-in-Ok-clause-unchanged : goal.returns-in-Ok-clause-unchanged
+returns-in-Ok-clause-unchanged g c = tt
+
+pub returns-in-Err-NoRoom-default-clause-handed_back : goal.returns-in-Err-NoRoom-default-clause-handed_back
+returns-in-Err-NoRoom-default-clause-handed_back g c = tt
+
+pub returns-in-Err-NoRoom-default-clause-unchanged : goal.returns-in-Err-NoRoom-default-clause-unchanged
+returns-in-Err-NoRoom-default-clause-unchanged g c = tt
+
+pub returns-in-Err-NoMemory-default-clause-handed_back : goal.returns-in-Err-NoMemory-default-clause-handed_back
+returns-in-Err-NoMemory-default-clause-handed_back g c = tt
+
+pub returns-in-Err-NoMemory-default-clause-unchanged : goal.returns-in-Err-NoMemory-default-clause-unchanged
+returns-in-Err-NoMemory-default-clause-unchanged g c = tt
+
+pub returns-in-Err-NumbersFull-default-clause-handed_back : goal.returns-in-Err-NumbersFull-default-clause-handed_back
+returns-in-Err-NumbersFull-default-clause-handed_back g c = tt
+
+pub returns-in-Err-NumbersFull-default-clause-unchanged : goal.returns-in-Err-NumbersFull-default-clause-unchanged
+returns-in-Err-NumbersFull-default-clause-unchanged g c = tt
+
+pub returns-in-Err-clause-handed_back : goal.returns-in-Err-clause-handed_back
+returns-in-Err-clause-handed_back g c = tt
+
+pub returns-in-Err-clause-unchanged : goal.returns-in-Err-clause-unchanged
+returns-in-Err-clause-unchanged g c = tt
+
+pub accept_held-requires-clause-edit : goal.accept_held-requires-clause-edit
+accept_held-requires-clause-edit g c =
+    let request = c.args.request in
+    let takes = edit_takes request c.args.terms.geometry c.requires.range c.split-edit.ensures.whole c.split-edit.ensures.few in
+    subst (λ (e : ByteEdit). IsEdit (length c.args.order.now.cache.states) e) (sym c.split-edit.ensures.edit)
+    (subst (λ (n : ℕ). IsEdit n (edit_asked request)) (sym c.requires.blocks) takes)
+
+pub needs_device-requires-clause-edit : goal.needs_device-requires-clause-edit
+needs_device-requires-clause-edit g c =
+    let request = c.args.request in
+    let takes = edit_takes request c.args.terms.geometry c.requires.range c.split-edit.ensures.whole c.split-edit.ensures.few in
+    subst (λ (e : ByteEdit). IsEdit (length c.args.order.now.cache.states) e) (sym c.split-edit.ensures.edit)
+    (subst (λ (n : ℕ). IsEdit n (edit_asked request)) (sym c.requires.blocks) takes)

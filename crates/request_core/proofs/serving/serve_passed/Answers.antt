@@ -1,4 +1,4 @@
-use Rattle.std.proofs.Common.{◌∙◌, ap, inl, inr, refl, subst, sym}
+use Rattle.std.proofs.Common.{◌∙◌, ap, inl, inr, refl, subst, sym, rules}
 use Rattle.std.proofs.lemmas.Bool.{false≢true}
 use Rattle.nbd_wire.specs.declared.head.RequestHead.{RequestHead}
 use Rattle.request_core.specs.Reading.{IsHeldReadServed, IsStatusServed}
@@ -44,3 +44,123 @@ returns-else-holds-clause-needs g c = (λ e. (refl, c.requires.works, inl ((sym 
 
 pub returns-then-holds-clause-pass : goal.returns-then-holds-clause-pass
 returns-then-holds-clause-pass g c = held_passes g.B.BoardName.opening c.args.request c.args.order.now.mark c.serve_held_read.result c.args.pass.now c.head-head.result c.args.order.now c.serve_held_read.ensures
+
+pub of-blocks-requires : goal.of-blocks-requires
+of-blocks-requires g c = search rules
+
+pub holds-requires : goal.holds-requires
+holds-requires g c = search rules
+
+pub serve_held_read-requires-clause-kind : goal.serve_held_read-requires-clause-kind
+serve_held_read-requires-clause-kind g c = search rules
+
+pub serve_held_read-requires-clause-some : goal.serve_held_read-requires-clause-some
+serve_held_read-requires-clause-some g c = search rules
+
+pub serve_held_read-requires-clause-most : goal.serve_held_read-requires-clause-most
+serve_held_read-requires-clause-most g c = search rules
+
+pub serve_held_read-requires-clause-few : goal.serve_held_read-requires-clause-few
+serve_held_read-requires-clause-few g c = search rules
+
+pub serve_held_read-requires-clause-inside : goal.serve_held_read-requires-clause-inside
+serve_held_read-requires-clause-inside g c = search rules
+
+pub serve_held_read-requires-clause-held : goal.serve_held_read-requires-clause-held
+serve_held_read-requires-clause-held g c = search rules
+
+pub serve_status-requires-clause-kind : goal.serve_status-requires-clause-kind
+serve_status-requires-clause-kind g c = search rules
+
+pub serve_status-requires-clause-some : goal.serve_status-requires-clause-some
+serve_status-requires-clause-some g c = search rules
+
+pub serve_status-requires-clause-few : goal.serve_status-requires-clause-few
+serve_status-requires-clause-few g c = search rules
+
+pub serve_status-requires-clause-inside : goal.serve_status-requires-clause-inside
+serve_status-requires-clause-inside g c = search rules
+
+pub serve_held_edit-requires-clause-write : goal.serve_held_edit-requires-clause-write
+serve_held_edit-requires-clause-write g c = search rules
+
+pub serve_held_edit-requires-clause-range : goal.serve_held_edit-requires-clause-range
+serve_held_edit-requires-clause-range g c = search rules
+
+pub returns-in-3-clause-blocks : goal.returns-in-3-clause-blocks
+returns-in-3-clause-blocks g c = search rules
+
+pub returns-in-3-clause-serves : goal.returns-in-3-clause-serves
+returns-in-3-clause-serves g c = search rules
+
+pub returns-in-3-clause-pass : goal.returns-in-3-clause-pass
+returns-in-3-clause-pass g c = search rules
+
+pub returns-in-3-clause-grown : goal.returns-in-3-clause-grown
+returns-in-3-clause-grown g c = search rules
+
+pub returns-in_default-clause-serves : goal.returns-in_default-clause-serves
+returns-in_default-clause-serves g c = search rules
+
+pub returns-in_default-clause-needs : goal.returns-in_default-clause-needs
+returns-in_default-clause-needs g c = search rules
+
+pub returns-in-3-clause-handed_back : goal.returns-in-3-clause-handed_back
+returns-in-3-clause-handed_back g c = tt
+
+pub returns-in-3-clause-unchanged : goal.returns-in-3-clause-unchanged
+returns-in-3-clause-unchanged g c = tt
+
+pub returns-then-holds-clause-handed_back : goal.returns-then-holds-clause-handed_back
+returns-then-holds-clause-handed_back g c = tt
+
+pub returns-then-holds-clause-unchanged : goal.returns-then-holds-clause-unchanged
+returns-then-holds-clause-unchanged g c = tt
+
+pub returns-else-holds-clause-serves : goal.returns-else-holds-clause-serves
+returns-else-holds-clause-serves g c = tt
+
+pub returns-else-holds-clause-pass : goal.returns-else-holds-clause-pass
+returns-else-holds-clause-pass g c = tt
+
+pub returns-in-7-clause-handed_back : goal.returns-in-7-clause-handed_back
+returns-in-7-clause-handed_back g c = tt
+
+pub returns-in-7-clause-unchanged : goal.returns-in-7-clause-unchanged
+returns-in-7-clause-unchanged g c = tt
+
+pub returns-then-holds-clause-blocks : goal.returns-then-holds-clause-blocks
+returns-then-holds-clause-blocks g c = refl
+
+pub returns-else-holds-clause-blocks : goal.returns-else-holds-clause-blocks
+returns-else-holds-clause-blocks g c = refl
+
+pub returns-else-holds-clause-handed_back : goal.returns-else-holds-clause-handed_back
+returns-else-holds-clause-handed_back g c = refl
+
+pub returns-in-7-clause-blocks : goal.returns-in-7-clause-blocks
+returns-in-7-clause-blocks g c = refl
+
+pub returns-else-holds-clause-unchanged : goal.returns-else-holds-clause-unchanged
+returns-else-holds-clause-unchanged g c = (refl, refl)
+
+pub serve_held_edit-requires-clause-works : goal.serve_held_edit-requires-clause-works
+serve_held_edit-requires-clause-works g c = c.requires.works
+
+pub serve_held_edit-requires-clause-blocks : goal.serve_held_edit-requires-clause-blocks
+serve_held_edit-requires-clause-blocks g c = c.requires.blocks
+
+pub returns-in_default-clause-blocks : goal.returns-in_default-clause-blocks
+returns-in_default-clause-blocks g c = c.serve_held_edit.ensures.blocks
+
+pub returns-in_default-clause-handed_back : goal.returns-in_default-clause-handed_back
+returns-in_default-clause-handed_back g c = c.serve_held_edit.ensures.handed_back
+
+pub returns-in_default-clause-unchanged : goal.returns-in_default-clause-unchanged
+returns-in_default-clause-unchanged g c = c.serve_held_edit.ensures.unchanged
+
+pub returns-in_default-clause-pass : goal.returns-in_default-clause-pass
+returns-in_default-clause-pass g c = c.serve_held_edit.ensures.pass
+
+pub returns-in_default-clause-grown : goal.returns-in_default-clause-grown
+returns-in_default-clause-grown g c = c.serve_held_edit.ensures.grown

@@ -1,4 +1,4 @@
-use Rattle.std.proofs.Common.{◌≡◌, ◌⊎◌, ◌∙◌, Ok, inl, inr, ap, refl, sym, subst, ◌<◌, length, true, arith}
+use Rattle.std.proofs.Common.{◌≡◌, ◌⊎◌, ◌∙◌, Ok, inl, inr, ap, refl, sym, subst, ◌<◌, length, true, arith, rules}
 use Rattle.journal_format.specs.laws.Chained.{none_read}
 use Rattle.marks.specs.Known.{PassState}
 use Rattle.nbd_wire.specs.Request.{Message}
@@ -174,3 +174,39 @@ serve_edit-requires-clause-range g c =
 
 pub serve_edit-requires-clause-works : goal.serve_edit-requires-clause-works
 serve_edit-requires-clause-works g c = ap (λ (o : OrderState). o.stopped) c.in-Err-2.ensures.unchanged.0 ∙ (c.in-Err-2.ensures.needs.0 refl).1
+
+pub serve_held-requires-clause-kind : goal.serve_held-requires-clause-kind
+serve_held-requires-clause-kind g c = c.requires.kind
+
+pub serve_held-requires-clause-blocks : goal.serve_held-requires-clause-blocks
+serve_held-requires-clause-blocks g c = c.requires.blocks
+
+pub serve_read-requires-clause-kind : goal.serve_read-requires-clause-kind
+serve_read-requires-clause-kind g c = search rules
+
+pub serve_read-requires-clause-some : goal.serve_read-requires-clause-some
+serve_read-requires-clause-some g c = search rules
+
+pub serve_read-requires-clause-most : goal.serve_read-requires-clause-most
+serve_read-requires-clause-most g c = search rules
+
+pub serve_read-requires-clause-few : goal.serve_read-requires-clause-few
+serve_read-requires-clause-few g c = search rules
+
+pub serve_read-requires-clause-inside : goal.serve_read-requires-clause-inside
+serve_read-requires-clause-inside g c = search rules
+
+pub serve_read-requires-clause-device : goal.serve_read-requires-clause-device
+serve_read-requires-clause-device g c = search rules
+
+pub serve_edit-requires-clause-blocks : goal.serve_edit-requires-clause-blocks
+serve_edit-requires-clause-blocks g c = search rules
+
+pub serve_edit-requires-clause-device : goal.serve_edit-requires-clause-device
+serve_edit-requires-clause-device g c = search rules
+
+pub returns-in-Err-clause-blocks : goal.returns-in-Err-clause-blocks
+returns-in-Err-clause-blocks g c = search rules
+
+pub returns-in-Err-clause-geometry : goal.returns-in-Err-clause-geometry
+returns-in-Err-clause-geometry g c = search rules
