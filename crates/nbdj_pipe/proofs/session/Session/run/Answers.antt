@@ -194,3 +194,30 @@ loop-init g c =
           (going_first (Runs disk.state disk.faults disk.honest a.order a.keeper a.connections a.order a.keeper a.connections) input output
           (runs_none disk.state disk.faults disk.honest c.leads_law.ensures a.order a.keeper a.connections));
     }
+
+pub returns-in_err-write_replies-clause-group : goal.returns-in_err-write_replies-clause-group
+returns-in_err-write_replies-clause-group g c = subst (λ x. IfSome x.connections.group (IsInHand x.order)) (sym c.write_replies.ensures.same) c.take-flow.ensures.group
+
+pub returns-in_err-write_replies-clause-extent : goal.returns-in_err-write_replies-clause-extent
+returns-in_err-write_replies-clause-extent g c = ap (λ x. g.D.Disk.extent x.keeper.disk) c.write_replies.ensures.same ∙ (c.take-flow.ensures.extent ∙ c.loop.invariant.extent)
+
+pub returns-in_err-write_replies-clause-honest : goal.returns-in_err-write_replies-clause-honest
+returns-in_err-write_replies-clause-honest g c = subst (λ x. g.D.Disk.honest x.keeper.disk ↔ g.D.Disk.honest c.args.self.now.export.keeper.disk) (sym c.write_replies.ensures.same) (λ is. c.loop.invariant.honest.0 (c.take-flow.ensures.honest.0 is), λ is. c.take-flow.ensures.honest.1 (c.loop.invariant.honest.1 is))
+
+pub returns-in_err-flow-clause-group : goal.returns-in_err-flow-clause-group
+returns-in_err-flow-clause-group g c = subst (λ x. IfSome x.connections.group (IsInHand x.order)) (sym c.write_replies.ensures.same) c.take-flow.ensures.group
+
+pub returns-in_err-flow-clause-extent : goal.returns-in_err-flow-clause-extent
+returns-in_err-flow-clause-extent g c = ap (λ x. g.D.Disk.extent x.keeper.disk) c.write_replies.ensures.same ∙ (c.take-flow.ensures.extent ∙ c.loop.invariant.extent)
+
+pub returns-in_err-flow-clause-honest : goal.returns-in_err-flow-clause-honest
+returns-in_err-flow-clause-honest g c = subst (λ x. g.D.Disk.honest x.keeper.disk ↔ g.D.Disk.honest c.args.self.now.export.keeper.disk) (sym c.write_replies.ensures.same) (λ is. c.loop.invariant.honest.0 (c.take-flow.ensures.honest.0 is), λ is. c.take-flow.ensures.honest.1 (c.loop.invariant.honest.1 is))
+
+pub returns-in-Ended-clause-group : goal.returns-in-Ended-clause-group
+returns-in-Ended-clause-group g c = subst (λ x. IfSome x.connections.group (IsInHand x.order)) (sym c.write_replies.ensures.same) c.take-flow.ensures.group
+
+pub returns-in-Ended-clause-extent : goal.returns-in-Ended-clause-extent
+returns-in-Ended-clause-extent g c = ap (λ x. g.D.Disk.extent x.keeper.disk) c.write_replies.ensures.same ∙ (c.take-flow.ensures.extent ∙ c.loop.invariant.extent)
+
+pub returns-in-Ended-clause-honest : goal.returns-in-Ended-clause-honest
+returns-in-Ended-clause-honest g c = subst (λ x. g.D.Disk.honest x.keeper.disk ↔ g.D.Disk.honest c.args.self.now.export.keeper.disk) (sym c.write_replies.ensures.same) (λ is. c.loop.invariant.honest.0 (c.take-flow.ensures.honest.0 is), λ is. c.take-flow.ensures.honest.1 (c.loop.invariant.honest.1 is))
