@@ -24,14 +24,14 @@ pub enum Course {
 }
 
 /// What a command line asks for, and whether what happens is told on standard error.
-#[derive(Clone, Copy, Debug)]
+#[derive(Clone, Copy)]
 pub struct Invocation<'a> {
     pub plan: Plan<'a>,
     pub is_verbose: bool,
 }
 
 /// What is to be done. A path names a device's file, which the caller opens or makes.
-#[derive(Clone, Copy, Debug)]
+#[derive(Clone, Copy)]
 pub enum Plan<'a> {
     /// Makes the device an image of holes; where it preallocates, all of its file was written before.
     Format {

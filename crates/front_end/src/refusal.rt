@@ -7,42 +7,28 @@ use checkpoint::KeeperFault;
 use disk_model::DeviceFault;
 use nbd_wire::WireFault;
 use std::alloc::AllocError;
-use thiserror::Error;
+use std::error::Error;
+use std::fmt;
+use std::fmt::{Display, Formatter};
 
 /// Why a run of the program ended early; `docs/FORMATS.md`, "Refusals", has the numbers.
-#[derive(Clone, Copy, Debug, PartialEq, Eq, Error)]
+#[derive(Clone, Copy, Debug, PartialEq, Eq)]
 pub enum Refusal {
-    #[error("no memory")]
     NoMemory,
-    #[error("device fault")]
     DeviceFault,
-    #[error("bad map")]
     BadMap,
-    #[error("no header")]
     NoHeader,
-    #[error("bad header")]
     BadHeader,
-    #[error("numbers full")]
     NumbersFull,
-    #[error("area full")]
     AreaFull,
-    #[error("out of order")]
     OutOfOrder,
-    #[error("damaged group")]
     DamagedGroup,
-    #[error("not now")]
     NotNow,
-    #[error("failed")]
     Failed,
-    #[error("no room")]
     NoRoom,
-    #[error("peer closed")]
     PeerClosed,
-    #[error("protocol end")]
     ProtocolEnd,
-    #[error("stream fault")]
     StreamFault,
-    #[error("area too small")]
     AreaSmall,
 }
 
@@ -70,7 +56,38 @@ impl Refusal {
             Refusal::AreaSmall => 22,
         }
     }
+
+    // What is printed of it.
+    fn text(self) -> &'static str {
+        match self {
+            Refusal::NoMemory => "no memory",
+            Refusal::DeviceFault => "device fault",
+            Refusal::BadMap => "bad map",
+            Refusal::NoHeader => "no header",
+            Refusal::BadHeader => "bad header",
+            Refusal::NumbersFull => "numbers full",
+            Refusal::AreaFull => "area full",
+            Refusal::OutOfOrder => "out of order",
+            Refusal::DamagedGroup => "damaged group",
+            Refusal::NotNow => "not now",
+            Refusal::Failed => "failed",
+            Refusal::NoRoom => "no room",
+            Refusal::PeerClosed => "peer closed",
+            Refusal::ProtocolEnd => "protocol end",
+            Refusal::StreamFault => "stream fault",
+            Refusal::AreaSmall => "area too small",
+        }
+    }
 }
+
+// Written out, one call writes the text, where a derived one has a call for each variant.
+impl Display for Refusal {
+    fn fmt<W: fmt::Write>(&self, f: &mut Formatter<W>) -> fmt::Result {
+        f.write_str(self.text())
+    }
+}
+
+impl Error for Refusal {}
 
 impl From<AllocError> for Refusal {
     ghost from_gives = { λ _ refusal. refusal ≡ Refusal.NoMemory };
