@@ -16,6 +16,7 @@ use image_model::{Geometry, Layout};
 use nbdj_pipe::pipe;
 use std::alloc::Global;
 use std::fmt::Display;
+use std::io;
 use std::io::{Read, Write};
 
 /// Carries out the plan on a device, and answers the exit status and the device: 0 where it is done, else 1, or 3 where a
@@ -68,7 +69,17 @@ pub fn perform<D: Disk + Drop, R: Read, W: Write, E: Write>(
 fn print<W: Write, T: Display + Drop>(output: &mut W, line: T) -> Result<(), Refusal>
     ensures { IsPrinted result }
 {
-    writeln!(output, "{line}").map_err(|_| Refusal::StreamFault)
+    match writeln!(output, "{line}") {
+        Ok(()) => Ok(()),
+        Err(_) => Err(Refusal::StreamFault),
+    }
+}
+
+// Prints a line of a name and a count.
+fn print_count<W: Write>(name: &str, count: u64, output: &mut W) -> Result<(), Refusal>
+    ensures { IsPrinted result }
+{
+    print(output, format_args!("{name} {count}"))
 }
 
 /// The exit status of what ended so, 0 or 1; a refusal is told by a line `nbdj: TEXT (NUMBER)`.
@@ -79,10 +90,14 @@ pub fn exit_status<E: Write>(outcome: Result<(), Refusal>, errors: &mut E) -> u8
         Ok(()) => 0,
         Err(refusal) => {
             // Where not even that can be written, the status alone tells.
-            let _ = writeln!(errors, "nbdj: {refusal} ({})", refusal.number());
+            let _ = tell(refusal, errors);
             1
         }
     }
+}
+
+fn tell<E: Write>(refusal: Refusal, errors: &mut E) -> io::Result<()> {
+    writeln!(errors, "nbdj: {refusal} ({})", refusal.number())
 }
 
 fn format<D: Disk, W: Write>(
@@ -96,10 +111,7 @@ fn format<D: Disk, W: Write>(
 {
     match Keeper::format(alloc, &mut disk, geometry) {
         Ok(()) => {
-            let result = print(
-                output,
-                format_args!("formatted {}", geometry.device_bytes()),
-            );
+            let result = print_count("formatted", geometry.device_bytes(), output);
             (result, disk)
         }
         Err(fault) => (Err(Refusal::from(fault)), disk),
@@ -111,7 +123,7 @@ fn recover<D: Disk, W: Write>(alloc: Global, disk: D, output: &mut W) -> (Result
 {
     match Keeper::open(alloc, disk) {
         Ok(keeper) => {
-            let result = print(output, format_args!("commands {}", keeper.count()));
+            let result = print_count("commands", keeper.count(), output);
             (result, keeper.into_disk())
         }
         Err((fault, disk)) => (Err(Refusal::from(fault)), disk),
@@ -166,11 +178,21 @@ fn print_report<W: Write>(report: &Report, output: &mut W) -> Result<(), Refusal
     if report.layout == Layout::Two {
         print(output, "layout 2")?;
     }
-    print(output, format_args!("blocks {}", report.blocks))?;
-    print(output, format_args!("mode {}", report.in_front))?;
-    print(output, format_args!("base {}", report.base))?;
-    print(output, format_args!("commands {}", report.commands))?;
-    print(output, format_args!("data {}", report.data_blocks))?;
-    print(output, format_args!("zero {}", report.zero_blocks))?;
-    print(output, format_args!("hole {}", report.hole_blocks))
+    for (name, count) in counts_of(report) {
+        print_count(name, count, output)?;
+    }
+    Ok(())
+}
+
+// The lines of a report that hold a count.
+fn counts_of(report: &Report) -> [(&'static str, u64); 7] {
+    [
+        ("blocks", report.blocks),
+        ("mode", u64::from(report.in_front)),
+        ("base", report.base),
+        ("commands", report.commands),
+        ("data", report.data_blocks),
+        ("zero", report.zero_blocks),
+        ("hole", report.hole_blocks),
+    ]
 }

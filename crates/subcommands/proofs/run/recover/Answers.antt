@@ -8,7 +8,7 @@ returns-in-Ok g c =
     let opened = c.in-Ok.ensures in
     record {
       given = Ok c.in-Ok.keeper;
-      told = c.print-result.ensures;
+      told = c.print_count-result.ensures;
       is_left = is;
       size = rw is opened.extent;
       trusted = rw is opened.honest;
