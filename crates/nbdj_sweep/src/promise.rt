@@ -33,27 +33,9 @@ impl Promise {
             kept: true,
         };
         for life in lives {
-            reading.begin(alloc, life.opening)?;
-            for (place, event) in life.log.iter().enumerate() {
-                match event {
-                    Event::Sent(connection, request) => reading.sent(
-                        *connection,
-                        place,
-                        request.head(),
-                    ),
-                    Event::Numbered(connection, _) => {
-                        reading.numbered(alloc, *connection, &life.log)?
-                    }
-                    Event::Answered(connection, Answer::Done) => reading.done(*connection),
-                    _ => {}
-                }
-            }
+            reading.life(alloc, life)?;
         }
-        Ok(Promise {
-            edits: reading.edits,
-            covered: reading.covered,
-            kept: reading.kept,
-        })
+        Ok(reading.promise())
     }
 
     /// The image of so many blocks after the first `count` commands; none where there are fewer, one of them has no place in it,
@@ -68,20 +50,28 @@ impl Promise {
         if !self.kept || count > self.edits.len() as u64 {
             return Ok(None);
         }
-        for edit in &self.edits[..count as usize] {
-            if image.apply(edit).is_err() {
-                return Ok(None);
-            }
+        if !apply_all(&mut image, &self.edits[..count as usize]) {
+            return Ok(None);
         }
         Ok(Some(image))
     }
+}
+
+// Carries out the edits, up to the first that has no place in the image; whether there was none.
+fn apply_all(image: &mut PlainImage, edits: &[Edit]) -> bool {
+    for edit in edits {
+        if image.apply(edit).is_err() {
+            return false;
+        }
+    }
+    true
 }
 
 // A number that no command has: what waits for it is covered by no prefix.
 const NO_NUMBER: u64 = u64::MAX;
 
 // A request that a connection has open.
-#[derive(Clone, Copy, Debug)]
+#[derive(Clone, Copy)]
 struct Open {
     head: RequestHead,
     // Where the log says that it was sent.
@@ -93,7 +83,6 @@ struct Open {
 }
 
 // The logs of a device's lives, which are read from the first one's beginning.
-#[derive(Drop)]
 struct Reading {
     mode: Mode,
     open: Vec<Option<Open>>,
@@ -104,7 +93,64 @@ struct Reading {
     kept: bool,
 }
 
+// Written out, it is proved once, and not again in each function that lets such a value go.
+impl Drop for Reading {
+    fn drop(self) {
+        let Reading {
+            mode: _,
+            open: _,
+            edits: _,
+            answered: _,
+            covered: _,
+            kept: _,
+        } = self;
+    }
+}
+
 impl Reading {
+    // What was promised up to here.
+    fn promise(self) -> Promise {
+        let Reading {
+            mode: _,
+            open: _,
+            edits,
+            answered: _,
+            covered,
+            kept,
+        } = self;
+        Promise {
+            edits,
+            covered,
+            kept,
+        }
+    }
+
+    // Reads the log of a life.
+    fn life(&mut self, alloc: Global, life: &PlayedLife) -> Result<(), AllocError> {
+        self.begin(alloc, life.opening)?;
+        for (place, event) in life.log.iter().enumerate() {
+            self.event(alloc, place, event, &life.log)?;
+        }
+        Ok(())
+    }
+
+    // Reads what stands at this place of a log.
+    fn event(
+        &mut self,
+        alloc: Global,
+        place: usize,
+        event: &Event,
+        log: &[Event],
+    ) -> Result<(), AllocError> {
+        match event {
+            Event::Sent(connection, request) => self.sent(*connection, place, request.head()),
+            Event::Numbered(connection, _) => return self.numbered(alloc, *connection, log),
+            Event::Answered(connection, Answer::Done) => self.done(*connection),
+            _ => {}
+        }
+        Ok(())
+    }
+
     // A life begins with the first commands up to this number, which are stored. The others are lost, as are all requests.
     fn begin(&mut self, alloc: Global, opening: u64) -> Result<(), AllocError> {
         self.kept = self.kept && self.covered <= opening && opening <= self.edits.len() as u64;
@@ -138,29 +184,30 @@ impl Reading {
         let Some(Some(open)) = self.open.get_mut(connection) else {
             return Ok(());
         };
-        if let Some(Event::Sent(_, request)) = log.get(open.place) {
-            if let Some(edit) = edit_of(alloc, request)? {
-                self.edits.push(edit)?;
-                open.number = self.edits.len() as u64;
-            }
+        if let Some(edit) = edit_at(alloc, log, open.place)? {
+            open.number = append(&mut self.edits, edit)?;
         }
         Ok(())
     }
 
     // A connection was answered Ok, without bytes or states.
     fn done(&mut self, connection: usize) {
-        let Some(Some(open)) = self.open.get(connection) else {
-            return;
+        let open = match self.open.get(connection) {
+            Some(Some(open)) => *open,
+            _ => return,
         };
         match open.head.kind {
             FLUSH => self.covered = self.covered.max(open.before),
-            WRITE | TRIM | WRITE_ZEROES => {
-                self.answered = self.answered.max(open.number);
-                if is_durable(self.mode, open.head) {
-                    self.covered = self.covered.max(open.number);
-                }
-            }
+            WRITE | TRIM | WRITE_ZEROES => self.carried_out(open.head, open.number),
             _ => {}
+        }
+    }
+
+    // The command with this head and this number was answered Ok.
+    fn carried_out(&mut self, head: RequestHead, number: u64) {
+        self.answered = self.answered.max(number);
+        if is_durable(self.mode, head) {
+            self.covered = self.covered.max(number);
         }
     }
 }
@@ -170,28 +217,52 @@ fn is_durable(mode: Mode, head: RequestHead) -> bool {
     mode == Mode::Writethrough || head.flags & CommandFlags::FUA.bits() != 0
 }
 
+// Adds an edit behind the others, and gives its number.
+fn append(edits: &mut Vec<Edit>, edit: Edit) -> Result<u64, AllocError> {
+    edits.push(edit)?;
+    Ok(edits.len() as u64)
+}
+
+// What the request that was sent at this place of a log asks for, where it is a write command.
+fn edit_at(alloc: Global, log: &[Event], place: usize) -> Result<Option<Edit>, AllocError> {
+    match log.get(place) {
+        Some(Event::Sent(_, request)) => edit_of(alloc, request),
+        _ => Ok(None),
+    }
+}
+
 // What a request asks for, where it is a write command.
 fn edit_of(alloc: Global, request: &Request) -> Result<Option<Edit>, AllocError> {
     let head = request.head();
+    if head.kind != WRITE {
+        return Ok(clearing_of(head));
+    }
+    let bytes = Vec::from_slice(alloc, request.bytes())?;
+    Ok(Some(Edit::Put {
+        offset: head.offset,
+        bytes,
+    }))
+}
+
+// The same of one that makes bytes zero.
+fn clearing_of(head: RequestHead) -> Option<Edit> {
     let offset = head.offset;
     let length = head.length;
-    let edit = match head.kind {
-        WRITE => Edit::Put {
-            offset,
-            bytes: Vec::from_slice(alloc, request.bytes())?,
-        },
-        WRITE_ZEROES if head.flags & CommandFlags::NO_HOLE.bits() != 0 => Edit::Zeroes {
+    match head.kind {
+        WRITE_ZEROES => Some(Edit::Zeroes {
             offset,
             length,
-            kind: Kind::Zero,
-        },
-        WRITE_ZEROES => Edit::Zeroes {
-            offset,
-            length,
-            kind: Kind::Hole,
-        },
-        TRIM => Edit::Trim { offset, length },
-        _ => return Ok(None),
-    };
-    Ok(Some(edit))
+            kind: zeroes_of(head.flags),
+        }),
+        TRIM => Some(Edit::Trim { offset, length }),
+        _ => None,
+    }
+}
+
+// What a WRITE_ZEROES with these flags makes of whole blocks.
+fn zeroes_of(flags: u16) -> Kind {
+    if flags & CommandFlags::NO_HOLE.bits() != 0 {
+        return Kind::Zero;
+    }
+    Kind::Hole
 }

@@ -58,17 +58,27 @@ struct Miss {
 
 impl Display for Miss {
     fn fmt<W: fmt::Write>(&self, f: &mut Formatter<W>) -> fmt::Result {
-        match self.trouble {
-            Trouble::Stop(k) => write!(f, "sweep failed {k} ")?,
-            Trouble::Fault(CallKind::Read, k) => write!(f, "fault failed read {k} ")?,
-            Trouble::Fault(CallKind::Write, k) => write!(f, "fault failed write {k} ")?,
-            Trouble::Fault(CallKind::Sync, k) => write!(f, "fault failed sync {k} ")?,
-        }
-        match self.choice {
-            CrashChoice::Fill(byte) => write!(f, "{byte:02x}"),
-            CrashChoice::Old => f.write_str("old"),
-            CrashChoice::New => f.write_str("new"),
-        }
+        let (words, k) = words_of(self.trouble);
+        write!(f, "{words} {k} ")?;
+        write_choice(f, self.choice)
+    }
+}
+
+// The words for what went wrong, and at which call.
+fn words_of(trouble: Trouble) -> (&'static str, u64) {
+    match trouble {
+        Trouble::Stop(k) => ("sweep failed", k),
+        Trouble::Fault(CallKind::Read, k) => ("fault failed read", k),
+        Trouble::Fault(CallKind::Write, k) => ("fault failed write", k),
+        Trouble::Fault(CallKind::Sync, k) => ("fault failed sync", k),
+    }
+}
+
+fn write_choice<W: fmt::Write>(f: &mut Formatter<W>, choice: CrashChoice) -> fmt::Result {
+    match choice {
+        CrashChoice::Fill(byte) => write!(f, "{byte:02x}"),
+        CrashChoice::Old => f.write_str("old"),
+        CrashChoice::New => f.write_str("new"),
     }
 }
 
@@ -82,12 +92,22 @@ fn crash_everywhere<R: Read, W: Write>(
     if !stops.right {
         return Err(End::Printed);
     }
-    let runs = stops
-        .calls
-        .saturating_add(1)
-        .saturating_mul(CHOICES.len() as u64);
-    print(output, format_args!("calls {}", stops.calls))?;
-    print(output, format_args!("runs {runs}"))?;
+    print_counts(
+        &[("calls", stops.calls), ("runs", runs_of(stops.calls))],
+        output,
+    )
+}
+
+// How many runs there are for so many calls, and one to the end, with each filling.
+fn runs_of(calls: u64) -> u64 {
+    calls.saturating_add(1).saturating_mul(CHOICES.len() as u64)
+}
+
+// Prints that all was right, and how much there was.
+fn print_counts<W: Write>(counts: &[(&str, u64)], output: &mut W) -> Result<(), End> {
+    for (name, count) in counts {
+        print(output, format_args!("{name} {count}"))?;
+    }
     print(output, "ok")?;
     Ok(())
 }
@@ -104,11 +124,14 @@ fn fail_everywhere<R: Read, W: Write>(
     if !(reads.right && writes.right && syncs.right) {
         return Err(End::Printed);
     }
-    print(output, format_args!("reads {}", reads.calls))?;
-    print(output, format_args!("writes {}", writes.calls))?;
-    print(output, format_args!("syncs {}", syncs.calls))?;
-    print(output, "ok")?;
-    Ok(())
+    print_counts(
+        &[
+            ("reads", reads.calls),
+            ("writes", writes.calls),
+            ("syncs", syncs.calls),
+        ],
+        output,
+    )
 }
 
 // Reads a script to its end, and makes its device and one on which it can be run.
