@@ -24,10 +24,8 @@ impl<'a> Display for AnswerLine<'a> {
 
 fn write_bytes<W: fmt::Write>(f: &mut Formatter<W>, bytes: &[u8]) -> fmt::Result {
     f.write_str(" bytes")?;
-    for block in bytes.chunks(BLOCK_BYTES as usize) {
-        if let Some(byte) = block.first() {
-            write!(f, " {byte:02x}")?;
-        }
+    for byte in bytes.iter().step_by(BLOCK_BYTES as usize) {
+        write!(f, " {byte:02x}")?;
     }
     Ok(())
 }

@@ -2,6 +2,7 @@ use checkpoint::KeeperFault;
 use front_end::Refusal;
 use std::alloc::AllocError;
 use std::fmt::Display;
+use std::io;
 use std::io::Write;
 
 /// How a script ends before its last line.
@@ -46,16 +47,26 @@ pub fn exit_status<E: Write>(outcome: Result<(), End>, errors: &mut E) -> u8 {
 
 /// Prints that an opening or a format is refused, which ends a script.
 pub fn failed<W: Write>(fault: KeeperFault, output: &mut W) -> End {
-    let number = Refusal::from(fault).number();
-    match print(output, format_args!("failed {number}")) {
+    match print_failed(Refusal::from(fault).number(), output) {
         Ok(()) => End::Printed,
         Err(refusal) => End::Refused(refusal),
     }
 }
 
+/// Prints the number of a refusal.
+pub fn print_failed<W: Write>(number: u8, output: &mut W) -> Result<(), Refusal> {
+    print(output, format_args!("failed {number}"))
+}
+
 /// Prints one line, at once.
 pub fn print<W: Write, T: Display + Drop>(output: &mut W, line: T) -> Result<(), Refusal> {
-    writeln!(output, "{line}")
-        .and_then(|()| output.flush())
-        .map_err(|_| Refusal::StreamFault)
+    match write_line(output, line) {
+        Ok(()) => Ok(()),
+        Err(_) => Err(Refusal::StreamFault),
+    }
+}
+
+fn write_line<W: Write, T: Display + Drop>(output: &mut W, line: T) -> io::Result<()> {
+    writeln!(output, "{line}")?;
+    output.flush()
 }

@@ -47,7 +47,7 @@ pub enum Told {
     Held,
     /// The refusal.
     Failed(StepFault),
-    /// A connection was answered ([`Life::last_answer`]).
+    /// A connection was answered ([`last_answer`]).
     Answered,
 }
 
@@ -239,14 +239,6 @@ impl<B: BoardName, D: Disk> Life<B, D> {
         self.bench.log()
     }
 
-    /// The answer that was given last; none where the last step gave none.
-    pub fn last_answer(&self) -> Option<&Answer> {
-        match self.log().last() {
-            Some(Event::Answered(_, answer)) => Some(answer),
-            _ => None,
-        }
-    }
-
     /// Carries out one step, which is one of the world.
     pub fn step(&mut self, step: Step) -> Told
         ensures extent { D.extent self.new.keeper.disk ≡ D.extent self.old.keeper.disk }
@@ -307,6 +299,14 @@ fn add_block(runs: &mut Vec<BlockRun>, first: u64, kind: Kind, byte: u8) -> Resu
         byte,
     })?;
     Ok(())
+}
+
+/// The answer that was given last, by a log; none where the last step gave none.
+pub fn last_answer(log: &[Event]) -> Option<&Answer> {
+    match log.last() {
+        Some(Event::Answered(_, answer)) => Some(answer),
+        _ => None,
+    }
 }
 
 // What the last event of a log says.

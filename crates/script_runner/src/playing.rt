@@ -15,7 +15,7 @@ use std::alloc::Global;
 use std::marker::Brand;
 
 /// What goes wrong with a device.
-#[derive(Clone, Copy, Debug)]
+#[derive(Clone, Copy)]
 pub enum Trouble {
     /// It stops at the so manieth call.
     Stop(u64),

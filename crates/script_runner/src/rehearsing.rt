@@ -1,4 +1,4 @@
-ghost use Rattle.std.specs.Prelude.{◌≡◌, IfOk};
+ghost use Rattle.std.specs.Prelude.{◌≡◌, IfOk, IfSome};
 ghost use Rattle.checkpoint.specs.Recovery.{IsRecovered};
 ghost use Rattle.device_image.specs.Keeps.{Keeps};
 ghost use Rattle.image_model.specs.Image.{Image};
@@ -7,8 +7,8 @@ ghost use Rattle.export_steps.specs.Life.{IsNextLife};
 ghost use Rattle.export_model.specs.World.{World};
 
 use crate::answer_line::AnswerLine;
-use crate::ending::{End, exit_status, failed, print};
-use crate::life::{BlockRun, Life, Told, open};
+use crate::ending::{End, exit_status, failed, print, print_failed};
+use crate::life::{BlockRun, Life, Told, last_answer, open};
 use crate::lines::Lines;
 use crate::script_line::{Line, Setup, StepLine};
 use crate::stepping::carry_out;
@@ -18,6 +18,7 @@ use export_steps::{StepFault, next_life_law};
 use front_end::Refusal;
 use image_model::Kind;
 use marks::{BlankBoard, BoardName};
+use nbd_wire::Answer;
 use std::alloc::Global;
 use std::fmt::Display;
 use std::io::{Read, Write};
@@ -38,9 +39,18 @@ pub fn script<R: Read, W: Write, E: Write>(
 
 fn run<R: Read, W: Write>(alloc: Global, input: &mut R, output: &mut W) -> Result<(), End> {
     let mut lines = Lines::new(alloc, input)?;
-    let mut course = first(alloc, &mut lines, output)?;
+    run_lines(alloc, &mut lines, output)
+}
+
+// Carries out the lines, life after life.
+fn run_lines<R: Read, W: Write>(
+    alloc: Global,
+    lines: &mut Lines<&mut R>,
+    output: &mut W,
+) -> Result<(), End> {
+    let mut course = first(alloc, lines, output)?;
     for _ in 0..u64::MAX {
-        match lived(alloc, course, &mut lines, output)? {
+        match lived(alloc, course, lines, output)? {
             Some(next) => course = next,
             None => return Ok(()),
         }
@@ -60,8 +70,10 @@ fn first<R: Read, W: Write>(
             setup,
             keeper,
             found: None,
-            armed: CrashChoice::Old,
-            cookie: 0,
+            hand: Hand {
+                armed: CrashChoice::Old,
+                cookie: 0,
+            },
         }),
         Err(fault) => Err(failed(fault, output)),
     }
@@ -75,270 +87,206 @@ fn lived<R: Read, W: Write>(
     output: &mut W,
 ) -> Result<Option<Course>, End> {
     match BlankBoard::new(alloc, course.keeper.count()) {
-        Ok(blank) => live::<Brand, R, W>(alloc, blank, course, lines, output),
+        Ok(blank) => course.live::<Brand, R, W>(alloc, blank, lines, output),
         Err(_) => Err(failed(KeeperFault::NoMemory, output)),
     }
 }
 
-// Carries out the lines of one life of the device, whose board gets its name here; what the next life begins with, where it
-// ends by a crash or an upgrade.
-fn live<B: BoardName, R: Read, W: Write>(
-    alloc: Global,
-    blank: BlankBoard,
-    course: Course,
-    lines: &mut Lines<&mut R>,
-    output: &mut W,
-) -> Result<Option<Course>, End>
-    requires board { blank.board ≡ B.board }
-    requires named { blank.opening ≡ B.opening }
-    requires opening { blank.opening ≡ course.keeper.count }
-{
-    let mut rehearsal = Rehearsal::<B>::begin(alloc, blank, course, output)?;
-    for _ in 0..u64::MAX {
-        let line = match lines.next(alloc) {
-            Ok(line) => line,
-            Err(end) => {
-                rehearsal.end();
-                return Err(end);
-            }
-        };
-        let Some(line) = line else {
-            rehearsal.end();
-            return Ok(None);
-        };
-        rehearsal = match rehearsal.carry_out(alloc, line, lines.count(), output)? {
-            Went::On(rehearsal) => rehearsal,
-            Went::Over(course) => return Ok(Some(course)),
-        };
-    }
-    rehearsal.end();
-    Err(End::Refused(Refusal::StreamFault))
+// What goes from one life of the device to the next.
+#[derive(Clone, Copy)]
+struct Hand {
+    // What unsynced bytes become at an armed crash.
+    armed: CrashChoice,
+    // The cookie of the last request.
+    cookie: u64,
+}
+
+// How a life of the device ends.
+#[derive(Clone, Copy)]
+enum Way {
+    Crash(CrashChoice),
+    Upgrade,
 }
 
 // A script between two lives of its device.
-#[derive(Drop)]
 struct Course {
     setup: Setup,
     keeper: Keeper<SimDisk>,
     // What the opening after a crash, or an upgrade, found; none where the device is new.
     found: Option<Vec<BlockRun>>,
-    // What unsynced bytes become at an armed crash.
-    armed: CrashChoice,
-    // The cookie of the last request.
-    cookie: u64,
+    hand: Hand,
     ghost recovered: { IsRecovered keeper },
     ghost keeps: { ∥ (⟦<SimDisk as Disk>⟧.honest keeper.disk → (image : Image) × Keeps keeper (⟦<SimDisk as Disk>⟧.state keeper.disk) image keeper.count) ∥₁ },
 }
 
-// How a line ended: the life goes on, or it is over, and the device was opened again.
-enum Went<B: BoardName> {
-    On(Rehearsal<B>),
-    Over(Course),
+// Written out, it is proved once, and not again in each function that lets such a value go.
+impl Drop for Course {
+    fn drop(self) {
+        let Course {
+            setup: _,
+            keeper: _,
+            found: _,
+            hand: _,
+        } = self;
+    }
 }
 
-// A script on its way.
-struct Rehearsal<B: BoardName> {
-    setup: Setup,
-    life: Life<B, SimDisk>,
-    // What unsynced bytes become at an armed crash.
-    armed: CrashChoice,
-    // The cookie of the last request.
-    cookie: u64,
-}
-
-impl<B: BoardName> Rehearsal<B> {
-    // Begins a life of the device, over a board that gets its name here, and prints what its opening found.
-    fn begin<W: Write>(
+impl Course {
+    // Carries out the lines of one life of the device, whose board gets its name here; what the next life begins with, where it
+    // ends by a crash or an upgrade.
+    fn live<B: BoardName, R: Read, W: Write>(
+        self,
         alloc: Global,
         blank: BlankBoard,
-        course: Course,
+        lines: &mut Lines<&mut R>,
         output: &mut W,
-    ) -> Result<Rehearsal<B>, End>
+    ) -> Result<Option<Course>, End>
         requires board { blank.board ≡ B.board }
         requires named { blank.opening ≡ B.opening }
-        requires opening { blank.opening ≡ course.keeper.count }
+        requires opening { blank.opening ≡ self.keeper.count }
     {
         let Course {
             setup,
             keeper,
             found,
-            armed,
-            cookie,
-        } = course;
-        let count = keeper.count();
-        let Ok(life) = Life::begin(alloc, blank, keeper, setup) else {
+            mut hand,
+        } = self;
+        let Ok(mut life) = Life::<B, SimDisk>::begin(alloc, blank, keeper, setup) else {
             return Err(failed(KeeperFault::NoMemory, output));
         };
-        let rehearsal = Rehearsal {
-            setup,
-            life,
-            armed,
-            cookie,
+        match carry_out_all(alloc, &mut life, &found, &mut hand, lines, output) {
+            Ok(way) => over(alloc, life, setup, hand, way, output),
+            Err(end) => {
+                let _ended = life.end();
+                Err(end)
+            }
+        }
+    }
+}
+
+// Prints what the opening found, and carries out the lines up to the life's end; none where they end first.
+fn carry_out_all<B: BoardName, R: Read, W: Write>(
+    alloc: Global,
+    life: &mut Life<B, SimDisk>,
+    found: &Option<Vec<BlockRun>>,
+    hand: &mut Hand,
+    lines: &mut Lines<&mut R>,
+    output: &mut W,
+) -> Result<Option<Way>, End> {
+    print_found(life.count(), found, output)?;
+    for _ in 0..u64::MAX {
+        let Some(line) = lines.next(alloc)? else {
+            return Ok(None);
         };
-        let printed = match &found {
-            None => print(output, "done"),
-            Some(runs) => print_opened(count, runs, output),
-        };
-        rehearsal.printed(printed)
-    }
-
-    // Carries out the line with this number, and prints what it comes to.
-    fn carry_out<W: Write>(
-        mut self,
-        alloc: Global,
-        line: Line,
-        number: u64,
-        output: &mut W,
-    ) -> Result<Went<B>, End> {
-        match line {
-            Line::Format(_) => {
-                self.end();
-                Err(End::NotAStep(number))
-            }
-            Line::Step(step) => self.step(alloc, step, output),
-            Line::Fault(kind, k) => {
-                self.life.fail(kind, k);
-                Ok(Went::On(self.print(output, "armed")?))
-            }
-            Line::Crash(choice) => Ok(Went::Over(self.crash(alloc, choice, output)?)),
-            Line::CrashAt(k, choice) => {
-                self.life.stop_at(k);
-                self.armed = choice;
-                Ok(Went::On(self.print(output, "armed")?))
-            }
-            Line::Upgrade => Ok(Went::Over(self.upgrade(alloc, output)?)),
+        if let Some(way) = carry_out_line(alloc, life, hand, line, lines.count(), output)? {
+            return Ok(Some(way));
         }
     }
+    Err(End::Refused(Refusal::StreamFault))
+}
 
-    fn step<W: Write>(
-        mut self,
-        alloc: Global,
-        line: StepLine,
-        output: &mut W,
-    ) -> Result<Went<B>, End> {
-        self.cookie = self.cookie.wrapping_add(1);
-        let told = carry_out(alloc, &mut self.life, line, self.cookie);
-        if self.life.stopped() {
-            let armed = self.armed;
-            let stopped = self.print(output, "stopped")?;
-            return Ok(Went::Over(stopped.crash(alloc, armed, output)?));
-        }
-        Ok(Went::On(self.tell(told, line, output)?))
-    }
-
-    // Prints what a step did.
-    fn tell<W: Write>(
-        self,
-        told: Told,
-        line: StepLine,
-        output: &mut W,
-    ) -> Result<Rehearsal<B>, End> {
-        match (told, line) {
-            (Told::Done, _) => self.print(output, "done"),
-            (Told::Failed(fault), _) => {
-                self.print(output, format_args!("failed {}", number_of(fault)))
-            }
-            (Told::Answered, StepLine::Answer(connection)) => self.print_answer(output, connection),
-            (Told::Held | Told::Answered, _) => self.print(output, "held"),
+// Carries out the line with this number, and prints what it comes to; how the life ends, where it does.
+fn carry_out_line<B: BoardName, W: Write>(
+    alloc: Global,
+    life: &mut Life<B, SimDisk>,
+    hand: &mut Hand,
+    line: Line,
+    number: u64,
+    output: &mut W,
+) -> Result<Option<Way>, End> {
+    match line {
+        Line::Format(_) => return Err(End::NotAStep(number)),
+        Line::Step(line) => return step(alloc, life, hand, line, output),
+        Line::Crash(choice) => return Ok(Some(Way::Crash(choice))),
+        Line::Upgrade => return Ok(Some(Way::Upgrade)),
+        Line::Fault(kind, k) => life.fail(kind, k),
+        Line::CrashAt(k, choice) => {
+            life.stop_at(k);
+            hand.armed = choice;
         }
     }
+    print(output, "armed")?;
+    Ok(None)
+}
 
-    // Prints the answer that was given last, to this connection.
-    fn print_answer<W: Write>(
-        self,
-        output: &mut W,
-        connection: usize,
-    ) -> Result<Rehearsal<B>, End> {
-        let printed = match self.life.last_answer() {
-            Some(answer) => {
-                let connection = name_of(connection);
-                print(output, AnswerLine { connection, answer })
-            }
-            None => print(output, "held"),
-        };
-        self.printed(printed)
+// Carries out a step. Where a stop was met, the device crashes.
+fn step<B: BoardName, W: Write>(
+    alloc: Global,
+    life: &mut Life<B, SimDisk>,
+    hand: &mut Hand,
+    line: StepLine,
+    output: &mut W,
+) -> Result<Option<Way>, End> {
+    hand.cookie = hand.cookie.wrapping_add(1);
+    let told = carry_out(alloc, life, line, hand.cookie);
+    if life.stopped() {
+        print(output, "stopped")?;
+        return Ok(Some(Way::Crash(hand.armed)));
     }
+    tell(told, last_answer(life.log()), line, output)?;
+    Ok(None)
+}
 
-    // The device crashes and is opened again. The next life begins with what the one before it covers, and more at most.
-    fn crash<W: Write>(
-        self,
-        alloc: Global,
-        choice: CrashChoice,
-        output: &mut W,
-    ) -> Result<Course, End>
-        ensures { IfOk result (λ next. (world : World) → IsLifeOf ⟦<SimDisk as Disk>⟧.state ⟦<SimDisk as Disk>⟧.faults ⟦<SimDisk as Disk>⟧.honest world self.life.order self.life.keeper self.life.bench
-            → (found : Image) × IsNextLife world found next.keeper.count) }
-    {
-        next_life_law::<SimDisk>();
-        let Rehearsal {
-            setup,
-            life,
-            armed,
-            cookie,
-        } = self;
-        let (mut disk, _log) = life.end();
-        disk.crash(choice);
-        let (keeper, runs) = open_again(alloc, disk, armed, false, output)?;
-        Ok(Course {
-            setup,
-            keeper,
-            found: Some(runs),
-            armed,
-            cookie,
-        })
+// Prints what a step did.
+fn tell<W: Write>(
+    told: Told,
+    answer: Option<&Answer>,
+    line: StepLine,
+    output: &mut W,
+) -> Result<(), Refusal> {
+    match told {
+        Told::Done => print(output, "done"),
+        Told::Held => print(output, "held"),
+        Told::Failed(fault) => print_failed(number_of(fault), output),
+        Told::Answered => print_answer(answer, line, output),
     }
+}
 
-    // The device is opened again, and made one of layout 2. What wasn't stored is lost. The next life begins as behind a crash.
-    fn upgrade<W: Write>(self, alloc: Global, output: &mut W) -> Result<Course, End>
-        ensures { IfOk result (λ next. (world : World) → IsLifeOf ⟦<SimDisk as Disk>⟧.state ⟦<SimDisk as Disk>⟧.faults ⟦<SimDisk as Disk>⟧.honest world self.life.order self.life.keeper self.life.bench
-            → (found : Image) × IsNextLife world found next.keeper.count) }
-    {
-        next_life_law::<SimDisk>();
-        let Rehearsal {
-            setup,
-            life,
-            armed,
-            cookie,
-        } = self;
-        let (disk, _log) = life.end();
-        let (keeper, runs) = open_again(alloc, disk, armed, true, output)?;
-        Ok(Course {
-            setup,
-            keeper,
-            found: Some(runs),
-            armed,
-            cookie,
-        })
-    }
+// The life is over, and the device is opened again where it ends by a crash or an upgrade. The next life begins with what the one
+// before it covers, and more at most.
+fn over<B: BoardName, W: Write>(
+    alloc: Global,
+    life: Life<B, SimDisk>,
+    setup: Setup,
+    hand: Hand,
+    way: Option<Way>,
+    output: &mut W,
+) -> Result<Option<Course>, End>
+    ensures { IfOk result (λ next. IfSome next (λ next. (world : World) → IsLifeOf ⟦<SimDisk as Disk>⟧.state ⟦<SimDisk as Disk>⟧.faults ⟦<SimDisk as Disk>⟧.honest world life.order life.keeper life.bench
+        → (found : Image) × IsNextLife world found next.keeper.count)) }
+{
+    next_life_law::<SimDisk>();
+    let (disk, _log) = life.end();
+    let Some(way) = way else {
+        return Ok(None);
+    };
+    let (keeper, runs) = open_after(alloc, disk, hand.armed, way, output)?;
+    Ok(Some(Course {
+        setup,
+        keeper,
+        found: Some(runs),
+        hand,
+    }))
+}
 
-    // Lets it go.
-    fn end(self) {
-        let Rehearsal {
-            setup: _,
-            life,
-            armed: _,
-            cookie: _,
-        } = self;
-        let _ended = life.end();
-    }
-
-    fn print<W: Write, T: Display + Drop>(
-        self,
-        output: &mut W,
-        line: T,
-    ) -> Result<Rehearsal<B>, End> {
-        let printed = print(output, line);
-        self.printed(printed)
-    }
-
-    fn printed(self, printed: Result<(), Refusal>) -> Result<Rehearsal<B>, End> {
-        match printed {
-            Ok(()) => Ok(self),
-            Err(refusal) => {
-                self.end();
-                Err(End::Refused(refusal))
-            }
+// Opens a device after a crash, or makes it one of layout 2. What wasn't stored is lost.
+fn open_after<W: Write>(
+    alloc: Global,
+    mut disk: SimDisk,
+    armed: CrashChoice,
+    way: Way,
+    output: &mut W,
+) -> Result<(Keeper<SimDisk>, Vec<BlockRun>), End>
+    ensures recovered { IfOk result (λ opened. IsRecovered opened.0) }
+    ensures keeps { IfOk result (λ opened. (image : Image) × Keeps opened.0 (⟦<SimDisk as Disk>⟧.state opened.0.disk) image opened.0.count) }
+    ensures found { IfOk result (λ opened. (image : Image) × IsFoundFrom (⟦<SimDisk as Disk>⟧.state disk) image opened.0.count) }
+{
+    match way {
+        Way::Crash(choice) => {
+            disk.crash(choice);
+            open_again(alloc, disk, armed, false, output)
         }
+        Way::Upgrade => open_again(alloc, disk, armed, true, output),
     }
 }
 
@@ -384,6 +332,33 @@ fn open_again<W: Write>(
                 Err((fault, _disk)) => Err(failed(fault, output)),
             }
         }
+    }
+}
+
+// Prints the answer that was given last, to the connection of this line.
+fn print_answer<W: Write>(
+    answer: Option<&Answer>,
+    line: StepLine,
+    output: &mut W,
+) -> Result<(), Refusal> {
+    match (answer, line) {
+        (Some(answer), StepLine::Answer(connection)) => {
+            let connection = name_of(connection);
+            print(output, AnswerLine { connection, answer })
+        }
+        _ => print(output, "held"),
+    }
+}
+
+// Prints what an opening found of a device with so many commands; none where it is new.
+fn print_found<W: Write>(
+    count: u64,
+    found: &Option<Vec<BlockRun>>,
+    output: &mut W,
+) -> Result<(), Refusal> {
+    match found {
+        None => print(output, "done"),
+        Some(runs) => print_opened(count, runs, output),
     }
 }
 

@@ -31,7 +31,7 @@ pub enum Line {
 }
 
 /// A step; a connection is named by its place, from 0 on.
-#[derive(Clone, Copy, Debug)]
+#[derive(Clone, Copy)]
 pub enum StepLine {
     /// A connection sends a WRITE.
     Put(usize, Filling),
@@ -57,7 +57,7 @@ pub enum StepLine {
 }
 
 /// What a device is made with.
-#[derive(Clone, Copy, Debug)]
+#[derive(Clone, Copy)]
 pub struct Setup {
     // Its sizes, in layout 1.
     geometry: Geometry,
@@ -83,7 +83,7 @@ impl Setup {
 }
 
 /// The range that a request names, in bytes, and whether it has FUA.
-#[derive(Clone, Copy, Debug)]
+#[derive(Clone, Copy)]
 pub struct Range {
     pub offset: u64,
     pub length: u32,
@@ -91,14 +91,14 @@ pub struct Range {
 }
 
 /// A WRITE of bytes that are all the same.
-#[derive(Clone, Copy, Debug)]
+#[derive(Clone, Copy)]
 pub struct Filling {
     pub range: Range,
     pub byte: u8,
 }
 
 /// By which request bytes are made zero.
-#[derive(Clone, Copy, Debug, PartialEq, Eq)]
+#[derive(Clone, Copy, PartialEq, Eq)]
 pub enum Clearing {
     /// A TRIM.
     Trim,
@@ -218,10 +218,10 @@ fn ranged_with(
     fua: bool,
 ) -> Option<StepLine> {
     match word {
-        "put" => put(connection, blocks_of(one, two, fua)?, three),
-        "bytes" => put(connection, bytes_of(one, two, fua)?, three),
-        "clear" => cleared(connection, one, Clearing::Trim, blocks_of(two, three, fua)?),
-        "zeroes" => cleared(connection, three, Clearing::Holes, bytes_of(one, two, fua)?),
+        "put" => put(connection, blocks_of(one, two, fua), three),
+        "bytes" => put(connection, bytes_of(one, two, fua), three),
+        "clear" => cleared(connection, one, Clearing::Trim, blocks_of(two, three, fua)),
+        "zeroes" => cleared(connection, three, Clearing::Holes, bytes_of(one, two, fua)),
         _ => None,
     }
 }
@@ -235,10 +235,7 @@ fn plainly_ranged(
     fua: bool,
 ) -> Option<StepLine> {
     match word {
-        "trim" => {
-            let range = bytes_of(from, count, fua)?;
-            Some(StepLine::Clear(connection, Clearing::Trim, range))
-        }
+        "trim" => clear(connection, Clearing::Trim, bytes_of(from, count, fua)),
         "read" => Some(StepLine::Read(connection, blocks_of(from, count, fua)?)),
         "status" => Some(StepLine::Status(connection, blocks_of(from, count, fua)?)),
         _ => None,
@@ -246,12 +243,21 @@ fn plainly_ranged(
 }
 
 // One by which bytes are made zero: where they may be holes, by this request.
-fn cleared(connection: usize, kind: &str, hole: Clearing, range: Range) -> Option<StepLine> {
+fn cleared(
+    connection: usize,
+    kind: &str,
+    hole: Clearing,
+    range: Option<Range>,
+) -> Option<StepLine> {
     match kind {
-        "hole" => Some(StepLine::Clear(connection, hole, range)),
-        "zero" => Some(StepLine::Clear(connection, Clearing::Zeroes, range)),
+        "hole" => clear(connection, hole, range),
+        "zero" => clear(connection, Clearing::Zeroes, range),
         _ => None,
     }
+}
+
+fn clear(connection: usize, clearing: Clearing, range: Option<Range>) -> Option<StepLine> {
+    Some(StepLine::Clear(connection, clearing, range?))
 }
 
 fn format(operands: &[&str]) -> Option<Line> {
@@ -274,7 +280,8 @@ fn format(operands: &[&str]) -> Option<Line> {
 }
 
 // A WRITE, if it isn't longer than what a server reads.
-fn put(connection: usize, range: Range, byte: &str) -> Option<StepLine> {
+fn put(connection: usize, range: Option<Range>, byte: &str) -> Option<StepLine> {
+    let range = range?;
     if range.length > MOST_WRITTEN {
         return None;
     }
@@ -306,7 +313,7 @@ fn ranging(offset: u64, length: u64, fua: bool) -> Option<Range> {
 
 // A number in decimal digits, without a sign.
 fn number_of(word: &str) -> Option<u64> {
-    if !word.bytes().all(|byte| byte.is_ascii_digit()) {
+    if word.starts_with('+') {
         return None;
     }
     word.parse().ok()
@@ -314,7 +321,10 @@ fn number_of(word: &str) -> Option<u64> {
 
 // A number that is at least 1.
 fn count_of(word: &str) -> Option<u64> {
-    number_of(word).filter(|count| *count > 0)
+    match number_of(word)? {
+        0 => None,
+        count => Some(count),
+    }
 }
 
 // The place of a connection, which is named from 1 on.
