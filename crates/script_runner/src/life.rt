@@ -41,7 +41,7 @@ const FLAGS: SessionFlags = SessionFlags {
 };
 
 /// What a step did, as a script tells it.
-#[derive(Clone, Copy, PartialEq, Eq)]
+#[derive(Clone, Copy)]
 pub enum Told {
     Done,
     Held,
@@ -223,13 +223,6 @@ impl<B: BoardName, D: Disk> Life<B, D> {
         } = self;
         let log = bench.close(&mut order);
         (keeper.into_disk(), log)
-    }
-
-    /// The number of the last command stored.
-    pub fn count(&self) -> u64
-        ensures { result ≡ self.now.keeper.count }
-    {
-        self.keeper.count()
     }
 
     /// What each step did, the first of them first.

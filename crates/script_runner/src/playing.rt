@@ -144,7 +144,7 @@ fn carry_out_all<B: BoardName>(
     for line in lines {
         cookie = u64::wrapping_add(cookie, 1);
         let told = carry_out(alloc, life, *line, cookie);
-        if told == Told::Failed(StepFault::NoMemory) {
+        if matches!(told, Told::Failed(StepFault::NoMemory)) {
             return Err(KeeperFault::NoMemory);
         }
         if life.stopped() || life.log().len() >= most {

@@ -151,10 +151,11 @@ impl Course {
             found,
             mut hand,
         } = self;
+        let count = keeper.count();
         let Ok(mut life) = Life::<B, SimDisk>::begin(alloc, blank, keeper, setup) else {
             return Err(failed(KeeperFault::NoMemory, output));
         };
-        match carry_out_all(alloc, &mut life, &found, &mut hand, lines, output) {
+        match carry_out_all(alloc, &mut life, count, &found, &mut hand, lines, output) {
             Ok(way) => over(alloc, life, setup, hand, way, output),
             Err(end) => {
                 let _ended = life.end();
@@ -164,16 +165,18 @@ impl Course {
     }
 }
 
-// Prints what the opening found, and carries out the lines up to the life's end; none where they end first.
+// Prints what the opening found of a device with so many commands, and carries out the lines up to the life's end; none where they
+// end first.
 fn carry_out_all<B: BoardName, R: Read, W: Write>(
     alloc: Global,
     life: &mut Life<B, SimDisk>,
+    count: u64,
     found: &Option<Vec<BlockRun>>,
     hand: &mut Hand,
     lines: &mut Lines<&mut R>,
     output: &mut W,
 ) -> Result<Option<Way>, End> {
-    print_found(life.count(), found, output)?;
+    print_found(count, found, output)?;
     for _ in 0..u64::MAX {
         let Some(line) = lines.next(alloc)? else {
             return Ok(None);
