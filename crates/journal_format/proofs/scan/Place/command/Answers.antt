@@ -1,4 +1,5 @@
 use Rattle.std.proofs.Common.{◌≡◌, ⊎_elim, ℕ, ◌+◌, ◌∷◌, [], List, Option, Some, ◌∙◌, ap, arith}
+use Rattle.std.proofs.lemmas.Result.{IfOk-from_err}
 use Rattle.image_model.specs.Change.{edge_count}
 use Rattle.image_model.specs.declared.command.Edges.{Edges}
 use Rattle.journal_format.specs.declared.touch.TouchedRange.{TouchedRange}
@@ -143,3 +144,21 @@ returns-clause-read_as g c honest content known =
 pub edges-requires-clause-inside : goal.edges-requires-clause-inside
 edges-requires-clause-inside g c edged =
     omega (arith, c.bytes.ensures.edged edged, c.if-end-place.false, c.requires.order, c.requires.inside)
+
+pub returns-in_err-head-clause-inside : goal.returns-in_err-head-clause-inside
+returns-in_err-head-clause-inside g c = IfOk-from_err c.from_residual.result _ c.from_residual.ensures.0
+
+pub returns-in_err-head-clause-within : goal.returns-in_err-head-clause-within
+returns-in_err-head-clause-within g c = IfOk-from_err c.from_residual.result _ c.from_residual.ensures.0
+
+pub returns-in_err-head-clause-found : goal.returns-in_err-head-clause-found
+returns-in_err-head-clause-found g c honest content known = IfOk-from_err c.from_residual.result _ c.from_residual.ensures.0
+
+pub returns-in_err-edges-clause-inside : goal.returns-in_err-edges-clause-inside
+returns-in_err-edges-clause-inside g c = IfOk-from_err c.from_residual-in_err-edges.result _ c.from_residual-in_err-edges.ensures.0
+
+pub returns-in_err-edges-clause-within : goal.returns-in_err-edges-clause-within
+returns-in_err-edges-clause-within g c = IfOk-from_err c.from_residual-in_err-edges.result _ c.from_residual-in_err-edges.ensures.0
+
+pub returns-in_err-edges-clause-found : goal.returns-in_err-edges-clause-found
+returns-in_err-edges-clause-found g c honest content known = IfOk-from_err c.from_residual-in_err-edges.result _ c.from_residual-in_err-edges.ensures.0

@@ -1,4 +1,5 @@
 use Rattle.std.proofs.Common.{◌≡◌, ◌≤◌, ◌+◌, ◌∙◌, ℕ, List, [], ◌∷◌, length, sym, subst, refl, arith}
+use Rattle.std.proofs.lemmas.Result.{IfOk-from_err}
 use Rattle.image_model.specs.Change.{Change}
 use Rattle.journal_format.specs.declared.touch.TouchedRange.{TouchedRange}
 use Rattle.journal_format.specs.inner.Scanning.{StandBetween}
@@ -94,3 +95,15 @@ pub returns-else-place-end-clause-damaged : goal.returns-else-place-end-clause-d
 returns-else-place-end-clause-damaged g c honest content known damaged changes between is =
     let there = (c.loop.invariant.left honest content known).rest changes between is in
     none_left c.args.self.now.blocks content _ _ _ _ there.0 there.1 there.2 c.loop-test.false (λ same. c.if-place-end.false (omega (arith, same)))
+
+pub returns-in_err-found-clause-within : goal.returns-in_err-found-clause-within
+returns-in_err-found-clause-within g c = IfOk-from_err c.from_residual.result _ c.from_residual.ensures.0
+
+pub returns-in_err-found-clause-found : goal.returns-in_err-found-clause-found
+returns-in_err-found-clause-found g c honest content known = IfOk-from_err c.from_residual.result _ c.from_residual.ensures.0
+
+pub returns-in_err-note-clause-within : goal.returns-in_err-note-clause-within
+returns-in_err-note-clause-within g c = IfOk-from_err c.from_residual-in_err-note.result _ c.from_residual-in_err-note.ensures.0
+
+pub returns-in_err-note-clause-found : goal.returns-in_err-note-clause-found
+returns-in_err-note-clause-found g c honest content known = IfOk-from_err c.from_residual-in_err-note.result _ c.from_residual-in_err-note.ensures.0

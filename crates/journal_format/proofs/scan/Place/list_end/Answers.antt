@@ -1,4 +1,5 @@
 use Rattle.std.proofs.Common.{◌+◌, ◌∙◌, List, sym, subst, refl, arith}
+use Rattle.std.proofs.lemmas.Result.{IfOk-from_err}
 use Rattle.journal_format.specs.declared.touch.TouchedRange.{TouchedRange}
 use Rattle.journal_format.specs.Scanning.{FoundList}
 use Rattle.journal_format.specs.Touches.{AreWithin}
@@ -89,3 +90,27 @@ returns-clause-none g c none =
     let same = rw c.in_default.is at c.in_ok-behind.ensures.same in
     let empty = c.loop-window.invariant.none none in
     (same ∙ empty.0, empty.1)
+
+pub returns-in_err-window-clause-inside : goal.returns-in_err-window-clause-inside
+returns-in_err-window-clause-inside g c = IfOk-from_err c.from_residual.result _ c.from_residual.ensures.0
+
+pub returns-in_err-window-clause-within : goal.returns-in_err-window-clause-within
+returns-in_err-window-clause-within g c = IfOk-from_err c.from_residual.result _ c.from_residual.ensures.0
+
+pub returns-in_err-window-clause-none : goal.returns-in_err-window-clause-none
+returns-in_err-window-clause-none g c = IfOk-from_err c.from_residual.result _ c.from_residual.ensures.0
+
+pub returns-in_err-window-clause-found : goal.returns-in_err-window-clause-found
+returns-in_err-window-clause-found g c honest content known = IfOk-from_err c.from_residual.result _ c.from_residual.ensures.0
+
+pub returns-in_err-behind-clause-inside : goal.returns-in_err-behind-clause-inside
+returns-in_err-behind-clause-inside g c = IfOk-from_err c.from_residual-in_err-behind.result _ c.from_residual-in_err-behind.ensures.0
+
+pub returns-in_err-behind-clause-within : goal.returns-in_err-behind-clause-within
+returns-in_err-behind-clause-within g c = IfOk-from_err c.from_residual-in_err-behind.result _ c.from_residual-in_err-behind.ensures.0
+
+pub returns-in_err-behind-clause-none : goal.returns-in_err-behind-clause-none
+returns-in_err-behind-clause-none g c = IfOk-from_err c.from_residual-in_err-behind.result _ c.from_residual-in_err-behind.ensures.0
+
+pub returns-in_err-behind-clause-found : goal.returns-in_err-behind-clause-found
+returns-in_err-behind-clause-found g c honest content known = IfOk-from_err c.from_residual-in_err-behind.result _ c.from_residual-in_err-behind.ensures.0

@@ -1,5 +1,6 @@
 use Rattle.std.proofs.Common.{◌+◌, ◌∙◌, sym, refl, arith}
 use Rattle.std.proofs.lemmas.Bool.{false≢true}
+use Rattle.std.proofs.lemmas.Result.{IfOk-from_err}
 use Rattle.journal_format.specs.laws.Chained.{reads_on}
 use Rattle.journal_format.specs.laws.Groups.{no_group, no_body, group_found}
 use Rattle.journal_format.specs.laws.Noted.{passed_on}
@@ -63,3 +64,21 @@ pub returns-clause-read_as : goal.returns-clause-read_as
 returns-clause-read_as g c honest content known =
     let first = c.in_ok-head.ensures in
     c.commands.ensures.read_as (first.honest.1 honest) content (first.read_as honest content known)
+
+pub returns-in_err-head-clause-later : goal.returns-in_err-head-clause-later
+returns-in_err-head-clause-later g c = IfOk-from_err c.from_residual.result _ c.from_residual.ensures.0
+
+pub returns-in_err-head-clause-within : goal.returns-in_err-head-clause-within
+returns-in_err-head-clause-within g c = IfOk-from_err c.from_residual.result _ c.from_residual.ensures.0
+
+pub returns-in_err-head-clause-found : goal.returns-in_err-head-clause-found
+returns-in_err-head-clause-found g c honest content known is_open = IfOk-from_err c.from_residual.result _ c.from_residual.ensures.0
+
+pub returns-in_err-commands-clause-later : goal.returns-in_err-commands-clause-later
+returns-in_err-commands-clause-later g c = IfOk-from_err c.from_residual-in_err-commands.result _ c.from_residual-in_err-commands.ensures.0
+
+pub returns-in_err-commands-clause-within : goal.returns-in_err-commands-clause-within
+returns-in_err-commands-clause-within g c = IfOk-from_err c.from_residual-in_err-commands.result _ c.from_residual-in_err-commands.ensures.0
+
+pub returns-in_err-commands-clause-found : goal.returns-in_err-commands-clause-found
+returns-in_err-commands-clause-found g c honest content known is_open = IfOk-from_err c.from_residual-in_err-commands.result _ c.from_residual-in_err-commands.ensures.0
