@@ -1,6 +1,11 @@
-use Rattle.std.proofs.Common.{ap, refl, rules, ◌∙◌, ◌≡◌, ◌≤◌, ◌+◌, ◌-◌, ℕ, Bool, length, not}
+use Rattle.std.proofs.Common.{ap, refl, rules, ◌∙◌, ◌≡◌, ◌≤◌, ◌+◌, ◌-◌, ℕ, Bool, List, length, replicate, not, arith}
+use Rattle.std.proofs.lemmas.List.{length-replicate}
 use Rattle.std.proofs.lemmas.List.Elements.{All-filter}
+use Rattle.image_model.specs.declared.command.Kind.{Kind}
+use Rattle.image_model.specs.declared.command.Kind.TheVariants.{Data}
 use Rattle.image_model.specs.Image.{covers}
+use Rattle.image_model.specs.Patched.{patched}
+use Rattle.image_model.specs.laws.Positions.{length-patched}
 use Rattle.shared_cache.specs.Blocks.{BlocksState, DirtyBlock, without}
 use Rattle.shared_cache.specs.Cache.{CacheState}
 use Rattle.shared_cache.specs.Held.{HeldState, blocks_of}
@@ -48,3 +53,42 @@ returns-clause-view c =
 
 pub returns-clause-once : goal.returns-clause-once
 returns-clause-once c = held_once c.put_all-2.new.self c.put_all-2.ensures.held
+
+-- a range that is set leaves as many states
+same_size : (old new : List Kind) (first count : ℕ) (kind : Kind) → new ≡ patched old first (replicate count kind) → first + count ≤ length old → length new ≡ length old
+same_size old new first count kind is inside =
+    ap (λ (states : List Kind). length states) is ∙ length-patched old first (replicate count kind) (omega (arith, length-replicate count kind, inside))
+
+-- so do all three, one after another
+sizes : (old one two three : List Kind) (first count head tail : ℕ) (kind : Kind) → head + tail ≤ count → first + count ≤ length old
+    → one ≡ patched old (first + head) (replicate (first + count - tail - (first + head)) kind) → two ≡ patched one first (replicate head Data)
+    → three ≡ patched two (first + count - tail) (replicate tail Data)
+    → (length one ≡ length old) × (length two ≡ length old) × (length three ≡ length old)
+sizes old one two three first count head tail kind fits inside one_is two_is three_is =
+    let at_one = same_size old one (first + head) (first + count - tail - (first + head)) kind one_is (omega (arith, fits, inside)) in
+    let at_two = same_size one two first head Data two_is (omega (arith, fits, inside, at_one)) ∙ at_one in
+    (at_one, at_two, same_size two three (first + count - tail) tail Data three_is (omega (arith, fits, inside, at_two)) ∙ at_two)
+
+pub set_range-requires-2 : goal.set_range-requires-2
+set_range-requires-2 c =
+    let states = ap (λ (cache : CacheState). length cache.states) c.self.view_is in
+    let between = c.args.first + length c.args.head.now in
+    let middle = c.args.first + c.args.count - length c.args.tail.now - between in
+    let one = same_size c.self.inside.map c.set_range.new.self between middle c.args.kind c.set_range.ensures (omega (arith, states, c.requires.range, c.requires.edges)) in
+    omega (arith, one, states, c.requires.range, c.requires.edges)
+
+pub set_range-requires-3 : goal.set_range-requires-3
+set_range-requires-3 c =
+    let states = ap (λ (cache : CacheState). length cache.states) c.self.view_is in
+    let between = c.args.first + length c.args.head.now in
+    let middle = c.args.first + c.args.count - length c.args.tail.now - between in
+    let one = same_size c.self.inside.map c.set_range.new.self between middle c.args.kind c.set_range.ensures (omega (arith, states, c.requires.range, c.requires.edges)) in
+    let two = same_size c.set_range.new.self c.set_range-2.new.self c.args.first (length c.args.head.now) Data c.set_range-2.ensures (omega (arith, one, states, c.requires.range, c.requires.edges)) in
+    omega (arith, one, two, states, c.requires.range, c.requires.edges)
+
+pub invariant_of-self-2 : goal.invariant_of-self-2
+invariant_of-self-2 c =
+    let states = ap (λ (cache : CacheState). length cache.states) c.self.view_is in
+    let after = sizes c.self.inside.map c.set_range.new.self c.set_range-2.new.self c.set_range-3.new.self c.args.first c.args.count (length c.args.head.now) (length c.args.tail.now) c.args.kind
+    c.requires.edges (omega (arith, states, c.requires.range)) c.set_range.ensures c.set_range-2.ensures c.set_range-3.ensures in
+    record { few = omega (arith, after.2, c.self.invariant.few); held_kept = c.put_all-2.ensures.held }
