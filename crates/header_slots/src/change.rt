@@ -14,7 +14,7 @@ use disk_model::{DeviceFault, Disk, write_synced};
 use image_model::{CLOSED, Geometry, OPEN, Side};
 
 /// What a new header says anew. Its generation is one greater than that of the header in force, and the sizes stay.
-#[derive(Clone, Copy, Debug, PartialEq, Eq)]
+#[derive(Clone, Copy)]
 pub struct HeaderChange {
     pub in_front: u8,
     pub first_area: u8,
