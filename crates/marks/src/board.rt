@@ -84,9 +84,7 @@ impl<B: BoardName> Board<B> {
         ensures seen { IsPrefix pass.old.history order.old.history }
         ensures pass { pass.new ≡ record pass.old { history = order.old.history; accepted = result } }
     {
-        let told = self.cut(&mut pass.seat);
-        self.hear(&mut order.seat, told);
-        let last = self.see_accepted(&mut order.seat);
+        let last = self.hear_out(&mut order.seat, &mut pass.seat);
         let shown = self.cut(&mut order.seat);
         self.take_history(&mut pass.seat, shown);
         last
@@ -115,9 +113,7 @@ impl<B: BoardName> Board<B> {
               own = record { count = pass.old.own.count + 1; last = Some (record { number = result; change = change_of command.now }) };
             } }
     {
-        let told = self.cut(&mut pass.seat);
-        self.hear(&mut order.seat, told);
-        let last = self.see_accepted(&mut order.seat);
+        let last = self.hear_out(&mut order.seat, &mut pass.seat);
         self.raise(&mut order.seat, last, command);
         let shown = self.cut(&mut order.seat);
         self.take_over(&mut pass.seat, shown);
@@ -133,9 +129,7 @@ impl<B: BoardName> Board<B> {
         ensures base { order.old.base ≤ keeper.old.base }
         ensures keeper { keeper.new ≡ record keeper.old { history = order.old.history; accepted = order.old.accepted } }
     {
-        let told = self.cut(&mut keeper.seat);
-        self.hear(&mut order.seat, told);
-        self.see_accepted(&mut order.seat);
+        self.hear_out(&mut order.seat, &mut keeper.seat);
         let told = self.cut(&mut order.seat);
         self.hear(&mut keeper.seat, told);
         self.take_in(&mut keeper.seat);

@@ -29,6 +29,27 @@ impl<B: BoardName> Board<B> {
         self.table.shared.load::<LookAccepted>(seat, 0)
     }
 
+    // The order is told of what another seat knows, and looks at the accepted number: the history, which it has known as it is,
+    // begins with that.
+    pub(crate) fn hear_out(
+        &self,
+        order: &mut Seat<Command, View>,
+        other: &mut Seat<Command, View>,
+    ) -> u64
+        requires order { IsSeat B.board B.opening order.old }
+        requires right { order.old.me.0.raises_accepted ≡ true }
+        requires other { IsSeat B.board B.opening other.old }
+        ensures number { result ≡ last_number order.old.me.0 }
+        ensures known { last_number other.old.me.0 ≤ result }
+        ensures seen { IsPrefix (changes_of other.old.me.0.seen) (changes_of order.old.me.0.seen) }
+        ensures order { IsSeat B.board B.opening order.new × (order.new.me.0 ≡ hearing order.old.me.0 other.old.me.0) }
+        ensures other { IsSeat B.board B.opening other.new × (other.new.me.0 ≡ other.old.me.0) }
+    {
+        let told = self.cut(other);
+        self.hear(order, told);
+        self.see_accepted(order)
+    }
+
     // The durable number, which was accepted.
     pub(crate) fn see_durable(&self, seat: &mut Seat<Command, View>) -> u64
         requires seat { IsSeat B.board B.opening seat.old }
