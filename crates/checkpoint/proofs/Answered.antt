@@ -33,6 +33,34 @@ module _ {T : Type 0} where
     pub not_now : result ≡ Err NotNow → ⊥
     pub full : result ≡ Err NumbersFull → ⊥
 
+  -- one that tells of the keeper isn't another of these
+  pub failed-not_now : ◌≡◌ {A = Given T} (Err Failed) (Err NotNow) → ⊥
+  failed-not_now is = cc
+
+  pub failed-full : ◌≡◌ {A = Given T} (Err Failed) (Err NumbersFull) → ⊥
+  failed-full is = cc
+
+  pub failed-no_memory : ◌≡◌ {A = Given T} (Err Failed) (Err NoMemory) → ⊥
+  failed-no_memory is = cc
+
+  pub not_now-failed : ◌≡◌ {A = Given T} (Err NotNow) (Err Failed) → ⊥
+  not_now-failed is = cc
+
+  pub not_now-full : ◌≡◌ {A = Given T} (Err NotNow) (Err NumbersFull) → ⊥
+  not_now-full is = cc
+
+  pub not_now-no_memory : ◌≡◌ {A = Given T} (Err NotNow) (Err NoMemory) → ⊥
+  not_now-no_memory is = cc
+
+  pub full-failed : ◌≡◌ {A = Given T} (Err NumbersFull) (Err Failed) → ⊥
+  full-failed is = cc
+
+  pub full-not_now : ◌≡◌ {A = Given T} (Err NumbersFull) (Err NotNow) → ⊥
+  full-not_now is = cc
+
+  pub full-no_memory : ◌≡◌ {A = Given T} (Err NumbersFull) (Err NoMemory) → ⊥
+  full-no_memory is = cc
+
   pub device_apart : (fault : KeeperFault) → fault ≡ DeviceFault → IsOther (Err fault)
   device_apart fault is = record { failed = λ same. cc; not_now = λ same. cc; full = λ same. cc }
 

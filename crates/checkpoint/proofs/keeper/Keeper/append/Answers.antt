@@ -1,7 +1,8 @@
-use Rattle.std.proofs.Common.{◌≡◌, ℕ, ◌+◌, ◌⊎◌, List, length, map, false, refl, sym, ◌∙◌, ap, subst, arith, rules}
+use Rattle.std.proofs.Common.{◌≡◌, ℕ, ◌+◌, ◌⊎◌, List, length, map, false, inl, inr, refl, sym, ◌∙◌, ap, subst, arith, rules}
+use Rattle.std.proofs.lemmas.Bool.{false≢true}
 use Rattle.std.proofs.lemmas.List.{length-map}
 use Rattle.disk_model.specs.Disk.{State, LeavesOnly}
-use Rattle.disk_model.specs.laws.Moments.{weakens}
+use Rattle.disk_model.specs.laws.Moments.{begins, weakens}
 use Rattle.image_model.specs.Change.{AreChanges, change_of}
 use Rattle.image_model.specs.Image.{Image, apply_all}
 use Rattle.image_model.specs.declared.geometry.Geometry.{Geometry}
@@ -12,10 +13,12 @@ use Rattle.journal_format.specs.GroupList.{IsHeld, LeavesEither}
 use Rattle.journal_format.specs.Spelling.{StoredGroup, stored_of}
 use Rattle.journal.specs.laws.Added.{size-stored}
 use Rattle.checkpoint.specs.Faults.{of_journal}
+use Rattle.checkpoint.specs.declared.fault.KeeperFault.{KeeperFault}
+use Rattle.checkpoint.specs.declared.fault.KeeperFault.TheVariants.{AreaFull, Failed, OutOfOrder}
 use Rattle.device_image.specs.Keeper.{KeeperState}
 use Rattle.device_image.specs.Keeps.{Keeps}
 use Rattle.device_image.specs.Stands.{StandsFor}
-use Rattle.device_image.specs.laws.Kept.{first}
+use Rattle.device_image.specs.laws.Kept.{first, kept_content}
 use Rattle.checkpoint.proofs.Added.{more_held, leaves_either, count_below, count_above, count_on, is_next, ordered}
 use Rattle.checkpoint.proofs.keeper.Keeper.append.Goals as goal
 use Rattle.device_image.specs.Holds.{Holds, joined}
@@ -97,3 +100,26 @@ returns-in-Ok-clause-remembered g c commands remembers changes =
     let inside = subst (λ (k : KeeperState g.row.D.Denot). Remembers k commands) (sym c.self.view_is) remembers in
     let sizes = subst (λ (k : KeeperState g.row.D.Denot). AreChanges k.geometry.blocks (map change_of group.commands)) (sym c.self.view_is) changes in
     remembers_more _ _ commands (map change_of group.commands) (c.self.inside.area.from + c.self.inside.area.gate + 17) refl (ap (λ (area : AreaState). area.touched) c.in-Ok.ensures.ok) sizes inside
+
+failed_apart : (◌≡◌ {A = KeeperFault} Failed AreaFull → ⊥) × (◌≡◌ {A = KeeperFault} Failed OutOfOrder → ⊥)
+failed_apart = (λ same. cc, λ same. cc)
+
+pub returns-then-self : goal.returns-then-self
+returns-then-self g c =
+    let fails = ap (λ (k : KeeperState g.row.D.Denot). k.failed) (sym c.self.view_is) ∙ c.if-self.true in record {
+      ok = tt;
+      err = refl;
+      group_back = refl;
+      unchanged = inr refl;
+      extent = refl;
+      honest = (λ trusted. trusted, λ trusted. trusted);
+      remembered = λ commands remembers changes. tt;
+      failed = (λ _. fails, λ _. refl);
+      full = (λ is. absurd (failed_apart.0 is), λ now. absurd (false≢true (sym now.0 ∙ fails)));
+      out_of_order = (λ is. absurd (failed_apart.1 is), λ now. absurd (false≢true (sym now.0 ∙ fails)));
+      only = tt;
+      faults_ok = tt;
+      faults_err = refl;
+      held = λ honest base fronts last holds changes. tt;
+      any_moment = λ honest image number keeps changes. begins (g.met.D.Disk.sound c.args.self.now.disk honest) (λ content left. inl (kept_content _ _ image number keeps content left));
+    }

@@ -1,4 +1,4 @@
-use Rattle.std.proofs.Common.{◌≡◌, ◌<◌, ◌-◌, ◌*◌, ◌≤◌, ℕ, inl, Option, None, true, List, ◌∷◌, length, refl, rules, sym, ◌∙◌, ap, subst, arith}
+use Rattle.std.proofs.Common.{◌≡◌, ◌<◌, ◌-◌, ◌*◌, ◌≤◌, ℕ, inl, inr, Option, None, true, List, ◌∷◌, length, refl, rules, sym, ◌∙◌, ap, subst, arith}
 use Rattle.checkpoint.specs.declared.fault.KeeperFault.TheVariants.{NoMemory}
 use Rattle.std.proofs.lemmas.Result.{IfOk-from_err}
 use Rattle.std.specs.Prelude.{IfSome}
@@ -11,7 +11,7 @@ use Rattle.image_model.specs.declared.geometry.Geometry.{Geometry}
 use Rattle.checkpoint.specs.Keeper.{AreSized, IsSized, faults_by, plans_of, refused_by}
 use Rattle.checkpoint.specs.Steps.{IsCopyTime, IsStepFault, copied_by, left_in}
 use Rattle.checkpoint.specs.declared.fault.KeeperFault.{KeeperFault}
-use Rattle.checkpoint.proofs.Answered.{device_apart, memory_apart, ok_apart, some_apart, err_given}
+use Rattle.checkpoint.proofs.Answered.{device_apart, failed-full, failed-not_now, memory_apart, not_now-failed, not_now-full, ok_apart, some_apart, err_given}
 use Rattle.device_image.specs.Keeper.{Copying, KeeperState, Memory, Phase, PlanState, last_turned, lefts_of, phase_in, phase_of, turned_of}
 use Rattle.device_image.specs.Remembers.{Remembers}
 use Rattle.device_image.specs.Keeps.{Keeps}
@@ -21,18 +21,6 @@ use Rattle.regions.specs.Layout.{block_at}
 use Rattle.checkpoint.proofs.Copying.{copy_held, copy_left}
 use Rattle.checkpoint.proofs.keeper.Keeper.copy_some.Goals as goal
 use Rattle.device_image.specs.Holds.{Holds}
-
-pub returns-in_default-clause-any_moment : goal.returns-in_default-clause-any_moment
-returns-in_default-clause-any_moment g c honest image number keeps =
-    let same = ap (λ (k : KeeperState g.row.D.Denot). k.disk) (sym c.self.view_is) in
-    subst (λ (disk : g.row.D.Denot). LeavesOnly (g.D.Disk.state c.args.self.now.disk) (g.D.Disk.state disk) (λ content. StandsFor content image number)) same
-    (begins (g.met.D.Disk.sound c.args.self.now.disk honest) (λ content left. kept_content _ _ image number keeps content left))
-
-pub returns-in_default-next_copy-clause-any_moment : goal.returns-in_default-next_copy-clause-any_moment
-returns-in_default-next_copy-clause-any_moment g c honest image number keeps =
-    let same = ap (λ (k : KeeperState g.row.D.Denot). k.disk) (sym c.self.view_is) in
-    subst (λ (disk : g.row.D.Denot). LeavesOnly (g.D.Disk.state c.args.self.now.disk) (g.D.Disk.state disk) (λ content. StandsFor content image number)) same
-    (begins (g.met.D.Disk.sound c.args.self.now.disk honest) (λ content left. kept_content _ _ image number keeps content left))
 
 pub returns-in_err-buffer-clause-any_moment : goal.returns-in_err-buffer-clause-any_moment
 returns-in_err-buffer-clause-any_moment g c honest image number keeps =
@@ -345,8 +333,59 @@ returns-in-Ok-clause-ok g c =
           }),
     )
 
-pub returns-in_default-next_copy-clause-err : goal.returns-in_default-next_copy-clause-err
-returns-in_default-next_copy-clause-err g c =
+pub returns-in_err-buffer-clause-ok : goal.returns-in_err-buffer-clause-ok
+returns-in_err-buffer-clause-ok g c =
+    IfOk-from_err c.from_residual.result _ c.from_residual.ensures.0
+
+pub returns-in_err-buffer-clause-left : goal.returns-in_err-buffer-clause-left
+returns-in_err-buffer-clause-left g c =
+    IfOk-from_err c.from_residual.result _ c.from_residual.ensures.0
+
+pub returns-then-self : goal.returns-then-self
+returns-then-self g c =
+    let fails = ap (λ (k : KeeperState g.row.D.Denot). k.failed) (sym c.self.view_is) ∙ c.if-self.true in record {
+      ok = tt;
+      left = tt;
+      err = refl;
+      failed = (λ _. fails, λ _. refl);
+      not_now = (λ is. absurd (failed-not_now is), λ now. absurd (false≢true (sym now.0 ∙ fails)));
+      only = tt;
+      not_full = failed-full;
+      unchanged = inr refl;
+      extent = refl;
+      faults_ok = tt;
+      faults_err = refl;
+      honest = (λ trusted. trusted, λ trusted. trusted);
+      remembered = λ commands remembers. tt;
+      held = λ honest base fronts last holds. tt;
+      any_moment = λ honest image number keeps. begins (g.met.D.Disk.sound c.args.self.now.disk honest) (λ content left. kept_content _ _ image number keeps content left);
+    }
+
+pub returns-in_default : goal.returns-in_default
+returns-in_default g c =
+    let works = ap (λ (k : KeeperState g.row.D.Denot). k.failed) (sym c.self.view_is) ∙ c.if-self.false in
+    let same = ap (λ (k : KeeperState g.row.D.Denot). k.disk) c.self.view_is in record {
+      ok = tt;
+      left = tt;
+      err = c.self.view_is;
+      failed = (λ is. absurd (not_now-failed is), λ fails. absurd (false≢true (sym works ∙ fails)));
+      not_now = search rules;
+      only = tt;
+      not_full = not_now-full;
+      unchanged = inr same;
+      extent = ap g.D.Disk.extent same;
+      faults_ok = tt;
+      faults_err = ap g.D.Disk.faults same;
+      honest = (λ trusted. subst g.D.Disk.honest same trusted, λ trusted. subst g.D.Disk.honest (sym same) trusted);
+      remembered = λ commands remembers. tt;
+      held = λ honest base fronts last holds. tt;
+      any_moment = λ honest image number keeps.
+          subst (λ (disk : g.row.D.Denot). LeavesOnly (g.D.Disk.state c.args.self.now.disk) (g.D.Disk.state disk) (λ content. StandsFor content image number)) (sym same)
+          (begins (g.met.D.Disk.sound c.args.self.now.disk honest) (λ content left. kept_content _ _ image number keeps content left));
+    }
+
+pub returns-in_default-next_copy : goal.returns-in_default-next_copy
+returns-in_default-next_copy g c =
     let inside = c.self.inside in
     let plan = c.in-Some.plan in
     let waiting = inside.waiting.items in
@@ -363,13 +402,23 @@ returns-in_default-next_copy-clause-err g c =
       failed = inside.failed;
       memory = record { header = inside.header; slot = inside.slot; map = inside.map; plans = plans; area = inside.area };
     } in
-    let same = ap made (sym c.in-Some.is) ∙ c.self.view_is in
-    same
-
-pub returns-in_err-buffer-clause-ok : goal.returns-in_err-buffer-clause-ok
-returns-in_err-buffer-clause-ok g c =
-    IfOk-from_err c.from_residual.result _ c.from_residual.ensures.0
-
-pub returns-in_err-buffer-clause-left : goal.returns-in_err-buffer-clause-left
-returns-in_err-buffer-clause-left g c =
-    IfOk-from_err c.from_residual.result _ c.from_residual.ensures.0
+    let works = ap (λ (k : KeeperState g.row.D.Denot). k.failed) (sym c.self.view_is) ∙ c.if-self.false in
+    let same = ap (λ (k : KeeperState g.row.D.Denot). k.disk) c.self.view_is in record {
+      ok = tt;
+      left = tt;
+      err = ap made (sym c.in-Some.is) ∙ c.self.view_is;
+      failed = (λ is. absurd (not_now-failed is), λ fails. absurd (false≢true (sym works ∙ fails)));
+      not_now = search rules;
+      only = tt;
+      not_full = not_now-full;
+      unchanged = inr same;
+      extent = ap g.D.Disk.extent same;
+      faults_ok = tt;
+      faults_err = ap g.D.Disk.faults same;
+      honest = (λ trusted. subst g.D.Disk.honest same trusted, λ trusted. subst g.D.Disk.honest (sym same) trusted);
+      remembered = λ commands remembers. tt;
+      held = λ honest base fronts last holds. tt;
+      any_moment = λ honest image number keeps.
+          subst (λ (disk : g.row.D.Denot). LeavesOnly (g.D.Disk.state c.args.self.now.disk) (g.D.Disk.state disk) (λ content. StandsFor content image number)) (sym same)
+          (begins (g.met.D.Disk.sound c.args.self.now.disk honest) (λ content left. kept_content _ _ image number keeps content left));
+    }

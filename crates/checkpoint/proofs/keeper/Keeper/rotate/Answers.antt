@@ -1,4 +1,4 @@
-use Rattle.std.proofs.Common.{◌≡◌, ◌<◌, ◌+◌, ◌%◌, inl, ℕ, zero, suc, false, true, None, Some, Err, List, [], ◌∷◌, ◌++◌, length, refl, sym, ◌∙◌, ap, subst, arith, rules}
+use Rattle.std.proofs.Common.{◌≡◌, ◌<◌, ◌+◌, ◌%◌, inl, inr, ℕ, zero, suc, false, true, None, Some, Err, List, [], ◌∷◌, ◌++◌, length, refl, sym, ◌∙◌, ap, subst, arith, rules}
 use Rattle.std.proofs.lemmas.Result.{IfOk-from_err}
 use Rattle.std.specs.FinMap.{len}
 use Rattle.std.specs.Bool.{◌==◌}
@@ -27,18 +27,10 @@ use Rattle.checkpoint.specs.Keeper.{AreSized, IsSized, faults_by, plans_of, refu
 use Rattle.checkpoint.specs.Steps.{IsRotateTime, IsStepFault, phase_with, rotated_by}
 use Rattle.checkpoint.specs.declared.fault.KeeperFault.{KeeperFault}
 use Rattle.checkpoint.specs.declared.fault.KeeperFault.TheVariants.{NumbersFull, NotNow, Failed}
-use Rattle.checkpoint.proofs.Answered.{Given, device_apart, memory_apart, no_memory, ok_apart, some_apart}
+use Rattle.checkpoint.proofs.Answered.{Given, device_apart, failed-full, failed-not_now, full-failed, full-not_now, memory_apart, not_now-failed, no_memory, ok_apart, some_apart}
 use Rattle.checkpoint.proofs.Areas.{last-push}
 use Rattle.checkpoint.proofs.Rotating.{ArePlansSized, added, comes_next, current_held, from_above, last_counted, lefts-push, next_sized, phase-push, rotate_held, rotate_left, rotated_left, sized_after, slots_synced, turned-push, uncopied_after}
 use Rattle.checkpoint.proofs.keeper.Keeper.rotate.Goals as goal
-
-pub returns-then-not-has_spare_area-clause-any_moment : goal.returns-then-not-has_spare_area-clause-any_moment
-returns-then-not-has_spare_area-clause-any_moment g c honest image number keeps =
-    begins (g.met.D.Disk.sound c.args.self.now.disk honest) (λ content left. kept_content _ _ image number keeps content left)
-
-pub returns-in_default-clause-any_moment : goal.returns-in_default-clause-any_moment
-returns-in_default-clause-any_moment g c honest image number keeps =
-    begins (g.met.D.Disk.sound c.args.self.now.disk honest) (λ content left. kept_content _ _ image number keeps content left)
 
 pub returns-in_err-touches-clause-any_moment : goal.returns-in_err-touches-clause-any_moment
 returns-in_err-touches-clause-any_moment g c honest image number keeps =
@@ -286,38 +278,6 @@ returns-in-Err-clause-any_moment g c honest image number keeps =
 above_zero : (n : ℕ) → false ≡ (n == 0) → 0 < n
 above_zero zero same = absurd (false≢true same)
 above_zero (suc n) same = omega arith
-
-full_apart : (◌≡◌ {A = Given (Unit {0})} (Err NumbersFull) (Err Failed) → ⊥) × (◌≡◌ {A = Given (Unit {0})} (Err NumbersFull) (Err NotNow) → ⊥)
-full_apart = (λ same. cc, λ same. cc)
-
-failed_apart : (◌≡◌ {A = Given (Unit {0})} (Err Failed) (Err NotNow) → ⊥) × (◌≡◌ {A = Given (Unit {0})} (Err Failed) (Err NumbersFull) → ⊥)
-failed_apart = (λ same. cc, λ same. cc)
-
-pub returns-then-self-clause-not_now : goal.returns-then-self-clause-not_now
-returns-then-self-clause-not_now g c =
-    let fails = ap (λ (k : KeeperState g.row.D.Denot). k.failed) (sym c.self.view_is) ∙ c.if-self.true in
-    (λ is. absurd (failed_apart.0 is), λ none. absurd (false≢true (sym none.0 ∙ fails)))
-
-pub returns-then-self-clause-full : goal.returns-then-self-clause-full
-returns-then-self-clause-full g c =
-    let fails = ap (λ (k : KeeperState g.row.D.Denot). k.failed) (sym c.self.view_is) ∙ c.if-self.true in
-    (λ is. absurd (failed_apart.1 is), λ full. absurd (false≢true (sym full.0 ∙ fails)))
-
-pub returns-in_default-clause-failed : goal.returns-in_default-clause-failed
-returns-in_default-clause-failed g c =
-    let works = ap (λ (k : KeeperState g.row.D.Denot). k.failed) (sym c.self.view_is) ∙ c.if-self.false in
-    (λ is. absurd (full_apart.0 is), λ fails. absurd (false≢true (sym works ∙ fails)))
-
-pub returns-in_default-clause-not_now : goal.returns-in_default-clause-not_now
-returns-in_default-clause-not_now g c =
-    let time : IsRotateTime c.args.self.now = (c.if-not-has_spare_area.ensures.spare.0 refl, subst (λ (k : KeeperState g.row.D.Denot). 0 < k.used) c.self.view_is (above_zero c.self.inside.area.gate c.if-is_empty.ensures)) in
-    (λ is. absurd (full_apart.1 is), λ none. absurd (none.1 time))
-
-pub returns-in_default-clause-full : goal.returns-in_default-clause-full
-returns-in_default-clause-full g c =
-    let works = ap (λ (k : KeeperState g.row.D.Denot). k.failed) (sym c.self.view_is) ∙ c.if-self.false in
-    let time : IsRotateTime c.args.self.now = (c.if-not-has_spare_area.ensures.spare.0 refl, subst (λ (k : KeeperState g.row.D.Denot). 0 < k.used) c.self.view_is (above_zero c.self.inside.area.gate c.if-is_empty.ensures)) in
-    (λ is. (works, time, ap (λ (k : KeeperState g.row.D.Denot). k.generation) (sym c.self.view_is) ∙ c.in_default.ensures.none.0 refl), λ full. refl)
 
 pub returns-in-Ok-clause-failed : goal.returns-in-Ok-clause-failed
 returns-in-Ok-clause-failed g c =
@@ -605,3 +565,67 @@ returns-in_err-reserve-clause-err g c =
       memory = record { header = inside.header; slot = inside.slot; map = inside.map; plans = plans; area = inside.area };
     } in
     subst (λ (r : Given (Unit {0})). IfErr r (λ fault. made c.reserve.new.self.items ≡ refused_by fault c.args.self.now inside.disk)) (sym (no_memory c.from_residual-in_err-reserve.result c.from_residual-in_err-reserve.ensures.1)) (ap made c.reserve.ensures.items ∙ c.self.view_is)
+
+pub returns-then-self : goal.returns-then-self
+returns-then-self g c =
+    let fails = ap (λ (k : KeeperState g.row.D.Denot). k.failed) (sym c.self.view_is) ∙ c.if-self.true in record {
+      ok = tt;
+      err = refl;
+      failed = (λ _. fails, λ _. refl);
+      not_now = (λ is. absurd (failed-not_now is), λ now. absurd (false≢true (sym now.0 ∙ fails)));
+      full = (λ is. absurd (failed-full is), λ now. absurd (false≢true (sym now.0 ∙ fails)));
+      only = tt;
+      unchanged = inr refl;
+      extent = refl;
+      faults_ok = tt;
+      faults_err = refl;
+      honest = (λ trusted. trusted, λ trusted. trusted);
+      fresh = tt;
+      left = λ commands remembers. tt;
+      phase = λ commands remembers. tt;
+      held = λ honest base fronts last holds. tt;
+      any_moment = λ honest image number keeps. begins (g.met.D.Disk.sound c.args.self.now.disk honest) (λ content left. kept_content _ _ image number keeps content left);
+    }
+
+pub returns-then-not-has_spare_area : goal.returns-then-not-has_spare_area
+returns-then-not-has_spare_area g c =
+    let works = ap (λ (k : KeeperState g.row.D.Denot). k.failed) (sym c.self.view_is) ∙ c.if-self.false in record {
+      ok = tt;
+      err = refl;
+      failed = (λ is. absurd (not_now-failed is), λ fails. absurd (false≢true (sym works ∙ fails)));
+      not_now = search rules;
+      full = search rules;
+      only = tt;
+      unchanged = inr refl;
+      extent = refl;
+      faults_ok = tt;
+      faults_err = refl;
+      honest = (λ trusted. trusted, λ trusted. trusted);
+      fresh = tt;
+      left = λ commands remembers. tt;
+      phase = λ commands remembers. tt;
+      held = λ honest base fronts last holds. tt;
+      any_moment = λ honest image number keeps. begins (g.met.D.Disk.sound c.args.self.now.disk honest) (λ content left. kept_content _ _ image number keeps content left);
+    }
+
+pub returns-in_default : goal.returns-in_default
+returns-in_default g c =
+    let works = ap (λ (k : KeeperState g.row.D.Denot). k.failed) (sym c.self.view_is) ∙ c.if-self.false in
+    let time : IsRotateTime c.args.self.now = (c.if-not-has_spare_area.ensures.spare.0 refl, subst (λ (k : KeeperState g.row.D.Denot). 0 < k.used) c.self.view_is (above_zero c.self.inside.area.gate c.if-is_empty.ensures)) in record {
+      ok = tt;
+      err = refl;
+      failed = (λ is. absurd (full-failed is), λ fails. absurd (false≢true (sym works ∙ fails)));
+      not_now = (λ is. absurd (full-not_now is), λ now. absurd (now.1 time));
+      full = (λ _. (works, time, ap (λ (k : KeeperState g.row.D.Denot). k.generation) (sym c.self.view_is) ∙ c.in_default.ensures.none.0 refl), λ _. refl);
+      only = tt;
+      unchanged = inr refl;
+      extent = refl;
+      faults_ok = tt;
+      faults_err = refl;
+      honest = (λ trusted. trusted, λ trusted. trusted);
+      fresh = tt;
+      left = λ commands remembers. tt;
+      phase = λ commands remembers. tt;
+      held = λ honest base fronts last holds. tt;
+      any_moment = λ honest image number keeps. begins (g.met.D.Disk.sound c.args.self.now.disk honest) (λ content left. kept_content _ _ image number keeps content left);
+    }

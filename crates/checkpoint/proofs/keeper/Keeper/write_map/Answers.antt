@@ -1,4 +1,5 @@
-use Rattle.std.proofs.Common.{◌≡◌, inl, List, Option, refl, rules, sym, ◌∙◌, ap, subst, arith, ◌∷◌}
+use Rattle.std.specs.Prelude.{IfSome}
+use Rattle.std.proofs.Common.{◌≡◌, ℕ, inl, inr, List, Option, length, refl, rules, sym, ◌∙◌, ap, subst, arith, ◌∷◌}
 use Rattle.device_image.specs.Remembers.{Remembers}
 use Rattle.checkpoint.specs.declared.fault.KeeperFault.TheVariants.{NoMemory}
 use Rattle.std.proofs.lemmas.Result.{IfOk-from_err}
@@ -11,11 +12,11 @@ use Rattle.image_model.specs.declared.command.Kind.{Kind}
 use Rattle.image_model.specs.declared.geometry.Geometry.{Geometry}
 use Rattle.image_model.specs.declared.side.Side.{Side}
 use Rattle.header_slots.specs.declared.header.Header.{Header}
-use Rattle.checkpoint.specs.Keeper.{faults_by, plans_of}
+use Rattle.checkpoint.specs.Keeper.{AreSized, IsSized, faults_by, plans_of}
 use Rattle.checkpoint.specs.Steps.{IsStepFault, mapped_by}
 use Rattle.checkpoint.specs.declared.fault.KeeperFault.{KeeperFault}
-use Rattle.checkpoint.proofs.Answered.{device_apart, ok_apart, err_given}
-use Rattle.device_image.specs.Keeper.{KeeperState, PlanState, Memory, lefts_of, phase_of, turned_of}
+use Rattle.checkpoint.proofs.Answered.{device_apart, failed-full, failed-not_now, memory_apart, not_now-failed, not_now-full, ok_apart, some_apart, err_given}
+use Rattle.device_image.specs.Keeper.{KeeperState, PlanState, Memory, last_turned, lefts_of, phase_of, turned_of}
 use Rattle.device_image.specs.Keeps.{Keeps}
 use Rattle.device_image.specs.Stands.{StandsFor}
 use Rattle.device_image.specs.laws.Kept.{kept_content}
@@ -35,190 +36,357 @@ stored_there : {before after : State} {size geometry : Geometry} {side spare oth
 stored_there {before} {after} {size} {geometry} {side} {spare} {other} {states} stored sizes same is =
     subst (λ (s : Side). IsMapStored before (map_at geometry s) geometry.blocks states after) (same ∙ is) (subst (λ (s : Geometry). IsMapStored before (map_at s side) s.blocks states after) sizes stored)
 
-pub returns-in_default-clause-any_moment : goal.returns-in_default-clause-any_moment
-returns-in_default-clause-any_moment g c honest image number keeps =
-    let same = ap (λ (k : KeeperState g.row.D.Denot). k.disk) (sym c.self.view_is) in
-    subst (λ (disk : g.row.D.Denot). LeavesOnly (g.D.Disk.state c.args.self.now.disk) (g.D.Disk.state disk) (λ content. StandsFor content image number)) same
-    (begins (g.met.D.Disk.sound c.args.self.now.disk honest) (λ content left. kept_content _ _ image number keeps content left))
-
-pub returns-then-left-gt0-clause-any_moment : goal.returns-then-left-gt0-clause-any_moment
-returns-then-left-gt0-clause-any_moment g c honest image number keeps =
-    let same = ap (λ (k : KeeperState g.row.D.Denot). k.disk) (sym c.self.view_is) in
-    subst (λ (disk : g.row.D.Denot). LeavesOnly (g.D.Disk.state c.args.self.now.disk) (g.D.Disk.state disk) (λ content. StandsFor content image number)) same
-    (begins (g.met.D.Disk.sound c.args.self.now.disk honest) (λ content left. kept_content _ _ image number keeps content left))
-
-pub returns-then-is_mapped-clause-any_moment : goal.returns-then-is_mapped-clause-any_moment
-returns-then-is_mapped-clause-any_moment g c honest image number keeps =
-    let same = ap (λ (k : KeeperState g.row.D.Denot). k.disk) (sym c.self.view_is) in
-    subst (λ (disk : g.row.D.Denot). LeavesOnly (g.D.Disk.state c.args.self.now.disk) (g.D.Disk.state disk) (λ content. StandsFor content image number)) same
-    (begins (g.met.D.Disk.sound c.args.self.now.disk honest) (λ content left. kept_content _ _ image number keeps content left))
-
-pub returns-in_err-map-clause-any_moment : goal.returns-in_err-map-clause-any_moment
-returns-in_err-map-clause-any_moment g c honest image number keeps =
-    let same = ap (λ (k : KeeperState g.row.D.Denot). k.disk) (sym c.self.view_is) in
-    subst (λ (disk : g.row.D.Denot). LeavesOnly (g.D.Disk.state c.args.self.now.disk) (g.D.Disk.state disk) (λ content. StandsFor content image number)) same
-    (begins (g.met.D.Disk.sound c.args.self.now.disk honest) (λ content left. kept_content _ _ image number keeps content left))
-
-pub returns-in-Ok-clause-held : goal.returns-in-Ok-clause-held
-returns-in-Ok-clause-held g c honest base fronts last holds =
-    let inside = subst (λ (k : KeeperState g.row.D.Denot). Holds k (g.D.Disk.state k.disk) base fronts last) (sym c.self.view_is) holds in
-    let sound = subst (λ (k : KeeperState g.row.D.Denot). g.D.Disk.honest k.disk) (sym c.self.view_is) honest in
-    let call = c.in-Ok.ensures in
-    let geometry : c.of.result.geometry ≡ inside.keeps.stands.header.geometry = c.of.ensures ∙ inside.keeps.sizes in
-    let before = g.D.Disk.state c.self.inside.disk in
-    let after = g.D.Disk.state c.store_map.new.disk in
-    let stored : IsMapStored before (map_at inside.keeps.stands.header.geometry (other_of inside.keeps.stands.header.map_slot)) inside.keeps.stands.header.geometry.blocks c.in_ok-map.map after =
-    stored_there (call.stored sound inside.keeps.steady) geometry (search rules) (ap (λ (h : Header). other_of h.map_slot) inside.keeps.headed) in
-    map_held _ before base fronts last inside c.in-Some.plan c.self.inside.waiting.items (ap (λ (p : Option PlanState). plans_of p c.self.inside.waiting.items) c.in-Some.is) (omega (arith, c.if-left-gt0.false, c.left.ensures)) after (g.met.D.Disk.sound c.store_map.new.disk (call.honest.1 sound)) c.in_ok-map.map stored
-    c.in_ok-map.ensures _ c.set_map.new.self c.set_map.ensures refl
-
-pub returns-in-Ok-clause-any_moment : goal.returns-in-Ok-clause-any_moment
-returns-in-Ok-clause-any_moment g c honest image number keeps =
-    subst (λ (k : KeeperState g.row.D.Denot). g.D.Disk.honest k.disk → Keeps k (g.D.Disk.state k.disk) image number → LeavesOnly (g.D.Disk.state k.disk) (g.D.Disk.state c.store_map.new.disk) (λ content. StandsFor content image number)) c.self.view_is
-    (λ sound inside.
-    let geometry : c.of.result.geometry ≡ inside.stands.header.geometry = c.of.ensures ∙ inside.sizes in
-    weakens (c.store_map.ensures.any_moment sound)
-    (map_left _ (g.D.Disk.state c.self.inside.disk) image number inside _ _ (place_there geometry (search rules) (ap (λ (h : Header). other_of h.map_slot) inside.headed)) (ap (λ (size : Geometry). map_bytes_of size.blocks) geometry)))
-    honest keeps
-
-pub returns-in-Err-clause-any_moment : goal.returns-in-Err-clause-any_moment
-returns-in-Err-clause-any_moment g c honest image number keeps =
-    subst (λ (k : KeeperState g.row.D.Denot). g.D.Disk.honest k.disk → Keeps k (g.D.Disk.state k.disk) image number → LeavesOnly (g.D.Disk.state k.disk) (g.D.Disk.state c.store_map.new.disk) (λ content. StandsFor content image number)) c.self.view_is
-    (λ sound inside.
-    let geometry : c.of.result.geometry ≡ inside.stands.header.geometry = c.of.ensures ∙ inside.sizes in
-    weakens (c.store_map.ensures.any_moment sound)
-    (map_left _ (g.D.Disk.state c.self.inside.disk) image number inside _ _ (place_there geometry (search rules) (ap (λ (h : Header). other_of h.map_slot) inside.headed)) (ap (λ (size : Geometry). map_bytes_of size.blocks) geometry)))
-    honest keeps
-
-pub returns-in-Ok-clause-failed : goal.returns-in-Ok-clause-failed
-returns-in-Ok-clause-failed g c =
-    let works = ap (λ (k : KeeperState g.row.D.Denot). k.failed) (sym c.self.view_is) ∙ c.if-self.false in
-    (λ is. absurd (ok_apart _ _ is), λ fails. absurd (false≢true (sym works ∙ fails)))
-
-pub returns-in-Ok-clause-full : goal.returns-in-Ok-clause-full
-returns-in-Ok-clause-full g c =
-    λ is. absurd (ok_apart _ _ is)
-
-pub returns-in-Ok-clause-extent : goal.returns-in-Ok-clause-extent
-returns-in-Ok-clause-extent g c =
-    c.in-Ok.ensures.extent ∙ ap (λ (k : KeeperState g.row.D.Denot). g.D.Disk.extent k.disk) c.self.view_is
-
-pub returns-in-Ok-clause-faults_ok : goal.returns-in-Ok-clause-faults_ok
-returns-in-Ok-clause-faults_ok g c =
-    c.in-Ok.ensures.faults ∙ ap (λ (k : KeeperState g.row.D.Denot). g.D.Disk.faults k.disk) c.self.view_is
-
-pub returns-in-Ok-clause-honest : goal.returns-in-Ok-clause-honest
-returns-in-Ok-clause-honest g c =
-    let honest = c.in-Ok.ensures.honest in (
-      λ trusted. subst (λ (k : KeeperState g.row.D.Denot). g.D.Disk.honest k.disk) c.self.view_is (honest.0 trusted),
-      λ trusted. honest.1 (subst (λ (k : KeeperState g.row.D.Denot). g.D.Disk.honest k.disk) (sym c.self.view_is) trusted),
-    )
-
-pub returns-in-Err-clause-failed : goal.returns-in-Err-clause-failed
-returns-in-Err-clause-failed g c =
-    let works = ap (λ (k : KeeperState g.row.D.Denot). k.failed) (sym c.self.view_is) ∙ c.if-self.false in
-    (λ is. absurd ((device_apart c.from.result c.from.ensures).failed is), λ fails. absurd (false≢true (sym works ∙ fails)))
-
-pub returns-in-Err-clause-full : goal.returns-in-Err-clause-full
-returns-in-Err-clause-full g c =
-    λ is. absurd ((device_apart c.from.result c.from.ensures).full is)
-
-pub returns-in-Err-clause-extent : goal.returns-in-Err-clause-extent
-returns-in-Err-clause-extent g c =
-    c.in-Err.ensures.extent ∙ ap (λ (k : KeeperState g.row.D.Denot). g.D.Disk.extent k.disk) c.self.view_is
-
-pub returns-in-Err-clause-honest : goal.returns-in-Err-clause-honest
-returns-in-Err-clause-honest g c =
-    let honest = c.in-Err.ensures.honest in (
-      λ trusted. subst (λ (k : KeeperState g.row.D.Denot). g.D.Disk.honest k.disk) c.self.view_is (honest.0 trusted),
-      λ trusted. honest.1 (subst (λ (k : KeeperState g.row.D.Denot). g.D.Disk.honest k.disk) (sym c.self.view_is) trusted),
-    )
-
-pub returns-in-Err-clause-only : goal.returns-in-Err-clause-only
-returns-in-Err-clause-only g c =
-    subst IsStepFault (sym c.from.ensures) tt
-
-pub returns-in-Err-clause-unchanged : goal.returns-in-Err-clause-unchanged
-returns-in-Err-clause-unchanged g c =
-    inl c.from.ensures
-
-pub returns-in-Err-clause-faults_err : goal.returns-in-Err-clause-faults_err
-returns-in-Err-clause-faults_err g c =
-    c.in-Err.ensures.faults ∙ ap (λ (k : KeeperState g.row.D.Denot). counted (g.D.Disk.faults k.disk)) c.self.view_is ∙ ap (λ (f : KeeperFault). faults_by f (g.D.Disk.faults c.args.self.now.disk)) (sym c.from.ensures)
-
-pub returns-in_err-map-clause-ok : goal.returns-in_err-map-clause-ok
-returns-in_err-map-clause-ok g c =
-    IfOk-from_err c.from_residual.result _ c.from_residual.ensures.0
-
-pub returns-in_err-map-clause-faults_ok : goal.returns-in_err-map-clause-faults_ok
-returns-in_err-map-clause-faults_ok g c =
-    IfOk-from_err c.from_residual.result _ c.from_residual.ensures.0
-
-pub returns-in_err-map-clause-remembered : goal.returns-in_err-map-clause-remembered
-returns-in_err-map-clause-remembered g c commands remembers =
-    IfOk-from_err c.from_residual.result _ c.from_residual.ensures.0
-
-pub returns-in_err-map-clause-held : goal.returns-in_err-map-clause-held
-returns-in_err-map-clause-held g c honest base fronts last holds =
-    IfOk-from_err c.from_residual.result _ c.from_residual.ensures.0
-
-pub returns-in_err-map-clause-only : goal.returns-in_err-map-clause-only
-returns-in_err-map-clause-only g c =
-    err_given IsStepFault c.from_residual.result NoMemory c.from_residual.ensures.1 tt
-
-pub returns-in-Ok-clause-ok : goal.returns-in-Ok-clause-ok
-returns-in-Ok-clause-ok g c =
+pub invariant_of-self-then-left-gt0 : goal.invariant_of-self-then-left-gt0
+invariant_of-self-then-left-gt0 g c =
     let inside = c.self.inside in
+    let geometry = inside.header.geometry in
+    let base = inside.header.base in
     let waiting = inside.waiting.items in
-    let made : Option PlanState → KeeperState g.row.D.Denot = λ first. let plans = plans_of first waiting in record {
-      disk = inside.disk;
-      geometry = inside.header.geometry;
-      generation = inside.header.generation;
-      count = inside.count;
-      base = inside.header.base;
-      turned = turned_of plans;
-      lefts = lefts_of plans;
-      used = inside.area.gate;
-      phase = phase_of plans;
-      failed = inside.failed;
-      memory = record { header = inside.header; slot = inside.slot; map = inside.map; plans = plans; area = inside.area };
-    } in
-    let same = ap made (sym c.in-Some.is) ∙ c.self.view_is in
-    let next = c.set_map.new.self in
-    let disk = c.store_map.new.disk in
-    let memory : Memory = record { header = inside.header; slot = inside.slot; map = inside.map; plans = next ∷ waiting; area = inside.area } in
-    let turned = ap (λ (p : PlanState). turned_of (p ∷ waiting)) c.set_map.ensures in
-    let lefts = ap (λ (p : PlanState). lefts_of (p ∷ waiting)) c.set_map.ensures in
-    let phase = ap (λ (p : PlanState). phase_of (p ∷ waiting)) c.set_map.ensures in
-    let mapped : KeeperState g.row.D.Denot = record {
-      disk = disk;
-      geometry = inside.header.geometry;
-      generation = inside.header.generation;
-      count = inside.count;
-      base = inside.header.base;
-      turned = turned_of (next ∷ waiting);
-      lefts = lefts_of (next ∷ waiting);
-      used = inside.area.gate;
-      phase = phase_of (next ∷ waiting);
-      failed = inside.failed;
-      memory = memory;
-    } in
-    subst (λ (k : KeeperState g.row.D.Denot). mapped ≡ mapped_by k disk memory) same
-    (λ i. record {
-      disk = disk;
-      geometry = inside.header.geometry;
-      generation = inside.header.generation;
-      count = inside.count;
-      base = inside.header.base;
-      turned = turned i;
-      lefts = lefts i;
-      used = inside.area.gate;
-      phase = phase i;
-      failed = inside.failed;
-      memory = memory;
-    })
+    let extent = g.D.Disk.extent inside.disk in
+    let is = c.self.invariant in
+    let some = c.in-Some.is in
+    let first : IsSized c.in-Some.plan.first geometry extent = subst (λ (p : Option PlanState). IfSome p (λ f. IsSized f.first geometry extent)) some is.2 in (
+      is.0,
+      is.1,
+      first,
+      is.3,
+      λ none. absurd (some_apart _ none),
+      is.5 ∙ ap (λ (p : Option PlanState). length (plans_of p waiting)) some,
+      is.6,
+      is.7,
+      λ none. ((is.8 none).0, (is.8 none).1 ∙ ap (λ (p : Option PlanState). last_turned base (turned_of (plans_of p waiting))) some),
+      is.9,
+    )
 
-pub returns-in-Ok-clause-remembered : goal.returns-in-Ok-clause-remembered
-returns-in-Ok-clause-remembered g c commands remembers =
-    let inside = subst (λ (k : KeeperState g.row.D.Denot). Remembers k commands) (sym c.self.view_is) remembers in
-    record { takes = inside.takes; noted = inside.noted }
+pub invariant_of-self-then-is_mapped : goal.invariant_of-self-then-is_mapped
+invariant_of-self-then-is_mapped g c =
+    let inside = c.self.inside in
+    let geometry = inside.header.geometry in
+    let base = inside.header.base in
+    let waiting = inside.waiting.items in
+    let extent = g.D.Disk.extent inside.disk in
+    let is = c.self.invariant in
+    let some = c.in-Some.is in
+    let first : IsSized c.in-Some.plan.first geometry extent = subst (λ (p : Option PlanState). IfSome p (λ f. IsSized f.first geometry extent)) some is.2 in (
+      is.0,
+      is.1,
+      first,
+      is.3,
+      λ none. absurd (some_apart _ none),
+      is.5 ∙ ap (λ (p : Option PlanState). length (plans_of p waiting)) some,
+      is.6,
+      is.7,
+      λ none. ((is.8 none).0, (is.8 none).1 ∙ ap (λ (p : Option PlanState). last_turned base (turned_of (plans_of p waiting))) some),
+      is.9,
+    )
+
+pub invariant_of-self-in_err-map : goal.invariant_of-self-in_err-map
+invariant_of-self-in_err-map g c =
+    let inside = c.self.inside in
+    let geometry = inside.header.geometry in
+    let base = inside.header.base in
+    let waiting = inside.waiting.items in
+    let extent = g.D.Disk.extent inside.disk in
+    let is = c.self.invariant in
+    let some = c.in-Some.is in
+    let first : IsSized c.in-Some.plan.first geometry extent = subst (λ (p : Option PlanState). IfSome p (λ f. IsSized f.first geometry extent)) some is.2 in (
+      is.0,
+      is.1,
+      first,
+      is.3,
+      λ none. absurd (some_apart _ none),
+      is.5 ∙ ap (λ (p : Option PlanState). length (plans_of p waiting)) some,
+      is.6,
+      is.7,
+      λ none. ((is.8 none).0, (is.8 none).1 ∙ ap (λ (p : Option PlanState). last_turned base (turned_of (plans_of p waiting))) some),
+      is.9,
+    )
+
+pub invariant_of-self-in-Err-1 : goal.invariant_of-self-in-Err-1
+invariant_of-self-in-Err-1 g c =
+    let inside = c.self.inside in
+    let geometry = inside.header.geometry in
+    let base = inside.header.base in
+    let waiting = inside.waiting.items in
+    let extent = g.D.Disk.extent inside.disk in
+    let is = c.self.invariant in
+    let extents = c.in-Err.ensures.extent in
+    let some = c.in-Some.is in
+    let first : IsSized c.in-Some.plan.first geometry extent = subst (λ (p : Option PlanState). IfSome p (λ f. IsSized f.first geometry extent)) some is.2 in (
+      extents ∙ is.0,
+      is.1,
+      subst (λ (e : ℕ). IsSized c.in-Some.plan.first geometry e) (sym extents) first,
+      subst (λ (e : ℕ). AreSized waiting geometry e) (sym extents) is.3,
+      λ none. absurd (some_apart _ none),
+      is.5 ∙ ap (λ (p : Option PlanState). length (plans_of p waiting)) some,
+      subst (λ (e : ℕ). IsSized inside.area geometry e) (sym extents) is.6,
+      is.7,
+      λ none. ((is.8 none).0, (is.8 none).1 ∙ ap (λ (p : Option PlanState). last_turned base (turned_of (plans_of p waiting))) some),
+      is.9,
+    )
+
+pub invariant_of-self-in-Ok : goal.invariant_of-self-in-Ok
+invariant_of-self-in-Ok g c =
+    let inside = c.self.inside in
+    let geometry = inside.header.geometry in
+    let base = inside.header.base in
+    let waiting = inside.waiting.items in
+    let extent = g.D.Disk.extent inside.disk in
+    let is = c.self.invariant in
+    let extents = c.in-Ok.ensures.extent in
+    let some = c.in-Some.is in
+    let first : IsSized c.in-Some.plan.first geometry extent = subst (λ (p : Option PlanState). IfSome p (λ f. IsSized f.first geometry extent)) some is.2 in (
+      extents ∙ is.0,
+      is.1,
+      subst (λ (p : PlanState). IsSized p.first geometry (g.D.Disk.extent c.store_map.new.disk)) (sym c.set_map.ensures) (subst (λ (e : ℕ). IsSized c.in-Some.plan.first geometry e) (sym extents) first),
+      subst (λ (e : ℕ). AreSized waiting geometry e) (sym extents) is.3,
+      λ none. absurd (some_apart _ none),
+      is.5 ∙ ap (λ (p : Option PlanState). length (plans_of p waiting)) some,
+      subst (λ (e : ℕ). IsSized inside.area geometry e) (sym extents) is.6,
+      is.7,
+      λ none. ((is.8 none).0, (is.8 none).1 ∙ ap (λ (p : Option PlanState). last_turned base (turned_of (plans_of p waiting))) some ∙ ap (λ (p : PlanState). last_turned base (turned_of (p ∷ waiting))) (sym c.set_map.ensures)),
+      is.9,
+    )
+
+pub returns-then-self : goal.returns-then-self
+returns-then-self g c =
+    let fails = ap (λ (k : KeeperState g.row.D.Denot). k.failed) (sym c.self.view_is) ∙ c.if-self.true in record {
+      ok = tt;
+      err = refl;
+      failed = (λ _. fails, λ _. refl);
+      not_now = (λ is. absurd (failed-not_now is), λ now. absurd (false≢true (sym now.0 ∙ fails)));
+      full = failed-full;
+      only = tt;
+      unchanged = inr refl;
+      extent = refl;
+      faults_ok = tt;
+      faults_err = refl;
+      honest = (λ trusted. trusted, λ trusted. trusted);
+      remembered = λ commands remembers. tt;
+      held = λ honest base fronts last holds. tt;
+      any_moment = λ honest image number keeps. begins (g.met.D.Disk.sound c.args.self.now.disk honest) (λ content left. kept_content _ _ image number keeps content left);
+    }
+
+pub returns-in_default : goal.returns-in_default
+returns-in_default g c =
+    let works = ap (λ (k : KeeperState g.row.D.Denot). k.failed) (sym c.self.view_is) ∙ c.if-self.false in
+    let same = ap (λ (k : KeeperState g.row.D.Denot). k.disk) c.self.view_is in record {
+      ok = tt;
+      err = c.self.view_is;
+      failed = (λ is. absurd (not_now-failed is), λ fails. absurd (false≢true (sym works ∙ fails)));
+      not_now = search rules;
+      full = not_now-full;
+      only = tt;
+      unchanged = inr same;
+      extent = ap g.D.Disk.extent same;
+      faults_ok = tt;
+      faults_err = ap g.D.Disk.faults same;
+      honest = (λ trusted. subst g.D.Disk.honest same trusted, λ trusted. subst g.D.Disk.honest (sym same) trusted);
+      remembered = λ commands remembers. tt;
+      held = λ honest base fronts last holds. tt;
+      any_moment = λ honest image number keeps.
+          subst (λ (disk : g.row.D.Denot). LeavesOnly (g.D.Disk.state c.args.self.now.disk) (g.D.Disk.state disk) (λ content. StandsFor content image number)) (sym same)
+          (begins (g.met.D.Disk.sound c.args.self.now.disk honest) (λ content left. kept_content _ _ image number keeps content left));
+    }
+
+pub returns-then-left-gt0 : goal.returns-then-left-gt0
+returns-then-left-gt0 g c =
+    let works = ap (λ (k : KeeperState g.row.D.Denot). k.failed) (sym c.self.view_is) ∙ c.if-self.false in
+    let same = ap (λ (k : KeeperState g.row.D.Denot). k.disk) c.self.view_is in record {
+      ok = tt;
+      err = search rules;
+      failed = (λ is. absurd (not_now-failed is), λ fails. absurd (false≢true (sym works ∙ fails)));
+      not_now = search rules;
+      full = not_now-full;
+      only = tt;
+      unchanged = inr same;
+      extent = ap g.D.Disk.extent same;
+      faults_ok = tt;
+      faults_err = ap g.D.Disk.faults same;
+      honest = (λ trusted. subst g.D.Disk.honest same trusted, λ trusted. subst g.D.Disk.honest (sym same) trusted);
+      remembered = λ commands remembers. tt;
+      held = λ honest base fronts last holds. tt;
+      any_moment = λ honest image number keeps.
+          subst (λ (disk : g.row.D.Denot). LeavesOnly (g.D.Disk.state c.args.self.now.disk) (g.D.Disk.state disk) (λ content. StandsFor content image number)) (sym same)
+          (begins (g.met.D.Disk.sound c.args.self.now.disk honest) (λ content left. kept_content _ _ image number keeps content left));
+    }
+
+pub returns-then-is_mapped : goal.returns-then-is_mapped
+returns-then-is_mapped g c =
+    let works = ap (λ (k : KeeperState g.row.D.Denot). k.failed) (sym c.self.view_is) ∙ c.if-self.false in
+    let same = ap (λ (k : KeeperState g.row.D.Denot). k.disk) c.self.view_is in record {
+      ok = tt;
+      err = search rules;
+      failed = (λ is. absurd (not_now-failed is), λ fails. absurd (false≢true (sym works ∙ fails)));
+      not_now = search rules;
+      full = not_now-full;
+      only = tt;
+      unchanged = inr same;
+      extent = ap g.D.Disk.extent same;
+      faults_ok = tt;
+      faults_err = ap g.D.Disk.faults same;
+      honest = (λ trusted. subst g.D.Disk.honest same trusted, λ trusted. subst g.D.Disk.honest (sym same) trusted);
+      remembered = λ commands remembers. tt;
+      held = λ honest base fronts last holds. tt;
+      any_moment = λ honest image number keeps.
+          subst (λ (disk : g.row.D.Denot). LeavesOnly (g.D.Disk.state c.args.self.now.disk) (g.D.Disk.state disk) (λ content. StandsFor content image number)) (sym same)
+          (begins (g.met.D.Disk.sound c.args.self.now.disk honest) (λ content left. kept_content _ _ image number keeps content left));
+    }
+
+pub returns-in_err-map : goal.returns-in_err-map
+returns-in_err-map g c =
+    let works = ap (λ (k : KeeperState g.row.D.Denot). k.failed) (sym c.self.view_is) ∙ c.if-self.false in
+    let same = ap (λ (k : KeeperState g.row.D.Denot). k.disk) c.self.view_is in
+    let other = memory_apart c.from_residual.result c.from_residual.ensures.1 in record {
+      ok =
+          IfOk-from_err c.from_residual.result _ c.from_residual.ensures.0;
+      err = search rules;
+      failed = (λ is. absurd (other.failed is), λ fails. absurd (false≢true (sym works ∙ fails)));
+      not_now = search rules;
+      full = other.full;
+      only =
+          err_given IsStepFault c.from_residual.result NoMemory c.from_residual.ensures.1 tt;
+      unchanged = err_given _ c.from_residual.result NoMemory c.from_residual.ensures.1 (inr same);
+      extent = ap g.D.Disk.extent same;
+      faults_ok =
+          IfOk-from_err c.from_residual.result _ c.from_residual.ensures.0;
+      faults_err = err_given _ c.from_residual.result NoMemory c.from_residual.ensures.1 (ap g.D.Disk.faults same);
+      honest = (λ trusted. subst g.D.Disk.honest same trusted, λ trusted. subst g.D.Disk.honest (sym same) trusted);
+      remembered = λ commands remembers.
+          IfOk-from_err c.from_residual.result _ c.from_residual.ensures.0;
+      held = λ honest base fronts last holds.
+          IfOk-from_err c.from_residual.result _ c.from_residual.ensures.0;
+      any_moment = λ honest image number keeps.
+          let same = ap (λ (k : KeeperState g.row.D.Denot). k.disk) (sym c.self.view_is) in
+          subst (λ (disk : g.row.D.Denot). LeavesOnly (g.D.Disk.state c.args.self.now.disk) (g.D.Disk.state disk) (λ content. StandsFor content image number)) same
+          (begins (g.met.D.Disk.sound c.args.self.now.disk honest) (λ content left. kept_content _ _ image number keeps content left));
+    }
+
+pub returns-in-Ok : goal.returns-in-Ok
+returns-in-Ok g c = record {
+  ok =
+      let inside = c.self.inside in
+      let waiting = inside.waiting.items in
+      let made : Option PlanState → KeeperState g.row.D.Denot = λ first. let plans = plans_of first waiting in record {
+        disk = inside.disk;
+        geometry = inside.header.geometry;
+        generation = inside.header.generation;
+        count = inside.count;
+        base = inside.header.base;
+        turned = turned_of plans;
+        lefts = lefts_of plans;
+        used = inside.area.gate;
+        phase = phase_of plans;
+        failed = inside.failed;
+        memory = record { header = inside.header; slot = inside.slot; map = inside.map; plans = plans; area = inside.area };
+      } in
+      let same = ap made (sym c.in-Some.is) ∙ c.self.view_is in
+      let next = c.set_map.new.self in
+      let disk = c.store_map.new.disk in
+      let memory : Memory = record { header = inside.header; slot = inside.slot; map = inside.map; plans = next ∷ waiting; area = inside.area } in
+      let turned = ap (λ (p : PlanState). turned_of (p ∷ waiting)) c.set_map.ensures in
+      let lefts = ap (λ (p : PlanState). lefts_of (p ∷ waiting)) c.set_map.ensures in
+      let phase = ap (λ (p : PlanState). phase_of (p ∷ waiting)) c.set_map.ensures in
+      let mapped : KeeperState g.row.D.Denot = record {
+        disk = disk;
+        geometry = inside.header.geometry;
+        generation = inside.header.generation;
+        count = inside.count;
+        base = inside.header.base;
+        turned = turned_of (next ∷ waiting);
+        lefts = lefts_of (next ∷ waiting);
+        used = inside.area.gate;
+        phase = phase_of (next ∷ waiting);
+        failed = inside.failed;
+        memory = memory;
+      } in
+      subst (λ (k : KeeperState g.row.D.Denot). mapped ≡ mapped_by k disk memory) same
+      (λ i. record {
+        disk = disk;
+        geometry = inside.header.geometry;
+        generation = inside.header.generation;
+        count = inside.count;
+        base = inside.header.base;
+        turned = turned i;
+        lefts = lefts i;
+        used = inside.area.gate;
+        phase = phase i;
+        failed = inside.failed;
+        memory = memory;
+      });
+  err = tt;
+  failed =
+      let works = ap (λ (k : KeeperState g.row.D.Denot). k.failed) (sym c.self.view_is) ∙ c.if-self.false in
+      (λ is. absurd (ok_apart _ _ is), λ fails. absurd (false≢true (sym works ∙ fails)));
+  not_now = search rules;
+  full =
+      λ is. absurd (ok_apart _ _ is);
+  only = tt;
+  unchanged = tt;
+  extent =
+      c.in-Ok.ensures.extent ∙ ap (λ (k : KeeperState g.row.D.Denot). g.D.Disk.extent k.disk) c.self.view_is;
+  faults_ok =
+      c.in-Ok.ensures.faults ∙ ap (λ (k : KeeperState g.row.D.Denot). g.D.Disk.faults k.disk) c.self.view_is;
+  faults_err = tt;
+  honest =
+      let honest = c.in-Ok.ensures.honest in (
+        λ trusted. subst (λ (k : KeeperState g.row.D.Denot). g.D.Disk.honest k.disk) c.self.view_is (honest.0 trusted),
+        λ trusted. honest.1 (subst (λ (k : KeeperState g.row.D.Denot). g.D.Disk.honest k.disk) (sym c.self.view_is) trusted),
+      );
+  remembered = λ commands remembers.
+      let inside = subst (λ (k : KeeperState g.row.D.Denot). Remembers k commands) (sym c.self.view_is) remembers in
+      record { takes = inside.takes; noted = inside.noted };
+  held = λ honest base fronts last holds.
+      let inside = subst (λ (k : KeeperState g.row.D.Denot). Holds k (g.D.Disk.state k.disk) base fronts last) (sym c.self.view_is) holds in
+      let sound = subst (λ (k : KeeperState g.row.D.Denot). g.D.Disk.honest k.disk) (sym c.self.view_is) honest in
+      let call = c.in-Ok.ensures in
+      let geometry : c.of.result.geometry ≡ inside.keeps.stands.header.geometry = c.of.ensures ∙ inside.keeps.sizes in
+      let before = g.D.Disk.state c.self.inside.disk in
+      let after = g.D.Disk.state c.store_map.new.disk in
+      let stored : IsMapStored before (map_at inside.keeps.stands.header.geometry (other_of inside.keeps.stands.header.map_slot)) inside.keeps.stands.header.geometry.blocks c.in_ok-map.map after =
+      stored_there (call.stored sound inside.keeps.steady) geometry (search rules) (ap (λ (h : Header). other_of h.map_slot) inside.keeps.headed) in
+      map_held _ before base fronts last inside c.in-Some.plan c.self.inside.waiting.items (ap (λ (p : Option PlanState). plans_of p c.self.inside.waiting.items) c.in-Some.is) (omega (arith, c.if-left-gt0.false, c.left.ensures)) after (g.met.D.Disk.sound c.store_map.new.disk (call.honest.1 sound)) c.in_ok-map.map stored
+      c.in_ok-map.ensures _ c.set_map.new.self c.set_map.ensures refl;
+  any_moment = λ honest image number keeps.
+      subst (λ (k : KeeperState g.row.D.Denot). g.D.Disk.honest k.disk → Keeps k (g.D.Disk.state k.disk) image number → LeavesOnly (g.D.Disk.state k.disk) (g.D.Disk.state c.store_map.new.disk) (λ content. StandsFor content image number)) c.self.view_is
+      (λ sound inside.
+      let geometry : c.of.result.geometry ≡ inside.stands.header.geometry = c.of.ensures ∙ inside.sizes in
+      weakens (c.store_map.ensures.any_moment sound)
+      (map_left _ (g.D.Disk.state c.self.inside.disk) image number inside _ _ (place_there geometry (search rules) (ap (λ (h : Header). other_of h.map_slot) inside.headed)) (ap (λ (size : Geometry). map_bytes_of size.blocks) geometry)))
+      honest keeps;
+}
+
+pub returns-in-Err : goal.returns-in-Err
+returns-in-Err g c = record {
+  ok = tt;
+  err = search rules;
+  failed =
+      let works = ap (λ (k : KeeperState g.row.D.Denot). k.failed) (sym c.self.view_is) ∙ c.if-self.false in
+      (λ is. absurd ((device_apart c.from.result c.from.ensures).failed is), λ fails. absurd (false≢true (sym works ∙ fails)));
+  not_now = search rules;
+  full =
+      λ is. absurd ((device_apart c.from.result c.from.ensures).full is);
+  only =
+      subst IsStepFault (sym c.from.ensures) tt;
+  unchanged =
+      inl c.from.ensures;
+  extent =
+      c.in-Err.ensures.extent ∙ ap (λ (k : KeeperState g.row.D.Denot). g.D.Disk.extent k.disk) c.self.view_is;
+  faults_ok = tt;
+  faults_err =
+      c.in-Err.ensures.faults ∙ ap (λ (k : KeeperState g.row.D.Denot). counted (g.D.Disk.faults k.disk)) c.self.view_is ∙ ap (λ (f : KeeperFault). faults_by f (g.D.Disk.faults c.args.self.now.disk)) (sym c.from.ensures);
+  honest =
+      let honest = c.in-Err.ensures.honest in (
+        λ trusted. subst (λ (k : KeeperState g.row.D.Denot). g.D.Disk.honest k.disk) c.self.view_is (honest.0 trusted),
+        λ trusted. honest.1 (subst (λ (k : KeeperState g.row.D.Denot). g.D.Disk.honest k.disk) (sym c.self.view_is) trusted),
+      );
+  remembered = λ commands remembers. tt;
+  held = λ honest base fronts last holds. tt;
+  any_moment = λ honest image number keeps.
+      subst (λ (k : KeeperState g.row.D.Denot). g.D.Disk.honest k.disk → Keeps k (g.D.Disk.state k.disk) image number → LeavesOnly (g.D.Disk.state k.disk) (g.D.Disk.state c.store_map.new.disk) (λ content. StandsFor content image number)) c.self.view_is
+      (λ sound inside.
+      let geometry : c.of.result.geometry ≡ inside.stands.header.geometry = c.of.ensures ∙ inside.sizes in
+      weakens (c.store_map.ensures.any_moment sound)
+      (map_left _ (g.D.Disk.state c.self.inside.disk) image number inside _ _ (place_there geometry (search rules) (ap (λ (h : Header). other_of h.map_slot) inside.headed)) (ap (λ (size : Geometry). map_bytes_of size.blocks) geometry)))
+      honest keeps;
+}
