@@ -3,7 +3,7 @@ use Rattle.std.proofs.Common.{◌≡◌, inl, inr, ℕ, ◌+◌, ◌%◌, ◌<�
 use Rattle.std.proofs.lemmas.Bool.{cases_eq, cases_lt}
 use Rattle.disk_model.specs.Disk.{State, InRange, IsAllSynced, IsSound, MayLeaveTorn}
 use Rattle.image_model.specs.Image.{Image, apply_all}
-use Rattle.checkpoint.specs.declared.fault.KeeperFault.TheVariants.{OutOfOrder}
+use Rattle.checkpoint.specs.declared.fault.KeeperFault.TheVariants.{AreaFull, Failed, OutOfOrder}
 use Rattle.journal_format.specs.declared.fault.JournalFault.{JournalFault}
 use Rattle.journal_format.specs.declared.fault.JournalFault.TheVariants as journals
 use Rattle.journal_format.specs.Area.{AreaState}
@@ -12,7 +12,9 @@ use Rattle.journal_format.specs.Spelling.{StoredGroup}
 use Rattle.journal_format.specs.laws.Spelled.{sizes-push}
 use Rattle.regions.specs.Layout.{areas_in, behind, block_at}
 use Rattle.regions.specs.laws.Ring.{apart, behind_apart}
+use Rattle.journal_format.specs.Faults as counts
 use Rattle.checkpoint.specs.Faults.{of_journal}
+use Rattle.checkpoint.specs.Keeper.{IsAppendFault, faults_by}
 use Rattle.device_image.specs.Keeper.{KeeperState, PlanState, earlier_of, phase_of}
 use Rattle.device_image.specs.Keeps.{AreHeld, IsCopyPlace, IsInPhase, Keeps}
 use Rattle.device_image.specs.Stands.{StandsFor, last_area, next_number}
@@ -156,3 +158,31 @@ ordered journals.DeviceFault same = cc
 ordered journals.AreaFull same = cc
 ordered journals.OutOfOrder same = refl
 ordered journals.DamagedGroup same = cc
+
+pub filled : (fault : JournalFault) → of_journal fault ≡ AreaFull → fault ≡ journals.AreaFull
+filled journals.NoMemory same = cc
+filled journals.DeviceFault same = cc
+filled journals.AreaFull same = refl
+filled journals.OutOfOrder same = cc
+filled journals.DamagedGroup same = cc
+
+pub never_failed : (fault : JournalFault) → of_journal fault ≡ Failed → ⊥
+never_failed journals.NoMemory same = cc
+never_failed journals.DeviceFault same = cc
+never_failed journals.AreaFull same = cc
+never_failed journals.OutOfOrder same = cc
+never_failed journals.DamagedGroup same = cc
+
+pub allowed : (fault : JournalFault) → (fault ≡ journals.DamagedGroup → ⊥) → IsAppendFault (of_journal fault)
+allowed journals.NoMemory undamaged = tt
+allowed journals.DeviceFault undamaged = tt
+allowed journals.AreaFull undamaged = tt
+allowed journals.OutOfOrder undamaged = tt
+allowed journals.DamagedGroup undamaged = undamaged refl
+
+pub same_count : (fault : JournalFault) (faults : ℕ) → counts.faults_by fault faults ≡ faults_by (of_journal fault) faults
+same_count journals.NoMemory faults = refl
+same_count journals.DeviceFault faults = refl
+same_count journals.AreaFull faults = refl
+same_count journals.OutOfOrder faults = refl
+same_count journals.DamagedGroup faults = refl

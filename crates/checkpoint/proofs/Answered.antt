@@ -24,7 +24,7 @@ err_given P (Ok value) fault none holds = tt
 err_given P (Err given) fault is holds = subst P (sym is) holds
 
 module _ {T : Type 0} where
-  abbrev given : KeeperFault → Given T
+  abbrev pub given : KeeperFault → Given T
   given fault = Err fault
 
   -- it isn't one of the three that tell of the keeper, and not of its memory or its device
@@ -71,3 +71,10 @@ module _ {T : Type 0} where
   pub no_memory : (result : Given T) → IsErrAnd result (λ fault. fault ≡ NoMemory) → result ≡ Err NoMemory
   no_memory (Ok value) none = absurd none
   no_memory (Err fault) is = ap given is
+
+  pub same_answer : (result : Given T) (fault : KeeperFault) → IsErrAnd result (λ given. given ≡ fault) → result ≡ Err fault
+  same_answer (Ok value) fault none = absurd none
+  same_answer (Err given') fault is = ap given is
+
+  pub same_fault : (first second : KeeperFault) → ◌≡◌ {A = Given T} (Err first) (Err second) → first ≡ second
+  same_fault first second is = cc

@@ -6,7 +6,8 @@ use Rattle.device_image.specs.Keeps.{Keeps}
 use Rattle.image_model.specs.Image.{Image, apply_all}
 use Rattle.image_model.specs.declared.geometry.Geometry.{Geometry}
 use Rattle.checkpoint.specs.Keeper.{refused_by}
-use Rattle.checkpoint.specs.Steps.{behind_first, copied_by, fewer, finished_by, first_turned, left_in, mapped_by, phase_left}
+use Rattle.checkpoint.specs.inner.Recovery.{IsRecoveryFault}
+use Rattle.checkpoint.specs.Steps.{IsStepFault, behind_first, copied_by, fewer, finished_by, first_turned, left_in, mapped_by, phase_left}
 use Rattle.device_image.specs.Holds.{Holds, joined}
 use Rattle.device_image.specs.laws.AfterCall.{held_as, joined-push, keeps_again}
 use Rattle.device_image.specs.laws.Frame.{apply_all-append}
@@ -15,6 +16,21 @@ use Rattle.checkpoint.specs.declared.fault.KeeperFault.{KeeperFault}
 use Rattle.checkpoint.specs.declared.fault.KeeperFault.TheVariants.{NoMemory, DeviceFault, BadMap, NoHeader, BadHeader, NumbersFull, AreaFull, OutOfOrder, DamagedGroup, NotNow, Failed, AreaSmall}
 use Rattle.device_image.specs.Remembers.{Remembers}
 use Rattle.checkpoint.specs.Recovery.{IsBegun, IsRecovered}
+
+-- a step in its time, of a keeper that hasn't failed, gives the refusals of a recovery
+pub in_time : (fault : KeeperFault) → IsStepFault fault → (fault ≡ Failed → ⊥) → (fault ≡ NotNow → ⊥) → IsRecoveryFault fault
+in_time NoMemory is works now = tt
+in_time DeviceFault is works now = tt
+in_time BadMap is works now = is
+in_time NoHeader is works now = is
+in_time BadHeader is works now = is
+in_time NumbersFull is works now = tt
+in_time AreaFull is works now = is
+in_time OutOfOrder is works now = is
+in_time DamagedGroup is works now = is
+in_time NotNow is works now = now refl
+in_time Failed is works now = works refl
+in_time AreaSmall is works now = is
 
 -- a keeper of which some blocks more were copied
 abbrev pub copied_to : {D : Type 0} → KeeperState D → D → ℕ → List ℕ → Memory → KeeperState D

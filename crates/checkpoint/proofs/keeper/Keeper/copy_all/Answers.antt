@@ -1,11 +1,16 @@
 use Rattle.device_image.specs.Keeper.{KeeperState}
 use Rattle.std.proofs.lemmas.Result.{IfOk-from_err}
-use Rattle.std.proofs.Common.{ap, ◌∙◌, refl, arith}
+use Rattle.std.proofs.Common.{Err, ℕ, ap, ◌∙◌, refl, subst, sym, arith}
+use Rattle.std.proofs.lemmas.Bool.{false≢true}
 use Rattle.disk_model.specs.laws.Moments.{begins, goes_on}
 use Rattle.device_image.specs.laws.Kept.{kept_content}
 use Rattle.checkpoint.specs.Keeper.{faults_by}
-use Rattle.checkpoint.proofs.Answered.{err_given, both_ways}
-use Rattle.checkpoint.proofs.Recovered.{copied_first, copied_last, copied_next, keeps_by, left_next}
+use Rattle.checkpoint.specs.Steps.{IsCopyTime}
+use Rattle.checkpoint.specs.inner.Recovery.{IsRecoveryFault}
+use Rattle.checkpoint.specs.declared.fault.KeeperFault.{KeeperFault}
+use Rattle.checkpoint.specs.declared.fault.KeeperFault.TheVariants.{NumbersFull}
+use Rattle.checkpoint.proofs.Answered.{err_given, both_ways, given, ok_apart, same_answer, same_fault}
+use Rattle.checkpoint.proofs.Recovered.{copied_first, copied_last, copied_next, in_time, keeps_by, left_next, still_kept}
 use Rattle.checkpoint.proofs.keeper.Keeper.copy_all.Goals as goal
 
 pub loop-self-init : goal.loop-self-init
@@ -86,3 +91,39 @@ returns-clause-any_moment g c = c.loop-self.invariant.any_moment
 
 pub returns-clause-honest : goal.returns-clause-honest
 returns-clause-honest g c = c.loop-self.invariant.honest
+
+pub returns-clause-only : goal.returns-clause-only
+returns-clause-only g c = tt
+
+pub returns-clause-not_full : goal.returns-clause-not_full
+returns-clause-not_full g c = ok_apart _ _
+
+pub returns-clause-extent : goal.returns-clause-extent
+returns-clause-extent g c = c.loop-self.invariant.extent
+
+pub returns-clause-faults_ok : goal.returns-clause-faults_ok
+returns-clause-faults_ok g c = c.loop-self.invariant.faults
+
+pub returns-clause-faults_err : goal.returns-clause-faults_err
+returns-clause-faults_err g c = tt
+
+pub returns-clause-kept_still : goal.returns-clause-kept_still
+returns-clause-kept_still g c honest image number keeps = tt
+
+pub returns-in_err-_blocks-clause-only : goal.returns-in_err-_blocks-clause-only
+returns-in_err-_blocks-clause-only g c =
+    let copied = c.loop-self.invariant.copied in
+    let call = c.in_err-_blocks.ensures in
+    let works = ap (λ (k : KeeperState g.row.D.Denot). k.failed) copied ∙ c.requires.works in
+    let time : IsCopyTime c.loop-self.self.phase = subst IsCopyTime (sym (ap (λ (k : KeeperState g.row.D.Denot). k.phase) copied)) (omega (arith, c.left.ensures, c.loop-self-test.true)) in
+    err_given IsRecoveryFault c.from_residual.result c.in_err-_blocks.field-0.0 c.from_residual.ensures.1
+    (in_time c.in_err-_blocks.field-0.0 call.only (λ is. absurd (false≢true (sym works ∙ call.failed.0 (ap (λ (f : KeeperFault). Err f) is)))) (λ is. absurd ((call.not_now.0 (ap (λ (f : KeeperFault). Err f) is)).1 time)))
+
+pub returns-in_err-_blocks-clause-not_full : goal.returns-in_err-_blocks-clause-not_full
+returns-in_err-_blocks-clause-not_full g c is =
+    c.in_err-_blocks.ensures.not_full (ap (λ (f : KeeperFault). Err f) (same_fault c.in_err-_blocks.field-0.0 NumbersFull (sym (same_answer c.from_residual.result c.in_err-_blocks.field-0.0 c.from_residual.ensures.1) ∙ is)))
+
+pub returns-in_err-_blocks-clause-kept_still : goal.returns-in_err-_blocks-clause-kept_still
+returns-in_err-_blocks-clause-kept_still g c honest image number keeps =
+    err_given _ c.from_residual.result c.in_err-_blocks.field-0.0 c.from_residual.ensures.1
+    (still_kept g.D.Disk.state (given {T = ℕ} c.in_err-_blocks.field-0.0) c.loop-self.self c.copy_some.new.self image number c.in_err-_blocks.ensures.err (c.loop-self.invariant.kept honest image number keeps))

@@ -4,7 +4,8 @@ use Rattle.std.proofs.lemmas.Bool.{false≢true}
 use Rattle.device_image.specs.Keeper.{KeeperState}
 use Rattle.disk_model.specs.laws.Moments.{goes_on}
 use Rattle.checkpoint.specs.Keeper.{faults_by, refused_by}
-use Rattle.checkpoint.proofs.Answered.{Given}
+use Rattle.checkpoint.specs.inner.Recovery.{IsRecoveryFault}
+use Rattle.checkpoint.proofs.Answered.{Given, err_given, given, same_answer}
 use Rattle.checkpoint.proofs.Recovered.{count_ended, finished_last, keeps_by, keeps_ended, never_one, still_kept}
 use Rattle.checkpoint.proofs.keeper.Keeper.end_checkpoint.Goals as goal
 
@@ -145,3 +146,46 @@ returns-in_err-copy_all-clause-honest g c =
 pub returns-in_err-copy_all-clause-any_moment : goal.returns-in_err-copy_all-clause-any_moment
 returns-in_err-copy_all-clause-any_moment g c =
     c.in_err-copy_all.ensures.any_moment
+
+pub returns-in_err-copy_all-clause-full : goal.returns-in_err-copy_all-clause-full
+returns-in_err-copy_all-clause-full g c is =
+    absurd (c.in_err-copy_all.ensures.not_full (sym (same_answer c.from_residual.result c.in_err-copy_all.field-0.0 c.from_residual.ensures.1) ∙ is))
+
+pub returns-in_err-copy_all-clause-wanted : goal.returns-in_err-copy_all-clause-wanted
+returns-in_err-copy_all-clause-wanted g c is one =
+    absurd (c.in_err-copy_all.ensures.not_full (sym (same_answer c.from_residual.result c.in_err-copy_all.field-0.0 c.from_residual.ensures.1) ∙ is))
+
+pub returns-in_err-copy_all-clause-only : goal.returns-in_err-copy_all-clause-only
+returns-in_err-copy_all-clause-only g c =
+    err_given IsRecoveryFault c.from_residual.result c.in_err-copy_all.field-0.0 c.from_residual.ensures.1 c.in_err-copy_all.ensures.only
+
+pub returns-in_err-copy_all-clause-faults_err : goal.returns-in_err-copy_all-clause-faults_err
+returns-in_err-copy_all-clause-faults_err g c =
+    err_given _ c.from_residual.result c.in_err-copy_all.field-0.0 c.from_residual.ensures.1 c.in_err-copy_all.ensures.faults_err
+
+pub returns-in_err-copy_all-clause-kept_still : goal.returns-in_err-copy_all-clause-kept_still
+returns-in_err-copy_all-clause-kept_still g c honest image number keeps =
+    err_given _ c.from_residual.result c.in_err-copy_all.field-0.0 c.from_residual.ensures.1 (c.in_err-copy_all.ensures.kept_still honest image number keeps)
+
+pub returns-in_err-write_map-clause-full : goal.returns-in_err-write_map-clause-full
+returns-in_err-write_map-clause-full g c is =
+    absurd (c.in_err-write_map.ensures.full (sym (same_answer c.from_residual-in_err-write_map.result c.in_err-write_map.field-0.0 c.from_residual-in_err-write_map.ensures.1) ∙ is))
+
+pub returns-in_err-write_map-clause-wanted : goal.returns-in_err-write_map-clause-wanted
+returns-in_err-write_map-clause-wanted g c is one =
+    absurd (c.in_err-write_map.ensures.full (sym (same_answer c.from_residual-in_err-write_map.result c.in_err-write_map.field-0.0 c.from_residual-in_err-write_map.ensures.1) ∙ is))
+
+pub returns-in_err-write_map-clause-faults_err : goal.returns-in_err-write_map-clause-faults_err
+returns-in_err-write_map-clause-faults_err g c =
+    err_given _ c.from_residual-in_err-write_map.result c.in_err-write_map.field-0.0 c.from_residual-in_err-write_map.ensures.1 (c.in_err-write_map.ensures.faults_err ∙ ap (faults_by c.in_err-write_map.field-0.0) c.in_ok-copy_all.ensures.faults_ok)
+
+pub copy_all-requires-clause-works : goal.copy_all-requires-clause-works
+copy_all-requires-clause-works g c = c.requires.works
+
+pub copy_all-requires-clause-begun : goal.copy_all-requires-clause-begun
+copy_all-requires-clause-begun g c = c.requires.begun
+
+pub returns-in_err-write_map-clause-kept_still : goal.returns-in_err-write_map-clause-kept_still
+returns-in_err-write_map-clause-kept_still g c honest image number keeps =
+    err_given _ c.from_residual-in_err-write_map.result c.in_err-write_map.field-0.0 c.from_residual-in_err-write_map.ensures.1
+    (still_kept g.D.Disk.state (given {T = Unit {0}} c.in_err-write_map.field-0.0) c.copy_all.new.self c.write_map.new.self image number c.in_err-write_map.ensures.err (c.in_ok-copy_all.ensures.kept honest image number keeps))

@@ -1,7 +1,8 @@
 use Rattle.std.proofs.Common.{ap, Err, List, [], ◌∷◌, ◌++◌, ◌∙◌, ◌≡◌, ◌≢◌, arith, ℕ, true, ◌==◌, sym}
 use Rattle.checkpoint.specs.Keeper.{faults_by}
+use Rattle.checkpoint.specs.inner.Recovery.{IsRecoveryFault}
 use Rattle.std.proofs.lemmas.Result.{IfOk-from_err, IfOk-weaker, IfErr-weaker}
-use Rattle.checkpoint.proofs.Answered.{err_given, both_ways}
+use Rattle.checkpoint.proofs.Answered.{err_given, both_ways, ok_apart, same_answer}
 use Rattle.device_image.specs.Keeper.{KeeperState, count_puts, last_turned}
 use Rattle.device_image.specs.Keeps.{Keeps}
 use Rattle.checkpoint.specs.declared.fault.KeeperFault.TheVariants.{DeviceFault}
@@ -144,3 +145,83 @@ pub returns-clause-faults_err : goal.returns-clause-faults_err
 returns-clause-faults_err g c =
     let before = c.in_ok-rotate.ensures.faults_ok ∙ c.in_ok-end_begun.ensures.faults_ok in
     IfErr-weaker c.end_checkpoint.result _ _ (λ fault same. same ∙ ap (faults_by fault) before) c.end_checkpoint.ensures.faults_err
+
+pub returns-in_err-end_begun-clause-extent : goal.returns-in_err-end_begun-clause-extent
+returns-in_err-end_begun-clause-extent g c =
+    c.in_err-end_begun.ensures.extent
+
+pub returns-in_err-end_begun-clause-honest : goal.returns-in_err-end_begun-clause-honest
+returns-in_err-end_begun-clause-honest g c =
+    c.in_err-end_begun.ensures.honest
+
+pub returns-in_err-end_begun-clause-only : goal.returns-in_err-end_begun-clause-only
+returns-in_err-end_begun-clause-only g c =
+    err_given IsRecoveryFault c.from_residual.result c.in_err-end_begun.field-0.0 c.from_residual.ensures.1 c.in_err-end_begun.ensures.only
+
+pub returns-in_err-end_begun-clause-kept_still : goal.returns-in_err-end_begun-clause-kept_still
+returns-in_err-end_begun-clause-kept_still g c honest image number keeps =
+    err_given _ c.from_residual.result c.in_err-end_begun.field-0.0 c.from_residual.ensures.1 (c.in_err-end_begun.ensures.kept_still honest image number keeps)
+
+pub returns-in_err-end_begun-clause-full : goal.returns-in_err-end_begun-clause-full
+returns-in_err-end_begun-clause-full g c is =
+    c.in_err-end_begun.ensures.full (sym (same_answer c.from_residual.result c.in_err-end_begun.field-0.0 c.from_residual.ensures.1) ∙ is)
+
+pub returns-in_err-end_begun-clause-wanted : goal.returns-in_err-end_begun-clause-wanted
+returns-in_err-end_begun-clause-wanted g c is one used =
+    c.in_err-end_begun.ensures.wanted (sym (same_answer c.from_residual.result c.in_err-end_begun.field-0.0 c.from_residual.ensures.1) ∙ is) one
+
+pub returns-clause-full : goal.returns-clause-full
+returns-clause-full g c =
+    c.end_checkpoint.ensures.full
+
+pub returns-clause-only : goal.returns-clause-only
+returns-clause-only g c =
+    c.end_checkpoint.ensures.only
+
+pub returns-clause-wanted : goal.returns-clause-wanted
+returns-clause-wanted g c is one used =
+    c.end_checkpoint.ensures.wanted is one
+
+pub returns-then-is_empty-clause-only : goal.returns-then-is_empty-clause-only
+returns-then-is_empty-clause-only g c =
+    tt
+
+pub returns-then-is_empty-clause-full : goal.returns-then-is_empty-clause-full
+returns-then-is_empty-clause-full g c is =
+    absurd (ok_apart _ _ is)
+
+pub returns-then-is_empty-clause-wanted : goal.returns-then-is_empty-clause-wanted
+returns-then-is_empty-clause-wanted g c is one used =
+    ok_apart _ _ is
+
+pub returns-then-is_empty-clause-faults_err : goal.returns-then-is_empty-clause-faults_err
+returns-then-is_empty-clause-faults_err g c =
+    tt
+
+pub returns-then-is_empty-clause-kept_still : goal.returns-then-is_empty-clause-kept_still
+returns-then-is_empty-clause-kept_still g c honest image number keeps =
+    tt
+
+pub returns-then-is_empty-clause-extent : goal.returns-then-is_empty-clause-extent
+returns-then-is_empty-clause-extent g c =
+    c.in_ok-end_begun.ensures.extent
+
+pub returns-then-is_empty-clause-faults_ok : goal.returns-then-is_empty-clause-faults_ok
+returns-then-is_empty-clause-faults_ok g c =
+    c.in_ok-end_begun.ensures.faults_ok
+
+pub returns-then-is_empty-clause-honest : goal.returns-then-is_empty-clause-honest
+returns-then-is_empty-clause-honest g c =
+    c.in_ok-end_begun.ensures.honest
+
+pub returns-then-is_empty-clause-kept : goal.returns-then-is_empty-clause-kept
+returns-then-is_empty-clause-kept g c =
+    c.in_ok-end_begun.ensures.kept
+
+pub returns-then-is_empty-clause-any_moment : goal.returns-then-is_empty-clause-any_moment
+returns-then-is_empty-clause-any_moment g c =
+    c.in_ok-end_begun.ensures.any_moment
+
+pub returns-then-is_empty-clause-sizes : goal.returns-then-is_empty-clause-sizes
+returns-then-is_empty-clause-sizes g c =
+    c.in_ok-end_begun.ensures.sizes

@@ -629,3 +629,54 @@ returns-in_default g c =
       held = λ honest base fronts last holds. tt;
       any_moment = λ honest image number keeps. begins (g.met.D.Disk.sound c.args.self.now.disk honest) (λ content left. kept_content _ _ image number keeps content left);
     }
+
+pub returns-in-Ok-clause-err : goal.returns-in-Ok-clause-err
+returns-in-Ok-clause-err g c =
+    tt
+
+pub returns-in-Ok-clause-only : goal.returns-in-Ok-clause-only
+returns-in-Ok-clause-only g c =
+    tt
+
+pub returns-in-Ok-clause-unchanged : goal.returns-in-Ok-clause-unchanged
+returns-in-Ok-clause-unchanged g c =
+    tt
+
+pub returns-in-Ok-clause-faults_err : goal.returns-in-Ok-clause-faults_err
+returns-in-Ok-clause-faults_err g c =
+    tt
+
+pub returns-in-Err-clause-ok : goal.returns-in-Err-clause-ok
+returns-in-Err-clause-ok g c =
+    tt
+
+pub returns-in-Err-clause-faults_ok : goal.returns-in-Err-clause-faults_ok
+returns-in-Err-clause-faults_ok g c =
+    tt
+
+pub returns-in-Err-clause-fresh : goal.returns-in-Err-clause-fresh
+returns-in-Err-clause-fresh g c =
+    tt
+
+pub returns-in-Err-clause-left : goal.returns-in-Err-clause-left
+returns-in-Err-clause-left g c commands remembers =
+    tt
+
+pub returns-in-Err-clause-phase : goal.returns-in-Err-clause-phase
+returns-in-Err-clause-phase g c commands remembers =
+    tt
+
+pub returns-in-Err-clause-held : goal.returns-in-Err-clause-held
+returns-in-Err-clause-held g c honest base fronts last holds =
+    tt
+
+pub returns-in_err-touches-clause-extent : goal.returns-in_err-touches-clause-extent
+returns-in_err-touches-clause-extent g c =
+    refl
+
+pub returns-in_err-touches-clause-honest : goal.returns-in_err-touches-clause-honest
+returns-in_err-touches-clause-honest g c =
+    (λ trusted. trusted, λ trusted. trusted)
+
+pub with_next-requires : goal.with_next-requires
+with_next-requires g c = c.if-not-has_spare_area.ensures.room refl
