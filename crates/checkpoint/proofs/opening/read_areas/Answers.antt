@@ -256,3 +256,19 @@ returns-clause-honest g c =
 pub returns-clause-faults_ok : goal.returns-clause-faults_ok
 returns-clause-faults_ok g c =
     c.in_ok-area.ensures.faults_ok ∙ c.loop-place.invariant.faults
+
+pub returns-clause-sized : goal.returns-clause-sized
+returns-clause-sized g c =
+    c.loop-place.invariant.sized
+
+pub returns-clause-uncopied : goal.returns-clause-uncopied
+returns-clause-uncopied g c =
+    c.loop-place.invariant.uncopied
+
+pub returns-clause-faults_err : goal.returns-clause-faults_err
+returns-clause-faults_err g c =
+    tt
+
+pub returns-clause-none : goal.returns-clause-none
+returns-clause-none g c zero =
+    let call = c.in_ok-area.ensures.none zero in (call.0, call.1 ∙ c.loop-place.invariant.following)

@@ -7,6 +7,7 @@ use Rattle.journal_format.specs.laws.Chained.{one_read, reads_on}
 use Rattle.regions.specs.Layout.{map_at}
 use Rattle.regions.specs.Map.{HoldsMap, IsMapReading}
 use Rattle.regions.specs.declared.fault.RegionFault.{RegionFault}
+use Rattle.checkpoint.specs.Keeper.{AreSized}
 use Rattle.checkpoint.proofs.Readings.{at_refusal, groups_refused, header_read, header_refused, header_stays, map_refused, map_stays, seen_same, still_synced}
 use Rattle.checkpoint.proofs.opening.read_parts.Goals as goal
 
@@ -228,3 +229,31 @@ returns-in_err-plans-clause-uncopied g c =
 pub returns-in_err-plans-clause-many : goal.returns-in_err-plans-clause-many
 returns-in_err-plans-clause-many g c =
     IfOk-from_err c.from_residual-in_err-plans.result _ c.from_residual-in_err-plans.ensures.0
+
+pub returns-clause-extent : goal.returns-clause-extent
+returns-clause-extent g c =
+    c.in_ok-plans.ensures.extent ∙ c.in_ok-map.ensures.extent ∙ c.in_ok-header.ensures.extent
+
+pub returns-clause-faults_err : goal.returns-clause-faults_err
+returns-clause-faults_err g c =
+    tt
+
+pub returns-clause-placed : goal.returns-clause-placed
+returns-clause-placed g c =
+    c.in_ok-plans.ensures.placed
+
+pub returns-clause-none : goal.returns-clause-none
+returns-clause-none g c =
+    c.in_ok-plans.ensures.none
+
+pub returns-clause-uncopied : goal.returns-clause-uncopied
+returns-clause-uncopied g c =
+    c.in_ok-plans.ensures.uncopied
+
+pub returns-clause-many : goal.returns-clause-many
+returns-clause-many g c =
+    c.in_ok-plans.ensures.many
+
+pub returns-clause-sized : goal.returns-clause-sized
+returns-clause-sized g c =
+    subst (AreSized c.in_ok-plans.plans.items c.in_ok-header.header.geometry) (c.in_ok-map.ensures.extent ∙ c.in_ok-header.ensures.extent) c.in_ok-plans.ensures.sized
