@@ -7,48 +7,67 @@ use header_slots::HeaderFault;
 use journal_format::JournalFault;
 use regions::RegionFault;
 use std::alloc::AllocError;
-use thiserror::Error;
+use std::error::Error;
+use std::fmt;
+use std::fmt::{Display, Formatter};
 
 /// Why a call of the keeper was refused; `docs/FORMATS.md`, "Refusals", has the numbers.
-#[derive(Clone, Copy, Debug, PartialEq, Eq, Error)]
+#[derive(Clone, Copy, Debug, PartialEq, Eq)]
 pub enum KeeperFault {
     /// 0: a growth of memory was refused.
-    #[error("no memory")]
     NoMemory,
     /// 1: a call of the device failed.
-    #[error("device fault")]
     DeviceFault,
     /// 6: the map in the header's map slot has a block with code 3, or a bit past the last block is set.
-    #[error("bad map")]
     BadMap,
     /// 7: no header is in force.
-    #[error("no header")]
     NoHeader,
     /// 8: the header in force breaks a rule.
-    #[error("bad header")]
     BadHeader,
     /// 9: no generation is greater than that of the header in force.
-    #[error("numbers full")]
     NumbersFull,
     /// 10: the group doesn't fit the area.
-    #[error("area full")]
     AreaFull,
     /// 11: the group's first number isn't the next.
-    #[error("out of order")]
     OutOfOrder,
     /// 12: behind an open gate stands no whole group.
-    #[error("damaged group")]
     DamagedGroup,
     /// 15: the checkpoint isn't at this step.
-    #[error("not now")]
     NotNow,
     /// 16: a call of the device has failed before; open the device again.
-    #[error("failed")]
     Failed,
     /// 22: layout 2 would have areas below their limit.
-    #[error("area too small")]
     AreaSmall,
 }
+
+impl KeeperFault {
+    // What is printed of it.
+    fn text(self) -> &'static str {
+        match self {
+            KeeperFault::NoMemory => "no memory",
+            KeeperFault::DeviceFault => "device fault",
+            KeeperFault::BadMap => "bad map",
+            KeeperFault::NoHeader => "no header",
+            KeeperFault::BadHeader => "bad header",
+            KeeperFault::NumbersFull => "numbers full",
+            KeeperFault::AreaFull => "area full",
+            KeeperFault::OutOfOrder => "out of order",
+            KeeperFault::DamagedGroup => "damaged group",
+            KeeperFault::NotNow => "not now",
+            KeeperFault::Failed => "failed",
+            KeeperFault::AreaSmall => "area too small",
+        }
+    }
+}
+
+// Written out, one call writes the text, where a derived one has a call for each variant.
+impl Display for KeeperFault {
+    fn fmt<W: fmt::Write>(&self, f: &mut Formatter<W>) -> fmt::Result {
+        f.write_str(self.text())
+    }
+}
+
+impl Error for KeeperFault {}
 
 impl From<DeviceFault> for KeeperFault {
     ghost from_gives = { λ _ fault. fault ≡ KeeperFault.DeviceFault };
