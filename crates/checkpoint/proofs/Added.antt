@@ -159,6 +159,7 @@ ordered journals.AreaFull same = cc
 ordered journals.OutOfOrder same = refl
 ordered journals.DamagedGroup same = cc
 
+-- so is that of a full area
 pub filled : (fault : JournalFault) → of_journal fault ≡ AreaFull → fault ≡ journals.AreaFull
 filled journals.NoMemory same = cc
 filled journals.DeviceFault same = cc
@@ -166,6 +167,7 @@ filled journals.AreaFull same = refl
 filled journals.OutOfOrder same = cc
 filled journals.DamagedGroup same = cc
 
+-- and none of the journal's is that of a keeper that has failed
 pub never_failed : (fault : JournalFault) → of_journal fault ≡ Failed → ⊥
 never_failed journals.NoMemory same = cc
 never_failed journals.DeviceFault same = cc
@@ -173,6 +175,7 @@ never_failed journals.AreaFull same = cc
 never_failed journals.OutOfOrder same = cc
 never_failed journals.DamagedGroup same = cc
 
+-- what the journal refuses, but for a damaged group, a call of `append` may
 pub allowed : (fault : JournalFault) → (fault ≡ journals.DamagedGroup → ⊥) → IsAppendFault (of_journal fault)
 allowed journals.NoMemory undamaged = tt
 allowed journals.DeviceFault undamaged = tt
@@ -180,6 +183,7 @@ allowed journals.AreaFull undamaged = tt
 allowed journals.OutOfOrder undamaged = tt
 allowed journals.DamagedGroup undamaged = undamaged refl
 
+-- and it counts as many faults of the device
 pub same_count : (fault : JournalFault) (faults : ℕ) → counts.faults_by fault faults ≡ faults_by (of_journal fault) faults
 same_count journals.NoMemory faults = refl
 same_count journals.DeviceFault faults = refl

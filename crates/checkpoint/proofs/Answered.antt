@@ -72,9 +72,11 @@ module _ {T : Type 0} where
   no_memory (Ok value) none = absurd none
   no_memory (Err fault) is = ap given is
 
+  -- what tells which refusal it is tells which answer
   pub same_answer : (result : Given T) (fault : KeeperFault) → IsErrAnd result (λ given. given ≡ fault) → result ≡ Err fault
   same_answer (Ok value) fault none = absurd none
   same_answer (Err given') fault is = ap given is
 
+  -- and one answer is one refusal
   pub same_fault : (first second : KeeperFault) → ◌≡◌ {A = Given T} (Err first) (Err second) → first ≡ second
   same_fault first second is = cc
