@@ -1,5 +1,7 @@
+use Rattle.std.proofs.Common.{◌∙◌, ap}
 use Rattle.disk_model.specs.laws.Moments.{stays_on}
 use Rattle.std.proofs.lemmas.Result.{IfOk-from_err}
+use Rattle.disk_model.specs.Faults.{faults_after}
 use Rattle.checkpoint.proofs.Answered.{both_ways}
 use Rattle.checkpoint.proofs.device_steps.empty_area.Goals as goal
 
@@ -24,3 +26,19 @@ returns-in_err-close_first-clause-ok g c =
 pub returns-in_err-close_first-clause-stored : goal.returns-in_err-close_first-clause-stored
 returns-in_err-close_first-clause-stored g c given =
     IfOk-from_err c.from_residual.result _ c.from_residual.ensures.0
+
+pub returns-in_err-close_first-clause-extent : goal.returns-in_err-close_first-clause-extent
+returns-in_err-close_first-clause-extent g c =
+    c.in_err-close_first.ensures.extent
+
+pub returns-in_err-close_first-clause-honest : goal.returns-in_err-close_first-clause-honest
+returns-in_err-close_first-clause-honest g c =
+    c.in_err-close_first.ensures.honest
+
+pub returns-clause-extent : goal.returns-clause-extent
+returns-clause-extent g c =
+    c.sync.ensures.extent ∙ c.in_ok-close_first.ensures.extent
+
+pub returns-clause-faults : goal.returns-clause-faults
+returns-clause-faults g c =
+    c.sync.ensures.faults ∙ ap (faults_after c.sync.result) c.in_ok-close_first.ensures.faults

@@ -1,11 +1,12 @@
-use Rattle.std.proofs.Common.{◌≡◌, ◌<◌, ◌-◌, ◌*◌, ◌≤◌, ℕ, inl, inr, Option, None, true, List, ◌∷◌, length, refl, rules, sym, ◌∙◌, ap, subst, arith}
-use Rattle.checkpoint.specs.declared.fault.KeeperFault.TheVariants.{NoMemory}
+use Rattle.std.proofs.Common.{◌≡◌, ◌⊎◌, ◌<◌, ◌-◌, ◌*◌, ◌≤◌, ℕ, inl, inr, Option, Some, None, true, List, ◌∷◌, length, refl, rules, sym, ◌∙◌, ap, subst, arith}
+use Rattle.checkpoint.specs.declared.fault.KeeperFault.TheVariants.{NoMemory, DeviceFault}
 use Rattle.std.proofs.lemmas.Result.{IfOk-from_err}
 use Rattle.std.specs.Prelude.{IfSome}
 use Rattle.std.proofs.lemmas.Bool.{false≢true}
 use Rattle.disk_model.specs.Disk.{LeavesOnly}
 use Rattle.disk_model.specs.Faults.{counted}
 use Rattle.disk_model.specs.laws.Moments.{begins, weakens}
+use Rattle.image_model.specs.Geometry.{device_bytes_of}
 use Rattle.image_model.specs.declared.command.Kind.{Kind}
 use Rattle.image_model.specs.declared.geometry.Geometry.{Geometry}
 use Rattle.checkpoint.specs.Keeper.{AreSized, IsSized, faults_by, plans_of, refused_by}
@@ -422,3 +423,102 @@ returns-in_default-next_copy g c =
           subst (λ (disk : g.row.D.Denot). LeavesOnly (g.D.Disk.state c.args.self.now.disk) (g.D.Disk.state disk) (λ content. StandsFor content image number)) (sym same)
           (begins (g.met.D.Disk.sound c.args.self.now.disk honest) (λ content left. kept_content _ _ image number keeps content left));
     }
+
+pub returns-in_err-buffer-clause-err : goal.returns-in_err-buffer-clause-err
+returns-in_err-buffer-clause-err g c =
+    let inside = c.self.inside in
+    let plan = c.in-Some.plan in
+    let waiting = inside.waiting.items in
+    let made : Option PlanState → KeeperState g.row.D.Denot = λ first. let plans = plans_of first waiting in record {
+      disk = inside.disk;
+      geometry = inside.header.geometry;
+      generation = inside.header.generation;
+      count = inside.count;
+      base = inside.header.base;
+      turned = turned_of plans;
+      lefts = lefts_of plans;
+      used = inside.area.gate;
+      phase = phase_of plans;
+      failed = inside.failed;
+      memory = record { header = inside.header; slot = inside.slot; map = inside.map; plans = plans; area = inside.area };
+    } in
+    err_given (λ (fault : KeeperFault). made (Some plan) ≡ refused_by fault c.args.self.now inside.disk) c.from_residual.result NoMemory c.from_residual.ensures.1 (ap made (sym c.in-Some.is) ∙ c.self.view_is)
+
+pub returns-in_err-buffer-clause-unchanged : goal.returns-in_err-buffer-clause-unchanged
+returns-in_err-buffer-clause-unchanged g c =
+    err_given (λ (fault : KeeperFault). (fault ≡ DeviceFault) ⊎ (c.self.inside.disk ≡ c.args.self.now.disk)) c.from_residual.result NoMemory c.from_residual.ensures.1 (inr (ap (λ (k : KeeperState g.row.D.Denot). k.disk) c.self.view_is))
+
+pub returns-in_err-buffer-clause-extent : goal.returns-in_err-buffer-clause-extent
+returns-in_err-buffer-clause-extent g c =
+    ap (λ (k : KeeperState g.row.D.Denot). g.D.Disk.extent k.disk) c.self.view_is
+
+pub returns-in_err-buffer-clause-faults_err : goal.returns-in_err-buffer-clause-faults_err
+returns-in_err-buffer-clause-faults_err g c =
+    err_given (λ (fault : KeeperFault). g.D.Disk.faults c.self.inside.disk ≡ faults_by fault (g.D.Disk.faults c.args.self.now.disk)) c.from_residual.result NoMemory c.from_residual.ensures.1 (ap (λ (k : KeeperState g.row.D.Denot). g.D.Disk.faults k.disk) c.self.view_is)
+
+pub returns-in_err-buffer-clause-honest : goal.returns-in_err-buffer-clause-honest
+returns-in_err-buffer-clause-honest g c =
+    let same = ap (λ (k : KeeperState g.row.D.Denot). k.disk) c.self.view_is in
+    (λ trusted. subst g.D.Disk.honest same trusted, λ trusted. subst g.D.Disk.honest (sym same) trusted)
+
+pub invariant_of-self-in_err-buffer : goal.invariant_of-self-in_err-buffer
+invariant_of-self-in_err-buffer g c =
+    let inside = c.self.inside in
+    let geometry = inside.header.geometry in
+    let base = inside.header.base in
+    let waiting = inside.waiting.items in
+    let extent = g.D.Disk.extent inside.disk in
+    let is = c.self.invariant in
+    let some = c.in-Some.is in
+    let first : IsSized c.in-Some.plan.first geometry extent = subst (λ (p : Option PlanState). IfSome p (λ f. IsSized f.first geometry extent)) some is.2 in (
+      is.0,
+      is.1,
+      first,
+      is.3,
+      λ none. absurd (some_apart _ none),
+      is.5 ∙ ap (λ (p : Option PlanState). length (plans_of p waiting)) some,
+      is.6,
+      is.7,
+      λ none. ((is.8 none).0, (is.8 none).1 ∙ ap (λ (p : Option PlanState). last_turned base (turned_of (plans_of p waiting))) some),
+      is.9,
+    )
+
+pub returns-in-Ok-clause-err : goal.returns-in-Ok-clause-err
+returns-in-Ok-clause-err g c =
+    tt
+
+pub returns-in-Ok-clause-only : goal.returns-in-Ok-clause-only
+returns-in-Ok-clause-only g c =
+    tt
+
+pub returns-in-Ok-clause-unchanged : goal.returns-in-Ok-clause-unchanged
+returns-in-Ok-clause-unchanged g c =
+    tt
+
+pub returns-in-Ok-clause-faults_err : goal.returns-in-Ok-clause-faults_err
+returns-in-Ok-clause-faults_err g c =
+    tt
+
+pub returns-clause-ok : goal.returns-clause-ok
+returns-clause-ok g c =
+    tt
+
+pub returns-clause-left : goal.returns-clause-left
+returns-clause-left g c =
+    tt
+
+pub returns-clause-faults_ok : goal.returns-clause-faults_ok
+returns-clause-faults_ok g c =
+    tt
+
+pub returns-clause-remembered : goal.returns-clause-remembered
+returns-clause-remembered g c commands remembers =
+    tt
+
+pub returns-clause-held : goal.returns-clause-held
+returns-clause-held g c honest base fronts last holds =
+    tt
+
+pub copy_over-requires-clause-device : goal.copy_over-requires-clause-device
+copy_over-requires-clause-device g c =
+    c.self.invariant.0 ∙ ap (λ (size : Geometry). device_bytes_of size.blocks size.area) (sym c.of-regions.ensures)

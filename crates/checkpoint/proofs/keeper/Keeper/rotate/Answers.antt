@@ -1,4 +1,4 @@
-use Rattle.std.proofs.Common.{◌≡◌, ◌<◌, ◌+◌, ◌%◌, inl, inr, ℕ, zero, suc, false, true, None, Some, Err, List, [], ◌∷◌, ◌++◌, length, refl, sym, ◌∙◌, ap, subst, arith, rules}
+use Rattle.std.proofs.Common.{◌≡◌, ◌⊎◌, ◌<◌, ◌+◌, ◌%◌, inl, inr, ℕ, zero, suc, false, true, None, Some, Err, List, [], ◌∷◌, ◌++◌, length, refl, sym, ◌∙◌, ap, subst, arith, rules}
 use Rattle.std.proofs.lemmas.Result.{IfOk-from_err}
 use Rattle.std.specs.FinMap.{len}
 use Rattle.std.specs.Bool.{◌==◌}
@@ -26,8 +26,8 @@ use Rattle.device_image.specs.laws.Kept.{kept_content}
 use Rattle.checkpoint.specs.Keeper.{AreSized, IsSized, faults_by, plans_of, refused_by}
 use Rattle.checkpoint.specs.Steps.{IsRotateTime, IsStepFault, phase_with, rotated_by}
 use Rattle.checkpoint.specs.declared.fault.KeeperFault.{KeeperFault}
-use Rattle.checkpoint.specs.declared.fault.KeeperFault.TheVariants.{NumbersFull, NotNow, Failed}
-use Rattle.checkpoint.proofs.Answered.{Given, device_apart, failed-full, failed-not_now, full-failed, full-not_now, memory_apart, not_now-failed, no_memory, ok_apart, some_apart}
+use Rattle.checkpoint.specs.declared.fault.KeeperFault.TheVariants.{NoMemory, DeviceFault, NumbersFull, NotNow, Failed}
+use Rattle.checkpoint.proofs.Answered.{Given, device_apart, err_given, failed-full, failed-not_now, full-failed, full-not_now, memory_apart, not_now-failed, no_memory, ok_apart, some_apart}
 use Rattle.checkpoint.proofs.Areas.{last-push}
 use Rattle.checkpoint.proofs.Rotating.{ArePlansSized, added, comes_next, current_held, from_above, last_counted, lefts-push, next_sized, phase-push, rotate_held, rotate_left, rotated_left, sized_after, slots_synced, turned-push, uncopied_after}
 use Rattle.checkpoint.proofs.keeper.Keeper.rotate.Goals as goal
@@ -680,3 +680,29 @@ returns-in_err-touches-clause-honest g c =
 
 pub with_next-requires : goal.with_next-requires
 with_next-requires g c = c.if-not-has_spare_area.ensures.room refl
+
+pub next-requires-clause-few : goal.next-requires-clause-few
+next-requires-clause-few g c =
+    let header = c.self.inside.header in
+    let room : header.in_front + 1 < areas_in header.geometry =
+    subst (λ (k : KeeperState g.row.D.Denot). k.memory.header.in_front + 1 < areas_in k.memory.header.geometry) (sym c.self.view_is) (c.if-not-has_spare_area.ensures.room refl) in
+    subst (λ (change : HeaderChange). change.in_front < areas_in header.geometry) (sym (c.with_next.ensures ∙ ap (λ (k : KeeperState g.row.D.Denot). with_next k.memory.header) (sym c.self.view_is))) room
+
+pub next-requires-clause-first : goal.next-requires-clause-first
+next-requires-clause-first g c =
+    let header = c.self.inside.header in
+    subst (λ (change : HeaderChange). change.first_area < areas_in header.geometry) (sym (c.with_next.ensures ∙ ap (λ (k : KeeperState g.row.D.Denot). with_next k.memory.header) (sym c.self.view_is))) header.first_inside
+
+pub next_area-next-requires : goal.next_area-next-requires
+next_area-next-requires g c =
+    subst (λ (k : KeeperState g.row.D.Denot). k.memory.header.in_front + 1 < areas_in k.memory.header.geometry) (sym c.self.view_is) (c.if-not-has_spare_area.ensures.room refl)
+
+pub returns-in_err-touches-clause-unchanged : goal.returns-in_err-touches-clause-unchanged
+returns-in_err-touches-clause-unchanged g c =
+    let disk = c.args.self.now.disk in
+    err_given (λ (fault : KeeperFault). (fault ≡ DeviceFault) ⊎ (disk ≡ disk)) c.from_residual.result NoMemory c.from_residual.ensures.1 (inr refl)
+
+pub returns-in_err-reserve-clause-unchanged : goal.returns-in_err-reserve-clause-unchanged
+returns-in_err-reserve-clause-unchanged g c =
+    err_given (λ (fault : KeeperFault). (fault ≡ DeviceFault) ⊎ (c.self.inside.disk ≡ c.args.self.now.disk)) c.from_residual-in_err-reserve.result NoMemory c.from_residual-in_err-reserve.ensures.1
+    (inr (ap (λ (k : KeeperState g.row.D.Denot). k.disk) c.self.view_is))
