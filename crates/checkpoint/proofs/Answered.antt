@@ -1,7 +1,8 @@
 -- which refusals an answer of the keeper isn't
-use Rattle.std.specs.Prelude.{IfErr, IfOk, OnOk}
+use Rattle.std.specs.Prelude.{ℕ, IfErr, IfOk, IsErr, OnOk}
 use Rattle.std.specs.Result.{IsErrAnd}
-use Rattle.std.proofs.Common.{◌≡◌, ◌↔◌, None, Some, Result, Ok, Err, ap, subst, sym}
+use Rattle.std.proofs.Common.{◌≡◌, ◌↔◌, None, Some, Result, Ok, Err, ap, refl, subst, sym}
+use Rattle.disk_model.specs.Faults.{counted, faults_after}
 use Rattle.checkpoint.specs.declared.fault.KeeperFault.{KeeperFault}
 use Rattle.checkpoint.specs.declared.fault.KeeperFault.TheVariants.{NoMemory, DeviceFault, NumbersFull, NotNow, Failed}
 
@@ -22,6 +23,11 @@ both_ways first second = (λ given. second.0 (first.0 given), λ given. first.1 
 pub err_given : {T : Type 0} (P : KeeperFault → Type 0) (result : Given T) (fault : KeeperFault) → IsErrAnd result (λ given. given ≡ fault) → P fault → IfErr result P
 err_given P (Ok value) fault none holds = tt
 err_given P (Err given) fault is holds = subst P (sym is) holds
+
+-- an error is one fault of the device more
+pub failed_counted : {T E : Type 0} (result : Result T E) (faults : ℕ) → IsErr result → faults_after result faults ≡ counted faults
+failed_counted (Ok value) faults is = cc
+failed_counted (Err error) faults is = refl
 
 module _ {T : Type 0} where
   abbrev pub given : KeeperFault → Given T

@@ -1,7 +1,7 @@
-use Rattle.std.proofs.Common.{◌∙◌, ap}
+use Rattle.std.proofs.Common.{◌∙◌, ap, sym}
 use Rattle.std.proofs.lemmas.Result.{IfOk-from_err}
 use Rattle.disk_model.specs.Faults.{faults_after}
-use Rattle.checkpoint.proofs.Answered.{both_ways}
+use Rattle.checkpoint.proofs.Answered.{both_ways, failed_counted}
 use Rattle.checkpoint.proofs.device_steps.copy_over.Goals as goal
 
 pub returns-in_err-read-clause-copied : goal.returns-in_err-read-clause-copied
@@ -27,3 +27,7 @@ returns-clause-extent g c =
 pub returns-clause-faults : goal.returns-clause-faults
 returns-clause-faults g c =
     c.write_blocks.ensures.faults ∙ ap (faults_after c.write_blocks.result) c.in_ok-read.ensures.faults
+
+pub returns-in_err-read-clause-faults : goal.returns-in_err-read-clause-faults
+returns-in_err-read-clause-faults g c =
+    c.in_err-read.ensures.faults ∙ sym (failed_counted c.from_residual.result _ c.from_residual.ensures.0)

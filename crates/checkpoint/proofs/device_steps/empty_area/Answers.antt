@@ -1,8 +1,8 @@
-use Rattle.std.proofs.Common.{◌∙◌, ap}
+use Rattle.std.proofs.Common.{◌∙◌, ap, sym}
 use Rattle.disk_model.specs.laws.Moments.{stays_on}
 use Rattle.std.proofs.lemmas.Result.{IfOk-from_err}
 use Rattle.disk_model.specs.Faults.{faults_after}
-use Rattle.checkpoint.proofs.Answered.{both_ways}
+use Rattle.checkpoint.proofs.Answered.{both_ways, failed_counted}
 use Rattle.checkpoint.proofs.device_steps.empty_area.Goals as goal
 
 pub returns-in_err-close_first-clause-any_moment : goal.returns-in_err-close_first-clause-any_moment
@@ -42,3 +42,7 @@ returns-clause-extent g c =
 pub returns-clause-faults : goal.returns-clause-faults
 returns-clause-faults g c =
     c.sync.ensures.faults ∙ ap (faults_after c.sync.result) c.in_ok-close_first.ensures.faults
+
+pub returns-in_err-close_first-clause-faults : goal.returns-in_err-close_first-clause-faults
+returns-in_err-close_first-clause-faults g c =
+    c.in_err-close_first.ensures.faults ∙ sym (failed_counted c.from_residual.result _ c.from_residual.ensures.0)

@@ -1,8 +1,10 @@
-use Rattle.std.proofs.Common.{◌≡◌, inl, inr, rules, subst, ◌∙◌}
+use Rattle.std.proofs.Common.{◌≡◌, inl, inr, rules, subst, ◌∙◌, ap, sym}
 use Rattle.std.proofs.lemmas.Result.{IfOk-from_err}
 use Rattle.disk_model.specs.Disk.{State}
+use Rattle.disk_model.specs.Faults.{faults_after}
 use Rattle.disk_model.specs.laws.Moments.{goes_on, weakens}
 use Rattle.checkpoint.specs.inner.Format.{AreClosed}
+use Rattle.checkpoint.proofs.Answered.{failed_counted}
 use Rattle.checkpoint.proofs.format.write_device.Goals as goal
 
 -- That the header is opened right behind what was written for it is searched for.
@@ -68,3 +70,19 @@ returns-clause-extent g c =
 pub returns-in_err-close_headers-clause-honest : goal.returns-in_err-close_headers-clause-honest
 returns-in_err-close_headers-clause-honest g c =
     c.in_err-close_headers.ensures.honest
+
+pub returns-in_err-close_headers-clause-extent : goal.returns-in_err-close_headers-clause-extent
+returns-in_err-close_headers-clause-extent g c =
+    c.in_err-close_headers.ensures.extent
+
+pub returns-in_err-close_headers-clause-faults : goal.returns-in_err-close_headers-clause-faults
+returns-in_err-close_headers-clause-faults g c =
+    c.in_err-close_headers.ensures.faults ∙ sym (failed_counted c.from_residual.result _ c.from_residual.ensures.0)
+
+pub returns-in_err-close_headers-clause-any_moment : goal.returns-in_err-close_headers-clause-any_moment
+returns-in_err-close_headers-clause-any_moment g c honest steady =
+    weakens (c.close_headers.ensures.any_moment honest) (λ content left. inl left)
+
+pub returns-clause-faults : goal.returns-clause-faults
+returns-clause-faults g c =
+    c.open_header.ensures.faults ∙ ap (faults_after c.open_header.result) (c.in_ok-write_parts.ensures.faults ∙ c.in_ok-close_headers.ensures.faults)

@@ -1,12 +1,14 @@
-use Rattle.std.proofs.Common.{◌≡◌, ℕ, [], ◌∷◌, subst, ◌∙◌, ap, arith}
+use Rattle.std.proofs.Common.{◌≡◌, ℕ, [], ◌∷◌, subst, ◌∙◌, ap, arith, sym}
 use Rattle.std.proofs.lemmas.Result.{on_ok_weaker, IfOk-from_err}
 use Rattle.disk_model.specs.Disk.{IsWritten}
+use Rattle.disk_model.specs.Faults.{counted, faults_after}
 use Rattle.header_slots.specs.Slots.{IsBodyWritten}
 use Rattle.header_slots.specs.declared.header.Header.{Header}
 use Rattle.image_model.specs.declared.side.Side.TheVariants.{Zero}
 use Rattle.image_model.specs.declared.geometry.Geometry.{Geometry}
 use Rattle.journal_format.specs.Area.{AreaState}
 use Rattle.regions.specs.Layout.{area_at, map_at}
+use Rattle.checkpoint.proofs.Answered.{failed_counted}
 use Rattle.checkpoint.proofs.Formatted.{body_moments, gate_moments, map_moments, parts_written}
 use Rattle.checkpoint.proofs.format.write_parts.Goals as goal
 
@@ -78,3 +80,31 @@ returns-in_err-write_at-clause-closed g c honest closed =
 pub returns-in_err-write_at-clause-fresh : goal.returns-in_err-write_at-clause-fresh
 returns-in_err-write_at-clause-fresh g c honest closed =
     IfOk-from_err c.from_residual-in_err-write_at.result _ c.from_residual-in_err-write_at.ensures.0
+
+pub returns-in_err-close_first-clause-extent : goal.returns-in_err-close_first-clause-extent
+returns-in_err-close_first-clause-extent g c =
+    c.in_err-close_first.ensures.extent
+
+pub returns-in_err-close_first-clause-honest : goal.returns-in_err-close_first-clause-honest
+returns-in_err-close_first-clause-honest g c =
+    c.in_err-close_first.ensures.honest
+
+pub returns-in_err-close_first-clause-faults : goal.returns-in_err-close_first-clause-faults
+returns-in_err-close_first-clause-faults g c =
+    c.in_err-close_first.ensures.faults ∙ sym (failed_counted c.from_residual.result _ c.from_residual.ensures.0)
+
+pub returns-in_err-write_at-clause-extent : goal.returns-in_err-write_at-clause-extent
+returns-in_err-write_at-clause-extent g c =
+    c.in_err-write_at.ensures.extent ∙ c.in_ok-close_first.ensures.extent
+
+pub returns-in_err-write_at-clause-faults : goal.returns-in_err-write_at-clause-faults
+returns-in_err-write_at-clause-faults g c =
+    c.in_err-write_at.ensures.faults ∙ ap counted c.in_ok-close_first.ensures.faults ∙ sym (failed_counted c.from_residual-in_err-write_at.result _ c.from_residual-in_err-write_at.ensures.0)
+
+pub returns-clause-extent : goal.returns-clause-extent
+returns-clause-extent g c =
+    c.fill_slot.ensures.extent ∙ c.in_ok-write_at.ensures.extent ∙ c.in_ok-close_first.ensures.extent
+
+pub returns-clause-faults : goal.returns-clause-faults
+returns-clause-faults g c =
+    c.fill_slot.ensures.faults ∙ ap (faults_after c.fill_slot.result) (c.in_ok-write_at.ensures.faults ∙ c.in_ok-close_first.ensures.faults)

@@ -36,3 +36,35 @@ returns-in_err-scan-clause-placed g c =
 pub returns-in_err-scan-clause-none : goal.returns-in_err-scan-clause-none
 returns-in_err-scan-clause-none g c =
     IfOk-from_err c.from_residual.result _ c.from_residual.ensures.0
+
+pub returns-in_err-scan-clause-extent : goal.returns-in_err-scan-clause-extent
+returns-in_err-scan-clause-extent g c =
+    c.in_err-scan.ensures.extent
+
+pub returns-in_err-scan-clause-honest : goal.returns-in_err-scan-clause-honest
+returns-in_err-scan-clause-honest g c =
+    c.in_err-scan.ensures.honest
+
+pub returns-in_err-scan-clause-only_read : goal.returns-in_err-scan-clause-only_read
+returns-in_err-scan-clause-only_read g c =
+    c.in_err-scan.ensures.only_read
+
+pub returns-clause-extent : goal.returns-clause-extent
+returns-clause-extent g c =
+    c.in_ok-scan.ensures.extent
+
+pub returns-clause-honest : goal.returns-clause-honest
+returns-clause-honest g c =
+    c.in_ok-scan.ensures.honest
+
+pub returns-clause-only_read : goal.returns-clause-only_read
+returns-clause-only_read g c =
+    c.in_ok-scan.ensures.only_read
+
+pub returns-clause-faults_ok : goal.returns-clause-faults_ok
+returns-clause-faults_ok g c =
+    c.in_ok-scan.ensures.faults_ok
+
+pub returns-clause-faults_err : goal.returns-clause-faults_err
+returns-clause-faults_err g c =
+    tt

@@ -25,3 +25,47 @@ returns-in_err-header-clause-faults_ok g c =
 pub returns-in_err-map-clause-faults_ok : goal.returns-in_err-map-clause-faults_ok
 returns-in_err-map-clause-faults_ok g c =
     IfOk-from_err c.from_residual-in_err-map.result _ c.from_residual-in_err-map.ensures.0
+
+pub returns-in_err-header-clause-extent : goal.returns-in_err-header-clause-extent
+returns-in_err-header-clause-extent g c =
+    c.in_err-header.ensures.extent
+
+pub returns-in_err-header-clause-honest : goal.returns-in_err-header-clause-honest
+returns-in_err-header-clause-honest g c =
+    c.in_err-header.ensures.honest
+
+pub returns-in_err-header-clause-only_read : goal.returns-in_err-header-clause-only_read
+returns-in_err-header-clause-only_read g c =
+    c.in_err-header.ensures.only_read
+
+pub returns-in_err-map-clause-extent : goal.returns-in_err-map-clause-extent
+returns-in_err-map-clause-extent g c =
+    c.in_ok-header.ensures.extent
+
+pub returns-in_err-map-clause-honest : goal.returns-in_err-map-clause-honest
+returns-in_err-map-clause-honest g c =
+    c.in_ok-header.ensures.honest
+
+pub returns-in_err-map-clause-only_read : goal.returns-in_err-map-clause-only_read
+returns-in_err-map-clause-only_read g c =
+    c.in_ok-header.ensures.only_read
+
+pub returns-clause-extent : goal.returns-clause-extent
+returns-clause-extent g c =
+    c.in_ok-header.ensures.extent
+
+pub returns-clause-honest : goal.returns-clause-honest
+returns-clause-honest g c =
+    c.in_ok-header.ensures.honest
+
+pub returns-clause-only_read : goal.returns-clause-only_read
+returns-clause-only_read g c =
+    c.in_ok-header.ensures.only_read
+
+pub returns-clause-faults_ok : goal.returns-clause-faults_ok
+returns-clause-faults_ok g c =
+    c.in_ok-header.ensures.faults_ok
+
+pub returns-clause-faults_err : goal.returns-clause-faults_err
+returns-clause-faults_err g c =
+    tt
