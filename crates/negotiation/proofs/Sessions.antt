@@ -1,6 +1,7 @@
 -- What a session does with a piece, by the stage that it is at.
 use Rattle.std.proofs.Common.{◌≡◌, ◌⊎◌, inl, inr, ℕ, ◌+◌, ◌<◌, ◌≤◌, ◌^◌, true, false, eqb, List, [], ◌∷◌, ◌++◌, length, take, refl, sym, ap, subst, ◌∙◌, append_assoc, length-append, arith}
-use Rattle.std.specs.Prelude.{Some, Result, Ok, Err, IsErr, cond}
+use Rattle.std.specs.Prelude.{Some, Result, Ok, Err, IfErr, IsErr, cond}
+use Rattle.std.specs.Result.{IsErrAnd}
 use Rattle.std.specs.Global.{Vec}
 use Rattle.std.proofs.lemmas.List.{append-nil, take-append-le}
 use Rattle.nbd_wire.specs.Request.{Message}
@@ -413,6 +414,11 @@ fed_behind size agreed old new before after piece requests b same hands = record
 pub handed_error : (result : Result (Vec Message) End) → IsErr result → handed result ≡ []
 handed_error (Ok requests) is = cc
 handed_error (Err end) is = refl
+
+-- what holds of an end holds of an answer that is this one
+pub err_given : {T : Type 0} (P : End → Type 0) (result : Result T End) (end : End) → IsErrAnd result (λ given. given ≡ end) → P end → IfErr result P
+err_given P (Ok value) end none holds = tt
+err_given P (Err given) end is holds = subst P (sym is) holds
 
 -- an end stands before any greeting
 pub greets_ended : (old new : Standing) (before after : List ℕ) (end : End) → Greets old new before after → end_of old ≡ Some end → new ≡ old

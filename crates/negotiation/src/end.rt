@@ -5,24 +5,43 @@ ghost use Rattle.negotiation.specs.Ends.{end_for};
 use byte_streams::StreamFault;
 use nbd_wire::WireFault;
 use std::alloc::AllocError;
-use thiserror::Error;
+use std::error::Error;
+use std::fmt;
+use std::fmt::{Display, Formatter};
 
 /// Why a session ended otherwise than its client asked for.
-#[derive(Clone, Copy, Debug, PartialEq, Eq, Error)]
+#[derive(Clone, Copy, Debug, PartialEq, Eq)]
 pub enum End {
     /// Refusal 0: memory ran out.
-    #[error("no memory")]
     NoMemory,
     /// Refusal 19: the input ended, and nobody had ended the session.
-    #[error("peer closed")]
     PeerClosed,
     /// Refusal 20: what the client sent ends the session.
-    #[error("protocol end")]
     ProtocolEnd,
     /// Refusal 21: a read or a write failed.
-    #[error("stream fault")]
     IoFault,
 }
+
+impl End {
+    // What is printed of it.
+    fn text(self) -> &'static str {
+        match self {
+            End::NoMemory => "no memory",
+            End::PeerClosed => "peer closed",
+            End::ProtocolEnd => "protocol end",
+            End::IoFault => "stream fault",
+        }
+    }
+}
+
+// Written out, one call writes the text, where a derived one has a call for each variant.
+impl Display for End {
+    fn fmt<W: fmt::Write>(&self, f: &mut Formatter<W>) -> fmt::Result {
+        f.write_str(self.text())
+    }
+}
+
+impl Error for End {}
 
 impl From<AllocError> for End {
     ghost from_gives = { λ _ end. end ≡ NoMemory };

@@ -1,14 +1,16 @@
-use Rattle.std.proofs.Common.{◌≡◌, ℕ, inl, inr, List, Some, rules, sym, subst, ap, ◌∙◌}
+use Rattle.std.proofs.Common.{◌≡◌, ◌<◌, ◌+◌, ℕ, inl, inr, List, Some, refl, rules, arith, sym, subst, ap, ◌∙◌}
+use Rattle.std.proofs.lemmas.Result.{IfOk-from_err}
 use Rattle.nbd_wire.specs.Request.{Message}
 use Rattle.negotiation.specs.declared.answer.Agreed.{Agreed}
 use Rattle.negotiation.specs.Dialog.{Standing}
-use Rattle.negotiation.specs.Session.{Feeds, IsBehind, SessionState, end_of, handed, standing_of}
+use Rattle.negotiation.specs.Session.{Feeds, IsBehind, IsSaid, SessionState, end_of, handed, held_by, standing_of}
 use Rattle.negotiation.specs.inner.Session.{Hands}
+use Rattle.negotiation.specs.declared.end.End.{End}
 use Rattle.negotiation.specs.declared.end.End.TheVariants.{NoMemory}
 use Rattle.negotiation.specs.declared.stage.Stage.{Stage}
 use Rattle.negotiation.specs.declared.stage.Talk.{Talk}
 use Rattle.negotiation.specs.laws.Dialogs.{session_at}
-use Rattle.negotiation.proofs.Sessions.{behind_idle, behind_or, cut_short, ended_idle, fed, fed_behind, greets_behind, greets_ended, handed_error, not_greeted, said_behind}
+use Rattle.negotiation.proofs.Sessions.{behind_idle, behind_or, cut_short, ended_idle, err_given, fed, fed_behind, greets_behind, greets_ended, handed_error, not_greeted, said_behind}
 use Rattle.negotiation.proofs.session.Session.feed.Goals as goal
 
 pub returns-in_err-stage-clause-session : goal.returns-in_err-stage-clause-session
@@ -93,3 +95,83 @@ returns-clause-again c = λ end is.
 
 pub returns-clause-said : goal.returns-clause-said
 returns-clause-said c = said_behind c.hand_out-stage.result.0 c.hand_out-stage.ensures.sound
+
+pub returns-in_err-stage-clause-size : goal.returns-in_err-stage-clause-size
+returns-in_err-stage-clause-size c =
+    ap (λ (s : SessionState). s.size) c.self.view_is
+
+pub returns-in_err-stage-clause-fault : goal.returns-in_err-stage-clause-fault
+returns-in_err-stage-clause-fault c =
+    err_given (λ (end : End). end_of (standing_of c.replace-stage.new.dest) ≡ Some end) c.from_residual.result NoMemory c.from_residual.ensures.1 (ap (λ (stage : Stage). end_of (standing_of stage)) c.replace-stage.ensures.after)
+
+pub returns-in_err-stage-clause-first : goal.returns-in_err-stage-clause-first
+returns-in_err-stage-clause-first c end is =
+    IfOk-from_err c.from_residual.result _ c.from_residual.ensures.0
+
+pub returns-in_err-stage-clause-said : goal.returns-in_err-stage-clause-said
+returns-in_err-stage-clause-said c =
+    subst (λ (stage : Stage). IsSaid (standing_of stage)) (sym c.replace-stage.ensures.after) tt
+
+pub returns-in_err-stage-clause-asks : goal.returns-in_err-stage-clause-asks
+returns-in_err-stage-clause-asks c =
+    IfOk-from_err c.from_residual.result _ c.from_residual.ensures.0
+
+pub returns-in_err-stage-clause-no_disc : goal.returns-in_err-stage-clause-no_disc
+returns-in_err-stage-clause-no_disc c =
+    IfOk-from_err c.from_residual.result _ c.from_residual.ensures.0
+
+pub returns-in_err-stage-clause-held : goal.returns-in_err-stage-clause-held
+returns-in_err-stage-clause-held c =
+    subst (λ (stage : Stage). held_by (standing_of stage) < 28 + 1048576) (sym c.replace-stage.ensures.after) (omega arith)
+
+pub returns-in_err-talk-clause-size : goal.returns-in_err-talk-clause-size
+returns-in_err-talk-clause-size c =
+    ap (λ (s : SessionState). s.size) c.self.view_is
+
+pub returns-in_err-talk-clause-fault : goal.returns-in_err-talk-clause-fault
+returns-in_err-talk-clause-fault c =
+    err_given (λ (end : End). end_of (standing_of c.replace-stage.new.dest) ≡ Some end) c.from_residual-in_err-talk.result NoMemory c.from_residual-in_err-talk.ensures.1 (ap (λ (stage : Stage). end_of (standing_of stage)) c.replace-stage.ensures.after)
+
+pub returns-in_err-talk-clause-first : goal.returns-in_err-talk-clause-first
+returns-in_err-talk-clause-first c end is =
+    IfOk-from_err c.from_residual-in_err-talk.result _ c.from_residual-in_err-talk.ensures.0
+
+pub returns-in_err-talk-clause-said : goal.returns-in_err-talk-clause-said
+returns-in_err-talk-clause-said c =
+    subst (λ (stage : Stage). IsSaid (standing_of stage)) (sym c.replace-stage.ensures.after) tt
+
+pub returns-in_err-talk-clause-asks : goal.returns-in_err-talk-clause-asks
+returns-in_err-talk-clause-asks c =
+    IfOk-from_err c.from_residual-in_err-talk.result _ c.from_residual-in_err-talk.ensures.0
+
+pub returns-in_err-talk-clause-no_disc : goal.returns-in_err-talk-clause-no_disc
+returns-in_err-talk-clause-no_disc c =
+    IfOk-from_err c.from_residual-in_err-talk.result _ c.from_residual-in_err-talk.ensures.0
+
+pub returns-in_err-talk-clause-held : goal.returns-in_err-talk-clause-held
+returns-in_err-talk-clause-held c =
+    subst (λ (stage : Stage). held_by (standing_of stage) < 28 + 1048576) (sym c.replace-stage.ensures.after) (omega arith)
+
+pub returns-clause-size : goal.returns-clause-size
+returns-clause-size c =
+    ap (λ (s : SessionState). s.size) c.self.view_is
+
+pub returns-clause-fault : goal.returns-clause-fault
+returns-clause-fault c =
+    c.hand_out-stage.ensures.fault
+
+pub returns-clause-first : goal.returns-clause-first
+returns-clause-first c =
+    c.hand_out-stage.ensures.first
+
+pub returns-clause-asks : goal.returns-clause-asks
+returns-clause-asks c =
+    c.hand_out-stage.ensures.asks
+
+pub returns-clause-no_disc : goal.returns-clause-no_disc
+returns-clause-no_disc c =
+    c.hand_out-stage.ensures.no_disc
+
+pub returns-clause-held : goal.returns-clause-held
+returns-clause-held c =
+    c.hand_out-stage.ensures.held
