@@ -1,7 +1,7 @@
 use image_model::Kind;
 
 /// So many blocks in a row that have this state.
-#[derive(Clone, Copy, Debug, PartialEq, Eq)]
+#[derive(Clone, Copy, PartialEq, Eq)]
 pub struct Run {
     pub blocks: u64,
     pub kind: Kind,

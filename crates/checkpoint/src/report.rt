@@ -17,7 +17,7 @@ use journal::Area;
 use std::alloc::{AllocError, Global};
 
 /// What a device holds.
-#[derive(Clone, Copy, Debug, PartialEq, Eq)]
+#[derive(Clone, Copy, PartialEq, Eq)]
 pub struct Report {
     /// How its areas lie.
     pub layout: Layout,

@@ -2,7 +2,7 @@ ghost use Rattle.std.specs.Prelude.{◌≡◌, ◌-◌, ◌==◌, false};
 ghost use Rattle.disk_model.specs.FaultPlan.{armed, is_due, after_call, no_faults};
 
 /// The kinds of device call.
-#[derive(Clone, Copy, Debug, PartialEq, Eq)]
+#[derive(Clone, Copy, PartialEq, Eq)]
 pub enum CallKind {
     Read,
     Write,

@@ -13,7 +13,7 @@ pub struct Write {
 }
 
 /// What a crash leaves at each unsynced byte of a simulated device.
-#[derive(Clone, Copy, Debug, PartialEq, Eq)]
+#[derive(Clone, Copy, PartialEq, Eq)]
 pub enum CrashChoice {
     /// This byte.
     Fill(u8),

@@ -1,7 +1,7 @@
 use std::time::Duration;
 
 /// Where a thread of an export can be held.
-#[derive(Clone, Copy, Debug, PartialEq, Eq)]
+#[derive(Clone, Copy, PartialEq, Eq)]
 pub enum Point {
     /// Before a group is appended, with the keeper's lock taken.
     Append,

@@ -1,5 +1,5 @@
 /// What is done with a request that no rule refuses.
-#[derive(Clone, Copy, Debug, PartialEq, Eq)]
+#[derive(Clone, Copy, PartialEq, Eq)]
 pub enum Action {
     /// The session ends, without a reply.
     End,

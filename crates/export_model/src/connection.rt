@@ -1,7 +1,7 @@
 use nbd_wire::{Answer, Request};
 
 /// What a connection is at.
-#[derive(Debug, Drop)]
+#[derive(Drop)]
 pub enum Connection {
     /// It has no request open.
     Idle,

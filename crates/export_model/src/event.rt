@@ -2,7 +2,7 @@ use nbd_wire::{Answer, Request};
 use thiserror::Error;
 
 /// What a step did.
-#[derive(Debug, Drop)]
+#[derive(Drop)]
 pub enum Event {
     /// The connection sent the request.
     Sent(usize, Request),

@@ -1,7 +1,7 @@
 use nbd_wire::Request;
 
 /// One step of a schedule. A connection is named by its place, from 0 on.
-#[derive(Debug, Drop)]
+#[derive(Drop)]
 pub enum Step {
     /// The connection sends a request.
     Send(usize, Request),
@@ -28,7 +28,7 @@ pub enum Step {
 }
 
 /// When a write command without FUA is answered.
-#[derive(Clone, Copy, Debug, PartialEq, Eq)]
+#[derive(Clone, Copy, PartialEq, Eq)]
 pub enum Mode {
     /// Once it has its place in the order.
     Writeback,

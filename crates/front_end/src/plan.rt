@@ -4,7 +4,7 @@ use crate::refusal::Refusal;
 use image_model::Geometry;
 
 /// Where clients arrive.
-#[derive(Clone, Copy, Debug)]
+#[derive(Clone, Copy)]
 pub enum Address<'a> {
     /// An IP address or a host's name, and a port; with port 0 the system picks one.
     Tcp(&'a str),
@@ -13,7 +13,7 @@ pub enum Address<'a> {
 }
 
 /// How a script is run.
-#[derive(Clone, Copy, Debug, PartialEq, Eq)]
+#[derive(Clone, Copy, PartialEq, Eq)]
 pub enum Course {
     /// Once, as it stands.
     Once,

@@ -11,7 +11,7 @@ use std::os::unix::fs::{FileExt, FileTypeExt};
 use std::path::Path;
 
 /// Why a device's file isn't there to work on.
-#[derive(Debug, Drop)]
+#[derive(Drop)]
 pub enum FileFault {
     /// It can't be opened or made.
     Unopened(io::Error),
@@ -45,7 +45,7 @@ impl From<TryLockError> for FileFault {
 }
 
 /// What a path names, as far as an image can lie there.
-#[derive(Clone, Copy, Debug, PartialEq, Eq)]
+#[derive(Clone, Copy, PartialEq, Eq)]
 pub(crate) enum Place {
     /// A file, which may be made and cut to length.
     File,

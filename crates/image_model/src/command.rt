@@ -37,7 +37,7 @@ impl Edges {
 }
 
 /// A write command, in whole blocks of 4,096 bytes.
-#[derive(Debug, Drop)]
+#[derive(Drop)]
 pub enum Command {
     /// Writes 1 to 257 blocks from `first` on, which become data.
     Put {

@@ -5,7 +5,7 @@ use crate::command::Kind;
 use crate::geometry::BLOCK_BYTES;
 
 /// A write command in bytes, as a client asks for it.
-#[derive(Debug, Drop)]
+#[derive(Drop)]
 pub enum Edit {
     /// Writes these bytes from `offset` on. Each block that they touch becomes data.
     Put {

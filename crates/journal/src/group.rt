@@ -17,7 +17,6 @@ use std::marker::Model;
 /// Commands with consecutive numbers, which are stored whole or not at all.
 ///
 /// A group can't be let go: it is spent by `Area::append`, or taken apart by `into_parts`.
-#[derive(Debug)]
 pub struct Group {
     first: u64,
     commands: Vec<Command>,

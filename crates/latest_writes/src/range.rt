@@ -11,7 +11,7 @@ use journal_format::{Touch, TouchedRange};
 
 /// Blocks that follow one another and have their last touches from one command, or are of one kind of clear; the touch
 /// is that of the first of them.
-#[derive(Clone, Copy, Debug)]
+#[derive(Clone, Copy)]
 pub struct LastRange {
     pub first: u32,
     pub blocks: u32,
@@ -20,7 +20,7 @@ pub struct LastRange {
 
 /// Blocks whose last touch is a put and that follow one another in the image and in the area; the place is that of the
 /// first one's bytes in the area.
-#[derive(Clone, Copy, Debug, PartialEq, Eq)]
+#[derive(Clone, Copy, PartialEq, Eq)]
 pub struct PutRange {
     pub first: u32,
     pub blocks: u32,

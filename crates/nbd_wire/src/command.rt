@@ -18,7 +18,7 @@ pub const WRITE_ZEROES: u16 = 6;
 pub const BLOCK_STATUS: u16 = 7;
 
 /// The flags of a request ("Command flags" of NBD's `proto.md`). Unknown bits are kept.
-#[derive(Clone, Copy, Debug, PartialEq, Eq)]
+#[derive(Clone, Copy, PartialEq, Eq)]
 pub struct CommandFlags(u16);
 
 bitflag_items! {

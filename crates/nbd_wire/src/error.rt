@@ -31,7 +31,7 @@ pub enum WireFault {
 }
 
 /// An error that a reply carries ("Error values" of NBD's `proto.md`).
-#[derive(Clone, Copy, Debug, PartialEq, Eq)]
+#[derive(Clone, Copy, PartialEq, Eq)]
 pub enum Errno {
     /// EIO: the device failed.
     Io,

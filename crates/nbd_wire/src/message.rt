@@ -14,7 +14,7 @@ pub const HOLE: u32 = 3;
 
 /// A request with the data that follow its head on the stream: a WRITE's data, of as many bytes as its head
 /// says; none behind another request, and none where the data were too long to be kept.
-#[derive(Debug, Drop)]
+#[derive(Drop)]
 pub struct Request {
     head: RequestHead,
     bytes: Vec<u8>,
@@ -77,14 +77,14 @@ impl Request {
 }
 
 /// The answer to the request with this cookie.
-#[derive(Debug, Drop)]
+#[derive(Drop)]
 pub struct Reply {
     pub cookie: u64,
     pub answer: Answer,
 }
 
 /// What a request is answered.
-#[derive(Debug, Drop)]
+#[derive(Drop)]
 pub enum Answer {
     /// Done, with nothing to hand over.
     Done,
@@ -111,7 +111,7 @@ impl Answer {
 
 /// Bytes that were read from `offset` on, and the runs that part them into [`DATA`] and [`HOLE`]s,
 /// which are zero: one run for each longest part in one status.
-#[derive(Debug, Drop)]
+#[derive(Drop)]
 pub struct ReadBytes {
     offset: u64,
     bytes: Vec<u8>,
@@ -221,7 +221,7 @@ fn one_run(alloc: Global, length: u32, status: u32) -> Result<Vec<Run>, AllocErr
 }
 
 /// 1 to 1,024 runs of bytes by their state, none of them empty.
-#[derive(Debug, Drop)]
+#[derive(Drop)]
 pub struct States {
     runs: Vec<Run>,
 }
@@ -266,7 +266,7 @@ impl States {
 }
 
 /// So many bytes, one after the other, that are in one state.
-#[derive(Clone, Copy, Debug, PartialEq, Eq)]
+#[derive(Clone, Copy, PartialEq, Eq)]
 pub struct Run {
     /// In bytes.
     pub length: u32,
@@ -275,7 +275,7 @@ pub struct Run {
 }
 
 /// What the handshake agreed on.
-#[derive(Clone, Copy, Debug, PartialEq, Eq)]
+#[derive(Clone, Copy, PartialEq, Eq)]
 pub struct SessionFlags {
     /// Structured replies.
     pub structured: bool,

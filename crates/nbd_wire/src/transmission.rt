@@ -4,7 +4,7 @@ use bitflags::{Flag, Flags, bitflag_items};
 
 /// What an export does, as the handshake tells it ("Transmission flags" of NBD's `proto.md`). Unknown bits are
 /// kept.
-#[derive(Clone, Copy, Debug, PartialEq, Eq)]
+#[derive(Clone, Copy, PartialEq, Eq)]
 pub struct TransmissionFlags(u16);
 
 bitflag_items! {

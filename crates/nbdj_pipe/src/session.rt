@@ -158,7 +158,7 @@ fn fresh_parts<B: BoardName, D: Disk>(
 }
 
 // Whether requests of a session may follow.
-#[derive(Clone, Copy, Debug)]
+#[derive(Clone, Copy)]
 enum Flow {
     Open,
     Ended,

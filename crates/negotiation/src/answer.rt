@@ -9,7 +9,7 @@ use std::alloc::{AllocError, Global};
 use std::marker::Model;
 
 /// What a session has agreed on.
-#[derive(Clone, Copy, Debug, PartialEq, Eq)]
+#[derive(Clone, Copy, PartialEq, Eq)]
 pub struct Agreed {
     /// What the replies to requests go by.
     pub flags: SessionFlags,
@@ -18,7 +18,7 @@ pub struct Agreed {
 }
 
 /// What comes behind an option.
-#[derive(Clone, Copy, Debug, PartialEq, Eq)]
+#[derive(Clone, Copy, PartialEq, Eq)]
 pub enum Next {
     /// Another option.
     Option,
@@ -31,7 +31,7 @@ pub enum Next {
 }
 
 /// What an option is answered, and what becomes of the session.
-#[derive(Debug, Drop)]
+#[derive(Drop)]
 pub struct OptionAnswer {
     replies: Vec<OptionReply>,
     export: Option<ExportAnswer>,

@@ -11,7 +11,7 @@ const NBD_MAGIC: u64 = 0x4e42_444d_4147_4943;
 pub const OPTION_MAGIC: u64 = 0x4948_4156_454f_5054;
 
 /// What the server offers in its greeting ("Handshake flags" of NBD's `proto.md`).
-#[derive(Clone, Copy, Debug, PartialEq, Eq)]
+#[derive(Clone, Copy, PartialEq, Eq)]
 pub struct HandshakeFlags(u16);
 
 bitflag_items! {
@@ -44,7 +44,7 @@ impl Flags for HandshakeFlags {
 }
 
 /// What the client takes of it ("Client flags" of NBD's `proto.md`). Unknown bits are kept.
-#[derive(Clone, Copy, Debug, PartialEq, Eq)]
+#[derive(Clone, Copy, PartialEq, Eq)]
 pub struct ClientFlags(u32);
 
 bitflag_items! {

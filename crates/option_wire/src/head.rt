@@ -6,7 +6,7 @@ use crate::handshake::OPTION_MAGIC;
 use byteorder::{BigEndian, ByteOrder};
 
 /// The 16 bytes before an option's data, without their magic number ("Option haggling" of NBD's `proto.md`).
-#[derive(Clone, Copy, Debug, PartialEq, Eq)]
+#[derive(Clone, Copy, PartialEq, Eq)]
 pub struct OptionHead {
     /// Which option it is, as [`crate::GO`], also one that no server knows.
     pub option: u32,

@@ -33,7 +33,7 @@ pub const INFO_DESCRIPTION: u16 = 2;
 pub const INFO_BLOCK_SIZE: u16 = 3;
 
 /// What an option is answered ("Option reply types" of NBD's `proto.md`).
-#[derive(Debug, Drop)]
+#[derive(Drop)]
 pub enum OptionReply {
     /// Done; no other reply to the option follows.
     Ack,
@@ -46,7 +46,7 @@ pub enum OptionReply {
 }
 
 /// What there is to know of an export, by the type of information.
-#[derive(Debug, Drop)]
+#[derive(Drop)]
 pub enum Information {
     /// [`INFO_EXPORT`]: the size in bytes, and the transmission flags.
     Export {
@@ -67,7 +67,7 @@ pub enum Information {
 }
 
 /// Why an option is refused ("Option reply types" of NBD's `proto.md`).
-#[derive(Clone, Copy, Debug, PartialEq, Eq)]
+#[derive(Clone, Copy, PartialEq, Eq)]
 pub enum OptionError {
     /// ERR_UNSUP: the server doesn't know the option.
     Unsupported,

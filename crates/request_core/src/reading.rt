@@ -19,7 +19,7 @@ use order_book::{Order, Span};
 use std::alloc::Global;
 
 /// The blocks that a request's bytes touch.
-#[derive(Clone, Copy, Debug, PartialEq, Eq)]
+#[derive(Clone, Copy, PartialEq, Eq)]
 pub struct Blocks {
     /// The first of them.
     pub first: u64,

@@ -27,7 +27,7 @@ use order_book::{Order, OrderFault};
 use std::alloc::Global;
 
 /// What every request is judged by, and how long a write waits.
-#[derive(Clone, Copy, Debug, PartialEq, Eq)]
+#[derive(Clone, Copy, PartialEq, Eq)]
 pub struct Terms {
     pub geometry: Geometry,
     pub flags: SessionFlags,
@@ -35,7 +35,7 @@ pub struct Terms {
 }
 
 /// What a request comes to when it is served.
-#[derive(Debug, Drop)]
+#[derive(Drop)]
 pub enum Served {
     /// It is answered.
     Ready(Reply),
@@ -47,7 +47,7 @@ pub enum Served {
 
 /// A request that is handed back since it needs the keeper: a READ that touches a block which isn't in memory, or a write
 /// that takes old bytes which aren't.
-#[derive(Debug, Drop)]
+#[derive(Drop)]
 pub struct NeedsKeeper(pub Request);
 
 /// Serves a request that isn't a DISC, with no keeper at hand: it is judged, and a command gets its place in the order; a
