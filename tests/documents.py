@@ -50,14 +50,22 @@ def refusals():
     return {text: int(number) for number, text in re.findall(r"^\| (\d+) \| ([^|]+) \|", part, re.M)}
 
 
+def errors(source):
+    """The errors of a source file, by text the name of the variant: those whose text is derived, and those that `text` gives one."""
+    found = dict(re.findall(r'#\[error\("([^"{]*)"\)\]\s*(\w+)', source))
+    for body in re.findall(r"fn text\(self\) -> &'static str \{(.*?)\n    \}\n", source, re.S):
+        found.update({text: name for name, text in re.findall(r'::(\w+)[^"\n]* => "([^"]*)"', body)})
+    return found
+
+
 def check_refusals():
     rows = refusals()
     check("there are refusals", True, len(rows) > 0)
     texts, numbered = set(), {}
     for path in sorted(glob.glob(f"{TOP}/crates/*/src/*.rt")):
         source = read(path)
-        texts |= set(re.findall(r'#\[error\("([^"{]*)"\)\]', source))
-        names = dict(re.findall(r'#\[error\("([^"{]*)"\)\]\s*(\w+)', source))
+        names = errors(source)
+        texts |= set(names)
         numbers = dict(re.findall(r"\bRefusal::(\w+) => (\d+),", source))
         numbered.update({text: int(numbers[name]) for text, name in names.items() if name in numbers})
     check("some refusal is numbered", True, len(numbered) > 0)
