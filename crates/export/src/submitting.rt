@@ -132,35 +132,53 @@ impl<B: ExportName, D: Disk, H: ReadBeside> Export<B, D, H> {
     {
         let mut request = request;
         for _ in rt.forever() {
-            let mut queue = self.queue.lock(rt);
-            match queue.serve(self.alloc, request, &self.board, pass, terms) {
-                Ok(Served::Ready(reply)) => {
-                    let (work, is_due) = queue.next_work();
-                    drop(queue);
-                    self.signals.notify(work, is_due);
-                    return Outcome::Answered(reply.answer);
-                }
-                Ok(Served::Wait(number)) => return Outcome::Waits(number),
-                Ok(Served::NoRoom(back)) => {
-                    request = back;
-                    queue.miss_room();
-                    self.signals.notify(true, true);
-                    let _woken = self.signals.settled.wait(rt, queue);
-                }
-                Err(NeedsKeeper(back)) => {
-                    let planned = queue.plan(&back, &terms);
-                    drop(queue);
-                    match self.serve_missing(rt, pass, back, planned, terms) {
-                        Served::Ready(reply) => return Outcome::Answered(reply.answer),
-                        Served::Wait(number) => return Outcome::Waits(number),
-                        // There was no room for it; so it is no READ, and is served anew: with no room it doesn't need the
-                        // keeper.
-                        Served::NoRoom(back) => request = back,
-                    }
-                }
+            match self.serve_once(rt, pass, request, terms) {
+                Served::Ready(reply) => return Outcome::Answered(reply.answer),
+                Served::Wait(number) => return Outcome::Waits(number),
+                // There was no room for it; so it is no READ, and is served anew: with no room it doesn't need the keeper.
+                Served::NoRoom(back) => request = back,
             }
         }
         unreachable!()
+    }
+
+    // Serves a request under the order's lock alone, where that can be. Where there is no room for it, some is waited for.
+    fn serve_once<R: Wait>(
+        &self,
+        rt: &R,
+        pass: &mut Pass<B>,
+        request: Request,
+        terms: Terms,
+    ) -> Served
+        requires kind { request.head.kind ≢ 2 }
+        requires geometry { terms.geometry ≡ B.geometry }
+        ensures served { IsServedFor B.opening B.image (Trusting B.opening B.image B.vouches B.trusted) request terms.mode pass.old pass.new result }
+        ensures fits { FitsServed terms.geometry terms.flags request result }
+        ensures tells { Trusting B.opening B.image B.vouches B.trusted (ServesImage (apply_all pass.new.history B.image) request.head result) }
+    {
+        let mut queue = self.queue.lock(rt);
+        let served = match queue.serve(self.alloc, request, &self.board, pass, terms) {
+            Ok(served) => served,
+            Err(NeedsKeeper(back)) => {
+                let planned = queue.plan(&back, &terms);
+                drop(queue);
+                return self.serve_missing(rt, pass, back, planned, terms);
+            }
+        };
+        match &served {
+            Served::Ready(_) => {
+                let (work, is_due) = queue.next_work();
+                drop(queue);
+                self.signals.notify(work, is_due);
+            }
+            Served::Wait(_) => {}
+            Served::NoRoom(_) => {
+                queue.miss_room();
+                self.signals.notify(true, true);
+                let _woken = self.signals.settled.wait(rt, queue);
+            }
+        }
+        served
     }
 
     // Serves a request for which the device is needed: a planned one beside the locks, where that can be, else with the keeper.
