@@ -1,8 +1,13 @@
+mod Bytes
+mod Cuts
 mod Here
 mod InMemory
+mod Joined
 mod Needing
 mod Olds
 mod Opened
 mod Owned
+mod Parts
 mod Passes
+mod Stretches
 mod Writes

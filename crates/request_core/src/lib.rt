@@ -4,10 +4,12 @@
 //! export's world (`export_steps`) one after another.
 #![tactic(auto)]
 
+mod answers;
 mod edits;
 mod judgement;
 mod opening;
 mod reading;
+mod runs;
 mod serving;
 
 pub use export_model::{Action, Mode};

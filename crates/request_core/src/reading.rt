@@ -6,12 +6,13 @@ ghost use Rattle.order_book.specs.Reading.{LiesIn};
 ghost use Rattle.request_core.specs.Reading.{IsHeldReadServed, IsPlanned, IsReadOverServed, IsReadServed, IsStatusServed};
 ghost use Rattle.shared_cache.specs.Cache.{LacksBytes, bytes_seen};
 
+use crate::answers::{bytes_answer, status_answer};
 use crate::judgement::judge;
+use crate::runs::read_runs;
 use crate::serving::{Served, Terms, refused};
 use checkpoint::Keeper;
 use disk_model::Disk;
 use export_model::Action;
-use image_answers::{bytes_answer, read_runs, status_answer};
 use image_model::BLOCK_BYTES;
 use marks::BoardName;
 use nbd_wire::{Errno, READ, Reply, RequestHead};

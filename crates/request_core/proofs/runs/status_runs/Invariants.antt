@@ -1,7 +1,7 @@
 use Rattle.std.proofs.Common.{◌≡◌, ◌<◌, ◌≤◌, ◌%◌, ◌++◌, drop, map}
 use Rattle.export_model.specs.Shown.{cut_behind, cut_front}
-use Rattle.image_answers.proofs.Stretches.{as_run}
-use Rattle.image_answers.proofs.runs.status_runs.Given as goal
+use Rattle.request_core.proofs.Stretches.{as_run}
+use Rattle.request_core.proofs.runs.status_runs.Given as goal
 
 -- the runs so far, with those from this stretch on cut to what is left, are all of them cut
 abbrev pub invariant-loop-run : goal.invariant-loop-run

@@ -1,3 +1,5 @@
+//! Runs of the blocks that a request touches, cut to its bytes.
+
 ghost use Rattle.std.specs.Prelude.{◌≡◌, ◌+◌, ◌*◌, ◌-◌, ◌/◌, ◌%◌, ◌≤◌, ◌<◌, ◌^◌, IfOk, length, slice_index_or, take};
 ghost use Rattle.alloc_map.specs.Codes.{state_at};
 ghost use Rattle.export_model.specs.Shown.{cut_behind, cut_front, cut_to, read_status_of, runs_from, runs_met, status_of};
@@ -8,10 +10,10 @@ use nbd_wire::{DATA, HOLE, Run};
 use order_book::Order;
 use std::alloc::{AllocError, Global};
 
-/// The bytes of a block.
+// The bytes of a block.
 const BLOCK: u32 = 4_096;
 
-/// The status of blocks that are allocated and read as zero: bit 1 of the context `base:allocation`.
+// The status of blocks that are allocated and read as zero: bit 1 of the context `base:allocation`.
 const ZERO: u32 = 2;
 
 // The status of a block whose bytes are read.
@@ -88,8 +90,8 @@ fn cut(runs: &mut Vec<Run>, skip: u32, count: u32)
     }
 }
 
-/// The runs of data and holes of so many bytes from the offset on.
-pub fn read_runs<B: BoardName>(
+// The runs of data and holes of so many bytes from the offset on.
+pub(crate) fn read_runs<B: BoardName>(
     alloc: Global,
     order: &Order<B>,
     offset: u64,
@@ -108,8 +110,8 @@ pub fn read_runs<B: BoardName>(
     Ok(runs)
 }
 
-/// The longest runs of one status of the blocks that so many bytes from the offset on touch, the first `limit` of them, cut to
-/// these bytes.
+// The longest runs of one status of the blocks that so many bytes from the offset on touch, the first `limit` of them, cut to
+// these bytes.
 pub(crate) fn status_runs<B: BoardName>(
     alloc: Global,
     order: &Order<B>,

@@ -1,6 +1,6 @@
 use Rattle.std.proofs.Common.{◌≡◌, ◌≤◌, ◌++◌, drop, length, take}
 use Rattle.export_model.specs.Shown.{cut_behind, cut_front}
-use Rattle.image_answers.proofs.runs.cut.Given as goal
+use Rattle.request_core.proofs.runs.cut.Given as goal
 
 -- the runs before this one stay, and those from it on are cut to what is left
 abbrev pub invariant-loop-at : goal.invariant-loop-at

@@ -1,3 +1,5 @@
+//! What a READ and a BLOCK_STATUS are answered, of the image that an order holds.
+
 ghost use Rattle.std.specs.Prelude.{◌≡◌, ◌≢◌, ◌+◌, ◌*◌, ◌/◌, ◌<◌, ◌≤◌, ℕ, IfOk, length, slice_index, vec_len};
 ghost use Rattle.alloc_map.specs.Codes.{state_at};
 ghost use Rattle.image_model.specs.Image.{Image};
@@ -11,11 +13,11 @@ use nbd_wire::{Answer, CommandFlags, ReadBytes, RequestHead, Run, States};
 use order_book::Order;
 use std::alloc::{AllocError, Global};
 
-/// The most runs that a BLOCK_STATUS is answered.
+// The most runs that a BLOCK_STATUS is answered.
 const MOST_RUNS: usize = 1_024;
 
-/// The answer to a READ of these bytes, in these runs.
-pub fn bytes_answer<B: BoardName>(
+// The answer to a READ of these bytes, in these runs.
+pub(crate) fn bytes_answer<B: BoardName>(
     head: &RequestHead,
     order: &Order<B>,
     bytes: Vec<u8>,
@@ -38,8 +40,8 @@ pub fn bytes_answer<B: BoardName>(
     Answer::Bytes(ReadBytes::new(head.offset, bytes, runs))
 }
 
-/// The answer to a BLOCK_STATUS.
-pub fn status_answer<B: BoardName>(
+// The answer to a BLOCK_STATUS.
+pub(crate) fn status_answer<B: BoardName>(
     alloc: Global,
     head: &RequestHead,
     order: &Order<B>,

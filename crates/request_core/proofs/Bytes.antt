@@ -10,7 +10,7 @@ use Rattle.image_model.specs.declared.command.Kind.{Kind}
 use Rattle.image_model.specs.declared.command.Kind.TheVariants.{Data, Zero, Hole}
 use Rattle.nbd_wire.specs.Answer.{IsInState}
 use Rattle.export_model.specs.Shown.{bytes_from, read_status_of}
-use Rattle.image_answers.proofs.Parts.{AreInStates}
+use Rattle.request_core.proofs.Parts.{AreInStates}
 
 -- a byte of a block among others
 byte_of : (bytes : List ℕ) (n k : ℕ) → k < 4096 → get_or (take 4096 (drop n bytes)) k 0 ≡ get_or bytes (n + k) 0

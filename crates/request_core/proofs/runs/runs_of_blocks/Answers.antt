@@ -3,9 +3,9 @@ use Rattle.std.specs.Global.{Vec}
 use Rattle.alloc_map.specs.Codes.{state_at}
 use Rattle.nbd_wire.specs.declared.message.Run.{Run}
 use Rattle.export_model.specs.Shown.{read_status_of, runs_from}
-use Rattle.image_answers.proofs.Joined.{block_more, one_block, run_of}
-use Rattle.image_answers.proofs.runs.runs_of_blocks.Goals as goal
-use Rattle.image_answers.proofs.runs.runs_of_blocks.Goals.{then-status-last, else-status-last+in_ok-push}
+use Rattle.request_core.proofs.Joined.{block_more, one_block, run_of}
+use Rattle.request_core.proofs.runs.runs_of_blocks.Goals as goal
+use Rattle.request_core.proofs.runs.runs_of_blocks.Goals.{then-status-last, else-status-last+in_ok-push}
 
 pub loop-block-init : goal.loop-block-init
 loop-block-init g c =

@@ -7,10 +7,10 @@ use Rattle.image_model.specs.declared.command.Kind.{Kind}
 use Rattle.image_model.specs.declared.command.Kind.TheVariants.{Data}
 use Rattle.nbd_wire.specs.declared.message.Run.{Run}
 use Rattle.export_model.specs.Shown.{cut_behind, cut_front, cut_to, runs_from, runs_met, status_of}
-use Rattle.image_answers.proofs.Cuts.{turn_ends, turn_goes, turn_stops}
-use Rattle.image_answers.proofs.Joined.{run_of}
-use Rattle.image_answers.proofs.Stretches.{as_run, first_runs, one_some, one_within, runs_some, runs_within}
-use Rattle.image_answers.proofs.runs.status_runs.Goals as goal
+use Rattle.request_core.proofs.Cuts.{turn_ends, turn_goes, turn_stops}
+use Rattle.request_core.proofs.Joined.{run_of}
+use Rattle.request_core.proofs.Stretches.{as_run, first_runs, one_some, one_within, runs_some, runs_within}
+use Rattle.request_core.proofs.runs.status_runs.Goals as goal
 
 -- the stretches, cut, are the runs that are asked for
 all_cut : (states : List Kind) (offset count limit blocks : ℕ) (found : List Stretch) → blocks ≡ blocks_met offset count

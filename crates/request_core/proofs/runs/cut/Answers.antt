@@ -2,8 +2,8 @@ use Rattle.std.proofs.Common.{◌≡◌, ◌+◌, ◌-◌, ◌∙◌, ap, arith,
 use Rattle.std.proofs.lemmas.List.{get_or_default}
 use Rattle.nbd_wire.specs.declared.message.Run.{Run}
 use Rattle.export_model.specs.Shown.{cut_behind}
-use Rattle.image_answers.proofs.Cuts.{cut_ends, cut_goes, cut_stops}
-use Rattle.image_answers.proofs.runs.cut.Goals as goal
+use Rattle.request_core.proofs.Cuts.{cut_ends, cut_goes, cut_stops}
+use Rattle.request_core.proofs.runs.cut.Goals as goal
 
 pub returns-then-left-size : goal.returns-then-left-size
 returns-then-left-size c =

@@ -7,10 +7,10 @@ use Rattle.nbd_wire.specs.Answer.{IsJoined, PartsBytes}
 use Rattle.nbd_wire.specs.declared.message.Answer.TheVariants.{Bytes, States}
 use Rattle.nbd_wire.specs.declared.message.Run.{Run}
 use Rattle.export_model.specs.Shown.{bytes_from, cut_behind, cut_front, cut_to, most_runs, read_status_of, runs_from, runs_met, status_of}
-use Rattle.image_answers.proofs.Bytes.{all_in_states, bytes_are, zero_around}
-use Rattle.image_answers.proofs.Cuts.{joined_behind, joined_front, long_first, parts_cut, sizes_cut}
-use Rattle.image_answers.proofs.Parts.{count_all, joined_all, parts_all, runs_same, some_runs}
-use Rattle.image_answers.proofs.answers.bytes_answer.Goals as goal
+use Rattle.request_core.proofs.Bytes.{all_in_states, bytes_are, zero_around}
+use Rattle.request_core.proofs.Cuts.{joined_behind, joined_front, long_first, parts_cut, sizes_cut}
+use Rattle.request_core.proofs.Parts.{count_all, joined_all, parts_all, runs_same, some_runs}
+use Rattle.request_core.proofs.answers.bytes_answer.Goals as goal
 
 pub new-requires : goal.new-requires
 new-requires g c =

@@ -1,7 +1,7 @@
 use Rattle.std.proofs.Common.{◌≡◌, ◌*◌, ◌-◌, ◌≤◌, ◌<◌, [], ◌∷◌, ◌++◌}
 use Rattle.alloc_map.specs.Codes.{state_at}
 use Rattle.export_model.specs.Shown.{read_status_of, runs_from}
-use Rattle.image_answers.proofs.runs.runs_of_blocks.Given as goal
+use Rattle.request_core.proofs.runs.runs_of_blocks.Given as goal
 
 -- the runs so far, with the last of them, are those of the blocks before this one
 abbrev pub invariant-loop-block : goal.invariant-loop-block

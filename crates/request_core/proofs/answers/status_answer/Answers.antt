@@ -7,9 +7,9 @@ use Rattle.nbd_wire.specs.declared.message.Answer.TheVariants.{Bytes, States}
 use Rattle.nbd_wire.specs.declared.message.Run.{Run}
 use Rattle.nbd_wire.specs.declared.head.RequestHead.{RequestHead}
 use Rattle.export_model.specs.Shown.{bytes_from, cut_front, cut_to, most_runs, read_status_of, runs_from, runs_met, status_of}
-use Rattle.image_answers.proofs.Cuts.{front_long, long_first, long_taken, sizes_cut, some_behind}
-use Rattle.image_answers.proofs.Parts.{none_empty, runs_same, some_empty, some_runs, taken}
-use Rattle.image_answers.proofs.answers.status_answer.Goals as goal
+use Rattle.request_core.proofs.Cuts.{front_long, long_first, long_taken, sizes_cut, some_behind}
+use Rattle.request_core.proofs.Parts.{none_empty, runs_same, some_empty, some_runs, taken}
+use Rattle.request_core.proofs.answers.status_answer.Goals as goal
 
 most_within : (head : RequestHead) → (0 < most_runs head) × (most_runs head ≤ 1024)
 most_within head = by_test (bit_and head.flags 8 == 8)

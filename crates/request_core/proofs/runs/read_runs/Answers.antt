@@ -2,9 +2,9 @@ use Rattle.std.proofs.Common.{◌/◌, ◌%◌, ◌≤◌, ◌<◌, List, get_or
 use Rattle.alloc_map.specs.Codes.{state_at}
 use Rattle.nbd_wire.specs.declared.message.Run.{Run}
 use Rattle.export_model.specs.Shown.{read_status_of, runs_from}
-use Rattle.image_answers.proofs.Cuts.{long_enough, long_first}
-use Rattle.image_answers.proofs.Parts.{some_runs}
-use Rattle.image_answers.proofs.runs.read_runs.Goals as goal
+use Rattle.request_core.proofs.Cuts.{long_enough, long_first}
+use Rattle.request_core.proofs.Parts.{some_runs}
+use Rattle.request_core.proofs.runs.read_runs.Goals as goal
 
 pub cut-requires-clause-some : goal.cut-requires-clause-some
 cut-requires-clause-some g c =

@@ -1,5 +1,0 @@
-mod Bytes
-mod Cuts
-mod Joined
-mod Parts
-mod Stretches
