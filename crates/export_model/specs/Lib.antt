@@ -1,6 +1,7 @@
 pub mod Checkpoint
 pub mod Covered
 pub mod Fits
+pub mod Law
 pub mod Log
 pub mod Run
 pub mod Serve
@@ -8,3 +9,4 @@ pub mod Shown
 pub mod Step
 pub mod Verdict
 pub mod World
+pub mod laws

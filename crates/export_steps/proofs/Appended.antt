@@ -26,8 +26,8 @@ use Rattle.export_model.specs.declared.event.StepFault.TheVariants.{NoMemory, De
 use Rattle.export_model.specs.Serve.{Failure, Nothing, OutOfMemory, DeviceFailure, held, logged, faulted}
 use Rattle.export_model.specs.Step.{append, put_back, out_of_memory, stored_more}
 use Rattle.export_model.specs.World.{World, image_after}
-use Rattle.export_model_laws.specs.Law.{IsWithin}
-use Rattle.export_model_laws.specs.laws.Within.{rising_more}
+use Rattle.export_model.specs.Law.{IsWithin}
+use Rattle.export_model.specs.laws.Within.{rising_more}
 use Rattle.device_image.specs.Holds.{Holds}
 use Rattle.device_image.specs.Remembers.{Remembers}
 

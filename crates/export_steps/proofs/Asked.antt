@@ -54,7 +54,7 @@ use Rattle.export_model.specs.declared.event.Event.{Event}
 use Rattle.export_model.specs.declared.event.Event.TheVariants.{Took}
 use Rattle.export_model.specs.Serve.{DeviceFailure, Failure, Misread, Nothing, OutOfMemory, faulted, held, image_shown, judged, passed, read_served, ready, serve, shown, takes_old_bytes, write_served}
 use Rattle.export_model.specs.World.{World, Stage, image_after, put}
-use Rattle.export_model_laws.specs.Law.{IsWithin}
+use Rattle.export_model.specs.Law.{IsWithin}
 use Rattle.request_core.specs.Serving.{IsWriteServed, ready_for}
 use Rattle.export_steps.specs.inner.Serving.{event_for, quiet_event, request_in, state_of}
 use Rattle.request_core.specs.declared.serving.Served.{Served}

@@ -38,8 +38,8 @@ use Rattle.export_model.specs.declared.event.StepFault.TheVariants.{NoMemory, De
 use Rattle.export_model.specs.Serve.{Failure, Nothing, OutOfMemory, DeviceFailure, held, logged, faulted, staged}
 use Rattle.export_model.specs.Step.{copy_block, finish, in_time, out_of_memory, rotate, without_memory, write_map, written}
 use Rattle.export_model.specs.World.{World, Stage, areas_at, image_after}
-use Rattle.export_model_laws.specs.Law.{IsRising, IsWithin}
-use Rattle.export_model_laws.specs.laws.Within.{last_of_more, rising_end, turned_through}
+use Rattle.export_model.specs.Law.{IsRising, IsWithin}
+use Rattle.export_model.specs.laws.Within.{last_of_more, rising_end, turned_through}
 
 pub not_true : (b : Bool) → (b ≡ true → ⊥) → b ≡ false
 not_true true none = absurd (none refl)

@@ -21,7 +21,7 @@ use Rattle.export_model.specs.Run.{IsReached, IsRun}
 use Rattle.export_model.specs.Serve.{Nothing, held, logged, staged}
 use Rattle.export_model.specs.Step.{after_step}
 use Rattle.export_model.specs.World.{World}
-use Rattle.export_model_laws.specs.Law.{IsWithin}
+use Rattle.export_model.specs.Law.{IsWithin}
 
 -- the world with so many blocks less to copy, and so many steps more in its log
 abbrev pub with_copies : World → ℕ → World

@@ -29,7 +29,7 @@ use Rattle.export_model.specs.Shown.{shown_by}
 use Rattle.export_model.specs.World.{World, image_after, last_number}
 use Rattle.export_model.specs.declared.connection.Connection.TheVariants.{Requested, Waiting, Ready}
 use Rattle.export_model.specs.declared.event.Event.TheVariants.{Took}
-use Rattle.export_model_laws.specs.Law.{IsWithin}
+use Rattle.export_model.specs.Law.{IsWithin}
 
 module _ (world : World) (c : ℕ) (request : Message) (old : OrderState) (group : Option Numbered) (within : IsWithin world) (of : IsOrderOf world.stage old group)
     (here : world.connections c ≡ Requested request) (new : OrderState) (kept : length new.cache.states ≡ length old.cache.states) (result : Served) where

@@ -20,7 +20,7 @@ use Rattle.export_model.specs.Checkpoint.{can_clean}
 use Rattle.export_model.specs.Step.{after_step, clean, publish, seal, sealed_more}
 use Rattle.export_model.specs.declared.step.Step.{Step}
 use Rattle.export_model.specs.World.{World, Stage}
-use Rattle.export_model_laws.specs.Law.{IsWithin}
+use Rattle.export_model.specs.Law.{IsWithin}
 use Rattle.device_image.specs.Remembers.{Remembers}
 
 -- what holds of both sides of a choice holds of the choice

@@ -24,7 +24,7 @@ use Rattle.export_model.specs.Run.{IsReached, IsRun, After}
 use Rattle.export_model.specs.Serve.{Failure, Nothing}
 use Rattle.export_model.specs.Step.{after_step, send, sent}
 use Rattle.export_model.specs.World.{World, Setting}
-use Rattle.export_model_laws.specs.Law.{Grows, IsWithin}
+use Rattle.export_model.specs.Law.{Grows, IsWithin}
 
 -- a trusted device is honest
 pub trusted_honest : (trusted : Bool) (honest : Type 0) → Trusts trusted honest → honest

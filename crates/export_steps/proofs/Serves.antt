@@ -22,8 +22,8 @@ use Rattle.nbd_wire.specs.declared.message.Answer.TheVariants.{Refused}
 use Rattle.export_model.specs.Log.{edit_asked, waits_for_store}
 use Rattle.export_model.specs.Serve.{Failure, logged, held, moved, ready, accepted, numbered as got_number, write_served, state_after}
 use Rattle.export_model.specs.World.{World, put, last_number, has_room, Stage}
-use Rattle.export_model_laws.specs.Law.{IsWithin}
-use Rattle.export_model_laws.specs.laws.Within.{rising_through}
+use Rattle.export_model.specs.Law.{IsWithin}
+use Rattle.export_model.specs.laws.Within.{rising_through}
 
 -- a choice whose test is known
 pub if_true : {X : Type 0} (P : X → Type 0) (test : Bool) (x y : X) → test ≡ true → P x → P (if test then x else y)

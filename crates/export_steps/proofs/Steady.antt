@@ -13,7 +13,7 @@ use Rattle.export_model.specs.Checkpoint.{can_clean, can_copy, can_finish, can_m
 use Rattle.export_model.specs.Serve.{Failure, Nothing, OutOfMemory, DeviceFailure, Misread, answer}
 use Rattle.export_model.specs.Step.{append, clean, copy_block, finish, in_time, publish, rotate, seal, sealed_more, send, sent, with_generation, without_memory, write_map, written}
 use Rattle.export_model.specs.World.{Setting, Stage, World, fits, image_after}
-use Rattle.export_model_laws.specs.laws.Steps.{of_either}
+use Rattle.export_model.specs.laws.Steps.{of_either}
 
 -- the order of commands stays, and what stays as long as the device isn't opened again
 pub record IsSteady (old new : Stage) : Type 0 where

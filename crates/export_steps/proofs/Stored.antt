@@ -25,7 +25,7 @@ use Rattle.export_model.specs.Serve.{Failure, Nothing, OutOfMemory, held, logged
 use Rattle.export_model.specs.Checkpoint.{can_clean}
 use Rattle.export_model.specs.Step.{append, clean, publish, put_back, seal, out_of_memory, stored_more}
 use Rattle.export_model.specs.World.{World, area_bytes, fits, in_hand, Stage}
-use Rattle.export_model_laws.specs.Law.{IsWithin}
+use Rattle.export_model.specs.Law.{IsWithin}
 use Rattle.export_steps.specs.laws.Lives.{last_grows, ordered}
 use Rattle.device_image.specs.Remembers.{Remembers}
 use Rattle.device_image.specs.laws.Counted.{remembers_still}

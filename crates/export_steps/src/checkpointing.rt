@@ -10,7 +10,7 @@ ghost use Rattle.export_steps.specs.inner.Storing.{CleansBy, hand_refused, order
 ghost use Rattle.export_model.specs.Serve.{Failure};
 ghost use Rattle.export_model.specs.Step.{copy_block as copy_of, finish as finish_of, rotate as rotate_of, write_map as map_of};
 ghost use Rattle.export_model.specs.World.{World};
-ghost use Rattle.export_model_laws.specs.Law.{IsWithin};
+ghost use Rattle.export_model.specs.Law.{IsWithin};
 
 use checkpoint::{Keeper, KeeperFault};
 use device_image::keeper_laws;

@@ -12,7 +12,7 @@ ghost use Rattle.export_model.specs.World.{World};
 ghost use Rattle.export_model.specs.declared.connection.Connection.TheVariants as Connection;
 ghost use Rattle.export_model.specs.declared.event.Event.TheVariants as Event;
 ghost use Rattle.export_model.specs.declared.step.Step.TheVariants as Step;
-ghost use Rattle.export_model_laws.specs.Law.{IsWithin};
+ghost use Rattle.export_model.specs.Law.{IsWithin};
 
 use crate::checkpointing::{clean, copy, finish, refused, rotate, write_map};
 use crate::connections::Connections;
@@ -21,8 +21,7 @@ use crate::storing::{append, publish, seal};
 use checkpoint::Keeper;
 use device_image::keeper_laws;
 use disk_model::Disk;
-use export_model::{Event, Step};
-use export_model_laws::schedule_law;
+use export_model::{Event, Step, schedule_law};
 use marks::{Board, BoardName, KeeperSeat};
 use nbd_wire::Request;
 use order_book::Order;

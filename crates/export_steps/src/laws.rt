@@ -18,7 +18,7 @@ ghost use Rattle.export_model.specs.declared.step.Mode.{Mode};
 
 use device_image::{keeper_laws, stands_laws};
 use disk_model::Disk;
-use export_model_laws::schedule_law;
+use export_model::schedule_law;
 
 /// A life begins with a world: the parts that are fresh from `Keeper::open`, `Order::new` over its map and
 /// `Connections::new` are of one, whose opening image is the one that the keeper keeps.

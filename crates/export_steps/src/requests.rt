@@ -6,7 +6,7 @@ ghost use Rattle.export_model.specs.Verdict.{verdict};
 ghost use Rattle.export_model.specs.World.{World};
 ghost use Rattle.export_model.specs.declared.action.Action.{Action};
 ghost use Rattle.export_model.specs.declared.connection.Connection.TheVariants as Connection;
-ghost use Rattle.export_model_laws.specs.Law.{IsWithin};
+ghost use Rattle.export_model.specs.Law.{IsWithin};
 ghost use Rattle.export_steps.specs.Bench.{is_idle, sent_state};
 ghost use Rattle.export_steps.specs.Parts.{AreConnectionsOf, IsKeeperOf, IsOrderOf};
 ghost use Rattle.export_steps.specs.inner.Outcomes.{IsServedWith};

@@ -5,7 +5,7 @@ ghost use Rattle.export_steps.specs.inner.Storing.{PublishesBy, SealsBy, event_o
 ghost use Rattle.export_model.specs.Serve.{Failure};
 ghost use Rattle.export_model.specs.Step.{append as append_of};
 ghost use Rattle.export_model.specs.World.{World};
-ghost use Rattle.export_model_laws.specs.Law.{IsWithin};
+ghost use Rattle.export_model.specs.Law.{IsWithin};
 ghost use Rattle.order_book.specs.Order.{IsInHand};
 ghost use Rattle.export_steps.specs.inner.Serving.{IsSameHand};
 

@@ -20,7 +20,7 @@ use Rattle.export_model.specs.Run.{IsRun}
 use Rattle.export_model.specs.Serve.{Failure, Nothing, OutOfMemory, DeviceFailure, Misread}
 use Rattle.export_model.specs.Step.{after_step, append, publish, seal, sealed_more, stored_more}
 use Rattle.export_model.specs.World.{World, area_bytes, fits, last_number}
-use Rattle.export_model_laws.specs.Law.{Grows, IsWithin}
+use Rattle.export_model.specs.Law.{Grows, IsWithin}
 use Rattle.nbdj_pipe.specs.Causes.{HasCause, HasNoGeneration, Passes}
 use Rattle.nbdj_pipe.specs.inner.Checkpoint.{HasFullArea, IsUnfit}
 use Rattle.nbdj_pipe.specs.inner.Export.{CameTo, GetsOn, IsSettled, IsWaiting, StoredBy}

@@ -36,7 +36,7 @@ use Rattle.export_model.specs.Run.{IsReached, IsRun}
 use Rattle.export_model.specs.Serve.{Failure, Nothing, OutOfMemory, DeviceFailure, Misread, image_shown}
 use Rattle.export_model.specs.Step.{after_step, clean, copy_block, finish, in_time, rotate, seal, sealed_more, with_generation, without_memory, write_map, written}
 use Rattle.export_model.specs.World.{Setting, Stage, World, area_bytes, areas_at, dirty_behind, has_room, last_number}
-use Rattle.export_model_laws.specs.Law.{Grows, IsRising, IsWithin}
+use Rattle.export_model.specs.Law.{Grows, IsRising, IsWithin}
 use Rattle.nbdj_pipe.specs.Causes.{HasCause}
 use Rattle.nbdj_pipe.specs.inner.Causes.{LacksRoom}
 use Rattle.nbdj_pipe.specs.inner.Checkpoint.{EndsBy, HasCopied, HasCopiedAll, HasFinished, HasFullArea, IsCopied, IsDone, IsEmptied, IsFine, IsFinished, KeepsOrder, OrStopped}

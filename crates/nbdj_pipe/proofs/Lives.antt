@@ -28,7 +28,7 @@ use Rattle.export_model.specs.World.{Setting, World}
 use Rattle.export_model.specs.declared.event.Event.{Event}
 use Rattle.export_model.specs.declared.event.Event.TheVariants.{Sent, Answered, Numbered, Took, Held, Failed}
 use Rattle.export_model.specs.declared.step.Mode.{Mode}
-use Rattle.export_model_laws.specs.Law.{HasFailed, IsWithin, TellsFault, TellsTruth}
+use Rattle.export_model.specs.Law.{HasFailed, IsWithin, TellsFault, TellsTruth}
 use Rattle.nbdj_pipe.specs.Causes.{HasCause}
 use Rattle.nbdj_pipe.specs.inner.Export.{Follows, IsSettled, Settles}
 use Rattle.nbdj_pipe.specs.Life.{IsFound, IsLife, IsLived}

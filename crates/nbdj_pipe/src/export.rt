@@ -19,7 +19,7 @@ ghost use Rattle.export_model.specs.declared.event.Event.TheVariants as Event;
 
 use checkpoint::Keeper;
 use disk_model::Disk;
-use export_model_laws::schedule_law;
+use export_model::schedule_law;
 use export_steps::{Connections, Event, Step, StepFault, copy_some, leads_law, take_step};
 use front_end::Refusal;
 use marks::{Board, BoardName, KeeperSeat};

@@ -26,7 +26,7 @@ use byte_streams::{StreamFault, read_some, write_whole};
 use checkpoint::Keeper;
 use device_image::keeper_laws;
 use disk_model::Disk;
-use export_model_laws::schedule_law;
+use export_model::schedule_law;
 use export_steps::{Connections, fresh_parts_law, leads_law};
 use front_end::{PipeOptions, Refusal};
 use marks::{BlankBoard, Board, BoardName, KeeperSeat, Opened};

@@ -18,9 +18,9 @@ use Rattle.export_steps.specs.laws.Orders.{hand_is}
 use Rattle.device_image.specs.Holds.{Holds, joined}
 use Rattle.std.proofs.Math.Seq.{take-add}
 use Rattle.export_model.specs.Checkpoint.{last_turned}
-use Rattle.export_model_laws.specs.Law.{IsRising, IsWithin}
-use Rattle.export_model_laws.specs.laws.Within.{rising_through, turned_through}
-use Rattle.export_model_laws.specs.laws.Parts.{copied_same, part_more, part_same}
+use Rattle.export_model.specs.Law.{IsRising, IsWithin}
+use Rattle.export_model.specs.laws.Within.{rising_through, turned_through}
+use Rattle.export_model.specs.laws.Parts.{copied_same, part_more, part_same}
 
 -- an order with commands more still begins as it did
 pub stands_more : (order more : List Change) (image : Image) (opening least : ℕ) (content : List ℕ) → StandsAfter order image opening least content

@@ -3,7 +3,7 @@ use Rattle.std.specs.Prelude.{◌≤◌}
 use Rattle.std.proofs.lemmas.Bool.{both_ways}
 use Rattle.nbd_wire.specs.Request.{Message}
 use Rattle.export_model.specs.World.{Setting, Stage, World}
-use Rattle.export_model_laws.specs.Law.{IsWithin}
+use Rattle.export_model.specs.Law.{IsWithin}
 use Rattle.nbdj_pipe.specs.Causes.{HasCause}
 use Rattle.nbdj_pipe.specs.inner.Causes.{LacksRoom}
 use Rattle.nbdj_pipe.specs.inner.Checkpoint.{IsEmptied, OrStopped}

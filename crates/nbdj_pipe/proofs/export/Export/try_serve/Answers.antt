@@ -11,7 +11,7 @@ use Rattle.export_model.specs.declared.step.Step.TheVariants as steps
 use Rattle.export_model.specs.Serve.{Failure, serve}
 use Rattle.export_model.specs.Step.{after_step}
 use Rattle.export_model.specs.World.{World}
-use Rattle.export_model_laws.specs.laws.Steps.{passes_write}
+use Rattle.export_model.specs.laws.Steps.{passes_write}
 use Rattle.nbdj_pipe.specs.inner.Causes.{LacksRoom}
 use Rattle.nbdj_pipe.specs.inner.Export.{Follows, IsJudged}
 use Rattle.nbdj_pipe.specs.Talk.{spoken, verdict_on}

@@ -24,13 +24,13 @@ use Rattle.export_model.specs.Serve.{Failure, Nothing, OutOfMemory, DeviceFailur
 use Rattle.export_model.specs.Step.{after_step, append, in_time, sealed_more, send, sent, with_generation, without_memory, written}
 use Rattle.export_model.specs.Verdict.{verdict}
 use Rattle.export_model.specs.World.{World, Stage, Setting, fits, has_room, image_after, last_number, put}
-use Rattle.export_model_laws.specs.Law.{Grows}
-use Rattle.export_model_laws.specs.laws.Events.{get_more, get_split}
-use Rattle.export_model_laws.specs.laws.Logged.{put_same}
-use Rattle.export_model_laws.specs.laws.Sound.{IsRight, IsSound, facts_of}
-use Rattle.export_model_laws.specs.laws.Steps.{of_either, passes_write}
-use Rattle.export_model_laws.proofs.Reached.{grows_step, sound_reached}
-use Rattle.export_model_laws.proofs.Shown.{shown_true}
+use Rattle.export_model.specs.Law.{Grows}
+use Rattle.export_model.specs.laws.Events.{get_more, get_split}
+use Rattle.export_model.specs.laws.Logged.{put_same}
+use Rattle.export_model.specs.laws.Sound.{IsRight, IsSound, facts_of}
+use Rattle.export_model.specs.laws.Steps.{of_either, passes_write}
+use Rattle.export_model.proofs.Reached.{grows_step, sound_reached}
+use Rattle.export_model.proofs.Shown.{shown_true}
 
 -- a step has put a command of this connection's request at the end of the order
 record IsAdded (world next : World) (failure : Failure) : Type 0 where

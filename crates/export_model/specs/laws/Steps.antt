@@ -30,10 +30,10 @@ use Rattle.export_model.specs.Verdict.{verdict, first_of_rules, is_known, allowe
 use Rattle.image_model.specs.Image.{Image}
 use Rattle.export_model.specs.Shown.{shown_by}
 use Rattle.export_model.specs.World.{World, Stage, Setting, area_bytes, fresh, last_number, has_room, fits, in_hand, put}
-use Rattle.export_model_laws.specs.laws.Logged.{IsQuiet, put_same, sound_quiet, sound_moved}
-use Rattle.export_model_laws.specs.laws.Ordered.{sound_ordered}
-use Rattle.export_model_laws.specs.laws.Sound.{AwaitsOthers, IsRight, IsSound, facts_of}
-use Rattle.export_model_laws.specs.laws.Talk.{sound_sent, sound_answered, allowed_ready_done, allowed_refused, allowed_fault, allowed_other, allowed_waiting, flush_no_write}
+use Rattle.export_model.specs.laws.Logged.{IsQuiet, put_same, sound_quiet, sound_moved}
+use Rattle.export_model.specs.laws.Ordered.{sound_ordered}
+use Rattle.export_model.specs.laws.Sound.{AwaitsOthers, IsRight, IsSound, facts_of}
+use Rattle.export_model.specs.laws.Talk.{sound_sent, sound_answered, allowed_ready_done, allowed_refused, allowed_fault, allowed_other, allowed_waiting, flush_no_write}
 
 -- what holds of both sides of a choice holds of the choice
 pub of_either : {X : Type 0} (P : X → Type 0) (test : Bool) (x y : X) → (test ≡ true → P x) → (test ≡ false → P y) → P (if test then x else y)

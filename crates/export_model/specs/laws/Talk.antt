@@ -14,9 +14,9 @@ use Rattle.nbd_wire.specs.declared.message.Answer.TheVariants.{Done, Refused}
 use Rattle.export_model.specs.Log.{StandsAt, is_write, is_write_type, is_flush, waits_for_store}
 use Rattle.export_model.specs.Serve.{logged, moved, answered}
 use Rattle.export_model.specs.World.{World, put}
-use Rattle.export_model_laws.specs.laws.Events.{IsLast, get_split, get_last}
-use Rattle.export_model_laws.specs.laws.Logged.{put_same, put_other, legal_more, durable_more, some_at}
-use Rattle.export_model_laws.specs.laws.Sound.{AwaitsItself, AwaitsOthers, IsOpen, IsUnpaired, IsAllAnswered, IsAllowed, IsRight, IsSound, facts_of, one_event, right_more}
+use Rattle.export_model.specs.laws.Events.{IsLast, get_split, get_last}
+use Rattle.export_model.specs.laws.Logged.{put_same, put_other, legal_more, durable_more, some_at}
+use Rattle.export_model.specs.laws.Sound.{AwaitsItself, AwaitsOthers, IsOpen, IsUnpaired, IsAllAnswered, IsAllowed, IsRight, IsSound, facts_of, one_event, right_more}
 
 -- the world in which a connection has sent a request
 abbrev pub sent_by : World → ℕ → Message → World

@@ -26,11 +26,11 @@ use Rattle.export_model.specs.Step.{sent, send, sealed_more, put_back, written, 
 use Rattle.export_model.specs.Verdict.{verdict}
 use Rattle.image_model.specs.Image.{Image}
 use Rattle.export_model.specs.World.{World, Stage, last_number, has_room, fits}
-use Rattle.export_model_laws.specs.Law.{Grows, IsRising, IsWithin}
-use Rattle.export_model_laws.specs.laws.Logged.{put_other}
-use Rattle.export_model_laws.specs.laws.Sound.{IsSound}
-use Rattle.export_model_laws.specs.laws.Steps.{of_either, sound_fresh, sound_step}
-use Rattle.export_model_laws.specs.laws.Within.{within_step}
+use Rattle.export_model.specs.Law.{Grows, IsRising, IsWithin}
+use Rattle.export_model.specs.laws.Logged.{put_other}
+use Rattle.export_model.specs.laws.Sound.{IsSound}
+use Rattle.export_model.specs.laws.Steps.{of_either, sound_fresh, sound_step}
+use Rattle.export_model.specs.laws.Within.{within_step}
 
 -- what schedules lead to is sound
 pub sound_reached : (world : World) → IsReached world → IsSound world

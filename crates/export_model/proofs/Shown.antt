@@ -31,13 +31,13 @@ use Rattle.export_model.specs.Shown.{shown_by}
 use Rattle.export_model.specs.Step.{after_step, in_time, put_back, send, with_generation, written, without_memory, sealed_more, append}
 use Rattle.export_model.specs.Verdict.{verdict}
 use Rattle.export_model.specs.World.{World, Stage, Setting, fits, fresh, has_room, image_after, in_hand, last_number, put}
-use Rattle.export_model_laws.specs.laws.Events.{IsLast, answered_split, get_split}
-use Rattle.export_model_laws.specs.laws.Logged.{IsQuiet, put_other, put_same}
-use Rattle.export_model_laws.specs.laws.Ordered.{no_answer, one_sender}
-use Rattle.export_model_laws.proofs.Reached.{sound_reached}
-use Rattle.export_model_laws.specs.laws.Sound.{IsOpen, IsSound, IsRight, facts_of, one_event}
-use Rattle.export_model_laws.specs.laws.Steps.{of_either, quiet_failed, quiet_held, quiet_numbered, quiet_took}
-use Rattle.export_model_laws.specs.laws.Talk.{own_place, pair_within}
+use Rattle.export_model.specs.laws.Events.{IsLast, answered_split, get_split}
+use Rattle.export_model.specs.laws.Logged.{IsQuiet, put_other, put_same}
+use Rattle.export_model.specs.laws.Ordered.{no_answer, one_sender}
+use Rattle.export_model.proofs.Reached.{sound_reached}
+use Rattle.export_model.specs.laws.Sound.{IsOpen, IsSound, IsRight, facts_of, one_event}
+use Rattle.export_model.specs.laws.Steps.{of_either, quiet_failed, quiet_held, quiet_numbered, quiet_took}
+use Rattle.export_model.specs.laws.Talk.{own_place, pair_within}
 
 -- what answers that show an image are judged by
 record Facts : Type 0 where

@@ -30,10 +30,10 @@ use Rattle.export_model.specs.Verdict.{verdict, first_of_rules, is_known, allowe
 use Rattle.image_model.specs.Image.{Image}
 use Rattle.export_model.specs.Shown.{shown_by}
 use Rattle.export_model.specs.World.{World, Stage, Setting, area_bytes, fresh, put, last_number, has_room, in_hand, fits}
-use Rattle.export_model_laws.specs.Law.{HasFailed, TellsFault, TellsTruth}
-use Rattle.export_model_laws.specs.laws.Events.{get_split}
-use Rattle.export_model_laws.specs.laws.Logged.{put_same, put_other}
-use Rattle.export_model_laws.specs.laws.Steps.{of_either}
+use Rattle.export_model.specs.Law.{HasFailed, TellsFault, TellsTruth}
+use Rattle.export_model.specs.laws.Events.{get_split}
+use Rattle.export_model.specs.laws.Logged.{put_same, put_other}
+use Rattle.export_model.specs.laws.Steps.{of_either}
 
 -- what an event tells is so: an order that was stopped where it tells of a fault, and no generation left where it says so
 abbrev IsBacked : Stage → Event → Type 0

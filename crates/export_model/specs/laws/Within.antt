@@ -25,9 +25,9 @@ use Rattle.export_model.specs.Serve.{Failure, Nothing, OutOfMemory, DeviceFailur
 use Rattle.export_model.specs.Step.{after_step, append, in_time, with_generation, sealed_more, send, sent, without_memory, written}
 use Rattle.export_model.specs.Verdict.{verdict}
 use Rattle.export_model.specs.World.{World, Stage, Setting, area_bytes, areas_at, fits, fresh, has_room, last_number}
-use Rattle.export_model_laws.specs.Law.{IsRising, IsWithin}
-use Rattle.export_model_laws.specs.laws.Parts.{copied_same}
-use Rattle.export_model_laws.specs.laws.Steps.{of_either}
+use Rattle.export_model.specs.Law.{IsRising, IsWithin}
+use Rattle.export_model.specs.laws.Parts.{copied_same}
+use Rattle.export_model.specs.laws.Steps.{of_either}
 
 -- no more commands fit a group than there are
 longest-le : (limit : ℕ) (commands : List Change) → longest limit commands ≤ length commands

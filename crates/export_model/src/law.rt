@@ -1,5 +1,4 @@
 //! What holds of the world of an export under every schedule.
-#![tactic(auto)]
 
 ghost use Rattle.std.specs.Prelude.{◌≡◌, ◌≤◌, ℕ, true, List};
 ghost use Rattle.export_model.specs.Covered.{Covers};
@@ -9,7 +8,7 @@ ghost use Rattle.export_model.specs.Run.{IsReached, IsRun};
 ghost use Rattle.export_model.specs.World.{World, last_number};
 ghost use Rattle.export_model.specs.declared.connection.Connection.TheVariants as Connection;
 ghost use Rattle.export_model.specs.declared.step.Step.{Step};
-ghost use Rattle.export_model_laws.specs.Law.{Grows, IsWithin, TellsTruth};
+ghost use Rattle.export_model.specs.Law.{Grows, IsWithin, TellsTruth};
 
 /// Whatever the schedule, and whatever its steps meet: the log is legal, the reads of a trusted device fit, and on one each
 /// command is what its request's edit becomes over the image after those before it; all that the log covers is durable, what is durable is stored and what is stored is ordered; what map and data hold is stored, and what was

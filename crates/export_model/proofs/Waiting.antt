@@ -22,7 +22,7 @@ use Rattle.export_model.specs.Verdict.{verdict}
 use Rattle.image_model.specs.Image.{Image}
 use Rattle.export_model.specs.Shown.{shown_by}
 use Rattle.export_model.specs.World.{World, Stage, Setting, fits, fresh, has_room, in_hand, last_number, put}
-use Rattle.export_model_laws.specs.laws.Steps.{of_either}
+use Rattle.export_model.specs.laws.Steps.{of_either}
 
 -- where a connection in this state waits for a number, it is no greater than the last one
 abbrev WaitsWithin : ℕ → Connection → Type 0

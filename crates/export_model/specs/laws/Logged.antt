@@ -16,8 +16,8 @@ use Rattle.export_model.specs.Covered.{IsCovered}
 use Rattle.export_model.specs.Log.{StandsAt, IsAnswered, IsLegal, IsPaired, is_write}
 use Rattle.export_model.specs.Serve.{logged, moved}
 use Rattle.export_model.specs.World.{World, put}
-use Rattle.export_model_laws.specs.laws.Events.{IsLast, answered_split, get_more, get_split}
-use Rattle.export_model_laws.specs.laws.Sound.{IsAllAnswered, HasPlace, IsAllowed, IsRight, IsSound, facts_of, right_more}
+use Rattle.export_model.specs.laws.Events.{IsLast, answered_split, get_more, get_split}
+use Rattle.export_model.specs.laws.Sound.{IsAllAnswered, HasPlace, IsAllowed, IsRight, IsSound, facts_of, right_more}
 
 -- what is put at one place, and elsewhere what was there
 pub put_same : {X : Type 0} (f : ℕ → X) (c : ℕ) (x : X) → put f c x c ≡ x

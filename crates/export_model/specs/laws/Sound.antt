@@ -16,7 +16,7 @@ use Rattle.export_model.specs.declared.step.Mode.{Mode}
 use Rattle.export_model.specs.Covered.{IsConfirmed, IsCovered}
 use Rattle.export_model.specs.Log.{StandsAt, IsAnswered, IsLegal, is_write, is_flush, waits_for_store}
 use Rattle.export_model.specs.World.{World}
-use Rattle.export_model_laws.specs.laws.Events.{IsLast, answered_split, get_more, get_split}
+use Rattle.export_model.specs.laws.Events.{IsLast, answered_split, get_more, get_split}
 
 -- the connection's request that was sent at the place is its last, and is not answered
 pub record IsOpen (log : List Event) (connection place : ℕ) (request : Message) : Type 0 where

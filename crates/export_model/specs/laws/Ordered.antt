@@ -19,9 +19,9 @@ use Rattle.export_model.specs.Covered.{IsCovered}
 use Rattle.export_model.specs.Log.{StandsAt, IsAnswered, IsLegal, IsPaired, edit_asked, is_write}
 use Rattle.export_model.specs.Serve.{moved, ordered}
 use Rattle.export_model.specs.World.{World, put}
-use Rattle.export_model_laws.specs.laws.Events.{get_split}
-use Rattle.export_model_laws.specs.laws.Logged.{put_same, put_other}
-use Rattle.export_model_laws.specs.laws.Sound.{AwaitsItself, AwaitsOthers, IsOpen, IsUnpaired, IsRight, IsSound, facts_of, one_event}
+use Rattle.export_model.specs.laws.Events.{get_split}
+use Rattle.export_model.specs.laws.Logged.{put_same, put_other}
+use Rattle.export_model.specs.laws.Sound.{AwaitsItself, AwaitsOthers, IsOpen, IsUnpaired, IsRight, IsSound, facts_of, one_event}
 
 -- a place has one request
 pub one_sender : (log : List Event) (place c d : ℕ) (request other : Message) → StandsAt log place (Sent c request) → StandsAt log place (Sent d other) → c ≡ d

@@ -1,0 +1,20 @@
+use Rattle.export_model.proofs.Edited.{edits_fit}
+use Rattle.export_model.proofs.Shown.{reads_fit}
+use Rattle.export_model.proofs.Reached.{sound_reached, covers_durable, grows_run, reached_run}
+use Rattle.export_model.proofs.Truthful.{truth_reached}
+use Rattle.export_model.proofs.Waiting.{waiting_reached}
+use Rattle.export_model.specs.laws.Within.{within_reached}
+use Rattle.export_model.proofs.law.schedule_law.Goals as goal
+
+pub returns : goal.returns
+returns c = record {
+  legal = λ world reached. (sound_reached world reached).legal;
+  fits = reads_fit;
+  edits = edits_fit;
+  covered = λ world reached. covers_durable world (sound_reached world reached);
+  within = within_reached;
+  truth = truth_reached;
+  grows = grows_run;
+  reached = reached_run;
+  waiting = waiting_reached;
+}
