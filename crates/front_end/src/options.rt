@@ -17,7 +17,7 @@ pub enum OnFault {
 }
 
 /// How many sessions a server has, and how long it waits in them.
-#[derive(Clone, Copy, PartialEq, Eq)]
+#[derive(Clone, Copy)]
 pub struct Limits {
     /// After so many sessions the server ends; 0 for no end.
     pub sessions: u64,
@@ -55,7 +55,7 @@ fn seconds(count: u64) -> Option<Duration> {
 }
 
 /// How an image is served.
-#[derive(Clone, Copy, PartialEq, Eq)]
+#[derive(Clone, Copy)]
 pub struct ServeOptions {
     /// Blocks that may be written and not yet copied into the image: 512 to 65,536.
     pub frames: u32,

@@ -4,7 +4,7 @@ use crate::limits::{LEAST_FRAMES, MOST_FRAMES};
 use export_model::Mode;
 
 /// How one connection is served over a pair of streams.
-#[derive(Clone, Copy, PartialEq, Eq)]
+#[derive(Clone, Copy)]
 pub struct PipeOptions {
     /// The most blocks that may wait for the checkpoint.
     pub frames: u32,

@@ -20,7 +20,7 @@ pub struct LastRange {
 
 /// Blocks whose last touch is a put and that follow one another in the image and in the area; the place is that of the
 /// first one's bytes in the area.
-#[derive(Clone, Copy, PartialEq, Eq)]
+#[derive(Clone, Copy)]
 pub struct PutRange {
     pub first: u32,
     pub blocks: u32,

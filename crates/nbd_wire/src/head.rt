@@ -9,7 +9,7 @@ const REQUEST_MAGIC: u32 = 0x2560_9513;
 const SIMPLE_REPLY_MAGIC: u32 = 0x6744_6698;
 
 /// The first 28 bytes of a request, without their magic number ("Request message" of NBD's `proto.md`).
-#[derive(Clone, Copy, PartialEq, Eq)]
+#[derive(Clone, Copy)]
 pub struct RequestHead {
     /// The command flags, each bit as it was sent.
     pub flags: u16,

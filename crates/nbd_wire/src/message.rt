@@ -275,7 +275,7 @@ pub struct Run {
 }
 
 /// What the handshake agreed on.
-#[derive(Clone, Copy, PartialEq, Eq)]
+#[derive(Clone, Copy)]
 pub struct SessionFlags {
     /// Structured replies.
     pub structured: bool,

@@ -11,7 +11,7 @@ const NUMBERS_LEN: usize = 10;
 const ZEROES_LEN: usize = 124;
 
 /// What an EXPORT_NAME is answered, in place of option replies ("Newstyle negotiation" of NBD's `proto.md`).
-#[derive(Clone, Copy, PartialEq, Eq)]
+#[derive(Clone, Copy)]
 pub struct ExportAnswer {
     /// The size of the export, in bytes.
     pub size: u64,

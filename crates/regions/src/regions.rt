@@ -14,7 +14,7 @@ use image_model::{BLOCK_BYTES, Geometry, Side};
 use std::alloc::Global;
 
 /// Where the map slots and the data of a device stand.
-#[derive(Clone, Copy, PartialEq, Eq)]
+#[derive(Clone, Copy)]
 pub struct Regions {
     pub geometry: Geometry,
 }

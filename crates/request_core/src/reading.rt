@@ -20,7 +20,7 @@ use order_book::{Order, Span};
 use std::alloc::Global;
 
 /// The blocks that a request's bytes touch.
-#[derive(Clone, Copy, PartialEq, Eq)]
+#[derive(Clone, Copy)]
 pub struct Blocks {
     /// The first of them.
     pub first: u64,

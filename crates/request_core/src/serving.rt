@@ -27,7 +27,7 @@ use order_book::{Order, OrderFault};
 use std::alloc::Global;
 
 /// What every request is judged by, and how long a write waits.
-#[derive(Clone, Copy, PartialEq, Eq)]
+#[derive(Clone, Copy)]
 pub struct Terms {
     pub geometry: Geometry,
     pub flags: SessionFlags,
