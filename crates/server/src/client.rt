@@ -101,13 +101,13 @@ impl<'a> Write for Output<'a> {
 
 /// What is written to `inner`. Its sync point is reached after each write of replies.
 #[derive(Drop)]
-pub(crate) struct WatchedOutput<'a, W: Write + Drop, G: SyncPoints> {
+pub(crate) struct WatchedOutput<'a, W: Write + Drop, G: SyncPoints + Drop> {
     pub inner: W,
     pub is_replying: &'a Cell<bool>,
-    pub points: &'a mut G,
+    pub points: G,
 }
 
-impl<'a, W: Write + Drop, G: SyncPoints> Write for WatchedOutput<'a, W, G> {
+impl<'a, W: Write + Drop, G: SyncPoints + Drop> Write for WatchedOutput<'a, W, G> {
     ghost contents = { λ output. W.contents output.inner };
 
     fn write(&mut self, buf: &[u8]) -> io::Result<usize> {

@@ -1,12 +1,15 @@
 use crate::client::Client;
 use crate::listener::Listener;
 use std::alloc::{AllocError, Global};
-use std::io;
 use std::net::Shutdown;
 use std::rt::Clock;
 use std::sync::atomic::{AtomicBool, AtomicU64, Ordering};
 use std::sync::{Arc, Condvar, CondvarTimeouts, Mutex, Wait};
 use std::time::Duration;
+use std::{io, thread};
+
+// For so many milliseconds a worker waits before the next client, where one couldn't be accepted.
+const PAUSE: u64 = 10;
 
 // Seconds for which a client may take the answers to what it has sent, once its session is to end.
 const GRACE: u64 = 5;
@@ -40,9 +43,17 @@ impl ClientRegistry {
         })
     }
 
-    /// Waits for the next client.
-    pub(crate) fn accept(&self) -> io::Result<Client> {
-        self.listener.accept()
+    /// Waits for the next client. Where one couldn't be accepted it has gone, too many files are open, or the registry is closed.
+    pub(crate) fn accept<R: Clock>(&self, rt: &R) -> Option<Client> {
+        match self.listener.accept() {
+            Ok(client) => Some(client),
+            Err(_) => {
+                if !self.is_closed() {
+                    thread::sleep(rt, Duration::from_millis(PAUSE));
+                }
+                None
+            }
+        }
     }
 
     /// Whether no client is served any more.
@@ -50,21 +61,25 @@ impl ClientRegistry {
         self.is_closed.load(Ordering::SeqCst)
     }
 
-    /// A client is served in this slot; its number, and none where the registry is closed.
-    pub(crate) fn enter<R: Wait>(
+    /// A client is served in this slot; it and its number, and none where the registry is closed or there is no memory.
+    pub(crate) fn admit<R: Wait>(
         &self,
         rt: &R,
+        alloc: Global,
         slot: usize,
-        client: Arc<Client, Global>,
-    ) -> Option<u64> {
+        client: Client,
+    ) -> Option<(Arc<Client, Global>, u64)> {
+        let client = Arc::new(alloc, client).ok()?;
+        let served = Arc::try_clone(&client).ok()?;
         let mut clients = self.clients.lock(rt);
         if self.is_closed() {
             return None;
         }
-        if let Some(served) = clients.get_mut(slot) {
-            *served = Some(client);
+        if let Some(slot) = clients.get_mut(slot) {
+            *slot = Some(served);
         }
-        Some(self.count.fetch_add(1, Ordering::SeqCst).wrapping_add(1))
+        let number = self.count.fetch_add(1, Ordering::SeqCst).wrapping_add(1);
+        Some((client, number))
     }
 
     /// Whether a client is served in each slot.
@@ -99,8 +114,10 @@ impl ClientRegistry {
 
 // Shuts down the sockets of all that are served.
 fn shut_down_all(clients: &[Option<Arc<Client, Global>>], how: Shutdown) {
-    for served in clients.iter().flatten() {
-        served.shut_down(how);
+    for served in clients {
+        if let Some(client) = served {
+            client.shut_down(how);
+        }
     }
 }
 

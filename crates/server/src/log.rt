@@ -12,16 +12,6 @@ pub struct Traffic {
     pub bytes_written: u64,
 }
 
-impl Traffic {
-    pub(crate) fn none() -> Traffic {
-        Traffic {
-            requests: 0,
-            bytes_read: 0,
-            bytes_written: 0,
-        }
-    }
-}
-
 /// What happens in the life of a server. Clients are counted from 1.
 #[derive(Clone, Copy)]
 pub enum Event<'a> {

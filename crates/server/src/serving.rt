@@ -10,12 +10,12 @@ ghost use Rattle.shared_store.specs.Orders.{SpanRead};
 use crate::client_registry::ClientRegistry;
 use crate::listener::Listener;
 use crate::log::Log;
-use crate::worker::{WorkerPool, worker};
+use crate::worker::{Server, Task, WorkerPool};
 use disk_model::Disk;
 use export::{
     Export, ExportName, OpenDevice, ReadBeside, RetiredPass, SyncPoints, opened_device_law,
 };
-use front_end::{OnFault, Refusal, ServeOptions};
+use front_end::{Refusal, ServeOptions};
 use marks::Pass;
 use std::alloc::Global;
 use std::io::{ErrorKind, Read};
@@ -55,40 +55,50 @@ where
     ensures faults { OnOk result.0 (D.faults result.1 ≡ D.faults device.keeper.disk) }
 {
     opened_device_law::<D>();
-    let registry = match open_registry(alloc, listener, options.workers) {
-        Ok(registry) => registry,
-        Err(refusal) => return (Err(refusal), device.keeper.into_disk()),
-    };
-    if options.until_eof && !close_at_end(rt, &registry, input) {
-        return (Err(Refusal::NoMemory), device.keeper.into_disk());
+    match open_registry(rt, alloc, listener, input, &options) {
+        Ok(registry) => serve_over::<Brand, D, H, R, G>(
+            rt, alloc, device, &registry, options, watch,
+        ),
+        Err(refusal) => (Err(refusal), device.keeper.into_disk()),
     }
-    serve_over::<Brand, D, H, R, G>(rt, alloc, device, &registry, options, watch)
 }
 
-fn open_registry(
+// The registry of the clients, which a thread closes at the end of the input where the options say so. Nobody waits for that
+// thread, since it may wait for an input that never ends.
+fn open_registry<R, I>(
+    rt: &R,
+    alloc: Global,
+    listener: Listener,
+    input: I,
+    options: &ServeOptions,
+) -> Result<Arc<ClientRegistry, Global>, Refusal>
+where
+    R: Threads + Wait + Clock + Copy + Send + Drop + 'static,
+    I: Read + Send + Drop + 'static,
+{
+    let registry = new_registry(alloc, listener, options.workers)?;
+    if options.until_eof {
+        let own = *rt;
+        let Ok(closed) = Arc::try_clone(&registry) else {
+            return Err(Refusal::NoMemory);
+        };
+        if thread::spawn(rt, move || close_behind(&own, &closed, input)).is_err() {
+            return Err(Refusal::NoMemory);
+        }
+    }
+    Ok(registry)
+}
+
+fn new_registry(
     alloc: Global,
     listener: Listener,
     slots: u32,
 ) -> Result<Arc<ClientRegistry, Global>, Refusal> {
     match ClientRegistry::new(alloc, listener, slots) {
-        Ok(registry) => Arc::new(alloc, registry).map_err(|_| Refusal::NoMemory),
+        Ok(registry) => Arc::new(alloc, registry).ok().ok_or(Refusal::NoMemory),
         Err(error) if error.kind() == ErrorKind::OutOfMemory => Err(Refusal::NoMemory),
         Err(_) => Err(Refusal::StreamFault),
     }
-}
-
-// Starts a thread that closes the registry once the input has ended; whether there is one. Nobody waits for it, since it may wait
-// for an input that never ends.
-fn close_at_end<R, I>(rt: &R, registry: &Arc<ClientRegistry, Global>, input: I) -> bool
-where
-    R: Threads + Wait + Clock + Copy + Send + Drop + 'static,
-    I: Read + Send + Drop + 'static,
-{
-    let own = *rt;
-    let Ok(registry) = Arc::try_clone(registry) else {
-        return false;
-    };
-    thread::spawn(rt, move || close_behind(&own, &registry, input)).is_ok()
 }
 
 fn close_behind<R: Wait + Clock, I: Read + Drop>(rt: &R, registry: &ClientRegistry, input: I) {
@@ -135,12 +145,9 @@ where
     let failures = device.failures;
     match open_export::<B, D, H>(alloc, device, &options) {
         Ok((export, passes, last)) => {
-            if let Some(limit) = options.limits.pending() {
-                export.store_within(rt, limit);
-            }
-            let pool = WorkerPool::new(alloc, registry, passes, last, &options);
-            let has_served = run_threads(rt, &pool, &export, options, watch);
-            let mut last = pool.into_last();
+            let pool = WorkerPool::new(alloc, registry, passes, last, options.limits.sessions);
+            let (has_served, last) = serve_clients(rt, pool, &export, options, watch);
+            let mut last = last;
             let (disk, is_stored) = export.close(&mut last);
             let has_failed = disk.failures() != failures;
             (end_of(has_served, has_failed, is_stored), disk)
@@ -194,15 +201,14 @@ where
     )
 }
 
-// Workers beside a flusher and a checkpointer, until all have ended. Where not as many threads can be made, fewer clients are
-// served at a time; whether there was a worker at all.
-fn run_threads<B, D, H, R, G>(
+// Serves clients until all threads have ended; whether there was a worker at all, and the pass of the end.
+fn serve_clients<B, D, H, R, G>(
     rt: &R,
-    pool: &WorkerPool<'_, B>,
+    pool: WorkerPool<'_, B>,
     export: &Export<B, D, H>,
     options: ServeOptions,
     watch: G,
-) -> bool
+) -> (bool, RetiredPass<B>)
 where
     B: ExportName + Send + Sync,
     D: Disk + Send,
@@ -210,108 +216,82 @@ where
     R: Threads + Wait + Clock + Sync,
     G: SyncPoints + Log + Copy + Send + Sync,
 {
-    thread::scope(thread::scope_env(), rt, move |scope| {
-        let Some(started) = start_threads(scope, rt, pool, export, options, watch) else {
-            return false;
-        };
-        // The flusher ends once all passes have left.
-        for _ in started..options.workers {
-            if let Some((_slot, pass)) = pool.take_pass(rt) {
-                pool.retire(rt, export, pass);
-            }
-        }
-        started > 0
-    })
+    if let Some(limit) = options.limits.pending() {
+        export.store_within(rt, limit);
+    }
+    let server = Server {
+        rt,
+        pool: &pool,
+        export,
+        options,
+        watch,
+    };
+    let has_served = run_threads(rt, &server);
+    (has_served, pool.into_last())
 }
 
-// Starts the threads; how many of them are workers, and none where there isn't even a flusher, for whose end the checkpointer
-// waits.
+// Workers beside a flusher and a checkpointer, until all have ended; whether there was a worker at all.
+fn run_threads<B, D, H, R, G>(rt: &R, server: &Server<'_, B, D, H, R, G>) -> bool
+where
+    B: ExportName + Send + Sync,
+    D: Disk + Send,
+    H: ReadBeside + Send + Sync,
+    R: Threads + Wait + Clock + Sync,
+    G: SyncPoints + Log + Copy + Send + Sync,
+{
+    thread::scope(
+        thread::scope_env(),
+        rt,
+        move |scope| start_threads(scope, server),
+    )
+}
+
+// Starts the threads; whether a worker is among them. Where not as many can be made, fewer clients are served at a time, and
+// nobody without a flusher, for whose end the checkpointer waits.
 fn start_threads<'s, E, B, D, H, R, G>(
     scope: &Scope<'s, E>,
-    rt: &'s R,
-    pool: &'s WorkerPool<'s, B>,
-    export: &'s Export<B, D, H>,
-    options: ServeOptions,
-    watch: G,
-) -> Option<u32>
+    server: &'s Server<'s, B, D, H, R, G>,
+) -> bool
 where
     B: ExportName + Send + Sync + 's,
     D: Disk + Send + 's,
     H: ReadBeside + Send + Sync + 's,
     R: Wait + Clock + Sync + 's,
-    G: SyncPoints + Log + Copy + Send + 's,
+    G: SyncPoints + Log + Copy + Send + Sync + 's,
 {
-    let on_fault = options.on_fault;
-    if scope
-        .spawn(move || flush(rt, pool, export, on_fault, watch))
-        .is_err()
-    {
-        return None;
+    if !start(scope, server, Task::Flush) {
+        return false;
     }
-    if !start_checkpointer(scope, rt, export, watch) {
-        return Some(0);
-    }
-    for at in 0..options.workers {
-        if !start_worker(scope, rt, pool, export, watch) {
-            return Some(at);
+    let mut started = 0;
+    if start(scope, server, Task::Checkpoint) {
+        for at in 0..server.options.workers {
+            if !start(scope, server, Task::Work) {
+                break;
+            }
+            started = at + 1;
         }
     }
-    Some(options.workers)
-}
-
-// Starts the checkpointer; whether there is a thread for it.
-fn start_checkpointer<'s, E, B, D, H, R, G>(
-    scope: &Scope<'s, E>,
-    rt: &'s R,
-    export: &'s Export<B, D, H>,
-    watch: G,
-) -> bool
-where
-    B: ExportName + Send + Sync + 's,
-    D: Disk + Send + 's,
-    H: ReadBeside + Send + Sync + 's,
-    R: Wait + Clock + Sync + 's,
-    G: SyncPoints + Copy + Send + 's,
-{
-    scope.spawn(move || checkpoint(rt, export, watch)).is_ok()
-}
-
-// Starts a worker; whether there is a thread for it.
-fn start_worker<'s, E, B, D, H, R, G>(
-    scope: &Scope<'s, E>,
-    rt: &'s R,
-    pool: &'s WorkerPool<'s, B>,
-    export: &'s Export<B, D, H>,
-    watch: G,
-) -> bool
-where
-    B: ExportName + Send + Sync + 's,
-    D: Disk + Send + 's,
-    H: ReadBeside + Send + Sync + 's,
-    R: Wait + Clock + Sync + 's,
-    G: SyncPoints + Log + Copy + Send + 's,
-{
-    scope.spawn(move || worker(rt, pool, export, watch)).is_ok()
-}
-
-// Once a call of the device has failed, the sessions are ended where the server isn't to stay.
-fn flush<B: ExportName, D: Disk, H: ReadBeside, R: Wait + Clock, G: SyncPoints + Copy>(
-    rt: &R,
-    pool: &WorkerPool<'_, B>,
-    export: &Export<B, D, H>,
-    on_fault: OnFault,
-    mut watch: G,
-) {
-    export.flusher(rt, &mut watch);
-    if on_fault == OnFault::Exit && export.stopped(rt) {
-        pool.registry().close(rt);
+    // The flusher ends once all passes have left.
+    for _ in started..server.options.workers {
+        if let Some((_slot, pass)) = server.pool.take_pass(server.rt) {
+            server.pool.retire(server.rt, server.export, pass);
+        }
     }
+    started > 0
 }
 
-fn checkpoint<B: ExportName, D: Disk, H: ReadBeside, R: Wait + Clock, G: SyncPoints + Copy>(
-    rt: &R,
-    export: &Export<B, D, H>,
-    mut watch: G,
-) {
-    export.checkpointer(rt, &mut watch);
+// Starts a thread for a task; whether there is one.
+fn start<'s, E, B, D, H, R, G>(
+    scope: &Scope<'s, E>,
+    server: &'s Server<'s, B, D, H, R, G>,
+    task: Task,
+) -> bool
+where
+    B: ExportName + Send + Sync + 's,
+    D: Disk + Send + 's,
+    H: ReadBeside + Send + Sync + 's,
+    R: Wait + Clock + Sync + 's,
+    G: SyncPoints + Log + Copy + Send + Sync + 's,
+{
+    scope.spawn(move || server.run(task)).is_ok()
 }

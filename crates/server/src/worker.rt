@@ -7,7 +7,7 @@ use crate::log::{Event, Log, Traffic};
 use crate::request_handler::RequestHandler;
 use disk_model::Disk;
 use export::{Export, ExportName, ReadBeside, RetiredPass, SyncPoints};
-use front_end::{Limits, ServeOptions};
+use front_end::{OnFault, ServeOptions};
 use marks::Pass;
 use negotiation::End;
 use session::serve_session;
@@ -15,11 +15,6 @@ use std::alloc::Global;
 use std::cell::Cell;
 use std::rt::Clock;
 use std::sync::{Arc, Mutex, Wait};
-use std::thread;
-use std::time::Duration;
-
-// For so many milliseconds a worker waits before the next client, where one couldn't be accepted.
-const PAUSE: u64 = 10;
 
 // How many sessions may still begin.
 #[derive(Drop)]
@@ -56,23 +51,21 @@ pub(crate) struct WorkerPool<'a, B: ExportName> {
     // That of the end, which the others join.
     last: Mutex<RetiredPass<B>>,
     sessions: Mutex<Sessions>,
-    limits: Limits,
-    workers: u32,
 }
 
 impl<'a, B: ExportName> WorkerPool<'a, B> {
+    /// For so many sessions; 0 for no end.
     pub(crate) fn new(
         alloc: Global,
         registry: &'a ClientRegistry,
         passes: Vec<Pass<B>>,
         last: RetiredPass<B>,
-        options: &ServeOptions,
+        sessions: u64,
     ) -> WorkerPool<'a, B> {
-        let limits = options.limits;
-        let sessions = if limits.sessions == 0 {
+        let sessions = if sessions == 0 {
             Sessions::Endless
         } else {
-            Sessions::Left(limits.sessions)
+            Sessions::Left(sessions)
         };
         WorkerPool {
             alloc,
@@ -80,21 +73,16 @@ impl<'a, B: ExportName> WorkerPool<'a, B> {
             passes: Mutex::new(passes),
             last: Mutex::new(last),
             sessions: Mutex::new(sessions),
-            limits,
-            workers: options.workers,
         }
-    }
-
-    /// Where the clients are.
-    pub(crate) fn registry(&self) -> &ClientRegistry {
-        self.registry
     }
 
     /// A pass that no worker has yet, and the slot for its clients.
     pub(crate) fn take_pass<R: Wait>(&self, rt: &R) -> Option<(usize, Pass<B>)> {
         let mut passes = self.passes.lock(rt);
-        let pass = passes.pop()?;
-        Some((passes.len(), pass))
+        match passes.pop() {
+            Some(pass) => Some((passes.len(), pass)),
+            None => None,
+        }
     }
 
     /// Takes a pass for good.
@@ -119,107 +107,137 @@ impl<'a, B: ExportName> WorkerPool<'a, B> {
     }
 }
 
-/// Serves one client after another in a slot of the registry, until that is closed or no session may begin any more. A session that
-/// ends by a refusal, and a client that couldn't be accepted, count, and are no end.
-pub(crate) fn worker<
-    B: ExportName,
-    D: Disk,
-    H: ReadBeside,
-    R: Wait + Clock,
-    G: SyncPoints + Log + Copy,
->(rt: &R, pool: &WorkerPool<'_, B>, export: &Export<B, D, H>, watch: G) {
-    let Some((slot, mut pass)) = pool.take_pass(rt) else {
-        return;
-    };
-    let registry = pool.registry;
-    for _ in rt.forever() {
-        if registry.is_closed() || !pool.begin(rt) {
-            break;
-        }
-        match registry.accept() {
-            Ok(client) => receive(rt, pool, export, slot, &mut pass, client, watch),
-            // The client has gone, too many files are open, or the registry is closed.
-            Err(_) if !registry.is_closed() => thread::sleep(rt, Duration::from_millis(PAUSE)),
-            Err(_) => break,
-        }
-    }
-    pool.retire(rt, export, pass);
+// What a session tells while it lasts: what was asked for, and whether what is written are replies.
+#[derive(Drop)]
+struct Told {
+    traffic: Cell<Traffic>,
+    is_replying: Cell<bool>,
 }
 
-// Serves a client in a slot, and stores what is pending before the client is let go.
-fn receive<B: ExportName, D: Disk, H: ReadBeside, R: Wait + Clock, G: SyncPoints + Log + Copy>(
-    rt: &R,
-    pool: &WorkerPool<'_, B>,
-    export: &Export<B, D, H>,
-    slot: usize,
-    pass: &mut Pass<B>,
-    client: Client,
-    watch: G,
-) {
-    let registry = pool.registry;
-    let Ok(client) = Arc::new(pool.alloc, client) else {
-        return;
-    };
-    let Ok(served) = Arc::try_clone(&client) else {
-        return;
-    };
-    let Some(number) = registry.enter(rt, slot, served) else {
-        return;
-    };
-    watch.note(Event::Came {
-        client: number,
-        from: &client,
-    });
-    if registry.is_full(rt) {
-        watch.note(Event::Full {
-            workers: pool.workers,
+/// What a thread of a server does.
+#[derive(Clone, Copy)]
+pub(crate) enum Task {
+    Flush,
+    Checkpoint,
+    Work,
+}
+
+/// What the threads of a server have in common.
+#[derive(Drop)]
+pub(crate) struct Server<'a, B: ExportName, D: Disk, H: ReadBeside, R, G> {
+    pub rt: &'a R,
+    pub pool: &'a WorkerPool<'a, B>,
+    pub export: &'a Export<B, D, H>,
+    pub options: ServeOptions,
+    pub watch: G,
+}
+
+impl<'a, B: ExportName, D: Disk, H: ReadBeside, R: Wait + Clock, G: SyncPoints + Log + Copy> Server<
+    'a,
+    B,
+    D,
+    H,
+    R,
+    G,
+> {
+    /// Does a task to its end.
+    pub(crate) fn run(&self, task: Task) {
+        let mut watch = self.watch;
+        match task {
+            Task::Flush => {
+                self.export.flusher(self.rt, &mut watch);
+                // Once a call of the device has failed, the sessions are ended where the server isn't to stay.
+                if self.options.on_fault == OnFault::Exit && self.export.stopped(self.rt) {
+                    self.pool.registry.close(self.rt);
+                }
+            }
+            Task::Checkpoint => self.export.checkpointer(self.rt, &mut watch),
+            Task::Work => self.work(),
+        }
+    }
+
+    // Serves one client after another in a slot of the registry, until that is closed or no session may begin any more. A session
+    // that ends by a refusal, and a client that couldn't be accepted, count, and are no end.
+    fn work(&self) {
+        let Some((slot, mut pass)) = self.pool.take_pass(self.rt) else {
+            return;
+        };
+        let registry = self.pool.registry;
+        for _ in self.rt.forever() {
+            if registry.is_closed() || !self.pool.begin(self.rt) {
+                break;
+            }
+            if let Some(client) = registry.accept(self.rt) {
+                self.receive(slot, &mut pass, client);
+            }
+        }
+        self.pool.retire(self.rt, self.export, pass);
+    }
+
+    // Serves a client in a slot, and stores what is pending before the client is let go.
+    fn receive(&self, slot: usize, pass: &mut Pass<B>, client: Client) {
+        let registry = self.pool.registry;
+        let Some((client, number)) = registry.admit(self.rt, self.pool.alloc, slot, client) else {
+            return;
+        };
+        self.watch.note(Event::Came {
+            client: number,
+            from: &client,
         });
+        if registry.is_full(self.rt) {
+            self.watch.note(Event::Full {
+                workers: self.options.workers,
+            });
+        }
+        let told = Told {
+            traffic: Cell::new(Traffic {
+                requests: 0,
+                bytes_read: 0,
+                bytes_written: 0,
+            }),
+            is_replying: Cell::new(false),
+        };
+        let end = self.serve_client(pass, &client, number, &told);
+        let _settled = self.export.settle(self.rt, pass);
+        self.watch.note(Event::Left {
+            client: number,
+            end,
+            traffic: told.traffic.get(),
+        });
+        registry.leave(self.rt, slot);
     }
-    let traffic = Cell::new(Traffic::none());
-    let end = serve_client(rt, pool, export, pass, &client, number, &traffic, watch);
-    let _settled = export.settle(rt, pass);
-    watch.note(Event::Left {
-        client: number,
-        end,
-        traffic: traffic.get(),
-    });
-    registry.leave(rt, slot);
-}
 
-// Serves a client from the first byte to the last.
-fn serve_client<B: ExportName, D: Disk, H: ReadBeside, R: Wait + Clock, G: SyncPoints + Log + Copy>(
-    rt: &R,
-    pool: &WorkerPool<'_, B>,
-    export: &Export<B, D, H>,
-    pass: &mut Pass<B>,
-    client: &Client,
-    number: u64,
-    traffic: &Cell<Traffic>,
-    watch: G,
-) -> Result<(), End> {
-    let Ok(()) = client.limit_wait(pool.limits.handshake()) else {
-        return Err(End::IoFault);
-    };
-    let is_replying = Cell::new(false);
-    let handler = RequestHandler {
-        rt,
-        export,
-        client,
-        number,
-        traffic,
-        log: watch,
-        idle_limit: pool.limits.idle(),
-        is_replying: &is_replying,
-    };
-    let mut points = watch;
-    let mut output = WatchedOutput {
-        inner: Output(client),
-        is_replying: &is_replying,
-        points: &mut points,
-    };
-    let mut input = Input {
-        client,
-        registry: pool.registry,
-    };
-    serve_session(pool.alloc, &mut input, &mut output, &handler, pass)
+    // Serves a client from the first byte to the last.
+    fn serve_client(
+        &self,
+        pass: &mut Pass<B>,
+        client: &Client,
+        number: u64,
+        told: &Told,
+    ) -> Result<(), End> {
+        let limits = self.options.limits;
+        let Ok(()) = client.limit_wait(limits.handshake()) else {
+            return Err(End::IoFault);
+        };
+        let handler = RequestHandler {
+            rt: self.rt,
+            export: self.export,
+            client,
+            number,
+            traffic: &told.traffic,
+            log: self.watch,
+            idle_limit: limits.idle(),
+            is_replying: &told.is_replying,
+        };
+        let mut output = WatchedOutput {
+            inner: Output(client),
+            is_replying: &told.is_replying,
+            points: self.watch,
+        };
+        let mut input = Input {
+            client,
+            registry: self.pool.registry,
+        };
+        serve_session(self.pool.alloc, &mut input, &mut output, &handler, pass)
+    }
 }

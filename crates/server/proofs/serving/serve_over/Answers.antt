@@ -3,28 +3,30 @@ use Rattle.export.specs.Left.{LeavesHistory}
 use Rattle.server.proofs.Served.{from_start, on_ok, reaching}
 use Rattle.server.proofs.serving.serve_over.Goals as goal
 
-pub returns-after-pending-clause-left : goal.returns-after-pending-clause-left
-returns-after-pending-clause-left g c = λ sure.
+pub returns-in-Ok-clause-left : goal.returns-in-Ok-clause-left
+returns-in-Ok-clause-left g c = λ sure.
     let pass = c.close-disk.new.pass in
     (pass.history, reaching g.B.ImageName.start (g.D.Disk.state c.close-disk.result.0) g.B.BoardName.opening g.B.ImageName.image pass.history pass.durable g.B.BoardName.opening (λ content is. omega arith) (c.close-disk.ensures.left sure))
 
-pub returns-after-pending-clause-stored : goal.returns-after-pending-clause-stored
-returns-after-pending-clause-stored g c = on_ok c.end_of.result c.end_of.ensures.stored (λ stored sure.
+pub returns-in-Ok-clause-stored : goal.returns-in-Ok-clause-stored
+returns-in-Ok-clause-stored g c = on_ok c.end_of.result c.end_of.ensures.stored (λ stored sure.
     let pass = c.close-disk.new.pass in let all = c.close-disk.ensures.stored.0 stored in (
       pass.history,
       reaching g.B.ImageName.start (g.D.Disk.state c.close-disk.result.0) g.B.BoardName.opening g.B.ImageName.image pass.history pass.durable (g.B.BoardName.opening + length pass.history)
           (λ content is. let reaches = is.reaches in omega (arith, reaches, all)) (c.close-disk.ensures.left sure),
     ))
 
-pub returns-in-Err-clause-left : goal.returns-in-Err-clause-left
-returns-in-Err-clause-left g c = λ sure.
-    let keeper = c.args.device.keeper in
-    let law = c.opened_device_law.ensures.history keeper g.B.ImageName.image (c.requires.trusted sure) c.args.device.recovered in
-    let left = from_start g.B.ImageName.start (g.D.Disk.state keeper.disk) g.B.BoardName.opening keeper.count g.B.ImageName.image (sym c.requires.named ∙ c.args.device.opening) (c.requires.start sure) law in
-    ([], subst (λ (d : g.row.D.Denot). LeavesHistory g.B.ImageName.start (g.D.Disk.state d) g.B.BoardName.opening g.B.ImageName.image [] g.B.BoardName.opening) (sym c.in-Err.ensures.back) left)
+pub returns-in-Ok-clause-honest : goal.returns-in-Ok-clause-honest
+returns-in-Ok-clause-honest g c = c.close-disk.ensures.honest
 
-pub returns-after-pending-clause-honest : goal.returns-after-pending-clause-honest
-returns-after-pending-clause-honest g c = c.close-disk.ensures.honest
-
-pub returns-in-Err-clause-honest : goal.returns-in-Err-clause-honest
-returns-in-Err-clause-honest g c = λ sure. subst g.D.Disk.honest (sym c.in-Err.ensures.back) (c.requires.trusted sure).sure
+pub returns-in-Err : goal.returns-in-Err
+returns-in-Err g c = record {
+  left = λ sure.
+      let keeper = c.args.device.keeper in
+      let law = c.opened_device_law.ensures.history keeper g.B.ImageName.image (c.requires.trusted sure) c.args.device.recovered in
+      let left = from_start g.B.ImageName.start (g.D.Disk.state keeper.disk) g.B.BoardName.opening keeper.count g.B.ImageName.image (sym c.requires.named ∙ c.args.device.opening) (c.requires.start sure) law in
+      ([], subst (λ (d : g.row.D.Denot). LeavesHistory g.B.ImageName.start (g.D.Disk.state d) g.B.BoardName.opening g.B.ImageName.image [] g.B.BoardName.opening) (sym c.in-Err.ensures.back) left);
+  stored = tt;
+  honest = λ sure. subst g.D.Disk.honest (sym c.in-Err.ensures.back) (c.requires.trusted sure).sure;
+  faults = tt;
+}
