@@ -78,24 +78,48 @@ fn listen<R: Threads + Wait + Clock + Copy + Send + Sync + Drop + 'static>(
     address: Address<'_>,
     options: ServeOptions,
 ) -> Result<(), Refusal> {
+    let listener = open_socket(rt, teller, address)?;
+    let input = rt.stdin();
+    let (outcome, _disk) = serve(
+        threads,
+        rt.alloc(),
+        device,
+        listener,
+        input,
+        options,
+        teller,
+    );
+    if let Address::Unix(path) = address {
+        // Where it can't be removed, the next server replaces it.
+        let _ = fs::remove_file(rt, path);
+    }
+    outcome
+}
+
+// A socket at an address, once it is said where it listens.
+fn open_socket(
+    rt: &HostRuntime,
+    teller: Teller,
+    address: Address<'_>,
+) -> Result<Listener, Refusal> {
     match address {
-        Address::Tcp(address) => {
-            let (listener, port) = match bind_tcp(rt, address) {
-                Ok(bound) => bound,
-                Err(error) => return Err(no_socket(teller, address, &error)),
-            };
-            serve_clients(rt, threads, teller, device, listener, port, options)
-        }
-        Address::Unix(path) => {
-            let listener = match bind_unix(rt, path) {
-                Ok(listener) => listener,
-                Err(error) => return Err(no_socket(teller, path, &error)),
-            };
-            let outcome = serve_clients(rt, threads, teller, device, listener, path, options);
-            // Where it can't be removed, the next server replaces it.
-            let _ = fs::remove_file(rt, path);
-            outcome
-        }
+        Address::Tcp(address) => match bind_tcp(rt, address) {
+            Ok((listener, port)) => match tell(rt, port) {
+                Ok(()) => Ok(listener),
+                Err(_) => Err(Refusal::StreamFault),
+            },
+            Err(error) => Err(no_socket(teller, address, &error)),
+        },
+        Address::Unix(path) => match bind_unix(rt, path) {
+            Ok(listener) => match tell(rt, path) {
+                Ok(()) => Ok(listener),
+                Err(_) => {
+                    let _ = fs::remove_file(rt, path);
+                    Err(Refusal::StreamFault)
+                }
+            },
+            Err(error) => Err(no_socket(teller, path, &error)),
+        },
     }
 }
 
@@ -156,34 +180,8 @@ fn is_abandoned(rt: &HostRuntime, path: &str) -> bool {
     }
 }
 
-// Says where it listens, and serves the clients that arrive there.
-fn serve_clients<
-    T: Display + Drop,
-    R: Threads + Wait + Clock + Copy + Send + Sync + Drop + 'static,
->(
-    rt: &HostRuntime,
-    threads: &R,
-    teller: Teller,
-    device: OpenDevice<FileDisk<ToldFile<'_, File>>, SecondHandle>,
-    listener: Listener,
-    label: T,
-    options: ServeOptions,
-) -> Result<(), Refusal> {
-    tell(rt, &label).map_err(|_| Refusal::StreamFault)?;
-    let input = rt.stdin();
-    let (outcome, _disk) = serve(
-        threads,
-        rt.alloc(),
-        device,
-        listener,
-        input,
-        options,
-        teller,
-    );
-    outcome
-}
-
-fn tell<T: Display>(rt: &HostRuntime, label: &T) -> io::Result<()> {
+// Says where it listens.
+fn tell<T: Display + Drop>(rt: &HostRuntime, label: T) -> io::Result<()> {
     let mut output = io::writer(rt);
     writeln!(output, "listening {label}")?;
     output.flush()
