@@ -147,11 +147,13 @@ fn crash(operands: &[&str]) -> Option<Line> {
 
 // How a device is made, by the words behind its sizes.
 fn ways_of(words: &[&str]) -> Option<(Mode, Layout)> {
+    let (mode, words) = match words {
+        ["writethrough", rest @ ..] => (Mode::Writethrough, rest),
+        _ => (Mode::Writeback, words),
+    };
     match words {
-        [] => Some((Mode::Writeback, Layout::One)),
-        ["writethrough"] => Some((Mode::Writethrough, Layout::One)),
-        ["layout2"] => Some((Mode::Writeback, Layout::Two)),
-        ["writethrough", "layout2"] => Some((Mode::Writethrough, Layout::Two)),
+        [] => Some((mode, Layout::One)),
+        ["layout2"] => Some((mode, Layout::Two)),
         _ => None,
     }
 }
@@ -265,18 +267,33 @@ fn format(operands: &[&str]) -> Option<Line> {
         return None;
     };
     let (mode, layout) = ways_of(ways)?;
-    let area = u32::try_from(number_of(area)?).ok()?;
-    let geometry = Geometry::new(number_of(blocks)?, area)?;
-    let frames = number_of(frames)?;
-    if !(LEAST_FRAMES..=MOST_FRAMES).contains(&frames) {
-        return None;
-    }
+    let geometry = geometry_of(blocks, area)?;
+    let frames = frames_of(frames)?;
     Some(Line::Format(Setup {
         geometry,
         layout,
-        frames: frames as u32,
+        frames,
         mode,
     }))
+}
+
+// The sizes of a device, in layout 1.
+fn geometry_of(blocks: &str, area: &str) -> Option<Geometry>
+    ensures { IfSome result (λ geometry. geometry.layout ≡ Layout.One) }
+{
+    let area = u32::try_from(number_of(area)?).ok()?;
+    Geometry::new(number_of(blocks)?, area)
+}
+
+// The most blocks that may wait for the checkpoint.
+fn frames_of(word: &str) -> Option<u32>
+    ensures { IfSome result (λ frames. frames ≤ 65536) }
+{
+    let frames = number_of(word)?;
+    if !(LEAST_FRAMES..=MOST_FRAMES).contains(&frames) {
+        return None;
+    }
+    Some(frames as u32)
 }
 
 // A WRITE, if it isn't longer than what a server reads.
@@ -291,24 +308,28 @@ fn put(connection: usize, range: Option<Range>, byte: &str) -> Option<StepLine> 
 
 // A range of whole blocks.
 fn blocks_of(first: &str, blocks: &str, fua: bool) -> Option<Range> {
-    let offset = number_of(first)?.checked_mul(BLOCK_BYTES)?;
-    let length = number_of(blocks)?.checked_mul(BLOCK_BYTES)?;
-    ranging(offset, length, fua)
+    range_of(first, blocks, BLOCK_BYTES, fua)
 }
 
 // A range of bytes.
 fn bytes_of(offset: &str, length: &str, fua: bool) -> Option<Range> {
-    ranging(number_of(offset)?, number_of(length)?, fua)
+    range_of(offset, length, 1, fua)
 }
 
-// The range, if its length has 32 bits.
-fn ranging(offset: u64, length: u64, fua: bool) -> Option<Range> {
-    let length = u32::try_from(length).ok()?;
+// The range from a place on, both in units of so many bytes, if its length has 32 bits.
+fn range_of(from: &str, count: &str, unit: u64, fua: bool) -> Option<Range> {
+    let offset = scaled(from, unit)?;
+    let length = u32::try_from(scaled(count, unit)?).ok()?;
     Some(Range {
         offset,
         length,
         fua,
     })
+}
+
+// The bytes of so many units.
+fn scaled(count: &str, unit: u64) -> Option<u64> {
+    number_of(count)?.checked_mul(unit)
 }
 
 // A number in decimal digits, without a sign.
