@@ -29,3 +29,28 @@ returns-in-Err-new-clause-dialog g c = inl (record {
             (starved_opening g.D.Disk.state c.in-Ok.keeper (g.D.Disk.state c.args.disk) content opening),
       );
 })
+
+pub returns-in-Ok-new-clause-extent : goal.returns-in-Ok-new-clause-extent
+returns-in-Ok-new-clause-extent g c = c.pipe_over.ensures.extent ∙ c.in-Ok.ensures.extent
+
+pub returns-in-Ok-new-clause-honest : goal.returns-in-Ok-new-clause-honest
+returns-in-Ok-new-clause-honest g c = (λ is. c.in-Ok.ensures.honest.0 (c.pipe_over.ensures.honest.0 is), λ is. c.pipe_over.ensures.honest.1 (c.in-Ok.ensures.honest.1 is))
+
+pub returns-in-Err-new-clause-extent : goal.returns-in-Err-new-clause-extent
+returns-in-Err-new-clause-extent g c = ap g.D.Disk.extent c.into_disk.ensures ∙ c.in-Ok.ensures.extent
+
+pub returns-in-Err-clause-extent : goal.returns-in-Err-clause-extent
+returns-in-Err-clause-extent g c = c.in-Err.ensures.extent
+
+pub returns-in-Err-clause-honest : goal.returns-in-Err-clause-honest
+returns-in-Err-clause-honest g c = c.in-Err.ensures.honest
+
+pub returns-in-Err-clause-dialog : goal.returns-in-Err-clause-dialog
+returns-in-Err-clause-dialog g c = inl (record {
+  unread = keeps_same (g.R.Read.remaining c.args.input.now);
+  unwritten = keeps_same (g.W.Write.contents c.args.output.now);
+  fault = c.in-Err.fault;
+  told = ap Err c.from.ensures;
+  counted = c.in-Err.ensures.faults;
+  found = c.in-Err.ensures.found;
+})

@@ -221,3 +221,30 @@ returns-in-Ended-clause-extent g c = ap (λ x. g.D.Disk.extent x.keeper.disk) c.
 
 pub returns-in-Ended-clause-honest : goal.returns-in-Ended-clause-honest
 returns-in-Ended-clause-honest g c = subst (λ x. g.D.Disk.honest x.keeper.disk ↔ g.D.Disk.honest c.args.self.now.export.keeper.disk) (sym c.write_replies.ensures.same) (λ is. c.loop.invariant.honest.0 (c.take-flow.ensures.honest.0 is), λ is. c.take-flow.ensures.honest.1 (c.loop.invariant.honest.1 is))
+
+pub returns-in_err-count-clause-group : goal.returns-in_err-count-clause-group
+returns-in_err-count-clause-group g c = c.loop.invariant.group
+
+pub returns-in_err-count-clause-extent : goal.returns-in_err-count-clause-extent
+returns-in_err-count-clause-extent g c = c.loop.invariant.extent
+
+pub returns-in_err-count-clause-honest : goal.returns-in_err-count-clause-honest
+returns-in_err-count-clause-honest g c = c.loop.invariant.honest
+
+pub returns-then-count-eq0-clause-group : goal.returns-then-count-eq0-clause-group
+returns-then-count-eq0-clause-group g c = c.loop.invariant.group
+
+pub returns-then-count-eq0-clause-extent : goal.returns-then-count-eq0-clause-extent
+returns-then-count-eq0-clause-extent g c = c.loop.invariant.extent
+
+pub returns-then-count-eq0-clause-honest : goal.returns-then-count-eq0-clause-honest
+returns-then-count-eq0-clause-honest g c = c.loop.invariant.honest
+
+pub returns-clause-group : goal.returns-clause-group
+returns-clause-group g c = c.loop.invariant.group
+
+pub returns-clause-extent : goal.returns-clause-extent
+returns-clause-extent g c = c.loop.invariant.extent
+
+pub returns-clause-honest : goal.returns-clause-honest
+returns-clause-honest g c = c.loop.invariant.honest

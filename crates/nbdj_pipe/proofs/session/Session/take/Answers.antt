@@ -1,4 +1,4 @@
-use Rattle.std.proofs.Common.{subst, List, ℕ, [], Ok}
+use Rattle.std.proofs.Common.{subst, List, ℕ, [], Ok, ◌∙◌}
 use Rattle.std.proofs.lemmas.List.{append-nil}
 use Rattle.nbdj_pipe.specs.inner.Session.{Runs, Takes}
 use Rattle.nbdj_pipe.specs.declared.session.Flow.{Flow}
@@ -32,3 +32,30 @@ pub returns-in-Open-clause-is_open : goal.returns-in-Open-clause-is_open
 returns-in-Open-clause-is_open g c =
     stays_open c.one_reading.ensures.one c.one_reading.ensures.first c.args.reader.now c.take_whole.new.reader c.take_whole-in-Open.new.reader c.args.piece.now
     c.in_ok-take_whole.ensures.takes.requests c.take_whole-in-Open.result c.in_ok-take_whole.ensures.takes.reads c.take_whole-in-Open.ensures.is_open
+
+pub returns-in_err-take_whole-clause-group : goal.returns-in_err-take_whole-clause-group
+returns-in_err-take_whole-clause-group g c = c.take_whole.ensures.group
+
+pub returns-in_err-take_whole-clause-extent : goal.returns-in_err-take_whole-clause-extent
+returns-in_err-take_whole-clause-extent g c = c.take_whole.ensures.extent
+
+pub returns-in_err-take_whole-clause-honest : goal.returns-in_err-take_whole-clause-honest
+returns-in_err-take_whole-clause-honest g c = c.take_whole.ensures.honest
+
+pub returns-in-Ended-clause-group : goal.returns-in-Ended-clause-group
+returns-in-Ended-clause-group g c = c.take_whole.ensures.group
+
+pub returns-in-Ended-clause-extent : goal.returns-in-Ended-clause-extent
+returns-in-Ended-clause-extent g c = c.take_whole.ensures.extent
+
+pub returns-in-Ended-clause-honest : goal.returns-in-Ended-clause-honest
+returns-in-Ended-clause-honest g c = c.take_whole.ensures.honest
+
+pub returns-in-Open-clause-group : goal.returns-in-Open-clause-group
+returns-in-Open-clause-group g c = c.take_whole-in-Open.ensures.group
+
+pub returns-in-Open-clause-extent : goal.returns-in-Open-clause-extent
+returns-in-Open-clause-extent g c = c.take_whole-in-Open.ensures.extent ∙ c.take_whole.ensures.extent
+
+pub returns-in-Open-clause-honest : goal.returns-in-Open-clause-honest
+returns-in-Open-clause-honest g c = (λ is. c.take_whole.ensures.honest.0 (c.take_whole-in-Open.ensures.honest.0 is), λ is. c.take_whole-in-Open.ensures.honest.1 (c.take_whole.ensures.honest.1 is))

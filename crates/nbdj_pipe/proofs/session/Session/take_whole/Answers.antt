@@ -136,3 +136,39 @@ loop-request-init g c =
       no_disc = tt;
       runs = runs_none disk.state disk.faults disk.honest c.leads_law.ensures a.order a.keeper a.connections;
     }
+
+pub returns-in_err-requests-clause-group : goal.returns-in_err-requests-clause-group
+returns-in_err-requests-clause-group g c = c.requires.group
+
+pub returns-in_err-requests-clause-extent : goal.returns-in_err-requests-clause-extent
+returns-in_err-requests-clause-extent g c = refl
+
+pub returns-in_err-requests-clause-honest : goal.returns-in_err-requests-clause-honest
+returns-in_err-requests-clause-honest g c = (λ is. is, λ is. is)
+
+pub returns-in_err-serve-clause-group : goal.returns-in_err-serve-clause-group
+returns-in_err-serve-clause-group g c = c.serve.ensures.group
+
+pub returns-in_err-serve-clause-extent : goal.returns-in_err-serve-clause-extent
+returns-in_err-serve-clause-extent g c = c.serve.ensures.extent ∙ c.loop-request.invariant.extent
+
+pub returns-in_err-serve-clause-honest : goal.returns-in_err-serve-clause-honest
+returns-in_err-serve-clause-honest g c = (λ is. c.loop-request.invariant.honest.0 (c.serve.ensures.honest.0 is), λ is. c.serve.ensures.honest.1 (c.loop-request.invariant.honest.1 is))
+
+pub returns-in-Ended-clause-group : goal.returns-in-Ended-clause-group
+returns-in-Ended-clause-group g c = c.serve.ensures.group
+
+pub returns-in-Ended-clause-extent : goal.returns-in-Ended-clause-extent
+returns-in-Ended-clause-extent g c = c.serve.ensures.extent ∙ c.loop-request.invariant.extent
+
+pub returns-in-Ended-clause-honest : goal.returns-in-Ended-clause-honest
+returns-in-Ended-clause-honest g c = (λ is. c.loop-request.invariant.honest.0 (c.serve.ensures.honest.0 is), λ is. c.serve.ensures.honest.1 (c.loop-request.invariant.honest.1 is))
+
+pub returns-clause-group : goal.returns-clause-group
+returns-clause-group g c = c.loop-request.invariant.group
+
+pub returns-clause-extent : goal.returns-clause-extent
+returns-clause-extent g c = c.loop-request.invariant.extent
+
+pub returns-clause-honest : goal.returns-clause-honest
+returns-clause-honest g c = c.loop-request.invariant.honest
