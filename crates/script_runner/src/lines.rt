@@ -74,12 +74,21 @@ impl Schedule {
     pub fn read<R: Read>(alloc: Global, input: &mut R) -> Result<Schedule, End> {
         let mut lines = Lines::new(alloc, input)?;
         let setup = lines.setup(alloc)?;
-        let mut lives = Vec::new(alloc);
-        let mut steps = Vec::new(alloc);
-        gather(alloc, &mut lines, &mut lives, &mut steps)?;
-        keep(&mut lives, steps)?;
+        let lives = lives_of(alloc, &mut lines)?;
         Ok(Schedule { setup, lives })
     }
+}
+
+// Reads the lines to their end: the steps of each life.
+fn lives_of<R: Read + Drop>(
+    alloc: Global,
+    lines: &mut Lines<R>,
+) -> Result<Vec<Vec<StepLine>>, End> {
+    let mut lives = Vec::new(alloc);
+    let mut steps = Vec::new(alloc);
+    gather(alloc, lines, &mut lives, &mut steps)?;
+    keep(&mut lives, steps)?;
+    Ok(lives)
 }
 
 // Reads the lines to their end: the steps of each life but the last, and those of the last.

@@ -155,13 +155,8 @@ impl Course {
         let Ok(mut life) = Life::<B, SimDisk>::begin(alloc, blank, keeper, setup) else {
             return Err(failed(KeeperFault::NoMemory, output));
         };
-        match carry_out_all(alloc, &mut life, count, &found, &mut hand, lines, output) {
-            Ok(way) => over(alloc, life, setup, hand, way, output),
-            Err(end) => {
-                let _ended = life.end();
-                Err(end)
-            }
-        }
+        let way = carry_out_all(alloc, &mut life, count, &found, &mut hand, lines, output);
+        over(alloc, life, setup, hand, way, output)
     }
 }
 
@@ -252,7 +247,7 @@ fn over<B: BoardName, W: Write>(
     life: Life<B, SimDisk>,
     setup: Setup,
     hand: Hand,
-    way: Option<Way>,
+    way: Result<Option<Way>, End>,
     output: &mut W,
 ) -> Result<Option<Course>, End>
     ensures { IfOk result (λ next. IfSome next (λ next. (world : World) → IsLifeOf ⟦<SimDisk as Disk>⟧.state ⟦<SimDisk as Disk>⟧.faults ⟦<SimDisk as Disk>⟧.honest world life.order life.keeper life.bench
@@ -260,7 +255,7 @@ fn over<B: BoardName, W: Write>(
 {
     next_life_law::<SimDisk>();
     let (disk, _log) = life.end();
-    let Some(way) = way else {
+    let Some(way) = way? else {
         return Ok(None);
     };
     let (keeper, runs) = open_after(alloc, disk, hand.armed, way, output)?;

@@ -98,7 +98,7 @@ pub struct Filling {
 }
 
 /// By which request bytes are made zero.
-#[derive(Clone, Copy, PartialEq, Eq)]
+#[derive(Clone, Copy)]
 pub enum Clearing {
     /// A TRIM.
     Trim,
@@ -167,19 +167,26 @@ fn step_of(word: &str, operands: &[&str]) -> Option<StepLine> {
     }
 }
 
+// The steps of one word.
+const ALONE: [(&str, StepLine); 8] = [
+    ("seal", StepLine::Seal),
+    ("append", StepLine::Append),
+    ("publish", StepLine::Publish),
+    ("rotate", StepLine::Rotate),
+    ("copy", StepLine::Copy(1)),
+    ("map", StepLine::Map),
+    ("finish", StepLine::Finish),
+    ("clean", StepLine::Clean),
+];
+
 // A step of one word.
 fn step_alone(word: &str) -> Option<StepLine> {
-    match word {
-        "seal" => Some(StepLine::Seal),
-        "append" => Some(StepLine::Append),
-        "publish" => Some(StepLine::Publish),
-        "rotate" => Some(StepLine::Rotate),
-        "copy" => Some(StepLine::Copy(1)),
-        "map" => Some(StepLine::Map),
-        "finish" => Some(StepLine::Finish),
-        "clean" => Some(StepLine::Clean),
-        _ => None,
+    for (name, step) in &ALONE {
+        if *name == word {
+            return Some(*step);
+        }
     }
+    None
 }
 
 // A step of a connection, or so many copies.
