@@ -82,6 +82,21 @@ struct Open {
     before: u64,
 }
 
+impl Open {
+    // Its command got the place behind those that these edits ask for.
+    fn numbered(
+        &mut self,
+        alloc: Global,
+        log: &[Event],
+        edits: &mut Vec<Edit>,
+    ) -> Result<(), AllocError> {
+        if let Some(edit) = edit_at(alloc, log, self.place)? {
+            self.number = append(edits, edit)?;
+        }
+        Ok(())
+    }
+}
+
 // The logs of a device's lives, which are read from the first one's beginning.
 struct Reading {
     mode: Mode,
@@ -181,13 +196,10 @@ impl Reading {
         connection: usize,
         log: &[Event],
     ) -> Result<(), AllocError> {
-        let Some(Some(open)) = self.open.get_mut(connection) else {
-            return Ok(());
-        };
-        if let Some(edit) = edit_at(alloc, log, open.place)? {
-            open.number = append(&mut self.edits, edit)?;
+        match self.open.get_mut(connection) {
+            Some(Some(open)) => open.numbered(alloc, log, &mut self.edits),
+            _ => Ok(()),
         }
-        Ok(())
     }
 
     // A connection was answered Ok, without bytes or states.

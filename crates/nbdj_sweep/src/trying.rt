@@ -118,20 +118,28 @@ fn fail_everywhere<R: Read, W: Write>(
     output: &mut W,
 ) -> Result<(), End> {
     let (mut trial, work) = begin(alloc, input, output)?;
-    let reads = fail_at_each(&mut trial, work, CallKind::Read, output)?;
-    let writes = fail_at_each(&mut trial, reads.disk, CallKind::Write, output)?;
-    let syncs = fail_at_each(&mut trial, writes.disk, CallKind::Sync, output)?;
+    let (reads, writes, syncs) = fail_each_kind(&mut trial, work, output)?;
+    print_counts(
+        &[("reads", reads), ("writes", writes), ("syncs", syncs)],
+        output,
+    )
+}
+
+// Lets each call of each kind fail in turn. How many reads, writes and syncs there were, where all was right.
+fn fail_each_kind<W: Write>(
+    trial: &mut Trial,
+    work: SimDisk,
+    output: &mut W,
+) -> Result<(u64, u64, u64), End>
+    requires { ⟦<SimDisk as Disk>⟧.extent work ≡ ⟦<SimDisk as Disk>⟧.extent trial.old.fresh }
+{
+    let reads = fail_at_each(trial, work, CallKind::Read, output)?;
+    let writes = fail_at_each(trial, reads.disk, CallKind::Write, output)?;
+    let syncs = fail_at_each(trial, writes.disk, CallKind::Sync, output)?;
     if !(reads.right && writes.right && syncs.right) {
         return Err(End::Printed);
     }
-    print_counts(
-        &[
-            ("reads", reads.calls),
-            ("writes", writes.calls),
-            ("syncs", syncs.calls),
-        ],
-        output,
-    )
+    Ok((reads.calls, writes.calls, syncs.calls))
 }
 
 // Reads a script to its end, and makes its device and one on which it can be run.
