@@ -86,11 +86,13 @@ plain_rows app (row ∷ rows) = plain_rows (with_rule app (rule_of_row row)) row
 
 -- ---- one more row of a table
 
-pub argument_added : (above next : Command) (arg : Arg) (whole : App) (rows : List ArgumentRow) (i : ℕ) (row : ArgumentRow) → i < length rows
-    → with_rows (app_of above) (drop i rows) ≡ whole → (arg.global ≡ false) × (rule_of arg ≡ rule_of_row (get_or rows i row)) → AddsArg above arg next
-    → with_rows (app_of next) (drop (i + 1) rows) ≡ whole
-argument_added above next arg whole rows i row inside so_far is adds =
-    let grown : app_of next ≡ with_rule (app_of above) (rule_of_row (get_or rows i row)) = adds.shape is.0 ∙ ap (with_rule (app_of above)) is.1 in
+pub argument_added : (above : Command) (made : Result Command AllocError) (arg : Arg) (row : ArgumentRow) → (arg.global ≡ false) × (rule_of arg ≡ rule_of_row row) → IfOk made (AddsArg above arg)
+    → IfOk made (λ whole. app_of whole ≡ with_rule (app_of above) (rule_of_row row))
+argument_added above made arg row is says = IfOk-weaker made _ _ (λ whole adds. adds.shape is.0 ∙ ap (with_rule (app_of above)) is.1) says
+
+pub row_added : (above next : Command) (whole : App) (rows : List ArgumentRow) (i : ℕ) (row : ArgumentRow) → i < length rows → with_rows (app_of above) (drop i rows) ≡ whole
+    → app_of next ≡ with_rule (app_of above) (rule_of_row (get_or rows i row)) → with_rows (app_of next) (drop (i + 1) rows) ≡ whole
+row_added above next whole rows i row inside so_far grown =
     ap (λ (a : App). with_rows a (drop (i + 1) rows)) grown ∙ sym (at_drop_more (with_rows (app_of above)) rows i row inside) ∙ so_far
 
 -- what is said of a value, at the Ok that has it

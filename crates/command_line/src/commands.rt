@@ -1,6 +1,7 @@
-ghost use Rattle.std.specs.Prelude.{◌≡◌, false, IfOk, IsOkAnd};
-ghost use Rattle.clap.specs.Words.{app_of, new_app, rule_of, with_subcommand};
+ghost use Rattle.std.specs.Prelude.{◌≡◌, false, Some, IfOk, IsOkAnd};
+ghost use Rattle.clap.specs.Words.{app_of, new_app, rule_of, with_rule, with_subcommand};
 ghost use Rattle.command_line.specs.Commands.{bare_app, nbdj_app};
+ghost use Rattle.clap.specs.declared.builder.action.ArgAction.TheVariants.{SetTrue};
 ghost use Rattle.clap.specs.declared.builder.value_parser.ValueParser.{ValueParser};
 ghost use Rattle.command_line.specs.Rows.{app_of_row, rule_of_form, rule_of_row};
 
@@ -63,9 +64,20 @@ pub fn subcommand<'a>(alloc: Global, row: &SubcommandRow<'a>) -> Result<Command<
 {
     let mut command = described(alloc, row);
     for argument in row.arguments {
-        command = command.arg(argument_of(alloc, argument)?)?;
+        command = with_argument(alloc, command, argument)?;
     }
     Ok(command)
+}
+
+// The command with the argument of this row too.
+fn with_argument<'a>(
+    alloc: Global,
+    command: Command<'a>,
+    row: &ArgumentRow<'a>,
+) -> Result<Command<'a>, AllocError>
+    ensures { IfOk result (λ whole. app_of whole ≡ with_rule (app_of command.entry) (rule_of_row row.now)) }
+{
+    command.arg(argument_of(alloc, row)?)
 }
 
 // A subcommand without its arguments.
@@ -140,26 +152,34 @@ fn untied<'a>(alloc: Global, row: &ArgumentRow<'a>) -> Arg<'a>
     let argument = Arg::new(alloc, row.name).help(row.help);
     match row.form {
         Form::Word(value_name) => argument.value_name(value_name).required(true),
-        Form::Flag => argument.long(row.name).action(ArgAction::SetTrue),
-        Form::ShortFlag(letter) => argument
-            .long(row.name)
-            .short(letter)
-            .action(ArgAction::SetTrue),
-        Form::Text(value_name) => argument.long(row.name).value_name(value_name),
-        Form::TextOr(value_name, usual) => argument
-            .long(row.name)
-            .value_name(value_name)
-            .default_value(usual),
-        Form::Value(value_name, values) => argument
-            .long(row.name)
-            .value_name(value_name)
-            .value_parser(values),
-        Form::ValueOr(value_name, usual, values) => argument
-            .long(row.name)
-            .value_name(value_name)
+        Form::Flag => flag(argument, row.name),
+        Form::ShortFlag(letter) => flag(argument, row.name).short(letter),
+        Form::Text(value_name) => option(argument, row.name, value_name),
+        Form::TextOr(value_name, usual) => {
+            option(argument, row.name, value_name).default_value(usual)
+        }
+        Form::Value(value_name, values) => {
+            option(argument, row.name, value_name).value_parser(values)
+        }
+        Form::ValueOr(value_name, usual, values) => option(argument, row.name, value_name)
             .default_value(usual)
             .value_parser(values),
     }
+}
+
+// The argument as an option without a value.
+fn flag<'a>(argument: Arg<'a>, name: &'a str) -> Arg<'a>
+    ensures { result ≡ record argument.entry { long = Some name.entry; action = Some SetTrue } }
+{
+    argument.long(name).action(ArgAction::SetTrue)
+}
+
+// The argument as an option with a value, which its help names so.
+fn option<'a>(argument: Arg<'a>, name: &'a str, value_name: &'a str) -> Arg<'a>
+    ensures local { result.global ≡ argument.entry.global }
+    ensures rule { rule_of result ≡ record (rule_of argument.entry) { long = Some name.now; value_names = 1 } }
+{
+    argument.long(name).value_name(value_name)
 }
 
 const PATH: ArgumentRow<'static> = ArgumentRow {

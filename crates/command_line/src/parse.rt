@@ -204,10 +204,7 @@ fn no_size(alloc: Global, option: &str, size: &str) -> Error {
     let message = format!(in alloc;
         "invalid value '{size}' for '{option}': a size is a number of bytes that fits 64 bits, or one with K, M, G or T behind it"
     );
-    match message {
-        Ok(message) => format_fault(alloc, message.as_str()),
-        Err(error) => Error::from(error),
-    }
+    size_fault(alloc, message)
 }
 
 // The fault of a size that isn't within its bounds.
@@ -215,6 +212,11 @@ fn beyond(alloc: Global, option: &str, size: &str, least: u64, most: u64) -> Err
     let message = format!(in alloc;
         "invalid value '{size}' for '{option}': {size} is not in {least}..={most}"
     );
+    size_fault(alloc, message)
+}
+
+// The fault that this text tells, if there was memory for it.
+fn size_fault(alloc: Global, message: Result<String, AllocError>) -> Error {
     match message {
         Ok(message) => format_fault(alloc, message.as_str()),
         Err(error) => Error::from(error),
