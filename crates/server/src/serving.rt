@@ -146,8 +146,7 @@ where
     match open_export::<B, D, H>(alloc, device, &options) {
         Ok((export, passes, last)) => {
             let pool = WorkerPool::new(alloc, registry, passes, last, options.limits.sessions);
-            let (has_served, last) = serve_clients(rt, pool, &export, options, watch);
-            let mut last = last;
+            let (has_served, mut last) = serve_clients(rt, pool, &export, options, watch);
             let (disk, is_stored) = export.close(&mut last);
             let has_failed = disk.failures() != failures;
             (end_of(has_served, has_failed, is_stored), disk)
