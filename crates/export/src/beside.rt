@@ -1,11 +1,11 @@
 //! Reads of a device beside the locks.
-ghost use Rattle.std.specs.Prelude.{ℕ, ◌≡◌, ◌*◌, ◌-◌, List, IsTrue, OnOk, slice_range};
+ghost use Rattle.std.specs.Prelude.{ℕ, ◌≡◌, ◌≤◌, ◌*◌, ◌-◌, List, IsTrue, OnOk, slice_range};
 ghost use Rattle.regions.specs.Layout.{block_at};
 ghost use Rattle.shared_store.specs.Orders.{SpanRead};
 
+use crate::name::ExportName;
 use disk_model::DeviceFault;
 use image_model::Geometry;
-use marks::BoardName;
 use order_book::{Order, Span};
 
 /// A second handle of a device: it is read by it while others may write it.
@@ -22,9 +22,10 @@ pub trait ReadBeside: Drop {
     fn read_beside(&self, offset: u64, into: &mut [u8]) -> Result<(), DeviceFault>
         ensures { OnOk result (gives self.now offset into.new) };
 
-    /// Whether it vouches for bytes of blocks from the first one on, of which it gave those in a span, that are about to be served over
-    /// an order. It has noted the same base as when they were asked for. Without that they aren't served.
-    fn vouch<B: BoardName>(
+    /// Whether it vouches for bytes of blocks from the first one on, of which it gave those in a span, where the span stands on a device
+    /// of the export's sizes, that are about to be served over an order. That has noted the same base as when they were asked for.
+    /// Without that they aren't served.
+    fn vouch<B: ExportName>(
         &self,
         geometry: &Geometry,
         first: u64,
@@ -33,6 +34,8 @@ pub trait ReadBeside: Drop {
         asked: u64,
         order: &Order<B>,
     ) -> bool
+        requires device { geometry.now ≡ B.geometry }
+        requires from { first ≤ span.first }
         requires noted { asked ≡ order.now.base }
         requires given { gives self.now (block_at geometry.now span.first) (slice_range bytes.now (4096 * (span.first - first)) (4096 * (span.end - first))) }
         ensures { IsTrue result → vouches self.now (record { first = first; span = span; bytes = bytes.now; order = order.now }) };
@@ -49,7 +52,7 @@ impl ReadBeside for () {
         Err(DeviceFault)
     }
 
-    fn vouch<B: BoardName>(
+    fn vouch<B: ExportName>(
         &self,
         _geometry: &Geometry,
         _first: u64,

@@ -1,8 +1,7 @@
 //! A file in memory, which several handles share, and a handle whose reads are held.
 use disk_model::DeviceFault;
-use export::ReadBeside;
+use export::{ExportName, ReadBeside};
 use image_model::Geometry;
-use marks::BoardName;
 use order_book::{Order, Span};
 use std::fs::{Metadata, OpenFile};
 use std::io::{self, ErrorKind};
@@ -137,7 +136,7 @@ impl<'a, R: Wait + Clock> ReadBeside for HeldHandle<'a, R> {
         Ok(())
     }
 
-    fn vouch<B: BoardName>(
+    fn vouch<B: ExportName>(
         &self,
         _geometry: &Geometry,
         _first: u64,

@@ -1,7 +1,6 @@
 use disk_model::DeviceFault;
-use export::ReadBeside;
+use export::{ExportName, ReadBeside};
 use image_model::Geometry;
-use marks::BoardName;
 use order_book::{Order, Span};
 use std::fs::File;
 use std::os::unix::fs::FileExt;
@@ -30,7 +29,7 @@ impl ReadBeside for SecondHandle {
         self.0.read_exact_at(into, offset).map_err(|_| DeviceFault)
     }
 
-    fn vouch<B: BoardName>(
+    fn vouch<B: ExportName>(
         &self,
         _geometry: &Geometry,
         _first: u64,
