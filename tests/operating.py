@@ -4,6 +4,7 @@ write beside one another, clients beside a slow device, an end that is asked for
 
 Prints a line for each check that fails, and last 'N passed, M failed'.
 """
+import bisect
 import os
 import random
 import re
@@ -222,6 +223,78 @@ def beside(folder):
         check("what another client's flush covered, and a kill", "commands 16", killed(server))
 
 
+class Prefixes:
+    """The writes of one client, numbered from 1 on, each of a whole block, and what READs of others say of how many of them there are."""
+
+    def __init__(self, count):
+        self.of_block = [[0] for _ in range(count)]
+        self.sent = self.answered = self.least = self.reads = 0
+        self.amiss = []
+
+    def write(self, client, source, end):
+        """Some writes after some, all of them on their way at once."""
+        while time.monotonic() < end:
+            numbers = range(self.sent + 1, self.sent + source.randrange(2, 17))
+            asked = b""
+            for number in numbers:
+                block = source.randrange(len(self.of_block))
+                self.of_block[block].append(number)
+                asked += request(WRITE, number, block * BLOCK, BLOCK) + block_of(number)
+            self.sent = numbers[-1]
+            client.sendall(asked)
+            for number in numbers:
+                if take(client, 16) != reply(number):
+                    self.amiss.append(f"write {number} isn't answered")
+                    return
+                self.answered = number
+
+    def read(self, client, first, count):
+        """A READ shows some first writes: all that were answered before it, and those that a READ before has shown, and none that wasn't sent."""
+        answered = self.answered
+        client.sendall(request(READ, 7, first * BLOCK, count * BLOCK))
+        found = take(client, 16 + count * BLOCK)
+        sent = self.sent
+        if found[:16] != reply(7):
+            self.amiss.append(f"a READ at block {first} isn't answered")
+            return
+        numbers = [hostile.struct.unpack_from(">I", found, 16 + place * BLOCK)[0] for place in range(count)]
+        if found[16:] != b"".join(block_of(number) if number else bytes(BLOCK) for number in numbers):
+            self.amiss.append(f"a block from {first} on has the bytes of no write")
+            return
+        # Of so many first writes at most each block has the last one: none follows up to there.
+        most = sent
+        for block, number in enumerate(numbers, first):
+            of_block = self.of_block[block]
+            place = bisect.bisect_right(of_block, number)
+            if of_block[place - 1] != number:
+                self.amiss.append(f"block {block} has write {number}, which is of another block")
+            most = min(most, of_block[place] - 1 if place < len(of_block) else sent)
+        least = max(answered, self.least, *numbers)
+        if most < least:
+            self.amiss.append(f"at most the first {most} writes at block {first}, where {answered} are answered, {self.least} were shown, and {max(numbers)} is there")
+        self.least = max(self.least, *numbers)
+        self.reads += 1
+
+
+def shown(folder):
+    """While one client writes blocks, more than there are frames, two others read some of them by turns: what the one is shown the other one
+    is shown too."""
+    it, source = Prefixes(hostile.FRAMES * 2), random.Random(7)
+    with Server(folder, "shown", 3) as server, server.shaken() as writer, server.shaken() as one, server.shaken() as other:
+        end = time.monotonic() + 4
+        writes = threading.Thread(target=it.write, args=(writer, random.Random(8), end))
+        writes.start()
+        while time.monotonic() < end and not it.amiss:
+            count = source.choice([1, 3, 16, 64])
+            first = source.randrange(len(it.of_block) - count)
+            it.read(one, first, count)
+            it.read(other, first, count)
+        writes.join()
+        check("shown: each READ shows some first writes, and no fewer than the one before", [], it.amiss[:9])
+        check("shown: there were writes and reads", True, it.sent > 1000 and it.reads > 100 or (it.sent, it.reads))
+        print(f"shown: {it.sent} writes, {it.reads} reads", flush=True)
+
+
 def asked_to_end(folder):
     """The end of standard input, with a client that waits, one that takes no reply, and none."""
     for name, flushes in (("waiting", False), ("flushed", True)):
@@ -355,7 +428,7 @@ def copied(folder):
 
 def main():
     with tempfile.TemporaryDirectory() as folder:
-        for scenario in (kills, intervals, sectors, beside, asked_to_end, idle, failing, told, copied):
+        for scenario in (kills, intervals, sectors, beside, shown, asked_to_end, idle, failing, told, copied):
             begun = time.monotonic()
             hostile.guarded(scenario, folder)
             print(f"{scenario.__name__}: {time.monotonic() - begun:.1f} s", flush=True)

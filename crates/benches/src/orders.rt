@@ -8,7 +8,7 @@ mod load;
 mod reads;
 mod threads;
 
-use self::load::Desk;
+use self::load::OpenOrder;
 use anyhow::Result;
 use checkpoint::Keeper;
 use disk_model::SimDisk;
@@ -38,12 +38,12 @@ const CLEARS: u64 = 4_000_000;
 const BATCHES: u64 = 200;
 
 // An order with so many dirty blocks, all of whose commands are stored.
-fn desk_with<B: BoardName>(
+fn order_with<B: BoardName>(
     alloc: Global,
     blank: BlankBoard,
     dirty: u64,
     keeper: &mut Keeper<SimDisk>,
-) -> Result<Desk<B>>
+) -> Result<OpenOrder<B>>
     requires board { blank.board ≡ B.board }
     requires named { blank.opening ≡ B.opening }
     requires opening { blank.opening ≡ keeper.old.count }
@@ -51,13 +51,13 @@ fn desk_with<B: BoardName>(
     requires few { dirty < 2 ^ 32 }
 {
     let area = keeper.geometry().area;
-    let mut desk = load::open_desk::<B>(alloc, blank, keeper.count(), FRAMES, area)?;
+    let mut open = load::open_order::<B>(alloc, blank, keeper.count(), FRAMES, area)?;
     for start in 0..dirty.div_ceil(load::BATCH) {
         let commands = load::batch(alloc, start, dirty)?;
-        load::accept_all(&mut desk, commands)?;
-        load::store(&mut desk, keeper)?;
+        load::accept_all(&mut open, commands)?;
+        load::store(&mut open, keeper)?;
     }
-    Ok(desk)
+    Ok(open)
 }
 
 // The time that the accepts of a batch take.
@@ -66,7 +66,7 @@ fn timed_batch<B: BoardName>(
     alloc: Global,
     start: u64,
     dirty: u64,
-    desk: &mut Desk<B>,
+    open: &mut OpenOrder<B>,
 ) -> Result<Duration>
     requires some { 0 < dirty }
     requires few { dirty < 2 ^ 32 }
@@ -74,7 +74,7 @@ fn timed_batch<B: BoardName>(
 {
     let commands = load::batch(alloc, start, dirty)?;
     let begin = Instant::now(rt)?;
-    load::accept_all(desk, commands)?;
+    load::accept_all(open, commands)?;
     Ok(begin.elapsed(rt)?)
 }
 
@@ -83,7 +83,7 @@ fn timed_batches<B: BoardName>(
     rt: &HostRuntime,
     alloc: Global,
     dirty: u64,
-    desk: &mut Desk<B>,
+    open: &mut OpenOrder<B>,
     keeper: &mut Keeper<SimDisk>,
 ) -> Result<Duration>
     requires some { 0 < dirty }
@@ -91,8 +91,8 @@ fn timed_batches<B: BoardName>(
 {
     let mut time = Duration::ZERO;
     for start in 0..BATCHES {
-        time = time.saturating_add(timed_batch(rt, alloc, start, dirty, desk)?);
-        load::store(desk, keeper)?;
+        time = time.saturating_add(timed_batch(rt, alloc, start, dirty, open)?);
+        load::store(open, keeper)?;
     }
     Ok(time)
 }
@@ -111,8 +111,8 @@ fn accepts<B: BoardName>(
     requires some { 0 < dirty }
     requires few { dirty < 2 ^ 32 }
 {
-    let mut desk = desk_with::<B>(alloc, blank, dirty, keeper)?;
-    timed_batches(rt, alloc, dirty, &mut desk, keeper)
+    let mut open = order_with::<B>(alloc, blank, dirty, keeper)?;
+    timed_batches(rt, alloc, dirty, &mut open, keeper)
 }
 
 // How many of these a second.
@@ -161,8 +161,8 @@ fn measure_clean<B: BoardName>(
 }
 
 // Looks at the durable number.
-fn measure_looks<B: BoardName>(rt: &HostRuntime, desk: &mut Desk<B>) -> Result<()> {
-    let tenths = threads::looks(rt, desk, LOOKS)?.as_nanos() / u128::from(LOOKS / 10);
+fn measure_looks<B: BoardName>(rt: &HostRuntime, open: &mut OpenOrder<B>) -> Result<()> {
+    let tenths = threads::looks(rt, open, LOOKS)?.as_nanos() / u128::from(LOOKS / 10);
     println!(rt; "a look: {}.{} ns", tenths / 10, tenths % 10)?;
     Ok(())
 }
@@ -187,7 +187,7 @@ fn measure_threads<R: Threads + Wait + Sync + Clock + Print>(
 fn measure_edits<B: BoardName>(
     rt: &HostRuntime,
     alloc: Global,
-    desk: &mut Desk<B>,
+    open: &mut OpenOrder<B>,
     keeper: &mut Keeper<SimDisk>,
 ) -> Result<()> {
     for (name, batches, offset, count) in [
@@ -197,7 +197,7 @@ fn measure_edits<B: BoardName>(
         ("1 MiB", 2, 0, 1_048_576),
         ("1 MiB from byte 1 on", 2, 1, 1_048_576),
     ] {
-        let time = edits::timed_puts(rt, alloc, desk, keeper, batches, offset, count)?;
+        let time = edits::timed_puts(rt, alloc, open, keeper, batches, offset, count)?;
         let each = time.as_nanos() / u128::from(edits::edits_in(batches).max(1));
         println!(rt; "a put of {name}: {each} ns")?;
     }
@@ -205,18 +205,18 @@ fn measure_edits<B: BoardName>(
 }
 
 // Looks at a board, reads from its order, and a clean of it.
-fn measure_desk<B: BoardName>(
+fn measure_order<B: BoardName>(
     rt: &HostRuntime,
     alloc: Global,
-    desk: &mut Desk<B>,
+    open: &mut OpenOrder<B>,
     keeper: &mut Keeper<SimDisk>,
 ) -> Result<()> {
-    measure_looks(rt, desk)?;
-    measure_read(rt, alloc, &desk.order, 1)?;
-    measure_read(rt, alloc, &desk.order, 256)?;
-    measure_edits(rt, alloc, desk, keeper)?;
+    measure_looks(rt, open)?;
+    measure_read(rt, alloc, &open.order, 1)?;
+    measure_read(rt, alloc, &open.order, 256)?;
+    measure_edits(rt, alloc, open, keeper)?;
     load::checkpoint(keeper)?;
-    measure_clean(rt, &mut desk.order, keeper)
+    measure_clean(rt, &mut open.order, keeper)
 }
 
 fn measure_reads<B: BoardName>(
@@ -229,8 +229,8 @@ fn measure_reads<B: BoardName>(
     requires named { blank.opening ≡ B.opening }
     requires opening { blank.opening ≡ keeper.old.count }
 {
-    let mut desk = desk_with::<B>(alloc, blank, DIRTY, keeper)?;
-    measure_desk(rt, alloc, &mut desk, keeper)
+    let mut open = order_with::<B>(alloc, blank, DIRTY, keeper)?;
+    measure_order(rt, alloc, &mut open, keeper)
 }
 
 // What stands at the limits: groups, dirty blocks, and what isn't durable.
@@ -265,8 +265,8 @@ fn stored<B: BoardName>(
     requires named { blank.opening ≡ B.opening }
     requires opening { blank.opening ≡ keeper.old.count }
 {
-    let mut desk = desk_with::<B>(alloc, blank, 1_000, keeper)?;
-    Ok((desk.order.mark(), desk.board.look_durable(&mut desk.pass)))
+    let mut open = order_with::<B>(alloc, blank, 1_000, keeper)?;
+    Ok((open.order.mark(), open.board.look_durable(&mut open.pass)))
 }
 
 fn print_stored(rt: &impl Print, alloc: Global) -> Result<()> {

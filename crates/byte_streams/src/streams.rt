@@ -5,12 +5,12 @@ ghost use Rattle.byte_streams.specs.Streams.{WritesPart};
 use std::io::{ErrorKind, Read, Write};
 use thiserror::Error;
 
-/// A read or a write failed.
+/// Refusal 21 (stream fault): a read or a write failed.
 #[derive(Clone, Copy, Debug, PartialEq, Eq, Error)]
 #[error("stream fault")]
 pub struct StreamFault;
 
-/// Reads what there is, at the end of the input nothing. A read that was interrupted is begun again.
+/// Reads what there is, at the end of the input nothing. A read that was interrupted is begun again. Refusal 21 (stream fault).
 pub fn read_some<R: Read>(input: &mut R, piece: &mut Vec<u8>) -> Result<usize, StreamFault>
     ensures within { IfOk result (λ count. count ≤ vec_len piece.new) }
     ensures same { vec_len piece.new ≡ vec_len piece.old }
@@ -26,7 +26,8 @@ pub fn read_some<R: Read>(input: &mut R, piece: &mut Vec<u8>) -> Result<usize, S
     Err(StreamFault)
 }
 
-/// Writes all of the bytes and hands them on; after a fault the first of them may be written, and none twice.
+/// Writes all of the bytes and hands them on; after a fault, refusal 21 (stream fault), the first of them may be written, and none
+/// twice.
 pub fn write_whole<W: Write>(output: &mut W, bytes: &[u8]) -> Result<(), StreamFault>
     ensures { WritesPart (W.contents output.old) (W.contents output.new) bytes.now result }
 {

@@ -19,8 +19,8 @@ impl<D: Disk> Keeper<D> {
     /// Reads blocks from the first one on out of the data region, in one call of the device.
     ///
     /// A block that is data at the base, and that no command stored in front of the last area writes, gives its bytes at
-    /// the base; another gives any bytes. Refusals 1 (device fault), and 16 (failed) after an earlier 1; `into` then holds
-    /// any bytes.
+    /// the base; another gives any bytes. Refusals 1 (device fault), and 16 (failed) after an earlier device fault; `into`
+    /// then holds any bytes.
     pub fn read_base(&mut self, first: u64, into: &mut [u8]) -> Result<(), KeeperFault>
         requires some { 0 < length into.old }
         requires whole { length into.old % 4096 ≡ 0 }

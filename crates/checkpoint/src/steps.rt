@@ -120,7 +120,8 @@ impl<D: Disk> Keeper<D> {
     /// and the list of the last one that is isn't empty.
     ///
     /// The next area's first gate is closed and synced, and then the header changes. It takes memory for the last touches of
-    /// the blocks, and for one more checkpoint that waits. Refusals 0 (no memory), 1 (device fault), 9 (numbers full), 15 (not now) and 16 (failed).
+    /// the blocks, and for one more checkpoint that waits. Refusals 0 (no memory), 1 (device fault), 9 (numbers full),
+    /// 15 (not now) and 16 (failed).
     pub fn rotate(&mut self) -> Result<(), KeeperFault>
         ensures ok { OnOk result (self.new ≡ rotated_by self.old self.new.disk self.new.memory) }
         ensures err { IfErr result (λ fault. self.new ≡ refused_by fault self.old self.new.disk) }

@@ -1,4 +1,4 @@
--- Where a device may be written without that what it stands for changes.
+-- Where a device may be written without changing what it stands for.
 use Rattle.std.specs.Prelude.{ℕ, ◌<◌, List}
 use Rattle.disk_model.specs.Disk.{InRange}
 use Rattle.header_slots.specs.declared.header.Header.{Header}

@@ -27,7 +27,8 @@ pub trait Disk {
     fn size(&self) -> u64
         ensures { result ≡ extent self.now };
 
-    /// Reads the bytes from `offset` on. After a fault `into` holds any bytes, and the device is as after a good read.
+    /// Reads the bytes from `offset` on. After a fault, refusal 1 (device fault), `into` holds any bytes, and the device is as after a
+    /// good read.
     fn read(&mut self, offset: u64, into: &mut [u8]) -> Result<(), DeviceFault>
         requires { offset + length into.old ≤ extent self.old }
         ensures extent { extent self.new ≡ extent self.old }
@@ -39,7 +40,8 @@ pub trait Disk {
         ensures kept { honest self.old → IsKept (state self.old) (state self.new) }
         ensures any_moment { honest self.old → LeavesOnly (state self.old) (state self.new) (MayLeave (state self.old)) };
 
-    /// Writes the bytes at `offset`. Until a later sync is good, a crash may leave any bytes there, also after a fault.
+    /// Writes the bytes at `offset`. Until a later sync is good, a crash may leave any bytes there, also after a fault, refusal 1
+    /// (device fault).
     fn write_at(&mut self, offset: u64, from: &[u8]) -> Result<(), DeviceFault>
         requires { offset + length from.now ≤ extent self.old }
         ensures extent { extent self.new ≡ extent self.old }
@@ -52,7 +54,7 @@ pub trait Disk {
         ensures any_moment { honest self.old → LeavesOnly (state self.old) (state self.new)
             (MayLeaveTorn (state self.old) offset (length from.now)) };
 
-    /// Makes stable what was written before. After a fault none of it is promised to be.
+    /// Makes stable what was written before. After a fault, refusal 1 (device fault), none of it is promised to be.
     fn sync(&mut self) -> Result<(), DeviceFault>
         ensures extent { extent self.new ≡ extent self.old }
         ensures faults { faults self.new ≡ faults_after result (faults self.old) }

@@ -54,7 +54,7 @@ fn settled(stored: Result<(), AllocError>, due: bool) -> Result<(), DeviceFault>
 impl SimDisk {
     ghost use Rattle.disk_model.specs.SimDisk.{seen_bytes, synced_bytes, unsynced_at, history_of, plan_of, with_plan, state_now};
 
-    /// A device of `size` zero bytes, with nothing armed.
+    /// A device of `size` zero bytes, with nothing armed. Refusal 0 (no memory).
     pub fn new(alloc: Global, size: u64) -> Result<SimDisk, AllocError>
         ensures extent { IfOk result (λ disk. ⟦<SimDisk as Disk>⟧.extent disk ≡ size) }
         ensures faults { IfOk result (λ disk. ⟦<SimDisk as Disk>⟧.faults disk ≡ 0) }

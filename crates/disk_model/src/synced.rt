@@ -4,7 +4,8 @@ ghost use Rattle.disk_model.specs.Disk.{IsStored, LeavesOnly, MayLeaveTorn};
 
 use crate::disk::{DeviceFault, Disk};
 
-/// Writes the bytes at `offset` and syncs. At `Ok` they are stable, and so is all that was written before.
+/// Writes the bytes at `offset` and syncs. At `Ok` they are stable, and so is all that was written before. Refusal 1
+/// (device fault).
 pub fn write_synced<D: Disk>(disk: &mut D, offset: u64, from: &[u8]) -> Result<(), DeviceFault>
     requires { offset + length from.now ≤ D.extent disk.old }
     ensures extent { D.extent disk.new ≡ D.extent disk.old }

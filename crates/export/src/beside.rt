@@ -8,13 +8,13 @@ use disk_model::DeviceFault;
 use image_model::Geometry;
 use order_book::{Order, Span};
 
-/// A second handle of a device: it is read by it while others may write it.
+/// A second handle of a device, by which it is read while others may write it.
 pub trait ReadBeside: Drop {
     /// The bytes that it may give from a place of the device on.
     ghost gives: { Self → ℕ → List ℕ → Type 0 };
 
-    /// What it vouches for: bytes of blocks, of which it gave those in a span, and an order over which they are served. Whose image a
-    /// READ shows, and memory, rests on that these are the base's, which is trusted of each.
+    /// What it vouches for: bytes of blocks, of which it gave those in a span, and an order over which they are served. That these are
+    /// the bytes of the base is trusted; on it rests which image a READ and memory show.
     ghost vouches: { Self → SpanRead → Type 0 };
 
     /// Reads the bytes from `offset` on. Those that nobody writes meanwhile are what the device holds; others may be any.
@@ -23,8 +23,8 @@ pub trait ReadBeside: Drop {
         ensures { OnOk result (gives self.now offset into.new) };
 
     /// Whether it vouches for bytes of blocks from the first one on, of which it gave those in a span, where the span stands on a device
-    /// of the export's sizes, that are about to be served over an order. That has noted the same base as when they were asked for.
-    /// Without that they aren't served.
+    /// of the export's sizes, that are about to be served over an order. The order has noted the same base as when they were asked for.
+    /// Bytes that it doesn't vouch for aren't served.
     fn vouch<B: ExportName>(
         &self,
         geometry: &Geometry,

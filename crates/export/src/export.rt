@@ -254,14 +254,14 @@ fn open_parts<B: ExportName, D: Disk>(
     };
     let Opened {
         board,
-        order: line,
+        order: order_seat,
         keeper: seat,
         mut passes,
     } = blank.open::<B>(alloc, count)?;
     let Some(last) = passes.pop() else {
         return Err(AllocError);
     };
-    let order = fresh_order(alloc, keeper, frames, line)?;
+    let order = fresh_order(alloc, keeper, frames, order_seat)?;
     Ok((
         board,
         seat,

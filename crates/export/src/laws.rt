@@ -36,8 +36,8 @@ pub fn opened_device_law<D: Disk>()
 
 /// What an answer means for the device. Let the history that a pass knew once it had the answer begin another one, as it does where the
 /// export ends with a pass that it has joined, and let a content stand for the image after a beginning of that which has all that the
-/// pass knew to be durable, as whatever a crash leaves of the device that is handed back. Then that beginning has all that the pass knew before a FLUSH that was
-/// answered Ok, and the command of a write that was answered Ok and had to be stored first.
+/// pass knew to be durable, as whatever a crash leaves of the device that is handed back. Then that beginning has all that the pass
+/// knew before a FLUSH that was answered Ok, and the command of a write that was answered Ok and had to be stored first.
 pub fn answer_law<B: ExportName>()
     ensures flushed { (request : Message) (kept : Mode) (old new : PassState) (answer : Answer) (history : List Change) (least : ℕ) (content : List ℕ)
         → IsSubmitted B.opening B.image (Trusting B.opening B.image B.vouches B.trusted) request kept old new answer → answer ≡ Answer.Done → is_flush request ≡ true

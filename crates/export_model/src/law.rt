@@ -11,8 +11,9 @@ ghost use Rattle.export_model.specs.declared.step.Step.{Step};
 ghost use Rattle.export_model.specs.Law.{Grows, IsWithin, TellsTruth};
 
 /// Whatever the schedule, and whatever its steps meet: the log is legal, the reads of a trusted device fit, and on one each
-/// command is what its request's edit becomes over the image after those before it; all that the log covers is durable, what is durable is stored and what is stored is ordered; what map and data hold is stored, and what was
-/// let go of the frames map and data hold; the log, the order and the numbers only grow; a fault of the device is told only
+/// command is what its request's edit becomes over the image after those before it; all that the log covers is durable, what
+/// is durable is stored and what is stored is ordered; what map and data hold is stored, and what was let go of the frames
+/// map and data hold; the log, the order and the numbers only grow; a fault of the device is told only
 /// where the device has counted one, and that no generation is left only where none is; and a connection waits only for a
 /// number of the order.
 pub fn schedule_law()

@@ -51,7 +51,7 @@ fn idle(alloc: Global, count: usize) -> Result<Vec<Connection>, AllocError>
 }
 
 impl<B: BoardName> Connections<B> {
-    /// A connection for each pass, none of which has sent a request.
+    /// A connection for each pass, none of which has sent a request. Refusal 0 (no memory).
     pub fn new(
         alloc: Global,
         passes: Vec<Pass<B>>,

@@ -37,7 +37,7 @@ impl<B: BoardName> Model for Bench<B> {
 }
 
 impl<B: BoardName> Bench<B> {
-    /// A bench of a connection for each pass, none of which has sent a request.
+    /// A bench of a connection for each pass, none of which has sent a request. Refusal 0 (no memory).
     pub fn new(
         alloc: Global,
         passes: Vec<Pass<B>>,

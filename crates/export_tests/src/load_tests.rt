@@ -187,8 +187,8 @@ fn wait_for<R: Clock>(rt: &R, flag: &AtomicBool) -> bool {
     false
 }
 
-// Writes blocks that lie apart until the checkpointer is held between two copies, and flushes; whether the FLUSH was answered while it is
-// held.
+// Writes blocks that lie apart until the checkpointer is held between two copies, and flushes; whether the FLUSH was answered
+// while it is held.
 fn flush_while_held<B: ExportName, R: Wait + Clock>(
     rt: &R,
     alloc: Global,

@@ -1,6 +1,6 @@
 use thiserror::Error;
 
-/// 13: no frame is in the list that one is wanted from.
+/// Refusal 13 (no frame): no frame is in the list that one is wanted from.
 #[derive(Clone, Copy, Debug, PartialEq, Eq, Error)]
 #[error("no frame")]
 pub struct NoFrame;

@@ -13,7 +13,7 @@ use crate::slots::slot_from;
 use disk_model::{DeviceFault, Disk, write_synced};
 use image_model::{CLOSED, Geometry, OPEN, Side};
 
-/// What a new header says anew. Its generation is one greater than that of the header in force, and the sizes stay.
+/// The fields of a header that its successor changes. Its generation is one greater than that of the header in force, and the sizes stay.
 #[derive(Clone, Copy)]
 pub struct HeaderChange {
     pub in_front: u8,

@@ -104,7 +104,7 @@ impl Header {
         Some(in_front)
     }
 
-    // The header that these bytes spell; none where a field is outside its limits.
+    /// The header that these 39 bytes behind a gate spell; none where a field is outside its limits ("Header slot" of docs/FORMATS.md).
     pub fn decode(bytes: &[u8]) -> Option<Header>
         requires { length bytes.now ≡ 39 }
         ensures { MatchOption result (IsBadAt bytes.now 0) (SpellsAt bytes.now 0) }

@@ -15,6 +15,7 @@ pub struct ToldFile<'a, F: FileExt + OpenFile + Drop> {
 }
 
 impl<'a, F: FileExt + OpenFile + Drop> ToldFile<'a, F> {
+    /// The file at this path, whose faults are told where `tells` is set.
     pub fn new(rt: &HostRuntime, file: F, path: &'a str, tells: bool) -> ToldFile<'a, F> {
         ToldFile {
             file,

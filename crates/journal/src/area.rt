@@ -149,8 +149,8 @@ impl Area {
     /// Adds the group at the end of the list and makes it stable.
     ///
     /// Four calls of the device: the group's body and the closed gate behind it, sync, its gate, sync. Refusals 0 (no
-    /// memory), 1 (device fault), 10 (area full) and 11 (out of order): the group comes back, and after 1 the area isn't
-    /// written again before it is scanned anew.
+    /// memory), 1 (device fault), 10 (area full) and 11 (out of order): the group comes back, and after a device fault the
+    /// area isn't written again before it is scanned anew.
     pub fn append<D: Disk>(
         &mut self,
         disk: &mut D,

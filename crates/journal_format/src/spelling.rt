@@ -1,4 +1,4 @@
-/// The gate of a group, the length of its body, its first number and its count of commands.
+/// The bytes of a group's head: its gate, the length of its body, its first number and its count of commands.
 pub const GROUP_HEAD_BYTES: u32 = 17;
 /// The most bytes of a group's body.
 pub const MOST_BODY_BYTES: u32 = 8_388_608;

@@ -65,7 +65,7 @@ impl LastTouches {
         })
     }
 
-    /// The ranges.
+    /// The ranges, ascending and apart.
     pub fn ranges(&self) -> &[LastRange]
         ensures value { result.now ≡ self.now.ranges }
         ensures apart { AreRanges 0 self.now.blocks self.now.ranges }

@@ -42,7 +42,7 @@ pub struct Opened<B: BoardName> {
 }
 
 impl BlankBoard {
-    /// A board with an empty history and both numbers at `opening`.
+    /// A board with an empty history and both numbers at `opening`. Refusal 0 (no memory).
     pub fn new(alloc: Global, opening: u64) -> Result<BlankBoard, AllocError>
         ensures { IfOk result (λ blank. blank.opening ≡ opening) }
     {
@@ -50,7 +50,7 @@ impl BlankBoard {
         Ok(BlankBoard { table, seat })
     }
 
-    /// The board under its name, which is picked where this is called, with so many passes.
+    /// The board under its name, which is picked where this is called, with so many passes. Refusal 0 (no memory).
     pub fn open<B: BoardName>(self, alloc: Global, passes: usize) -> Result<Opened<B>, AllocError>
         requires board { self.board ≡ B.board }
         requires opening { self.opening ≡ B.opening }

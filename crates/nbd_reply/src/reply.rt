@@ -23,7 +23,8 @@ const SIMPLE_LEN: usize = 16;
 const LEAST_APART: usize = 65_536;
 
 /// Appends the reply to a request of this type, which asked for its bytes in one chunk where `df`: in chunks to
-/// a READ and a BLOCK_STATUS where structured replies were agreed on, and else as a simple reply.
+/// a READ and a BLOCK_STATUS where structured replies were agreed on, and else as a simple reply. Refusal 0 (no memory) appends
+/// nothing.
 pub fn encode_reply(
     reply: &Reply,
     session: &SessionFlags,
@@ -47,7 +48,7 @@ pub fn encode_reply(
 }
 
 /// Appends a reply up to the data that end it, and gives these, to be written from where they are. They are none where
-/// they are few, or aren't all the bytes of a READ.
+/// they are few, or aren't all the bytes of a READ. Refusal 0 (no memory) appends nothing.
 pub fn encode_before_data<'a>(
     reply: &'a Reply,
     session: &SessionFlags,
@@ -113,7 +114,7 @@ fn encode_head(
 }
 
 /// Appends the reply in chunks: an error, the bytes of a READ, with DF in one chunk, or the states of a
-/// BLOCK_STATUS.
+/// BLOCK_STATUS. Refusal 0 (no memory) appends nothing.
 pub fn encode_chunks(reply: &Reply, df: bool, out: &mut Vec<u8>) -> Result<(), AllocError>
     requires { reply.now.answer ≢ Answer.Done }
     ensures ok { OnOk result (out.new.items ≡ out.old.items ++ chunks_bytes reply.now.cookie (chunks_of df reply.now.answer)) }
@@ -246,7 +247,8 @@ fn encode_plain(reply: &Reply, out: &mut Vec<u8>) -> Result<(), AllocError>
     }
 }
 
-/// Appends the simple reply with this error, 0 for none, and the bytes of a READ that succeeded.
+/// Appends the simple reply with this error, 0 for none, and the bytes of a READ that succeeded. Refusal 0 (no memory) appends
+/// nothing.
 pub fn encode_simple_reply(
     error: u32,
     cookie: u64,

@@ -3,7 +3,7 @@ ghost use Rattle.nbd_wire.specs.Errno.{errno_number};
 
 use thiserror::Error;
 
-/// The four bytes in a message's place aren't its magic number: refusal 3.
+/// The four bytes in a message's place aren't its magic number: refusal 3 (bad magic).
 #[derive(Clone, Copy, Debug, PartialEq, Eq, Error)]
 #[error("bad magic")]
 pub struct BadMagic;
@@ -11,10 +11,10 @@ pub struct BadMagic;
 /// Why no request can be read from a stream any more.
 #[derive(Clone, Copy, Debug, PartialEq, Eq, Error)]
 pub enum RequestFault {
-    /// Refusal 3: where a request should begin stands another magic number.
+    /// Refusal 3 (bad magic): where a request should begin stands another magic number.
     #[error("bad magic")]
     BadMagic,
-    /// Refusal 4: a WRITE announces more data than a server reads.
+    /// Refusal 4 (too long): a WRITE announces more data than a server reads.
     #[error("too long")]
     TooLong,
 }
@@ -22,10 +22,10 @@ pub enum RequestFault {
 /// Why no further request is handed out.
 #[derive(Clone, Copy, Debug, PartialEq, Eq, Error)]
 pub enum WireFault {
-    /// Refusal 0: memory ran out.
+    /// Refusal 0 (no memory): memory ran out.
     #[error("no memory")]
     NoMemory,
-    /// Refusals 3 and 4: what stands in the stream is no request.
+    /// Refusals 3 (bad magic) and 4 (too long): what stands in the stream is no request.
     #[error(transparent)]
     Malformed(RequestFault),
 }

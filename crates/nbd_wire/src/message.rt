@@ -1,5 +1,5 @@
-ghost use Rattle.std.specs.Prelude.{◌≡◌, ◌≤◌, ◌<◌, ◌+◌, ◌^◌, [], ◌∷◌, IfOk, length, replicate, vec_len};
-ghost use Rattle.nbd_wire.specs.Answer.{IsBytesRead, IsStates, data_status, hole_status, one_run};
+ghost use Rattle.std.specs.Prelude.{◌≡◌, ◌≤◌, ◌<◌, ◌+◌, ◌^◌, [], ◌∷◌, IfOk, length, vec_len};
+ghost use Rattle.nbd_wire.specs.Answer.{IsBytesRead, IsStates, data_status, one_run};
 ghost use Rattle.nbd_wire.specs.Request.{handed_len, payload_limit};
 
 use crate::error::Errno;
@@ -40,7 +40,7 @@ impl Request {
         Request { head, bytes }
     }
 
-    /// A copy of the request.
+    /// A copy of the request. Refusal 0 (no memory).
     pub fn try_clone(&self, alloc: Global) -> Result<Request, AllocError>
         ensures { IfOk result (λ copy. copy ≡ self.now) }
     {
@@ -96,7 +96,7 @@ pub enum Answer {
 }
 
 impl Answer {
-    /// A copy of the answer.
+    /// A copy of the answer. Refusal 0 (no memory).
     pub fn try_clone(&self, alloc: Global) -> Result<Answer, AllocError>
         ensures { IfOk result (λ copy. copy ≡ self.now) }
     {
@@ -141,30 +141,18 @@ impl ReadBytes {
         }
     }
 
-    /// Bytes that are all data.
+    /// Bytes that are all data. Refusal 0 (no memory).
     pub fn data(alloc: Global, offset: u64, bytes: Vec<u8>) -> Result<ReadBytes, AllocError>
         requires some { 0 < vec_len bytes }
         requires most { vec_len bytes ≤ payload_limit }
         requires inside { offset + vec_len bytes < 2 ^ 64 }
         ensures { IfOk result (λ read. read ≡ one_run offset bytes.items data_status) }
     {
-        let runs = one_run(alloc, bytes.len() as u32, DATA)?;
+        let runs = one_run(alloc, bytes.len() as u32)?;
         Ok(ReadBytes::new(offset, bytes, runs))
     }
 
-    /// So many bytes that are all zero and no data.
-    pub fn hole(alloc: Global, offset: u64, size: u32) -> Result<ReadBytes, AllocError>
-        requires some { 0 < size }
-        requires most { size ≤ payload_limit }
-        requires inside { offset + size < 2 ^ 64 }
-        ensures { IfOk result (λ read. read ≡ one_run offset (replicate size 0) hole_status) }
-    {
-        let bytes = vec![in alloc; 0; size as usize]?;
-        let runs = one_run(alloc, size, HOLE)?;
-        Ok(ReadBytes::new(offset, bytes, runs))
-    }
-
-    /// A copy of them.
+    /// A copy of them. Refusal 0 (no memory).
     pub fn try_clone(&self, alloc: Global) -> Result<ReadBytes, AllocError>
         ensures { IfOk result (λ copy. copy ≡ self.now) }
     {
@@ -211,12 +199,15 @@ impl ReadBytes {
     }
 }
 
-// A run alone.
-fn one_run(alloc: Global, length: u32, status: u32) -> Result<Vec<Run>, AllocError>
-    ensures { IfOk result (λ runs. runs.items ≡ record { length = length; status = status } ∷ []) }
+// A run of data alone.
+fn one_run(alloc: Global, length: u32) -> Result<Vec<Run>, AllocError>
+    ensures { IfOk result (λ runs. runs.items ≡ record { length = length; status = data_status } ∷ []) }
 {
     let mut runs = Vec::new(alloc);
-    runs.push(Run { length, status })?;
+    runs.push(Run {
+        length,
+        status: DATA,
+    })?;
     Ok(runs)
 }
 
@@ -239,7 +230,7 @@ impl Model for States {
 }
 
 impl States {
-    /// These runs.
+    /// The answer with these runs, from the first byte on.
     pub fn new(runs: Vec<Run>) -> States
         requires { IsStates runs.items }
         ensures { result ≡ runs.items }
@@ -247,7 +238,7 @@ impl States {
         States { runs }
     }
 
-    /// A copy of them.
+    /// A copy of them. Refusal 0 (no memory).
     pub fn try_clone(&self, alloc: Global) -> Result<States, AllocError>
         ensures { IfOk result (λ copy. copy ≡ self.now) }
     {

@@ -1,4 +1,4 @@
-//! What `--verbose` tells: why something can't be done, and what happens in the life of a server.
+//! What `--verbose` tells: why something can't be done, and what happens in a server.
 
 use disk_model::{Disk, FileDisk};
 use export::{Point, SyncPoints};

@@ -41,7 +41,7 @@ pub record IsFound (setting : Setting) (start opened : State) : Type 0 where
 pub record IsLife {D : Type 0} (state : D → State) (faults : D → ℕ) (frames : ℕ) (mode : Mode) (start end : D) (outcome : Result (Unit {0}) Refusal) (trusted : Bool)
     (exchanges : List Exchange) (last : Option Message) : Type 0 where
   pub opened : D
-  -- the world at the begin and at the end, and the steps between them
+  -- the world at the beginning and at the end, and the steps between them
   pub setting : Setting
   pub next : World
   pub steps : List Step

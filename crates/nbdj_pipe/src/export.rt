@@ -67,7 +67,7 @@ fn turned(event: &Event) -> Result<(), Refusal>
     }
 }
 
-// The data of a request are no more than 1 MiB.
+// Says what the proof of serving takes from a request's invariant: its data are 1 MiB at most.
 fn few_bytes(request: &Request)
     ensures { length request.now.bytes ≤ 1048576 }
 {

@@ -148,11 +148,11 @@ fn fresh_parts<B: BoardName, D: Disk>(
 {
     let Opened {
         board,
-        order: line,
+        order: order_seat,
         keeper: seat,
         passes,
     } = blank.open::<B>(alloc, 1)?;
-    let order = fresh_order(alloc, keeper, options.frames, line)?;
+    let order = fresh_order(alloc, keeper, options.frames, order_seat)?;
     let connections = Connections::new(alloc, passes, PLAIN, options.mode)?;
     Ok((board, seat, order, connections))
 }

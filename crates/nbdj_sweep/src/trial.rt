@@ -88,7 +88,7 @@ impl Trial {
         Ok(Outcome { disk, met, right })
     }
 
-    /// Runs the script with this trouble, and looks whether it tells a fault of the device before there was one.
+    /// Runs the script with this trouble, and checks whether it tells a fault of the device before there was one.
     pub fn watch(&self, work: SimDisk, trouble: Trouble) -> Result<Outcome, KeeperFault>
         requires { ⟦<SimDisk as Disk>⟧.extent work ≡ ⟦<SimDisk as Disk>⟧.extent self.now.fresh }
         ensures { IfOk result (λ outcome. ⟦<SimDisk as Disk>⟧.extent outcome.disk ≡ ⟦<SimDisk as Disk>⟧.extent self.now.fresh) }

@@ -217,7 +217,7 @@ fn fail_at_each<W: Write>(
     Ok(tally)
 }
 
-// Looks whether a fault of the device is told before it comes, which is a miss with the first filling.
+// Checks that no fault of the device is told before it comes; one that is counts as a miss with the first filling.
 fn told_early<W: Write>(
     trial: &mut Trial,
     work: SimDisk,

@@ -59,7 +59,7 @@ pub data Standing : Type 0 where
   in_requests : (reader : Reader) → Standing
   -- an ABORT or a DISC was read
   ended : Standing
-  -- what stands here ends the session: refusal 20
+  -- what stands here ends the session: refusal 20 (protocol end)
   broken : Standing
   -- memory ran out, and nothing more is read
   exhausted : Standing

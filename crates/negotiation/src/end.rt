@@ -12,13 +12,13 @@ use std::fmt::{Display, Formatter};
 /// Why a session ended otherwise than its client asked for.
 #[derive(Clone, Copy, Debug, PartialEq, Eq)]
 pub enum End {
-    /// Refusal 0: memory ran out.
+    /// Refusal 0 (no memory): memory ran out.
     NoMemory,
-    /// Refusal 19: the input ended, and nobody had ended the session.
+    /// Refusal 19 (peer closed): the input ended, and nobody had ended the session.
     PeerClosed,
-    /// Refusal 20: what the client sent ends the session.
+    /// Refusal 20 (protocol end): what the client sent ends the session.
     ProtocolEnd,
-    /// Refusal 21: a read or a write failed.
+    /// Refusal 21 (stream fault): a read or a write failed.
     IoFault,
 }
 

@@ -4,7 +4,7 @@ ghost use Rattle.option_wire.specs.declared.error.OptionFault.TheVariants.{NoMem
 use std::alloc::{AllocError, AllocFailed};
 use thiserror::Error;
 
-/// The bytes are no message of the handshake: refusal 5.
+/// The bytes are no message of the handshake: refusal 5 (malformed).
 #[derive(Clone, Copy, Debug, PartialEq, Eq, Error)]
 #[error("malformed")]
 pub struct Malformed;
@@ -12,10 +12,10 @@ pub struct Malformed;
 /// Why an option isn't read.
 #[derive(Clone, Copy, Debug, PartialEq, Eq, Error)]
 pub enum OptionFault {
-    /// Refusal 0: memory ran out.
+    /// Refusal 0 (no memory): memory ran out.
     #[error("no memory")]
     NoMemory,
-    /// Refusal 5: the data are none of the option's.
+    /// Refusal 5 (malformed): the data are none of the option's.
     #[error("malformed")]
     Malformed,
 }

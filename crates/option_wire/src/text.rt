@@ -18,7 +18,7 @@ impl Model for Text {
 }
 
 impl Text {
-    /// The string of these bytes.
+    /// The string of these bytes. Refusal 0 (no memory).
     pub fn from_slice(alloc: Global, bytes: &[u8]) -> Result<Text, AllocError>
         ensures { IfOk result (λ text. text ≡ bytes.now) }
     {

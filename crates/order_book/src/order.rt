@@ -118,7 +118,7 @@ fn make_room(
 
 impl<B: BoardName> Order<B> {
     /// An order over an image with these states, whose next number is `opening` + 1, with so many frames for blocks and
-    /// journal areas of `area` bytes. It takes the memory of all frames.
+    /// journal areas of `area` bytes. It takes the memory of all frames. Refusal 0 (no memory).
     pub fn new(
         alloc: Global,
         map: AllocMap,
@@ -388,6 +388,7 @@ impl<B: BoardName> Order<B> {
     /// The longest beginning of the pending commands that a group may hold, whose places stay free for `put_back`.
     ///
     /// None where nothing is pending, or where what was sealed isn't durable yet: a group is in hand, or was stored and not published.
+    /// Refusal 0 (no memory).
     pub fn seal(&mut self) -> Result<Option<Group>, OrderFault>
         ensures group { IfOk result (λ sealed. IfSome sealed (Seals self.old self.new)) }
         ensures in_hand { IfOk result (λ sealed. IfSome sealed (IsInHand self.new)) }
@@ -426,7 +427,8 @@ impl<B: BoardName> Order<B> {
             && have_small_bodies(commands)
     }
 
-    /// Makes the group in hand, the last that was sealed, pending again: the list is as it was before that `seal`, with what was accepted since.
+    /// Makes the group in hand, the last that was sealed, pending again: the list is as it was before that `seal`, with what was
+    /// accepted since.
     pub fn put_back(&mut self, group: Group)
         requires { IsInHand self.old group }
         ensures pending { self.new ≡ with_group self.old group }
@@ -619,7 +621,7 @@ impl<B: BoardName> Order<B> {
     }
 
     /// The longest runs of blocks in one state, from one block on up to another, the first `limit` of them, as all that
-    /// was accepted left them.
+    /// was accepted left them. Refusal 0 (no memory).
     pub fn status(
         &self,
         alloc: Global,

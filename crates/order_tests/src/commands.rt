@@ -102,16 +102,16 @@ fn is_inside(image: u64, command: &Command) -> bool
 }
 
 // An order with its board, and the pass that commands are accepted for.
-pub struct Desk<B: BoardName> {
+pub struct OpenOrder<B: BoardName> {
     pub board: Board<B>,
     pub pass: Pass<B>,
     pub order: Order<B>,
 }
 
 // Written out, it is proved once, and not again in each function that lets such a value go.
-impl<B: BoardName> Drop for Desk<B> {
+impl<B: BoardName> Drop for OpenOrder<B> {
     fn drop(self) {
-        let Desk {
+        let OpenOrder {
             board: _,
             pass: _,
             order: _,
@@ -139,15 +139,15 @@ pub fn accept<B: BoardName>(
 
 // The same of the order and the pass that lie together.
 pub fn offer<B: BoardName>(
-    desk: &mut Desk<B>,
+    open: &mut OpenOrder<B>,
     command: Command,
 ) -> Option<Result<u64, OrderFault>> {
-    accept(&mut desk.order, &desk.board, &mut desk.pass, command)
+    accept(&mut open.order, &open.board, &mut open.pass, command)
 }
 
 // Whether the order accepts a command by this number.
-pub fn takes<B: BoardName>(desk: &mut Desk<B>, command: Command, number: u64) -> bool {
-    match offer(desk, command) {
+pub fn takes<B: BoardName>(open: &mut OpenOrder<B>, command: Command, number: u64) -> bool {
+    match offer(open, command) {
         Some(Ok(given)) => given == number,
         _ => false,
     }
@@ -156,21 +156,21 @@ pub fn takes<B: BoardName>(desk: &mut Desk<B>, command: Command, number: u64) ->
 // Whether the order accepts a put of blocks by this number.
 pub fn takes_put<B: BoardName>(
     alloc: Global,
-    desk: &mut Desk<B>,
+    open: &mut OpenOrder<B>,
     first: u64,
     blocks: u32,
     number: u64,
 ) -> bool {
     match put(alloc, first, blocks, 7) {
-        Ok(command) => takes(desk, command, number),
+        Ok(command) => takes(open, command, number),
         Err(_) => false,
     }
 }
 
 // Whether the order has no room for a put of one block.
-pub fn is_full<B: BoardName>(alloc: Global, desk: &mut Desk<B>, block: u64) -> bool {
+pub fn is_full<B: BoardName>(alloc: Global, open: &mut OpenOrder<B>, block: u64) -> bool {
     match put(alloc, block, 1, 7) {
-        Ok(command) => matches!(offer(desk, command), Some(Err(OrderFault::NoRoom))),
+        Ok(command) => matches!(offer(open, command), Some(Err(OrderFault::NoRoom))),
         Err(_) => false,
     }
 }

@@ -127,12 +127,12 @@ impl<B: BoardName> Compared<B> {
 
     // Whether the states are those of the image.
     fn tells(&self) -> bool {
-        if self.subject.desk.order.blocks() != BLOCKS {
+        if self.subject.open.order.blocks() != BLOCKS {
             return false;
         }
         let runs = self
             .subject
-            .desk
+            .open
             .order
             .status(self.subject.alloc, 0, BLOCKS, 64);
         match runs {
@@ -222,15 +222,15 @@ fn refuses<B: BoardName>(
 ) -> bool
     requires { length < 2 ^ 32 }
 {
-    let mark = subject.desk.order.mark();
-    let bytes = subject.desk.order.backlog_bytes();
+    let mark = subject.open.order.mark();
+    let bytes = subject.open.order.backlog_bytes();
     let Ok(given) = put(subject.alloc, offset, length) else {
         return false;
     };
     match subject.edit(given) {
         Some(Err(fault)) => fault == wanted
-            && subject.desk.order.mark() == mark
-            && subject.desk.order.backlog_bytes() == bytes,
+            && subject.open.order.mark() == mark
+            && subject.open.order.backlog_bytes() == bytes,
         _ => false,
     }
 }
@@ -272,7 +272,7 @@ fn needs_no_device<B: BoardName>(subject: &mut Subject<B>) -> bool {
 }
 
 // The next read of the device fails. It isn't asked by edits that need no old bytes, or find them in memory; then a put in part
-// of a block that is missing is refused with 1, and one more with 16. Nothing of memory is refused still.
+// of a block that is missing is refused with 1 (device fault), and one more with 16 (failed). Nothing of memory is refused still.
 fn read_fails<B: BoardName>(alloc: Global, start: Start) -> Option<[bool; 4]>
     requires board { start.blank.board ≡ B.board }
     requires named { start.blank.opening ≡ B.opening }

@@ -1,4 +1,5 @@
-//! Tests of orders that read, over keepers of simulated devices, and that threads share. They stand beside these crates, since a crate with tests is proved twice.
+//! Tests of orders that read, over keepers of simulated devices, and that threads share. They stand beside these crates, since a
+//! crate with tests is proved twice.
 #![tactic(auto)]
 
 #[cfg(test)]

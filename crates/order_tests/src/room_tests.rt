@@ -1,7 +1,7 @@
 //! Room for puts, and clears of a large image.
 ghost use Rattle.std.specs.Prelude.{◌≡◌, ◌≤◌, IfSome, length};
 
-use crate::commands::{Desk, is_full, takes, takes_put};
+use crate::commands::{OpenOrder, is_full, takes, takes_put};
 use crate::subject::{Start, Subject, fresh};
 use alloc_map::{AllocMap, Run};
 use image_model::{Command, Kind};
@@ -12,17 +12,17 @@ use std::marker::Brand;
 
 // Whether two puts of 256 blocks leave no room for one of block 512.
 fn fills<B: BoardName>(alloc: Global, subject: &mut Subject<B>) -> bool {
-    subject.fill(2) && is_full(alloc, &mut subject.desk, 512)
+    subject.fill(2) && is_full(alloc, &mut subject.open, 512)
 }
 
 // Whether there is still none once both are stored, since no frame is let go before a checkpoint.
 fn waits<B: BoardName>(alloc: Global, subject: &mut Subject<B>) -> bool {
-    subject.store() && !subject.clean() && is_full(alloc, &mut subject.desk, 512)
+    subject.store() && !subject.clean() && is_full(alloc, &mut subject.open, 512)
 }
 
 // Whether the put of block 512 is the third command, once a checkpoint has moved the others and a clean let their frames go.
 fn is_served<B: BoardName>(alloc: Global, subject: &mut Subject<B>) -> bool {
-    subject.checkpoint() && subject.clean() && takes_put(alloc, &mut subject.desk, 512, 1, 3)
+    subject.checkpoint() && subject.clean() && takes_put(alloc, &mut subject.open, 512, 1, 3)
 }
 
 // Two puts of 256 blocks fill 512 frames. A third one waits until their blocks are at the base, and then takes a frame of one.
@@ -52,7 +52,7 @@ fn holes(alloc: Global, blocks: u64) -> Option<AllocMap>
 }
 
 // An order with one frame over an image of holes.
-fn with_one_frame<B: BoardName>(alloc: Global, blank: BlankBoard, blocks: u64) -> Option<Desk<B>>
+fn with_one_frame<B: BoardName>(alloc: Global, blank: BlankBoard, blocks: u64) -> Option<OpenOrder<B>>
     requires board { blank.board ≡ B.board }
     requires named { blank.opening ≡ B.opening }
     requires opening { blank.opening ≡ 0 }
@@ -67,12 +67,12 @@ fn with_one_frame<B: BoardName>(alloc: Global, blank: BlankBoard, blocks: u64) -
     } = blank.open::<B>(alloc, 1).ok()?;
     let order = Order::new(alloc, map, 0, 1, 8_388_608, seat).ok()?;
     let pass = passes.pop()?;
-    Some(Desk { board, pass, order })
+    Some(OpenOrder { board, pass, order })
 }
 
 // Whether a clear of blocks is accepted by this number.
 fn takes_clear<B: BoardName>(
-    desk: &mut Desk<B>,
+    open: &mut OpenOrder<B>,
     first: u64,
     blocks: u32,
     kind: Kind,
@@ -83,7 +83,7 @@ fn takes_clear<B: BoardName>(
         blocks,
         kind,
     };
-    takes(desk, clear, number)
+    takes(open, clear, number)
 }
 
 // The first two runs from block 1,000 on.
@@ -113,13 +113,13 @@ fn frees<B: BoardName>(alloc: Global, blank: BlankBoard) -> Option<bool>
     requires named { blank.opening ≡ B.opening }
     requires opening { blank.opening ≡ 0 }
 {
-    let mut desk = with_one_frame::<B>(alloc, blank, 16_777_216)?;
-    let desk = &mut desk;
+    let mut open = with_one_frame::<B>(alloc, blank, 16_777_216)?;
+    let open = &mut open;
     Some(
-        takes_put(alloc, desk, 70_000, 1, 1)
-            && is_full(alloc, desk, 5)
-            && takes_clear(desk, 0, 16_777_216, Kind::Hole, 2)
-            && takes_put(alloc, desk, 5, 1, 3),
+        takes_put(alloc, open, 70_000, 1, 1)
+            && is_full(alloc, open, 5)
+            && takes_clear(open, 0, 16_777_216, Kind::Hole, 2)
+            && takes_put(alloc, open, 5, 1, 3),
     )
 }
 
@@ -135,11 +135,11 @@ fn runs_of_a_clear<B: BoardName>(alloc: Global, blank: BlankBoard) -> Option<Vec
     requires named { blank.opening ≡ B.opening }
     requires opening { blank.opening ≡ 0 }
 {
-    let mut desk = with_one_frame::<B>(alloc, blank, 16_777_216)?;
-    if !takes_clear(&mut desk, 1_000, 524_288, Kind::Zero, 1) {
+    let mut open = with_one_frame::<B>(alloc, blank, 16_777_216)?;
+    if !takes_clear(&mut open, 1_000, 524_288, Kind::Zero, 1) {
         return None;
     }
-    two_runs(alloc, &desk.order)
+    two_runs(alloc, &open.order)
 }
 
 // A clear of many blocks is one run.
@@ -157,11 +157,11 @@ fn longest_group<B: BoardName>(alloc: Global, start: Start) -> Option<usize>
 {
     let mut subject = start.subject::<B>(alloc, 4096)?;
     for place in 0..8 {
-        if !takes_put(alloc, &mut subject.desk, 257 * place, 257, place + 1) {
+        if !takes_put(alloc, &mut subject.open, 257 * place, 257, place + 1) {
             return None;
         }
     }
-    let Ok(Some(group)) = subject.desk.order.seal() else {
+    let Ok(Some(group)) = subject.open.order.seal() else {
         return None;
     };
     let (_first, commands) = group.into_parts();

@@ -3,7 +3,7 @@ ghost use Rattle.std.specs.Prelude.{◌≡◌, ◌+◌, ◌*◌, ◌<◌, ◌≤
 ghost use Rattle.image_model.specs.Change.{IsCleared};
 ghost use Rattle.image_model.specs.Edit.{IsEdit, IsEditKind, count_of, edit_of, offset_of};
 
-use crate::commands::{Desk, byte_at, place_of, takes_put};
+use crate::commands::{OpenOrder, byte_at, place_of, takes_put};
 use checkpoint::{Keeper, KeeperFault};
 use disk_model::{CallKind, SimDisk};
 use image_model::{Edit, Geometry, Kind, MOST_BLOCKS};
@@ -34,7 +34,7 @@ impl Drop for Start {
 // An order with its board, and the keeper that it reads from, with its seat.
 pub struct Subject<B: BoardName> {
     pub alloc: Global,
-    pub desk: Desk<B>,
+    pub open: OpenOrder<B>,
     seat: KeeperSeat<B>,
     pub keeper: Keeper<SimDisk>,
 }
@@ -44,7 +44,7 @@ impl<B: BoardName> Drop for Subject<B> {
     fn drop(self) {
         let Subject {
             alloc: _,
-            desk: _,
+            open: _,
             seat: _,
             keeper: _,
         } = self;
@@ -105,15 +105,15 @@ impl Start {
         let (blank, keeper) = self.into_parts();
         let Opened {
             board,
-            order: line,
+            order: order_seat,
             keeper: seat,
             mut passes,
         } = blank.open::<B>(alloc, 1).ok()?;
-        let order = order_over(alloc, &keeper, frames, line)?;
+        let order = order_over(alloc, &keeper, frames, order_seat)?;
         let pass = passes.pop()?;
         Some(Subject {
             alloc,
-            desk: Desk { board, pass, order },
+            open: OpenOrder { board, pass, order },
             seat,
             keeper,
         })
@@ -195,7 +195,7 @@ impl<B: BoardName> Subject<B> {
     fn into_disk(self) -> SimDisk {
         let Subject {
             alloc: _,
-            desk: _,
+            open: _,
             seat: _,
             keeper,
         } = self;
@@ -207,7 +207,7 @@ impl<B: BoardName> Subject<B> {
         requires { puts < 2 ^ 32 }
     {
         for place in 0..puts {
-            if !takes_put(self.alloc, &mut self.desk, 256 * place, 256, place + 1) {
+            if !takes_put(self.alloc, &mut self.open, 256 * place, 256, place + 1) {
                 return false;
             }
         }
@@ -216,7 +216,7 @@ impl<B: BoardName> Subject<B> {
 
     // Stores what is pending, as far as one group takes it.
     pub fn store(&mut self) -> bool {
-        let Ok(sealed) = self.desk.order.seal() else {
+        let Ok(sealed) = self.open.order.seal() else {
             return false;
         };
         let Some(group) = sealed else {
@@ -231,9 +231,9 @@ impl<B: BoardName> Subject<B> {
     }
 
     fn publish(&mut self) {
-        let desk = &mut self.desk;
-        desk.order
-            .publish(&desk.board, &mut self.seat, &self.keeper);
+        let open = &mut self.open;
+        open.order
+            .publish(&open.board, &mut self.seat, &self.keeper);
     }
 
     // Moves all that is stored into map and data, where it isn't there yet.
@@ -246,15 +246,15 @@ impl<B: BoardName> Subject<B> {
 
     // Lets frames go, and tells whether there were any.
     pub fn clean(&mut self) -> bool {
-        self.desk.order.clean(&self.keeper)
+        self.open.order.clean(&self.keeper)
     }
 
     // Whether so many blocks from the first one on lie in the image.
     fn has(&self, first: u64, blocks: u64) -> bool
-        ensures order { result ≡ true → first + blocks ≤ length self.now.desk.order.cache.states }
+        ensures order { result ≡ true → first + blocks ≤ length self.now.open.order.cache.states }
         ensures keeper { result ≡ true → first + blocks ≤ self.now.keeper.geometry.blocks }
     {
-        let image = self.desk.order.blocks();
+        let image = self.open.order.blocks();
         image == self.keeper.geometry().blocks && blocks <= image && first <= image - blocks
     }
 
@@ -263,18 +263,18 @@ impl<B: BoardName> Subject<B> {
     pub fn edit(&mut self, edit: Edit) -> Option<Result<u64, OrderFault>> {
         if !is_edit(
             &edit,
-            self.desk.order.blocks(),
+            self.open.order.blocks(),
             self.keeper.geometry().blocks,
         ) {
             return None;
         }
-        let desk = &mut self.desk;
-        let held = desk.order.mark() % 2 == 0 && !desk.order.needs_device(&edit);
+        let open = &mut self.open;
+        let held = open.order.mark() % 2 == 0 && !open.order.needs_device(&edit);
         let answer = if held {
-            desk.order.accept_held(&desk.board, &mut desk.pass, edit)
+            open.order.accept_held(&open.board, &mut open.pass, edit)
         } else {
-            desk.order
-                .accept_edit(&mut self.keeper, &desk.board, &mut desk.pass, edit)
+            open.order
+                .accept_edit(&mut self.keeper, &open.board, &mut open.pass, edit)
         };
         match answer {
             Ok(number) => Some(Ok(number)),
@@ -291,7 +291,7 @@ impl<B: BoardName> Subject<B> {
         }
         let mut into = buffer(self.alloc, blocks)?;
         match self
-            .desk
+            .open
             .order
             .read_with(&mut self.keeper, first, &mut into)
         {
@@ -332,8 +332,8 @@ impl<B: BoardName> Subject<B> {
 
     // Whether a block is in memory.
     pub fn holds(&self, block: u64) -> bool {
-        block < self.desk.order.blocks()
-            && self.desk.order.read_cached(block, &mut [[0; 4096]]).is_ok()
+        block < self.open.order.blocks()
+            && self.open.order.read_cached(block, &mut [[0; 4096]]).is_ok()
     }
 }
 

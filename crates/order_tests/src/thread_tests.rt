@@ -114,11 +114,11 @@ fn share<B: BoardName + Send + Sync, R: Threads + Wait + Sync>(
     let (blank, keeper) = start.into_parts();
     let Opened {
         board,
-        order: line,
+        order: order_seat,
         keeper: seat,
         passes,
     } = blank.open::<B>(alloc, 2).ok()?;
-    let order = Mutex::new(order_over(alloc, &keeper, 100, line)?);
+    let order = Mutex::new(order_over(alloc, &keeper, 100, order_seat)?);
     let keeper = Mutex::new(SeatedKeeper { seat, keeper });
     let ran = accept_by_all(rt, alloc, &board, &order, passes)?;
     if !store(rt, &board, &keeper, &order) {

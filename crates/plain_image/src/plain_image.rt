@@ -9,7 +9,7 @@ use std::alloc::{AllocError, Global};
 use std::marker::Model;
 use thiserror::Error;
 
-/// 2: an edit's range passes the image.
+/// Refusal 2 (out of range): an edit's range passes the image.
 #[derive(Clone, Copy, Debug, PartialEq, Eq, Error)]
 #[error("out of range")]
 pub struct OutOfRange;
@@ -39,7 +39,7 @@ impl Model for PlainImage {
 }
 
 impl PlainImage {
-    /// An image of so many blocks, which are holes.
+    /// An image of so many blocks, which are holes. Refusal 0 (no memory).
     pub fn new(alloc: Global, blocks: u32) -> Result<PlainImage, AllocError>
         ensures { IfOk result (λ plain. plain ≡ record { bytes = replicate (4096 * blocks) 0; kinds = replicate blocks Kind.Hole }) }
     {

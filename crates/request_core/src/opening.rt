@@ -12,8 +12,8 @@ use marks::{BoardName, OrderSeat};
 use order_book::Order;
 use std::alloc::{AllocError, Global};
 
-/// The order with which the life of an opened device begins: over its map, with the number behind the last that it holds,
-/// where its board has opened, and with so many frames.
+/// The order of a device that was just opened: over its map, numbered on from the last command that it holds, where its board has
+/// opened, with so many frames. Refusal 0 (no memory).
 pub fn fresh_order<B: BoardName, D: Disk>(
     alloc: Global,
     keeper: &Keeper<D>,

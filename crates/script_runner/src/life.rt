@@ -170,11 +170,11 @@ fn first_parts<B: BoardName, D: Disk>(
 {
     let Opened {
         board,
-        order: line,
+        order: order_seat,
         keeper: seat,
         passes,
     } = blank.open::<B>(alloc, CONNECTIONS)?;
-    let order = fresh_order(alloc, keeper, setup.frames, line)?;
+    let order = fresh_order(alloc, keeper, setup.frames, order_seat)?;
     let bench = Bench::new(alloc, passes, FLAGS, setup.mode)?;
     Ok((board, seat, order, bench))
 }

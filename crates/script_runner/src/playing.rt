@@ -17,9 +17,9 @@ use std::marker::Brand;
 /// What goes wrong with a device.
 #[derive(Clone, Copy)]
 pub enum Trouble {
-    /// It stops at the so manieth call.
+    /// It stops at the k-th call, counted from 1.
     Stop(u64),
-    /// The so manieth call of this kind fails.
+    /// The k-th call of this kind fails.
     Fault(CallKind, u64),
 }
 

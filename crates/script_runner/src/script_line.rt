@@ -20,11 +20,11 @@ pub enum Line {
     /// A new device.
     Format(Setup),
     Step(StepLine),
-    /// The so manieth call of this kind from now on fails.
+    /// The k-th call of this kind from now on fails.
     Fault(CallKind, u64),
     /// The device crashes now.
     Crash(CrashChoice),
-    /// It crashes at the so manieth call from now on.
+    /// It crashes at the k-th call from now on.
     CrashAt(u64, CrashChoice),
     /// The device is opened again, and made one of layout 2.
     Upgrade,

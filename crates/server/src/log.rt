@@ -12,7 +12,7 @@ pub struct Traffic {
     pub bytes_written: u64,
 }
 
-/// What happens in the life of a server. Clients are counted from 1.
+/// What happens in a server. Clients are counted from 1.
 #[derive(Clone, Copy)]
 pub enum Event<'a> {
     /// A client has come.
@@ -29,7 +29,7 @@ pub enum Event<'a> {
         client: u64,
         flags: SessionFlags,
     },
-    /// A session is over: the client has ended it, or this has.
+    /// A session is over: its client ended it, or it ended for the reason in `end`.
     Left {
         client: u64,
         end: Result<(), End>,

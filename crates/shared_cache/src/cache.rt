@@ -39,7 +39,7 @@ impl Model for Cache {
 }
 
 impl Cache {
-    /// A cache of so many frames, which are free, over an image with these states.
+    /// A cache of so many frames, which are free, over an image with these states. Refusal 0 (no memory).
     pub fn new(alloc: Global, map: AllocMap, frames: u32) -> Result<Cache, AllocError>
         requires frames { frames + 3 < 2 ^ 31 }
         requires few { length map ≤ 16777216 }
@@ -79,8 +79,8 @@ impl Cache {
 
     /// Writes blocks from the first one on, with the number of their command, which is at least 1 and no smaller than
     /// those of the blocks that are dirty; they become data. Each takes the frame that it has, else a free one, else
-    /// that of the clean front. It is refused with 13 (no frame) exactly where these don't suffice, and where it is
-    /// refused nothing has changed.
+    /// that of the clean front. It is refused with 13 (no frame) exactly where these don't suffice, and with 0 (no
+    /// memory); where it is refused nothing has changed.
     pub fn put(&mut self, number: u64, first: u64, blocks: &[[u8; 4096]]) -> Result<(), KeepFault>
         requires range { first + length blocks.now ≤ length self.old.states }
         requires order { All (λ (held : DirtyBlock). held.number ≤ number) self.old.blocks.dirty }
@@ -133,8 +133,8 @@ impl Cache {
 
     /// Clears so many blocks from the first one on but for the edges, which are written with the number of their command:
     /// the first blocks with those of `head`, the last with those of `tail`. What lies between frees its frames first.
-    /// It is refused with 13 (no frame) exactly where a put of the edges alone would be, and where it is refused nothing has
-    /// changed.
+    /// It is refused with 13 (no frame) exactly where a put of the edges alone would be, and with 0 (no memory); where it is
+    /// refused nothing has changed.
     pub fn clear_between(
         &mut self,
         number: u64,
@@ -171,8 +171,8 @@ impl Cache {
     }
 
     /// Keeps a block of data that was read from the image, in a free frame, else in that of the clean front; one that
-    /// is held already stays as it is. It is refused with 13 (no frame) exactly where neither is there, and where it is
-    /// refused nothing has changed.
+    /// is held already stays as it is. It is refused with 13 (no frame) exactly where neither is there, and with 0
+    /// (no memory); where it is refused nothing has changed.
     pub fn fill(&mut self, block: u64, bytes: &[u8; 4096]) -> Result<(), KeepFault>
         requires range { block < length self.old.states }
         requires data { state_at self.old.states block ≡ Kind.Data }
@@ -201,12 +201,13 @@ impl Cache {
     }
 
     /// Reads blocks from the first one on: the bytes of its frame for one that is data, else zero. It is refused with
-    /// 14 exactly where one that is data has no frame; the slice then holds any bytes.
+    /// 14 (missing) exactly where one that is data has no frame; the slice then holds any bytes.
     pub fn read_cached(&self, first: u64, into: &mut [[u8; 4096]]) -> Result<(), Missing>
         requires range { first + length into.old ≤ length self.now.states }
         ensures ok { OnOk result ((k : ℕ) (d : List ℕ) → k < length into.new → bytes_seen self.now (first + k) ≡ Some (slice_index_or into.new k d)) }
         ensures missing { IsErr result ↔ LacksBytes self.now first (length into.old) }
     {
+        // Looked at for the proof alone, which reads the invariant of the map.
         let _ = &self.map;
         for (offset, block) in into.iter_mut().enumerate() {
             let Some(bytes) = self.read(first + offset as u64) else {

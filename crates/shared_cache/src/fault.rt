@@ -7,10 +7,10 @@ use thiserror::Error;
 /// Why blocks weren't kept; `docs/FORMATS.md`, "Refusals", has the numbers.
 #[derive(Clone, Copy, Debug, PartialEq, Eq, Error)]
 pub enum KeepFault {
-    /// 0: a growth of memory was refused.
+    /// Refusal 0 (no memory): a growth of memory was refused.
     #[error("no memory")]
     NoMemory,
-    /// 13: the frames don't suffice.
+    /// Refusal 13 (no frame): the frames don't suffice.
     #[error("no frame")]
     NoFrame,
 }
@@ -23,7 +23,7 @@ impl From<AllocError> for KeepFault {
     }
 }
 
-/// 14: a block that is data has no frame.
+/// Refusal 14 (missing): a block that is data has no frame.
 #[derive(Clone, Copy, Debug, PartialEq, Eq, Error)]
 #[error("missing")]
 pub struct Missing;

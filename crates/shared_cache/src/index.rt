@@ -3,7 +3,7 @@ ghost use Rattle.std.specs.HashMap as hash;
 
 use std::collections::HashMap;
 
-// Finds this frame for a block, for which there is room.
+// Has the index give this frame for the block; there is room for it.
 pub fn set(index: &mut HashMap<u64, u32>, block: u64, frame: u32)
     requires { 0 < hash.spare index.old }
     ensures found { (q : ℕ) → hash.get nat_eq index.new q ≡ (if q == block then Some frame else hash.get nat_eq index.old q) }
@@ -14,7 +14,7 @@ pub fn set(index: &mut HashMap<u64, u32>, block: u64, frame: u32)
     };
 }
 
-// Finds no frame for a block.
+// Takes a block out of the index.
 pub fn unset(index: &mut HashMap<u64, u32>, block: u64)
     ensures found { (q : ℕ) → hash.get nat_eq index.new q ≡ (if q == block then None else hash.get nat_eq index.old q) }
     ensures spare { hash.spare index.old ≤ hash.spare index.new }

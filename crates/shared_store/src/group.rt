@@ -39,7 +39,7 @@ impl<B: ImageName> SealedGroup<B> {
         (group, told)
     }
 
-    /// The group.
+    /// The group, to look at.
     pub fn group(&self) -> &Group
         ensures { result.now ≡ self.now.group }
     {

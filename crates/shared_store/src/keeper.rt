@@ -77,7 +77,7 @@ impl<B: ImageName, D: Disk> SharedKeeper<B, D> {
         SharedKeeper { seat, keeper }
     }
 
-    /// The keeper.
+    /// The keeper, to look at; what it has stored begins the history.
     pub fn keeper(&self) -> &Keeper<D>
         ensures { result.now ≡ self.now.keeper }
     {
@@ -137,7 +137,7 @@ impl<B: ImageName, D: Disk> SharedKeeper<B, D> {
 }
 
 impl<B: ImageName, D: Disk> SharedKeeper<B, D> {
-    /// Takes the next area into use.
+    /// Takes the next area into use. Refusals as of [`Keeper::rotate`].
     pub fn rotate(&mut self) -> Result<(), KeeperFault>
         ensures ok { OnOk result (self.new.keeper ≡ rotated_by self.old.keeper self.new.keeper.disk self.new.keeper.memory) }
         ensures err { IfErr result (λ fault. self.new.keeper ≡ refused_by fault self.old.keeper self.new.keeper.disk) }
@@ -155,7 +155,8 @@ impl<B: ImageName, D: Disk> SharedKeeper<B, D> {
         self.keeper.rotate()
     }
 
-    /// Copies the next blocks of the first area into the image, at most `most`, and answers how many.
+    /// Copies the next blocks of the first area into the image, at most `most`, and answers how many. Refusals as of
+    /// [`Keeper::copy_some`].
     pub fn copy_some(&mut self, most: u32) -> Result<u32, KeeperFault>
         requires { 1 ≤ most }
         ensures ok { IfOk result (λ blocks. (1 ≤ blocks) × (blocks ≤ most)
@@ -174,7 +175,7 @@ impl<B: ImageName, D: Disk> SharedKeeper<B, D> {
         self.keeper.copy_some(most)
     }
 
-    /// Writes the map after the first area.
+    /// Writes the map after the first area. Refusals as of [`Keeper::write_map`].
     pub fn write_map(&mut self) -> Result<(), KeeperFault>
         ensures ok { OnOk result (self.new.keeper ≡ mapped_by self.old.keeper self.new.keeper.disk self.new.keeper.memory) }
         ensures err { IfErr result (λ fault. self.new.keeper ≡ refused_by fault self.old.keeper self.new.keeper.disk) }
@@ -191,7 +192,7 @@ impl<B: ImageName, D: Disk> SharedKeeper<B, D> {
         self.keeper.write_map()
     }
 
-    /// Lets the first area go: map and data hold what it did, and the base is raised to its end.
+    /// Lets the first area go: map and data hold what it did, and the base is raised to its end. Refusals as of [`Keeper::finish`].
     pub fn finish(&mut self, board: &Board<B>) -> Result<(), KeeperFault>
         ensures ok { OnOk result (self.new.keeper ≡ finished_by self.old.keeper self.new.keeper.disk self.new.keeper.memory) }
         ensures err { IfErr result (λ fault. self.new.keeper ≡ refused_by fault self.old.keeper self.new.keeper.disk) }

@@ -70,7 +70,7 @@ impl<B: ImageName> SharedOrder<B> {
         SharedOrder { order }
     }
 
-    /// The order.
+    /// The order, to look at; its history is the one history.
     pub fn order(&self) -> &Order<B>
         ensures { result.now ≡ self.now }
     {
@@ -188,7 +188,7 @@ impl<B: ImageName> SharedOrder<B> {
 }
 
 impl<B: ImageName> SharedOrder<B> {
-    /// The longest beginning of the pending commands that a group may hold, which stands in the history.
+    /// The longest beginning of the pending commands that a group may hold, which stands in the history. Refusal 0 (no memory).
     pub fn seal(&mut self, board: &Board<B>) -> Result<Option<SealedGroup<B>>, OrderFault>
         ensures group { IfOk result (λ sealed. IfSome sealed (λ group. Seals self.old self.new group.group × (group.told ≡ self.old.history))) }
         ensures in_hand { IfOk result (λ sealed. IfSome sealed (λ group. IsInHand self.new group.group)) }

@@ -1,4 +1,5 @@
-//! Tests of devices, images, headers, the journal and the keeper. They stand beside these crates, since a crate with tests is proved twice.
+//! Tests of devices, images, headers, the journal and the keeper. They stand beside these crates, since a crate with tests is
+//! proved twice.
 #![tactic(auto)]
 
 #[cfg(test)]

@@ -20,7 +20,7 @@ use std::io;
 use std::io::{Read, Write};
 
 /// Carries out the plan on a device, and answers the exit status and the device: 0 where it is done, else 1, or 3 where a
-/// check found the device bad (6, 7, 8 or 12), and a line `nbdj: TEXT (NUMBER)` on `errors`.
+/// check found the device bad (bad map, no header, bad header or damaged group), and a line `nbdj: TEXT (NUMBER)` on `errors`.
 ///
 /// The device of a `Format` has the full size of its geometry; a `Rehearse` has none, and is what `script_runner` and
 /// `nbdj_sweep` do, and a `Serve` is what `server::serve` does.

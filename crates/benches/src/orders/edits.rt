@@ -1,7 +1,7 @@
 //! What an order takes to accept edits whose old bytes are in memory.
 ghost use Rattle.std.specs.Prelude.{◌<◌, ◌^◌};
 
-use crate::orders::load::{Desk, store};
+use crate::orders::load::{OpenOrder, store};
 use anyhow::{Result, bail};
 use checkpoint::Keeper;
 use disk_model::SimDisk;
@@ -17,8 +17,8 @@ const MOST_BYTES: usize = 1_048_576;
 const BATCH: u64 = 32;
 
 // Accepts a put of bytes, as a server does for a WRITE.
-fn accept_put<B: BoardName>(desk: &mut Desk<B>, offset: u64, bytes: Vec<u8>) -> Result<()> {
-    let blocks = desk.order.blocks();
+fn accept_put<B: BoardName>(open: &mut OpenOrder<B>, offset: u64, bytes: Vec<u8>) -> Result<()> {
+    let blocks = open.order.blocks();
     if blocks > MOST_BLOCKS || bytes.is_empty() || bytes.len() > MOST_BYTES {
         bail!("no put of an image")
     }
@@ -27,10 +27,10 @@ fn accept_put<B: BoardName>(desk: &mut Desk<B>, offset: u64, bytes: Vec<u8>) -> 
         bail!("outside the image")
     }
     let edit = Edit::Put { offset, bytes };
-    if desk.order.needs_device(&edit) {
+    if open.order.needs_device(&edit) {
         bail!("old bytes aren't in memory")
     }
-    match desk.order.accept_held(&desk.board, &mut desk.pass, edit) {
+    match open.order.accept_held(&open.board, &mut open.pass, edit) {
         Ok(_) => Ok(()),
         Err((fault, _)) => Err(fault.into()),
     }
@@ -40,7 +40,7 @@ fn accept_put<B: BoardName>(desk: &mut Desk<B>, offset: u64, bytes: Vec<u8>) -> 
 fn timed_batch<B: BoardName>(
     rt: &HostRuntime,
     alloc: Global,
-    desk: &mut Desk<B>,
+    open: &mut OpenOrder<B>,
     offset: u64,
     count: usize,
     apart: u64,
@@ -55,7 +55,7 @@ fn timed_batch<B: BoardName>(
     let mut place = offset;
     let begin = Instant::now(rt)?;
     for bytes in puts {
-        accept_put(desk, place, bytes)?;
+        accept_put(open, place, bytes)?;
         place = place.saturating_add(apart);
     }
     Ok(begin.elapsed(rt)?)
@@ -65,7 +65,7 @@ fn timed_batch<B: BoardName>(
 pub fn timed_puts<B: BoardName>(
     rt: &HostRuntime,
     alloc: Global,
-    desk: &mut Desk<B>,
+    open: &mut OpenOrder<B>,
     keeper: &mut Keeper<SimDisk>,
     batches: u64,
     offset: u64,
@@ -77,10 +77,10 @@ pub fn timed_puts<B: BoardName>(
     let apart = (count as u64).next_multiple_of(BLOCK_BYTES);
     let mut time = Duration::ZERO;
     for _ in 0..batches {
-        time = time.saturating_add(timed_batch(rt, alloc, desk, offset, count, apart)?);
+        time = time.saturating_add(timed_batch(rt, alloc, open, offset, count, apart)?);
         // (each group has one of them at least)
         for _ in 0..BATCH {
-            store(desk, keeper)?;
+            store(open, keeper)?;
         }
     }
     Ok(time)

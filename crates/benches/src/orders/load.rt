@@ -23,7 +23,7 @@ fn holes(alloc: Global, blocks: u64) -> Result<AllocMap, AllocError>
 
 /// An order with its board, the pass that commands are accepted for, and the seat that publishes.
 #[derive(Drop)]
-pub struct Desk<B: BoardName> {
+pub struct OpenOrder<B: BoardName> {
     pub board: Board<B>,
     pub order: Order<B>,
     pub pass: Pass<B>,
@@ -36,25 +36,25 @@ pub fn order<B: BoardName>(
     opening: u64,
     frames: u32,
     area: u32,
-    line: OrderSeat<B>,
+    order_seat: OrderSeat<B>,
 ) -> Result<Order<B>>
     requires named { opening ≡ B.opening }
-    requires seat { line ≡ record { history = []; accepted = opening; base = opening } }
+    requires seat { order_seat ≡ record { history = []; accepted = opening; base = opening } }
     requires area { 2097152 ≤ area }
     requires frames { frames + 3 < 2 ^ 31 }
 {
     let map = holes(alloc, MOST_BLOCKS)?;
-    Ok(Order::new(alloc, map, opening, frames, area, line)?)
+    Ok(Order::new(alloc, map, opening, frames, area, order_seat)?)
 }
 
 /// The same on a board that opens.
-pub fn open_desk<B: BoardName>(
+pub fn open_order<B: BoardName>(
     alloc: Global,
     blank: BlankBoard,
     opening: u64,
     frames: u32,
     area: u32,
-) -> Result<Desk<B>>
+) -> Result<OpenOrder<B>>
     requires board { blank.board ≡ B.board }
     requires named { blank.opening ≡ B.opening }
     requires opening { blank.opening ≡ opening }
@@ -63,15 +63,15 @@ pub fn open_desk<B: BoardName>(
 {
     let Opened {
         board,
-        order: line,
+        order: order_seat,
         keeper: seat,
         mut passes,
     } = blank.open::<B>(alloc, 1)?;
-    let order = order(alloc, opening, frames, area, line)?;
+    let order = order(alloc, opening, frames, area, order_seat)?;
     let Some(pass) = passes.pop() else {
         bail!("a pass was asked for")
     };
-    Ok(Desk {
+    Ok(OpenOrder {
         board,
         order,
         pass,
@@ -152,13 +152,13 @@ fn is_inside(image: u64, command: &Command) -> bool
 
 /// What the order says to the command, which has to lie in the image.
 pub fn offer<B: BoardName>(
-    desk: &mut Desk<B>,
+    open: &mut OpenOrder<B>,
     command: Command,
 ) -> Result<Result<u64, (OrderFault, Command)>> {
-    if !is_inside(desk.order.blocks(), &command) {
+    if !is_inside(open.order.blocks(), &command) {
         bail!("outside the image")
     }
-    Ok(desk.order.accept(&desk.board, &mut desk.pass, command))
+    Ok(open.order.accept(&open.board, &mut open.pass, command))
 }
 
 /// Whether the order accepts the command for a pass, which has to lie in the image.
@@ -172,17 +172,17 @@ pub fn takes<B: BoardName>(
 }
 
 /// Accepts the command, and lets it go where it is refused.
-pub fn accept<B: BoardName>(desk: &mut Desk<B>, command: Command) -> Result<u64> {
-    match offer(desk, command)? {
+pub fn accept<B: BoardName>(open: &mut OpenOrder<B>, command: Command) -> Result<u64> {
+    match offer(open, command)? {
         Ok(number) => Ok(number),
         Err((fault, _)) => Err(fault.into()),
     }
 }
 
 /// Accepts the commands, the last one first.
-pub fn accept_all<B: BoardName>(desk: &mut Desk<B>, mut commands: Vec<Command>) -> Result<()> {
+pub fn accept_all<B: BoardName>(open: &mut OpenOrder<B>, mut commands: Vec<Command>) -> Result<()> {
     while let Some(command) = commands.pop() {
-        let _number = accept(desk, command)?;
+        let _number = accept(open, command)?;
     }
     Ok(())
 }
@@ -201,13 +201,13 @@ pub fn keeper(alloc: Global, blocks: u64, area: u32) -> Result<Keeper<SimDisk>> 
 }
 
 /// Stores what is pending, as far as one group takes it.
-pub fn store<B: BoardName>(desk: &mut Desk<B>, keeper: &mut Keeper<SimDisk>) -> Result<()> {
-    if let Some(group) = desk.order.seal()? {
+pub fn store<B: BoardName>(open: &mut OpenOrder<B>, keeper: &mut Keeper<SimDisk>) -> Result<()> {
+    if let Some(group) = open.order.seal()? {
         if let Err((fault, group)) = keeper.append(group) {
             let _refused = group.into_parts();
             return Err(fault.into());
         }
-        desk.order.publish(&desk.board, &mut desk.seat, keeper);
+        open.order.publish(&open.board, &mut open.seat, keeper);
     }
     Ok(())
 }

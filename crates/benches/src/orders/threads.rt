@@ -1,7 +1,7 @@
 //! What an order costs that threads share through one lock, and looks at its board.
 ghost use Rattle.std.specs.Prelude.{◌≡◌};
 
-use crate::orders::load::{self, Desk, clear};
+use crate::orders::load::{self, OpenOrder, clear};
 use anyhow::{Result, bail};
 use marks::{BlankBoard, Board, BoardName, Opened, Pass};
 use order_book::Order;
@@ -32,7 +32,6 @@ fn accept_clears<B: BoardName>(
 // How many clears are accepted for these passes, so many each, by a thread for each.
 fn accept_for_all<B: BoardName + Send + Sync, R: Threads + Wait + Sync>(
     rt: &R,
-    alloc: Global,
     board: &Board<B>,
     order: &Mutex<Order<B>>,
     passes: Vec<Pass<B>>,
@@ -63,13 +62,13 @@ pub fn shared_accepts<B: BoardName + Send + Sync, R: Threads + Wait + Sync + Clo
 {
     let Opened {
         board,
-        order: line,
+        order: order_seat,
         keeper: _,
         passes,
     } = blank.open::<B>(alloc, threads)?;
-    let order = Mutex::new(load::order(alloc, 0, 64, 8_388_608, line)?);
+    let order = Mutex::new(load::order(alloc, 0, 64, 8_388_608, order_seat)?);
     let begin = Instant::now(rt)?;
-    let accepted = accept_for_all(rt, alloc, &board, &order, passes, count)?;
+    let accepted = accept_for_all(rt, &board, &order, passes, count)?;
     let time = begin.elapsed(rt)?;
     if accepted != count.wrapping_mul(threads as u64) {
         bail!("not all were accepted");
@@ -78,11 +77,11 @@ pub fn shared_accepts<B: BoardName + Send + Sync, R: Threads + Wait + Sync + Clo
 }
 
 /// The time that so many looks at the durable number take.
-pub fn looks<B: BoardName, R: Clock>(rt: &R, desk: &mut Desk<B>, count: u64) -> Result<Duration> {
+pub fn looks<B: BoardName, R: Clock>(rt: &R, open: &mut OpenOrder<B>, count: u64) -> Result<Duration> {
     let begin = Instant::now(rt)?;
     let mut sum = 0u64;
     for _ in 0..count {
-        sum = sum.wrapping_add(desk.board.look_durable(&mut desk.pass));
+        sum = sum.wrapping_add(open.board.look_durable(&mut open.pass));
     }
     black_box(sum);
     Ok(begin.elapsed(rt)?)
