@@ -291,7 +291,7 @@ def shown(folder):
             it.read(other, first, count)
         writes.join()
         check("shown: each READ shows some first writes, and no fewer than the one before", [], it.amiss[:9])
-        check("shown: there were writes and reads", True, it.sent > 1000 and it.reads > 100 or (it.sent, it.reads))
+        check("shown: there were writes and reads", True, it.sent > 500 and it.reads > 50 or (it.sent, it.reads))
         print(f"shown: {it.sent} writes, {it.reads} reads", flush=True)
 
 
