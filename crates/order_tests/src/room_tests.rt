@@ -52,7 +52,11 @@ fn holes(alloc: Global, blocks: u64) -> Option<AllocMap>
 }
 
 // An order with one frame over an image of holes.
-fn with_one_frame<B: BoardName>(alloc: Global, blank: BlankBoard, blocks: u64) -> Option<OpenOrder<B>>
+fn with_one_frame<B: BoardName>(
+    alloc: Global,
+    blank: BlankBoard,
+    blocks: u64,
+) -> Option<OpenOrder<B>>
     requires board { blank.board ≡ B.board }
     requires named { blank.opening ≡ B.opening }
     requires opening { blank.opening ≡ 0 }

@@ -95,7 +95,10 @@ fn full_order<B: BoardName>(alloc: Global, blank: BlankBoard) -> Result<OpenOrde
 }
 
 // A put of a block that isn't dirty, where no frame is left.
-fn refused_put<B: BoardName>(alloc: Global, open: &mut OpenOrder<B>) -> Result<(OrderFault, Command)> {
+fn refused_put<B: BoardName>(
+    alloc: Global,
+    open: &mut OpenOrder<B>,
+) -> Result<(OrderFault, Command)> {
     match offer(open, put(alloc, 512, 1)?)? {
         Ok(_) => bail!("accepted"),
         Err(refused) => Ok(refused),

@@ -77,7 +77,11 @@ pub fn shared_accepts<B: BoardName + Send + Sync, R: Threads + Wait + Sync + Clo
 }
 
 /// The time that so many looks at the durable number take.
-pub fn looks<B: BoardName, R: Clock>(rt: &R, open: &mut OpenOrder<B>, count: u64) -> Result<Duration> {
+pub fn looks<B: BoardName, R: Clock>(
+    rt: &R,
+    open: &mut OpenOrder<B>,
+    count: u64,
+) -> Result<Duration> {
     let begin = Instant::now(rt)?;
     let mut sum = 0u64;
     for _ in 0..count {
