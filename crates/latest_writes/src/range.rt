@@ -29,7 +29,7 @@ pub struct PutRange {
 
 impl LastRange {
     // The block behind the last.
-    pub fn end(self) -> u32
+    pub(crate) fn end(self) -> u32
         requires { self.first + self.blocks ≤ 4294967295 }
         ensures { result ≡ self.first + self.blocks }
     {
@@ -37,7 +37,7 @@ impl LastRange {
     }
 
     // Its blocks from this one on.
-    pub fn from_block(self, block: u32) -> LastRange
+    pub(crate) fn from_block(self, block: u32) -> LastRange
         requires range { IsRange self }
         requires low { self.first ≤ block }
         requires high { block < self.first + self.blocks }
@@ -56,7 +56,7 @@ impl LastRange {
     }
 
     // Its blocks before this one.
-    pub fn before(self, block: u32) -> LastRange
+    pub(crate) fn before(self, block: u32) -> LastRange
         requires { self.first < block }
         ensures { result ≡ record self { blocks = min self.blocks (block - self.first) } }
     {
@@ -67,7 +67,7 @@ impl LastRange {
     }
 
     // Whether the next range begins where this one ends, in the image and in the area.
-    pub fn goes_on(self, next: LastRange) -> bool
+    pub(crate) fn goes_on(self, next: LastRange) -> bool
         requires { IsRange self }
         ensures { IsTrue result ↔ GoesOn self next }
     {
@@ -77,14 +77,14 @@ impl LastRange {
 
 impl PutRange {
     // Whether all its blocks are before this one.
-    pub fn ends_by(self, block: u32) -> bool
+    pub(crate) fn ends_by(self, block: u32) -> bool
         ensures { result ≡ nat_le (self.first + self.blocks) block }
     {
         self.first <= block && self.blocks <= block - self.first
     }
 
     // Its blocks from this one on: all of them where it begins there or behind it.
-    pub fn from_block(self, block: u32) -> PutRange
+    pub(crate) fn from_block(self, block: u32) -> PutRange
         requires blocks_fit { self.first + self.blocks ≤ 4294967295 }
         requires bytes_fit { self.place + 4096 * self.blocks ≤ 4294967295 }
         requires behind { block < self.first + self.blocks }

@@ -14,7 +14,7 @@ pub enum LastTouch {
 
 impl LastTouch {
     // What a touch of more blocks is for the one so many behind the first.
-    pub fn within(self, blocks: u32) -> LastTouch
+    pub(crate) fn within(self, blocks: u32) -> LastTouch
         requires { HasBytesWithin 4294967295 blocks self }
         ensures { result ≡ touch_within blocks self }
     {

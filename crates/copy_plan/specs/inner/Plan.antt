@@ -1,7 +1,6 @@
 -- What functions of this crate hand to one another, beside `Plan`.
 use Rattle.image_model.specs.declared.command.Kind.{Kind}
 use Rattle.image_model.specs.declared.command.Kind.TheVariants.{Data}
-use Rattle.journal_format.specs.declared.touch.Touch.TheVariants.{Put}
 use Rattle.latest_writes.specs.declared.touch.LastTouch.{LastTouch}
 use Rattle.latest_writes.specs.declared.touch.LastTouch.TheVariants as last
 

@@ -1,5 +1,5 @@
 -- What functions of this crate hand to one another, beside `Puts`.
-use Rattle.std.specs.Prelude.{ℕ, ◌+◌, ◌-◌, ◌<◌, ◌≤◌}
+use Rattle.std.specs.Prelude.{ℕ, ◌+◌, ◌<◌, ◌≤◌}
 use Rattle.latest_writes.specs.declared.range.PutRange.{PutRange}
 
 -- a put ends before or at the block, or behind it

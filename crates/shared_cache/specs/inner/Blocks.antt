@@ -1,5 +1,5 @@
 -- What functions of this crate hand to one another, beside `Blocks`.
-use Rattle.std.specs.Prelude.{◌≡◌, ◌≤◌, ◌+◌, ◌-◌, drop}
+use Rattle.std.specs.Prelude.{◌≡◌, ◌≤◌, ◌+◌, drop}
 use Rattle.shared_cache.specs.Blocks.{BlocksState, taken}
 
 -- the frame of the clean front is free
