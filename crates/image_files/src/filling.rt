@@ -17,12 +17,16 @@ pub fn fill<F: FileExt + OpenFile>(rt: &HostRuntime, file: &F, size: u64) -> io:
         let count = size.saturating_sub(offset).min(PIECE as u64) as usize;
         file.write_all_at(zeroes.get(..count).unwrap_or(&[]), offset)?;
         if shows {
-            let _ = eprint!(rt; "\rnbdj: {piece} of {pieces} MiB written");
+            show(rt, piece, pieces, "");
         }
     }
     file.sync_all()?;
     if shows {
-        let _ = eprintln!(rt; "\rnbdj: {pieces} of {pieces} MiB written");
+        show(rt, pieces, pieces, "\n");
     }
     Ok(())
+}
+
+fn show(rt: &HostRuntime, piece: u64, pieces: u64, end: &str) {
+    let _ = eprint!(rt; "\rnbdj: {piece} of {pieces} MiB written{end}");
 }

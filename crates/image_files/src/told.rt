@@ -33,6 +33,10 @@ impl<'a, F: FileExt + OpenFile + Drop> ToldFile<'a, F> {
             let _ = eprintln!(self.rt; "nbdj: {path}: {call}: {error}");
         }
     }
+
+    fn tell_of(&self, call: &str, bytes: usize, offset: u64, error: &io::Error) {
+        self.tell(format_args!("{call} of {bytes} bytes at {offset}"), error);
+    }
 }
 
 impl<'a, F: FileExt + OpenFile + Drop> FileExt for ToldFile<'a, F> {
@@ -40,7 +44,7 @@ impl<'a, F: FileExt + OpenFile + Drop> FileExt for ToldFile<'a, F> {
         let wanted = buf.len();
         let read = self.file.read_at(buf, offset);
         if let Err(error) = &read {
-            self.tell(format_args!("read of {wanted} bytes at {offset}"), error);
+            self.tell_of("read", wanted, offset, error);
         }
         read
     }
@@ -48,10 +52,7 @@ impl<'a, F: FileExt + OpenFile + Drop> FileExt for ToldFile<'a, F> {
     fn write_at(&self, buf: &[u8], offset: u64) -> io::Result<usize> {
         let written = self.file.write_at(buf, offset);
         if let Err(error) = &written {
-            self.tell(
-                format_args!("write of {} bytes at {offset}", buf.len()),
-                error,
-            );
+            self.tell_of("write", buf.len(), offset, error);
         }
         written
     }
