@@ -1,4 +1,4 @@
-use Rattle.std.proofs.Common.{◌∙◌, ◌/◌, ℕ, List, ap, refl, subst, sym}
+use Rattle.std.proofs.Common.{◌∙◌, ◌/◌, ◌≤◌, ℕ, List, ap, refl, subst, sym}
 use Rattle.image_model.specs.Image.{apply_all}
 use Rattle.nbd_wire.specs.declared.head.RequestHead.{RequestHead}
 use Rattle.order_book.specs.Order.{OrderState}
@@ -56,6 +56,13 @@ vouch-is_vouched-requires-clause-given g c =
     given_same (λ (l : List ℕ). g.H.ReadBeside.gives c.args.handle.now (block_at c.args.terms.now.geometry span.first) l) span.first span.end
     (c.args.request.now.head.offset / 4096) c.of.result.first c.args.bytes.items c.deref.result.now
     (sym (c.of.ensures.first ∙ ap (λ (h : RequestHead). h.offset / 4096) c.head-head.ensures)) (sym c.deref.ensures.value) c.requires.given
+
+pub vouch-is_vouched-requires-clause-device : goal.vouch-is_vouched-requires-clause-device
+vouch-is_vouched-requires-clause-device g c = c.requires.geometry
+
+pub vouch-is_vouched-requires-clause-from : goal.vouch-is_vouched-requires-clause-from
+vouch-is_vouched-requires-clause-from g c =
+    subst (λ (n : ℕ). n ≤ c.args.planned.span.first) (sym (c.of.ensures.first ∙ ap (λ (h : RequestHead). h.offset / 4096) c.head-head.ensures)) c.requires.planned.from
 
 pub returns-clause-rest : goal.returns-clause-rest
 returns-clause-rest g c = (refl, refl, refl, refl, refl, refl, refl, refl, refl, refl)
