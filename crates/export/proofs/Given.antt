@@ -1,15 +1,9 @@
 -- What was read beside the locks is what is served.
-use Rattle.std.specs.Prelude.{OnOk, slice_range}
-use Rattle.std.specs.Result.{is_ok}
-use Rattle.std.proofs.Common.{◌≡◌, ◌≤◌, ◌∙◌, ◌+◌, ◌-◌, ◌*◌, ℕ, true, List, ◌++◌, length, take, drop, Result, Ok, Err, subst, sym, arith}
-use Rattle.std.proofs.lemmas.Bool.{true≢false}
+use Rattle.std.specs.Prelude.{slice_range}
+use Rattle.std.proofs.Common.{◌≡◌, ◌≤◌, ◌∙◌, ◌+◌, ◌-◌, ◌*◌, ℕ, List, ◌++◌, length, take, drop, subst, sym, arith}
 use Rattle.std.proofs.lemmas.List.{take_all, take-append-le}
 use Rattle.image_model.specs.declared.geometry.Geometry.{Geometry}
 use Rattle.regions.specs.Layout.{block_at}
-
-pub was_ok : {T E : Type 0} (result : Result T E) (X : Type 0) → true ≡ is_ok result → OnOk result X → X
-was_ok (Ok value) X is holds = holds
-was_ok (Err error) X is holds = absurd (true≢false is)
 
 -- a span has room where all blocks have
 pub inside : (end first begin count size : ℕ) → first ≡ begin → end ≤ begin + count → size ≡ 4096 * count → 4096 * (end - first) ≤ size

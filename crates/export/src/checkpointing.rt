@@ -29,6 +29,40 @@ fn time_since<R: Clock>(rt: &R, began: Option<Instant>) -> Option<Duration> {
     began?.elapsed(rt).ok()
 }
 
+// How far a checkpoint is.
+#[derive(Drop)]
+struct Progress {
+    // Whether one has begun.
+    is_copying: bool,
+    // Since when the first area is copied, and how many of its blocks are.
+    began: Option<Instant>,
+    blocks: u64,
+}
+
+impl Progress {
+    // The copy of an area begins.
+    fn begin<R: Clock>(&mut self, rt: &R) {
+        self.is_copying = true;
+        self.began = Instant::now(rt).ok();
+        self.blocks = 0;
+    }
+
+    // The first area is let go, and so many wait still.
+    fn let_go<R: Clock, G: SyncPoints>(&mut self, rt: &R, points: &mut G, waiting: u8) {
+        if let Some(took) = time_since(rt, self.began) {
+            points.reach(Point::Copied {
+                blocks: self.blocks,
+                took,
+            });
+        }
+        if waiting == 0 {
+            self.is_copying = false;
+        } else {
+            self.begin(rt);
+        }
+    }
+}
+
 impl<B: ExportName, D: Disk, H: ReadBeside> Export<B, D, H> {
     /// Copies the journal into the image, step by step, before it is full or no frame is left. Each step is one hold of the
     /// keeper's lock, and groups are stored between two.
@@ -37,66 +71,71 @@ impl<B: ExportName, D: Disk, H: ReadBeside> Export<B, D, H> {
     /// end; when a call of the device has failed; and where no greater generation of a header is left, after which what
     /// finds no room waits for good.
     pub fn checkpointer<R: Wait + Clock, G: SyncPoints>(&self, rt: &R, points: &mut G) {
+        let mut progress = Progress {
+            is_copying: false,
+            began: None,
+            blocks: 0,
+        };
         for _ in rt.forever() {
-            if !self.wait_for_checkpoint(rt) || !self.checkpoint(rt, points) {
+            let goes_on = if progress.is_copying {
+                self.checkpoint(rt, points, &mut progress)
+            } else {
+                self.wait_for_checkpoint(rt, &mut progress)
+            };
+            if !goes_on {
                 return;
             }
         }
     }
 
-    // Waits until a checkpoint is to be begun; not where none will be.
-    fn wait_for_checkpoint<R: Wait>(&self, rt: &R) -> bool {
-        for _ in rt.forever() {
-            let queue = self.queue.lock(rt);
-            if queue.stopped() || queue.is_flushed() {
-                return false;
-            }
-            if queue.is_checkpoint_due() {
-                return true;
-            }
+    // Begins a checkpoint where one is due, else waits for a while; not where there will be none.
+    fn wait_for_checkpoint<R: Wait + Clock>(&self, rt: &R, progress: &mut Progress) -> bool {
+        let queue = self.queue.lock(rt);
+        if queue.stopped() || queue.is_flushed() {
+            return false;
+        }
+        if queue.is_checkpoint_due() {
+            drop(queue);
+            progress.begin(rt);
+        } else {
             let _woken = self.signals.checkpoint_due.wait(rt, queue);
         }
-        unreachable!()
+        true
     }
 
-    // Takes an area into use, and copies the one in front of it and those that come to wait meanwhile; whether there may be another
-    // checkpoint.
-    fn checkpoint<R: Wait + Clock, G: SyncPoints>(&self, rt: &R, points: &mut G) -> bool {
-        let mut began = Instant::now(rt).ok();
-        let mut blocks: u64 = 0;
-        for _ in rt.forever() {
-            points.reach(Point::Step);
-            match self.take_step(rt) {
-                Hold::Rotated => {}
-                Hold::Copied(CopyStep::Blocks(more)) => blocks = blocks.saturating_add(more),
-                Hold::Copied(CopyStep::LetGo { waiting }) => {
-                    if let Some(took) = time_since(rt, began) {
-                        points.reach(Point::Copied { blocks, took });
-                    }
-                    if waiting == 0 {
-                        return true;
-                    }
-                    began = Instant::now(rt).ok();
-                    blocks = 0;
-                }
-                Hold::Idle => return true,
-                Hold::Again => thread::yield_now(),
-                Hold::Ended => return false,
+    // Takes a step of a checkpoint, which takes an area into use, and copies the one in front of it and those that come to wait
+    // meanwhile; whether there may be another step or checkpoint.
+    fn checkpoint<R: Wait + Clock, G: SyncPoints>(
+        &self,
+        rt: &R,
+        points: &mut G,
+        progress: &mut Progress,
+    ) -> bool {
+        points.reach(Point::Step);
+        let hold = self.take_step(rt, &mut self.store.lock(rt));
+        match hold {
+            Hold::Rotated => {}
+            Hold::Copied(CopyStep::Blocks(more)) => {
+                progress.blocks = progress.blocks.saturating_add(more);
             }
+            Hold::Copied(CopyStep::LetGo { waiting }) => progress.let_go(rt, points, waiting),
+            Hold::Idle => progress.is_copying = false,
+            Hold::Again => thread::yield_now(),
+            Hold::Ended => return false,
         }
-        unreachable!()
+        true
     }
 
-    // Takes the first step that there is, in one hold of the keeper's lock. Another area is taken into use where none waits to be
-    // copied, and where the last one is nearly full and one is free: no write waits for a copy then. Else the first that waits is
-    // copied.
-    fn take_step<R: Wait>(&self, rt: &R) -> Hold {
-        let mut store = self.store.lock(rt);
+    // Takes the first step that there is, under the keeper's lock. Another area is taken into use where none waits to be copied, and
+    // where the last one is nearly full and one is free: no write waits for a copy then. Else the first that waits is copied.
+    fn take_step<R: Wait>(&self, rt: &R, store: &mut StorageEngine<B, D>) -> Hold {
         let is_first = store.waiting() == 0;
-        if is_first || self.wants_area(rt, &*store) {
+        if is_first || store.is_nearly_full() || self.queue.lock(rt).is_full() {
             match store.rotate() {
                 Ok(()) => {
-                    self.note_rotated(rt);
+                    // What didn't fit the last one is stored at once.
+                    self.queue.lock(rt).find_empty();
+                    self.signals.work.notify_one();
                     return Hold::Rotated;
                 }
                 // All are in use, or there is no memory for it now: the copy goes on, which frees some.
@@ -110,18 +149,7 @@ impl<B: ExportName, D: Disk, H: ReadBeside> Export<B, D, H> {
                 Err(fault) => return self.refused(rt, fault),
             }
         }
-        self.copy_on(rt, &mut *store)
-    }
-
-    // Whether the last area is full, or soon will be.
-    fn wants_area<R: Wait>(&self, rt: &R, store: &StorageEngine<B, D>) -> bool {
-        store.is_nearly_full() || self.queue.lock(rt).is_full()
-    }
-
-    // An area has been taken into use, and what didn't fit the last one is stored at once.
-    fn note_rotated<R: Wait>(&self, rt: &R) {
-        self.queue.lock(rt).find_empty();
-        self.signals.work.notify_one();
+        self.copy_on(rt, store)
     }
 
     // Copies a part of the first area. Where that is let go so are the frames, in the same hold: the order knows of a base before there
@@ -132,9 +160,7 @@ impl<B: ExportName, D: Disk, H: ReadBeside> Export<B, D, H> {
             Err(fault) => return self.refused(rt, fault),
         };
         if let CopyStep::LetGo { waiting: _ } = step {
-            let mut queue = self.queue.lock(rt);
-            store.clean(&mut queue, &self.board);
-            drop(queue);
+            store.clean(&mut self.queue.lock(rt), &self.board);
             self.signals.settled.notify_all();
             self.signals.notify(true, true);
         }

@@ -441,7 +441,7 @@ impl<B: ExportName> CommitQueue<B> {
         Ok(sealed)
     }
 
-    /// Makes a group pending again, which the area had no room for.
+    /// Makes a group pending again, which the area had no room for, and wants a checkpoint.
     pub(crate) fn take_back(&mut self, board: &Board<B>, sealed: SealedGroup<B>)
         ensures { self.new.settled ≡ self.old.settled }
     {
@@ -450,12 +450,6 @@ impl<B: ExportName> CommitQueue<B> {
             // There is one thread that seals, so it is the one in hand.
             other.let_go();
         }
-    }
-
-    /// A group doesn't fit the area.
-    pub(crate) fn find_full(&mut self)
-        ensures { self.new.settled ≡ self.old.settled }
-    {
         self.is_full = true;
         self.wish_checkpoint();
     }
@@ -472,12 +466,21 @@ impl<B: ExportName> CommitQueue<B> {
         self.is_full = false;
     }
 
-    /// Makes durable what is stored.
-    pub(crate) fn publish<D: Disk>(&mut self, board: &Board<B>, store: &mut StorageEngine<B, D>)
+    /// Makes durable what is stored; whether a checkpoint is wanted then.
+    pub(crate) fn publish<D: Disk>(
+        &mut self,
+        board: &Board<B>,
+        store: &mut StorageEngine<B, D>,
+    ) -> bool
         ensures { self.new.settled ≡ self.old.settled }
     {
         store.publish(board, &mut self.order);
         self.waiters.publish();
+        if store.is_filling() {
+            self.wish_checkpoint();
+        }
+        self.look_at_frames();
+        self.wants_checkpoint()
     }
 
     /// Keeper and pass meet the order, and gives the number of the last command that was accepted.

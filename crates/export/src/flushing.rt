@@ -21,84 +21,86 @@ impl<B: ExportName, D: Disk, H: ReadBeside> Export<B, D, H> {
     /// for the same one.
     pub fn flusher<R: Wait + Clock, G: SyncPoints>(&self, rt: &R, points: &mut G) {
         let mut pace = Pace::new();
+        let mut in_hand = None;
         for _ in rt.forever() {
-            let Some(group) = self.next_group(rt, &mut pace) else {
-                break;
+            in_hand = match in_hand {
+                Some(group) => {
+                    let back = self.store_group(
+                        rt,
+                        points,
+                        &mut pace,
+                        &mut self.store.lock(rt),
+                        group,
+                    );
+                    // Where memory is refused it stays in hand, and is stored later: others may let some go meanwhile.
+                    if back.is_some() {
+                        thread::yield_now();
+                    }
+                    back
+                }
+                None => {
+                    let Some(next) = self.next_group(rt, &mut pace) else {
+                        break;
+                    };
+                    next
+                }
             };
-            self.store_group(rt, points, &mut pace, group);
+        }
+        // There is none where it ends; one would have to be spent.
+        if let Some(group) = in_hand {
+            group.let_go();
         }
         self.queue.lock(rt).end();
         self.signals.checkpoint_due.notify_all();
     }
 
-    // The next group that is to be stored, once there is one.
-    fn next_group<R: Wait + Clock>(&self, rt: &R, pace: &mut Pace) -> Option<SealedGroup<B>> {
-        for _ in rt.forever() {
-            let mut queue = self.queue.lock(rt);
-            if queue.stopped() || queue.is_done() {
-                return None;
-            }
-            if !queue.is_group_due() {
-                self.wait_for_work(rt, queue);
-            } else if let Some(left) = time_to_gather(rt, &*queue, pace) {
-                let _woken = self.signals.work.wait_timeout(rt, queue, left);
-            } else if let Ok(Some(group)) = queue.seal(&self.board) {
-                pace.seal();
-                return Some(group);
-            } else {
-                // No memory for it: others may let some go meanwhile.
-                drop(queue);
-                thread::yield_now();
-            }
+    // The next group that is to be stored, where there is one, else it waits for a while; None where there will be no other.
+    fn next_group<R: Wait + Clock>(
+        &self,
+        rt: &R,
+        pace: &mut Pace,
+    ) -> Option<Option<SealedGroup<B>>> {
+        let mut queue = self.queue.lock(rt);
+        if queue.stopped() || queue.is_done() {
+            return None;
         }
-        unreachable!()
+        if !queue.is_group_due() {
+            self.wait_for_work(rt, queue);
+        } else if let Some(left) = time_to_gather(rt, &*queue, pace) {
+            let _woken = self.signals.work.wait_timeout(rt, queue, left);
+        } else if let Ok(Some(group)) = queue.seal(&self.board) {
+            pace.seal();
+            return Some(Some(group));
+        } else {
+            // No memory for it: others may let some go meanwhile.
+            drop(queue);
+            thread::yield_now();
+        }
+        Some(None)
     }
 
-    // Stores a group; where memory is refused it stays in hand, and is stored later.
+    // Stores a group under the keeper's lock, or gives it back where memory was refused.
     fn store_group<R: Wait + Clock, G: SyncPoints>(
         &self,
         rt: &R,
         points: &mut G,
         pace: &mut Pace,
-        group: SealedGroup<B>,
-    ) {
-        let mut waiting = Some(group);
-        for _ in rt.forever() {
-            let Some(group) = waiting else {
-                return;
-            };
-            waiting = self.try_group(rt, points, pace, group);
-        }
-        // The loop has no end but that one; a group has to be spent on each way out.
-        if let Some(group) = waiting {
-            group.let_go();
-        }
-    }
-
-    // Stores a group in one hold of the keeper's lock, or gives it back where memory was refused.
-    fn try_group<R: Wait + Clock, G: SyncPoints>(
-        &self,
-        rt: &R,
-        points: &mut G,
-        pace: &mut Pace,
+        store: &mut StorageEngine<B, D>,
         group: SealedGroup<B>,
     ) -> Option<SealedGroup<B>> {
-        let mut store = self.store.lock(rt);
         let begin = Instant::now(rt).ok();
         points.reach(Point::Append);
         match store.append(&self.board, group) {
             Ok(()) => {
                 pace.note(rt, begin);
-                self.publish(rt, &mut *store);
+                self.publish(rt, store);
                 None
             }
-            Err(Unstored::NoMemory(group)) => {
-                drop(store);
-                thread::yield_now();
-                Some(group)
-            }
+            Err(Unstored::NoMemory(group)) => Some(group),
             Err(Unstored::AreaFull(group)) => {
-                self.take_back(rt, group);
+                // It is pending again, and is stored once another area is in use.
+                self.queue.lock(rt).take_back(&self.board, group);
+                self.signals.notify(false, true);
                 None
             }
             Err(Unstored::Failed) => {
@@ -110,25 +112,9 @@ impl<B: ExportName, D: Disk, H: ReadBeside> Export<B, D, H> {
 
     // Makes durable what is stored, and tells those who wait.
     fn publish<R: Wait>(&self, rt: &R, store: &mut StorageEngine<B, D>) {
-        let mut queue = self.queue.lock(rt);
-        queue.publish(&self.board, store);
-        if store.is_filling() {
-            queue.wish_checkpoint();
-        }
-        queue.look_at_frames();
-        let wanted = queue.wants_checkpoint();
-        drop(queue);
+        let wanted = self.queue.lock(rt).publish(&self.board, store);
         self.signals.settled.notify_all();
         self.signals.notify(false, wanted);
-    }
-
-    // Makes a group pending again that doesn't fit the area.
-    fn take_back<R: Wait>(&self, rt: &R, group: SealedGroup<B>) {
-        let mut queue = self.queue.lock(rt);
-        queue.take_back(&self.board, group);
-        queue.find_full();
-        drop(queue);
-        self.signals.notify(false, true);
     }
 
     // A call of the device has failed: commands are refused from now on.

@@ -197,40 +197,45 @@ impl<B: ExportName, D: Disk, H: ReadBeside> Export<B, D, H> {
         ensures fits { FitsServed terms.geometry terms.flags request result }
         ensures tells { Trusting B.opening B.image B.vouches B.trusted (ServesImage (apply_all pass.new.history B.image) request.head result) }
     {
-        let Some(planned) = planned else {
-            return self.serve_locked(rt, pass, request, terms);
-        };
         match self.serve_beside(rt, pass, &request, planned, &terms) {
             Some(served) => served,
             None => self.serve_locked(rt, pass, request, terms),
         }
     }
 
-    // Serves a READ whose missing blocks are read with no lock held; not where there is no second handle or no memory, a read
-    // fails, or what was read isn't enough each time. The device's fault is then met with the keeper, or isn't there any more.
+    // Serves a READ whose missing blocks are read with no lock held; not where nothing is planned, there is no second handle or no
+    // memory, a read fails, or what was read isn't enough each time. The device's fault is then met with the keeper, or isn't there any
+    // more.
     fn serve_beside<R: Wait>(
         &self,
         rt: &R,
         pass: &mut Pass<B>,
         request: &Request,
-        planned: Planned,
+        planned: Option<Planned>,
         terms: &Terms,
     ) -> Option<Served>
         requires geometry { terms.now.geometry ≡ B.geometry }
-        requires planned { IsPlanned request.now.head terms.now.geometry terms.now.flags planned.span }
+        requires planned { IfSome planned (λ planned. IsPlanned request.now.head terms.now.geometry terms.now.flags planned.span) }
         ensures served { IfSome result (λ served. IsServedFor B.opening B.image (Trusting B.opening B.image B.vouches B.trusted) request.now terms.now.mode pass.old pass.new served) }
         ensures fits { IfSome result (λ served. FitsServed terms.now.geometry terms.now.flags request.now served) }
         ensures tells { IfSome result (λ served. Trusting B.opening B.image B.vouches B.trusted (ServesImage (apply_all pass.new.history B.image) request.now.head served)) }
         ensures unchanged { IfNone result (pass.new ≡ pass.old) }
     {
-        let handle = self.beside.as_ref()?;
+        let Some(mut planned) = planned else {
+            return None;
+        };
+        let Some(handle) = &self.beside else {
+            return None;
+        };
         let head = request.head();
         let blocks = Blocks::of(&head);
-        let mut bytes = self.room(rt, blocks.bytes())?;
-        let mut planned = planned;
+        let Some(mut bytes) = self.room(rt, blocks.bytes()) else {
+            return None;
+        };
         for _ in 0..MOST_TRIES {
-            self.read_span(handle, blocks.first, planned.span, &mut bytes)
-                .ok()?;
+            let Ok(()) = self.read_span(handle, blocks.first, planned.span, &mut bytes) else {
+                return None;
+            };
             let mut queue = self.queue.lock(rt);
             let served = queue.serve_over(
                 self.alloc,
@@ -246,7 +251,10 @@ impl<B: ExportName, D: Disk, H: ReadBeside> Export<B, D, H> {
                 Ok(served) => return Some(served),
                 Err(back) => bytes = back,
             }
-            planned = queue.plan(request, terms)?;
+            match queue.plan(request, terms) {
+                Some(again) => planned = again,
+                None => return None,
+            }
         }
         None
     }
