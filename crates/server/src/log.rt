@@ -3,7 +3,7 @@ use nbd_wire::SessionFlags;
 use negotiation::End;
 
 /// What a session has asked for.
-#[derive(Clone, Copy, PartialEq, Eq)]
+#[derive(Clone, Copy)]
 pub struct Traffic {
     pub requests: u64,
     /// The bytes that READs asked for.
