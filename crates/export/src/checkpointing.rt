@@ -112,7 +112,7 @@ impl<B: ExportName, D: Disk, H: ReadBeside> Export<B, D, H> {
         progress: &mut Progress,
     ) -> bool {
         points.reach(Point::Step);
-        let hold = self.take_step(rt, &mut self.store.lock(rt));
+        let hold = self.take_step(rt, &mut self.engine.lock(rt));
         match hold {
             Hold::Rotated => {}
             Hold::Copied(CopyStep::Blocks(more)) => {
@@ -128,10 +128,10 @@ impl<B: ExportName, D: Disk, H: ReadBeside> Export<B, D, H> {
 
     // Takes the first step that there is, under the keeper's lock. Another area is taken into use where none waits to be copied, and
     // where the last one is nearly full and one is free: no write waits for a copy then. Else the first that waits is copied.
-    fn take_step<R: Wait>(&self, rt: &R, store: &mut StorageEngine<B, D>) -> Hold {
-        let is_first = store.waiting() == 0;
-        if is_first || store.is_nearly_full() || self.queue.lock(rt).is_full() {
-            match store.rotate() {
+    fn take_step<R: Wait>(&self, rt: &R, engine: &mut StorageEngine<B, D>) -> Hold {
+        let is_first = engine.waiting() == 0;
+        if is_first || engine.is_nearly_full() || self.queue.lock(rt).is_full() {
+            match engine.rotate() {
                 Ok(()) => {
                     // What didn't fit the last one is stored at once.
                     self.queue.lock(rt).find_empty();
@@ -149,18 +149,18 @@ impl<B: ExportName, D: Disk, H: ReadBeside> Export<B, D, H> {
                 Err(fault) => return self.refused(rt, fault),
             }
         }
-        self.copy_on(rt, store)
+        self.copy_on(rt, engine)
     }
 
     // Copies a part of the first area. Where that is let go so are the frames, in the same hold: the order knows of a base before there
     // is another one.
-    fn copy_on<R: Wait>(&self, rt: &R, store: &mut StorageEngine<B, D>) -> Hold {
-        let step = match store.copy_on(&self.board) {
+    fn copy_on<R: Wait>(&self, rt: &R, engine: &mut StorageEngine<B, D>) -> Hold {
+        let step = match engine.copy_on(&self.board) {
             Ok(step) => step,
             Err(fault) => return self.refused(rt, fault),
         };
         if let CopyStep::LetGo { waiting: _ } = step {
-            store.clean(&mut self.queue.lock(rt), &self.board);
+            engine.clean(&mut self.queue.lock(rt), &self.board);
             self.signals.settled.notify_all();
             self.signals.notify(true, true);
         }

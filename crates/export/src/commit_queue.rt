@@ -470,13 +470,13 @@ impl<B: ExportName> CommitQueue<B> {
     pub(crate) fn publish<D: Disk>(
         &mut self,
         board: &Board<B>,
-        store: &mut StorageEngine<B, D>,
+        engine: &mut StorageEngine<B, D>,
     ) -> bool
         ensures { self.new.settled ≡ self.old.settled }
     {
-        store.publish(board, &mut self.order);
+        engine.publish(board, &mut self.order);
         self.waiters.publish();
-        if store.is_filling() {
+        if engine.is_filling() {
             self.wish_checkpoint();
         }
         self.look_at_frames();

@@ -104,7 +104,7 @@ pub struct Export<B: ExportName, D: Disk, H: ReadBeside> {
     pub geometry: Geometry,
     /// When a write command is answered.
     pub mode: Mode,
-    pub(crate) store: Mutex<StorageEngine<B, D>>,
+    pub(crate) engine: Mutex<StorageEngine<B, D>>,
     pub(crate) queue: Mutex<CommitQueue<B>>,
     // By which the device is read with neither lock held.
     pub(crate) beside: Option<H>,
@@ -123,7 +123,7 @@ impl<B: ExportName, D: Disk + Drop, H: ReadBeside> Drop for Export<B, D, H> {
             board: _,
             geometry: _,
             mode: _,
-            store: _,
+            engine: _,
             queue: _,
             beside: _,
             buffers: _,
@@ -170,7 +170,7 @@ impl<B: ExportName, D: Disk, H: ReadBeside> Export<B, D, H> {
                     board,
                     geometry: keeper.geometry(),
                     mode,
-                    store: Mutex::new(StorageEngine::new(SharedKeeper::new(keeper, seat))),
+                    engine: Mutex::new(StorageEngine::new(SharedKeeper::new(keeper, seat))),
                     queue: Mutex::new(CommitQueue::new(order, frames, workers, settled)),
                     beside,
                     buffers: Mutex::new(BufferPool::new(alloc)),
@@ -205,13 +205,13 @@ impl<B: ExportName, D: Disk, H: ReadBeside> Export<B, D, H> {
             board,
             geometry: _,
             mode: _,
-            store,
+            engine,
             queue,
             beside: _,
             buffers: _,
             signals: _,
         } = self;
-        let mut engine = store.into_inner();
+        let mut engine = engine.into_inner();
         let mut queue = queue.into_inner();
         let durable = board.look_durable(&mut pass.pass);
         let mark = engine.meet_all(&mut queue, &board, &mut pass.pass);

@@ -29,7 +29,7 @@ impl<B: ExportName, D: Disk, H: ReadBeside> Export<B, D, H> {
                         rt,
                         points,
                         &mut pace,
-                        &mut self.store.lock(rt),
+                        &mut self.engine.lock(rt),
                         group,
                     );
                     // Where memory is refused it stays in hand, and is stored later: others may let some go meanwhile.
@@ -85,15 +85,15 @@ impl<B: ExportName, D: Disk, H: ReadBeside> Export<B, D, H> {
         rt: &R,
         points: &mut G,
         pace: &mut Pace,
-        store: &mut StorageEngine<B, D>,
+        engine: &mut StorageEngine<B, D>,
         group: SealedGroup<B>,
     ) -> Option<SealedGroup<B>> {
         let begin = Instant::now(rt).ok();
         points.reach(Point::Append);
-        match store.append(&self.board, group) {
+        match engine.append(&self.board, group) {
             Ok(()) => {
                 pace.note(rt, begin);
-                self.publish(rt, store);
+                self.publish(rt, engine);
                 None
             }
             Err(Unstored::NoMemory(group)) => Some(group),
@@ -111,8 +111,8 @@ impl<B: ExportName, D: Disk, H: ReadBeside> Export<B, D, H> {
     }
 
     // Makes durable what is stored, and tells those who wait.
-    fn publish<R: Wait>(&self, rt: &R, store: &mut StorageEngine<B, D>) {
-        let wanted = self.queue.lock(rt).publish(&self.board, store);
+    fn publish<R: Wait>(&self, rt: &R, engine: &mut StorageEngine<B, D>) {
+        let wanted = self.queue.lock(rt).publish(&self.board, engine);
         self.signals.settled.notify_all();
         self.signals.notify(false, wanted);
     }

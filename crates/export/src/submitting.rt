@@ -309,16 +309,16 @@ impl<B: ExportName, D: Disk, H: ReadBeside> Export<B, D, H> {
         ensures fits { FitsServed terms.geometry terms.flags request result }
         ensures tells { Trusting B.opening B.image B.vouches B.trusted (ServesImage (apply_all pass.new.history B.image) request.head result) }
     {
-        let mut store = self.store.lock(rt);
+        let mut engine = self.engine.lock(rt);
         let mut queue = self.queue.lock(rt);
-        let served = store.serve(&mut queue, self.alloc, request, &self.board, pass, terms);
+        let served = engine.serve(&mut queue, self.alloc, request, &self.board, pass, terms);
         if queue.stopped() {
             self.signals.notify_all();
             return served;
         }
         let (work, is_due) = queue.next_work();
         drop(queue);
-        drop(store);
+        drop(engine);
         self.signals.notify(work, is_due);
         served
     }
