@@ -1,10 +1,13 @@
-use Rattle.std.proofs.Common.{◌≡◌, inl, inr, ◌<◌, ◌+◌, ◌*◌, ◌/◌, ◌∙◌, ap, sym, refl, ℕ, List, Option, Some, None, length, arith, subst}
+use Rattle.std.proofs.Common.{◌≡◌, ◌⊎◌, inl, inr, ◌<◌, ◌+◌, ◌*◌, ◌/◌, ◌∙◌, ap, sym, refl, ℕ, List, Option, Some, None, length, arith, subst}
 use Rattle.std.specs.Bool.{IsTrue}
 use Rattle.device_image.specs.Keeper.{KeeperState}
 use Rattle.std.proofs.lemmas.Bool.{cases_lt}
+use Rattle.std.proofs.lemmas.Result.{IfOk-from_err}
+use Rattle.checkpoint.specs.Keeper.{faults_by}
+use Rattle.checkpoint.specs.declared.fault.KeeperFault.TheVariants.{DeviceFault, Failed}
 use Rattle.journal_format.specs.laws.Chained.{none_read, reads_on}
 use Rattle.shared_cache.specs.laws.Views.{seen_missing}
-use Rattle.order_book.proofs.Handed.{failed_on, is_not, not_failed, ok_is_none, on_err}
+use Rattle.order_book.proofs.Handed.{err_with, failed_on, is_not, not_failed, ok_is_none, on_err, on_ok}
 use Rattle.order_book.proofs.Missing.{lacks_at}
 use Rattle.order_book.proofs.reading.read_blocks.Goals as goal
 
@@ -29,35 +32,51 @@ loop-done-init g c =
       from_base = λ honest base fronts last holds j k below less none kind unwritten. absurd (held.there j (omega arith) below none);
     }
 
-pub returns-clause-all_held : goal.returns-clause-all_held
-returns-clause-all_held g c = λ all.
-    let held = c.read_held-held.result in
-    let size = c.loop-done.invariant.size in
-    let whole : 4096 * held ≡ length c.args.into.now = elim (cases_lt (4096 * held) (length c.args.into.now)) [
-      | inl less ↦ absurd (all (lacks_at c.args.cache.now c.args.first (length c.args.into.now / 4096) held (omega (arith, less, c.requires.whole))
-          (c.read_held-held.ensures.missing (omega (arith, less, c.read_held-held.ensures.size)))))
-      | inr more ↦ omega (arith, more, c.read_held-held.ensures.size, c.read_held-held.ensures.inside)
-    ] in (
-      omega (arith, whole, size),
-      elim c.loop-done.invariant.begun [ inl same ↦ same.1 | inr behind ↦ let far = behind.0 in absurd (omega (arith, far, whole, size, c.loop-done.invariant.inside)) ],
-    )
-
-pub returns-clause-failed : goal.returns-clause-failed
-returns-clause-failed g c = (
-  λ e. cc,
-  λ both. absurd (elim c.loop-done.invariant.begun [
-    | inl same ↦
-        let at = same.0 in
-        let lacks = both.1 in
-        let below : lacks.0 < c.read_held-held.result = omega (arith, lacks.1, at, c.loop-done-test.false, c.read_held-held.ensures.size) in
-        c.read_held-held.ensures.there lacks.0 (omega arith) below (seen_missing c.args.cache.now (c.args.first + lacks.0) lacks.2 lacks.3)
-    | inr behind ↦ not_failed _ both.0 behind.1
-  ]),
-)
-
-pub returns-clause-from_base : goal.returns-clause-from_base
-returns-clause-from_base g c = λ honest base fronts last holds j k below less.
-    c.loop-done.invariant.from_base honest base fronts last holds j k (omega (arith, below, c.loop-done-test.false, c.loop-done.invariant.size, c.requires.whole)) less
+pub returns : goal.returns
+returns g c =
+    let so_far = c.loop-done.invariant in record {
+      size = so_far.size;
+      inside = let held = c.read_held-held.ensures in omega (arith, held.inside, held.size, so_far.size);
+      there = λ j below. c.read_held-held.ensures.there j (omega arith) below;
+      missing = λ less. c.read_held-held.ensures.missing (omega (arith, less, so_far.size, c.read_held-held.ensures.size));
+      all_held =
+          λ all.
+          let held = c.read_held-held.result in
+          let size = so_far.size in
+          let whole : 4096 * held ≡ length c.args.into.now = elim (cases_lt (4096 * held) (length c.args.into.now)) [
+            | inl less ↦ absurd (all (lacks_at c.args.cache.now c.args.first (length c.args.into.now / 4096) held (omega (arith, less, c.requires.whole))
+                (c.read_held-held.ensures.missing (omega (arith, less, c.read_held-held.ensures.size)))))
+            | inr more ↦ omega (arith, more, c.read_held-held.ensures.size, c.read_held-held.ensures.inside)
+          ] in (
+            omega (arith, whole, size),
+            elim so_far.begun [ inl same ↦ same.1 | inr behind ↦ let far = behind.0 in absurd (omega (arith, far, whole, size, so_far.inside)) ],
+          );
+      ok = so_far.only;
+      err = tt;
+      failed = (
+        λ e. cc,
+        λ both. absurd (elim so_far.begun [
+          | inl same ↦
+              let at = same.0 in
+              let lacks = both.1 in
+              let below : lacks.0 < c.read_held-held.result = omega (arith, lacks.1, at, c.loop-done-test.false, c.read_held-held.ensures.size) in
+              c.read_held-held.ensures.there lacks.0 (omega arith) below (seen_missing c.args.cache.now (c.args.first + lacks.0) lacks.2 lacks.3)
+          | inr behind ↦ not_failed _ both.0 behind.1
+        ]),
+      );
+      lacks = tt;
+      only = tt;
+      extent = so_far.extent;
+      faults_ok = so_far.faults;
+      faults_err = tt;
+      honest = so_far.honest;
+      only_read = so_far.only_read;
+      holds = so_far.holds;
+      in_memory = λ j k bytes below less. so_far.in_memory j k bytes (omega (arith, below, c.loop-done-test.false, so_far.size, c.requires.whole)) less;
+      from_base =
+          λ honest base fronts last holds j k below less.
+          so_far.from_base honest base fronts last holds j k (omega (arith, below, c.loop-done-test.false, so_far.size, c.requires.whole)) less;
+    }
 
 pub returns-in_err-read_run-clause-failed : goal.returns-in_err-read_run-clause-failed
 returns-in_err-read_run-clause-failed g c =
@@ -114,8 +133,44 @@ loop-done-preserved g c =
       ];
     }
 
-pub returns-clause-there : goal.returns-clause-there
-returns-clause-there g c = λ j below. c.read_held-held.ensures.there j (omega arith) below
+pub returns-in_err-read_run-clause-size : goal.returns-in_err-read_run-clause-size
+returns-in_err-read_run-clause-size g c = c.in_err-read_run.ensures.size ∙ c.loop-done.invariant.size
 
-pub returns-clause-missing : goal.returns-clause-missing
-returns-clause-missing g c = λ less. c.read_held-held.ensures.missing (omega (arith, less, c.loop-done.invariant.size, c.read_held-held.ensures.size))
+pub returns-in_err-read_run-clause-inside : goal.returns-in_err-read_run-clause-inside
+returns-in_err-read_run-clause-inside g c = IfOk-from_err c.from_residual.result _ c.from_residual.ensures.0
+
+pub returns-in_err-read_run-clause-there : goal.returns-in_err-read_run-clause-there
+returns-in_err-read_run-clause-there g c = IfOk-from_err c.from_residual.result _ c.from_residual.ensures.0
+
+pub returns-in_err-read_run-clause-missing : goal.returns-in_err-read_run-clause-missing
+returns-in_err-read_run-clause-missing g c = IfOk-from_err c.from_residual.result _ c.from_residual.ensures.0
+
+pub returns-in_err-read_run-clause-all_held : goal.returns-in_err-read_run-clause-all_held
+returns-in_err-read_run-clause-all_held g c all = IfOk-from_err c.from_residual.result _ c.from_residual.ensures.0
+
+pub returns-in_err-read_run-clause-ok : goal.returns-in_err-read_run-clause-ok
+returns-in_err-read_run-clause-ok g c = on_ok c.from_residual.result c.in_err-read_run.field-0.0 c.from_residual.ensures.1 _
+
+pub returns-in_err-read_run-clause-only : goal.returns-in_err-read_run-clause-only
+returns-in_err-read_run-clause-only g c = err_with c.from_residual.result c.in_err-read_run.field-0.0 c.from_residual.ensures.1 (λ fault. (fault ≡ DeviceFault) ⊎ (fault ≡ Failed)) c.in_err-read_run.ensures.only
+
+pub returns-in_err-read_run-clause-extent : goal.returns-in_err-read_run-clause-extent
+returns-in_err-read_run-clause-extent g c = c.in_err-read_run.ensures.extent ∙ c.loop-done.invariant.extent
+
+pub returns-in_err-read_run-clause-faults_ok : goal.returns-in_err-read_run-clause-faults_ok
+returns-in_err-read_run-clause-faults_ok g c = on_ok c.from_residual.result c.in_err-read_run.field-0.0 c.from_residual.ensures.1 _
+
+pub returns-in_err-read_run-clause-faults_err : goal.returns-in_err-read_run-clause-faults_err
+returns-in_err-read_run-clause-faults_err g c = err_with c.from_residual.result c.in_err-read_run.field-0.0 c.from_residual.ensures.1 (λ fault. g.D.Disk.faults c.read_run.new.keeper.disk ≡ faults_by fault (g.D.Disk.faults c.args.keeper.now.disk)) (c.in_err-read_run.ensures.faults_err ∙ ap (faults_by c.in_err-read_run.field-0.0) c.loop-done.invariant.faults)
+
+pub returns-in_err-read_run-clause-honest : goal.returns-in_err-read_run-clause-honest
+returns-in_err-read_run-clause-honest g c = (λ h. c.loop-done.invariant.honest.0 (c.in_err-read_run.ensures.honest.0 h), λ h. c.in_err-read_run.ensures.honest.1 (c.loop-done.invariant.honest.1 h))
+
+pub returns-in_err-read_run-clause-holds : goal.returns-in_err-read_run-clause-holds
+returns-in_err-read_run-clause-holds g c honest base fronts last holds = on_ok c.from_residual.result c.in_err-read_run.field-0.0 c.from_residual.ensures.1 _
+
+pub returns-in_err-read_run-clause-in_memory : goal.returns-in_err-read_run-clause-in_memory
+returns-in_err-read_run-clause-in_memory g c = on_ok c.from_residual.result c.in_err-read_run.field-0.0 c.from_residual.ensures.1 _
+
+pub returns-in_err-read_run-clause-from_base : goal.returns-in_err-read_run-clause-from_base
+returns-in_err-read_run-clause-from_base g c honest base fronts last holds = on_ok c.from_residual.result c.in_err-read_run.field-0.0 c.from_residual.ensures.1 _

@@ -33,3 +33,33 @@ returns-clause-bytes g c honest base fronts last holds =
     (λ read j k above below less kind unwritten.
     moved c.args.first c.args.from c.args.to c.args.into.now c.read_base.new.into base (joined fronts) c.requires.some c.requires.inside (c.read_base.auto.into ∙ search (rules, places)) read j k above below less kind unwritten)
     (c.read_base.ensures.bytes honest base fronts last holds)
+
+pub returns-clause-ok : goal.returns-clause-ok
+returns-clause-ok g c = c.read_base.ensures.ok
+
+pub returns-clause-err : goal.returns-clause-err
+returns-clause-err g c = c.read_base.ensures.err
+
+pub returns-clause-failed : goal.returns-clause-failed
+returns-clause-failed g c = c.read_base.ensures.failed
+
+pub returns-clause-only : goal.returns-clause-only
+returns-clause-only g c = c.read_base.ensures.only
+
+pub returns-clause-extent : goal.returns-clause-extent
+returns-clause-extent g c = c.read_base.ensures.extent
+
+pub returns-clause-faults_ok : goal.returns-clause-faults_ok
+returns-clause-faults_ok g c = c.read_base.ensures.faults_ok
+
+pub returns-clause-faults_err : goal.returns-clause-faults_err
+returns-clause-faults_err g c = c.read_base.ensures.faults_err
+
+pub returns-clause-honest : goal.returns-clause-honest
+returns-clause-honest g c = c.read_base.ensures.honest
+
+pub returns-clause-only_read : goal.returns-clause-only_read
+returns-clause-only_read g c = c.read_base.ensures.only_read
+
+pub returns-clause-holds : goal.returns-clause-holds
+returns-clause-holds g c = c.read_base.ensures.held

@@ -1,4 +1,4 @@
-use Rattle.std.proofs.Common.{◌≡◌, ◌+◌, ◌≤◌, ◌∙◌, ◌++◌, ◌∷◌, [], ℕ, List, ap, arith, sym, subst, true}
+use Rattle.std.proofs.Common.{◌≡◌, ◌+◌, ◌≤◌, ◌∙◌, ◌++◌, ◌∷◌, [], ℕ, List, ap, arith, length, refl, sym, subst, true}
 use Rattle.std.specs.List.{sum}
 use Rattle.image_model.specs.Command.{body_of}
 use mathlib.Core.List.{IsPrefix}
@@ -16,21 +16,47 @@ use Rattle.order_book.proofs.Taken.{order_roomy, order_taken, taken_as}
 use Rattle.order_book.proofs.order.Order.take.Goals as goal
 use Rattle.shared_cache.specs.Cache.{CacheState}
 
-pub returns-in_default-clause-unchanged : goal.returns-in_default-clause-unchanged
-returns-in_default-clause-unchanged g c =
-    ap (λ (l : List Command). let o : OrderState = record (state_of c.self.inside) { pending = l; bodies = c.make_room.new.backlog.bodies } in o) c.in_default.ensures.commands
-    ∙ ap (λ (l : List ℕ). let o : OrderState = record (state_of c.self.inside) { bodies = l } in o) c.in_default.ensures.bodies
-    ∙ c.self.view_is
+pub returns-in_default : goal.returns-in_default
+returns-in_default g c = record {
+  number = tt;
+  accepted = tt;
+  view = tt;
+  image = tt;
+  blocks = ap (λ (o : OrderState). length o.cache.states) c.self.view_is;
+  handed_back = refl;
+  unchanged =
+      ap (λ (l : List Command). let o : OrderState = record (state_of c.self.inside) { pending = l; bodies = c.make_room.new.backlog.bodies } in o) c.in_default.ensures.commands
+      ∙ ap (λ (l : List ℕ). let o : OrderState = record (state_of c.self.inside) { bodies = l } in o) c.in_default.ensures.bodies
+      ∙ c.self.view_is;
+  known = tt;
+  knew = tt;
+  pass = tt;
+  pass_unchanged = refl;
+  memory = refl;
+}
 
 pub invariant_of-self : goal.invariant_of-self
 invariant_of-self g c = order_roomy (state_of c.self.inside) _ _ _ _ _ _ c.self.inside.cache _ _ c.self.invariant c.in_default.ensures.commands c.in_default.ensures.bodies (λ i. c.self.inside.cache.blocks.dirty) c.in_default.ensures.kept
 
-pub returns-in_default-apply-clause-unchanged : goal.returns-in_default-apply-clause-unchanged
-returns-in_default-apply-clause-unchanged g c =
-    ap (λ (l : List Command). let o : OrderState = record (state_of c.self.inside) { pending = l; bodies = c.make_room.new.backlog.bodies; cache = c.apply.new.cache; dirty = dirty_of c.apply.new.cache; frames = frames_of c.apply.new.cache } in o) c.in-Ok.ensures.commands
-    ∙ ap (λ (l : List ℕ). let o : OrderState = record (state_of c.self.inside) { bodies = l; cache = c.apply.new.cache; dirty = dirty_of c.apply.new.cache; frames = frames_of c.apply.new.cache } in o) c.in-Ok.ensures.bodies
-    ∙ ap (λ (cache : CacheState). let o : OrderState = record (state_of c.self.inside) { cache = cache; dirty = dirty_of cache; frames = frames_of cache } in o) c.in_default-apply.ensures.err
-    ∙ c.self.view_is
+pub returns-in_default-apply : goal.returns-in_default-apply
+returns-in_default-apply g c = record {
+  number = tt;
+  accepted = tt;
+  view = tt;
+  image = tt;
+  blocks = c.apply.ensures.blocks ∙ ap (λ (o : OrderState). length o.cache.states) c.self.view_is;
+  handed_back = refl;
+  unchanged =
+      ap (λ (l : List Command). let o : OrderState = record (state_of c.self.inside) { pending = l; bodies = c.make_room.new.backlog.bodies; cache = c.apply.new.cache; dirty = dirty_of c.apply.new.cache; frames = frames_of c.apply.new.cache } in o) c.in-Ok.ensures.commands
+      ∙ ap (λ (l : List ℕ). let o : OrderState = record (state_of c.self.inside) { bodies = l; cache = c.apply.new.cache; dirty = dirty_of c.apply.new.cache; frames = frames_of c.apply.new.cache } in o) c.in-Ok.ensures.bodies
+      ∙ ap (λ (cache : CacheState). let o : OrderState = record (state_of c.self.inside) { cache = cache; dirty = dirty_of cache; frames = frames_of cache } in o) c.in_default-apply.ensures.err
+      ∙ c.self.view_is;
+  known = tt;
+  knew = tt;
+  pass = tt;
+  pass_unchanged = refl;
+  memory = refl;
+}
 
 pub invariant_of-self-in_default-apply : goal.invariant_of-self-in_default-apply
 invariant_of-self-in_default-apply g c = order_roomy (state_of c.self.inside) _ _ _ _ _ _ c.apply.new.cache _ _ c.self.invariant c.in-Ok.ensures.commands c.in-Ok.ensures.bodies (ap (λ (cache : CacheState). cache.blocks.dirty) c.in_default-apply.ensures.err) c.in-Ok.ensures.kept
@@ -53,10 +79,23 @@ push-requires-clause-fits g c =
 pub push-requires-2 : goal.push-requires-2
 push-requires-2 g c = omega (arith, c.in-Ok.ensures.pending)
 
-pub returns-clause-accepted : goal.returns-clause-accepted
-returns-clause-accepted g c =
-    taken_as (state_of c.self.inside) c.args.command _ _ _ _ _ c.apply.new.cache _ _ (c.raise_accepted-self-inside.ensures.number ∙ ap (λ (n : ℕ). n + 1) c.self.invariant.shown) (ap (λ (s : OrderKnows). s.history) c.raise_accepted-self-inside.ensures.order) (c.push-2.ensures.commands ∙ ap (λ (l : List Command). l ++ c.args.command ∷ []) c.in-Ok.ensures.commands) (c.push.ensures ∙ ap (λ (l : List ℕ). l ++ c.body_bytes-body.result ∷ []) c.in-Ok.ensures.bodies ∙ ap (λ (n : ℕ). c.self.inside.backlog.bodies ++ n ∷ []) c.body_bytes-body.ensures) (ap (λ (s : OrderKnows). s.base) c.raise_accepted-self-inside.ensures.order) c.in-Ok-apply.ensures.after c.in-Ok-apply.ensures.dirty c.in-Ok-apply.ensures.kept
-    ∙ ap (λ (o : OrderState). with_command o c.args.command) c.self.view_is
+pub returns : goal.returns
+returns g c = record {
+  number = (c.raise_accepted-self-inside.ensures.number ∙ ap (λ (n : ℕ). n + 1) c.self.invariant.shown) ∙ ap (λ (o : OrderState). o.mark + 1) c.self.view_is;
+  accepted =
+      taken_as (state_of c.self.inside) c.args.command _ _ _ _ _ c.apply.new.cache _ _ (c.raise_accepted-self-inside.ensures.number ∙ ap (λ (n : ℕ). n + 1) c.self.invariant.shown) (ap (λ (s : OrderKnows). s.history) c.raise_accepted-self-inside.ensures.order) (c.push-2.ensures.commands ∙ ap (λ (l : List Command). l ++ c.args.command ∷ []) c.in-Ok.ensures.commands) (c.push.ensures ∙ ap (λ (l : List ℕ). l ++ c.body_bytes-body.result ∷ []) c.in-Ok.ensures.bodies ∙ ap (λ (n : ℕ). c.self.inside.backlog.bodies ++ n ∷ []) c.body_bytes-body.ensures) (ap (λ (s : OrderKnows). s.base) c.raise_accepted-self-inside.ensures.order) c.in-Ok-apply.ensures.after c.in-Ok-apply.ensures.dirty c.in-Ok-apply.ensures.kept
+      ∙ ap (λ (o : OrderState). with_command o c.args.command) c.self.view_is;
+  view = subst (λ (o : OrderState). ShowsCommand (change_of c.args.command) o.cache c.apply.new.cache) c.self.view_is c.in-Ok-apply.ensures.view;
+  image = subst (λ (o : OrderState). (image : Image) → ShowsImage image o.cache → ShowsImage (apply (change_of c.args.command) image) c.apply.new.cache) c.self.view_is c.in-Ok-apply.ensures.image;
+  blocks = c.apply.ensures.blocks ∙ ap (λ (o : OrderState). length o.cache.states) c.self.view_is;
+  handed_back = tt;
+  unchanged = tt;
+  known = c.raise_accepted-self-inside.ensures.known;
+  knew = subst (λ (o : OrderState). IsPrefix c.args.pass.now.history o.history) c.self.view_is c.raise_accepted-self-inside.ensures.seen;
+  pass = c.raise_accepted-self-inside.ensures.pass;
+  pass_unchanged = tt;
+  memory = tt;
+}
 
 pub invariant_of-self-2 : goal.invariant_of-self-2
 invariant_of-self-2 g c =
@@ -64,21 +103,3 @@ invariant_of-self-2 g c =
     order_taken (state_of c.self.inside) c.args.command _ _ _ _ _ c.apply.new.cache _ _ (c.raise_accepted-self-inside.ensures.number ∙ ap (λ (n : ℕ). n + 1) c.self.invariant.shown) (ap (λ (s : OrderKnows). s.history) c.raise_accepted-self-inside.ensures.order) (c.push-2.ensures.commands ∙ ap (λ (l : List Command). l ++ c.args.command ∷ []) c.in-Ok.ensures.commands) (c.push.ensures ∙ ap (λ (l : List ℕ). l ++ c.body_bytes-body.result ∷ []) c.in-Ok.ensures.bodies ∙ ap (λ (n : ℕ). c.self.inside.backlog.bodies ++ n ∷ []) c.body_bytes-body.ensures) _ _ _ _ _ _ c.requires.command c.self.invariant room c.raise_accepted-self-inside.type_inv (ap (λ (s : OrderKnows). s.accepted) c.raise_accepted-self-inside.ensures.order)
     (λ k d below. omega (arith, c.in-Ok-apply.ensures.order k d below, (c.raise_accepted-self-inside.ensures.number ∙ ap (λ (n : ℕ). n + 1) c.self.invariant.shown)))
     (omega (arith, c.in-Ok.ensures.pending, c.push-2.ensures.spare))
-
-pub returns-clause-view : goal.returns-clause-view
-returns-clause-view g c = subst (λ (o : OrderState). ShowsCommand (change_of c.args.command) o.cache c.apply.new.cache) c.self.view_is c.in-Ok-apply.ensures.view
-
-pub returns-clause-image : goal.returns-clause-image
-returns-clause-image g c = subst (λ (o : OrderState). (image : Image) → ShowsImage image o.cache → ShowsImage (apply (change_of c.args.command) image) c.apply.new.cache) c.self.view_is c.in-Ok-apply.ensures.image
-
-pub returns-clause-known : goal.returns-clause-known
-returns-clause-known g c = c.raise_accepted-self-inside.ensures.known
-
-pub returns-clause-knew : goal.returns-clause-knew
-returns-clause-knew g c = subst (λ (o : OrderState). IsPrefix c.args.pass.now.history o.history) c.self.view_is c.raise_accepted-self-inside.ensures.seen
-
-pub returns-clause-pass : goal.returns-clause-pass
-returns-clause-pass g c = c.raise_accepted-self-inside.ensures.pass
-
-pub returns-clause-number : goal.returns-clause-number
-returns-clause-number g c = (c.raise_accepted-self-inside.ensures.number ∙ ap (λ (n : ℕ). n + 1) c.self.invariant.shown) ∙ ap (λ (o : OrderState). o.mark + 1) c.self.view_is

@@ -27,29 +27,18 @@ take-requires-clause-free g c =
     ∙ same_refusal c.args.self.now edit (image_with c.args.self.now.cache (offset_of edit / 4096) c.args.head.now c.args.tail.now) (image_in c.args.self.now.cache) (λ block. refl)
     ∙ c.requires.free
 
-pub returns-then-is_whole_put-clause-number : goal.returns-then-is_whole_put-clause-number
-returns-then-is_whole_put-clause-number g c = c.take_whole_put.ensures.number
-
-pub returns-then-is_whole_put-clause-blocks : goal.returns-then-is_whole_put-clause-blocks
-returns-then-is_whole_put-clause-blocks g c = c.take_whole_put.ensures.blocks
-
-pub returns-then-is_whole_put-clause-handed_back : goal.returns-then-is_whole_put-clause-handed_back
-returns-then-is_whole_put-clause-handed_back g c = c.take_whole_put.ensures.handed_back
-
-pub returns-then-is_whole_put-clause-unchanged : goal.returns-then-is_whole_put-clause-unchanged
-returns-then-is_whole_put-clause-unchanged g c = c.take_whole_put.ensures.unchanged
-
-pub returns-then-is_whole_put-clause-known : goal.returns-then-is_whole_put-clause-known
-returns-then-is_whole_put-clause-known g c = c.take_whole_put.ensures.known
-
-pub returns-then-is_whole_put-clause-knew : goal.returns-then-is_whole_put-clause-knew
-returns-then-is_whole_put-clause-knew g c = c.take_whole_put.ensures.knew
-
-pub returns-then-is_whole_put-clause-pass_unchanged : goal.returns-then-is_whole_put-clause-pass_unchanged
-returns-then-is_whole_put-clause-pass_unchanged g c = c.take_whole_put.ensures.pass_unchanged
-
-pub returns-then-is_whole_put-clause-memory : goal.returns-then-is_whole_put-clause-memory
-returns-then-is_whole_put-clause-memory g c = c.take_whole_put.ensures.memory
+pub returns-then-is_whole_put : goal.returns-then-is_whole_put
+returns-then-is_whole_put g c = record {
+  number = c.take_whole_put.ensures.number;
+  taken = c.take_whole_put.ensures.taken (image_with c.args.self.now.cache (offset_of (edit_of c.args.edit) / 4096) c.args.head.now c.args.tail.now);
+  blocks = c.take_whole_put.ensures.blocks;
+  handed_back = c.take_whole_put.ensures.handed_back;
+  unchanged = c.take_whole_put.ensures.unchanged;
+  known = c.take_whole_put.ensures.known;
+  knew = c.take_whole_put.ensures.knew;
+  pass_unchanged = c.take_whole_put.ensures.pass_unchanged;
+  memory = c.take_whole_put.ensures.memory;
+}
 
 pub returns-in-Ok-take-clause-number : goal.returns-in-Ok-take-clause-number
 returns-in-Ok-take-clause-number g c = c.in-Ok-take.ensures.number
@@ -63,14 +52,15 @@ returns-in-Ok-take-clause-knew g c = c.in-Ok-take.ensures.knew
 pub returns-in-Ok-take-clause-blocks : goal.returns-in-Ok-take-clause-blocks
 returns-in-Ok-take-clause-blocks g c = c.take.ensures.blocks
 
-pub returns-in-Err-clause-blocks : goal.returns-in-Err-clause-blocks
-returns-in-Err-clause-blocks g c = c.take.ensures.blocks
-
-pub returns-in-Err-clause-unchanged : goal.returns-in-Err-clause-unchanged
-returns-in-Err-clause-unchanged g c = c.in-Err.ensures.unchanged
-
-pub returns-in-Err-clause-pass_unchanged : goal.returns-in-Err-clause-pass_unchanged
-returns-in-Err-clause-pass_unchanged g c = c.in-Err.ensures.pass_unchanged
-
-pub returns-in-Err-clause-memory : goal.returns-in-Err-clause-memory
-returns-in-Err-clause-memory g c = c.in-Err.ensures.memory
+pub returns-in-Err : goal.returns-in-Err
+returns-in-Err g c = record {
+  number = tt;
+  taken = tt;
+  blocks = c.take.ensures.blocks;
+  handed_back = refl;
+  unchanged = c.in-Err.ensures.unchanged;
+  known = tt;
+  knew = tt;
+  pass_unchanged = c.in-Err.ensures.pass_unchanged;
+  memory = c.in-Err.ensures.memory;
+}
