@@ -23,282 +23,199 @@ use Rattle.request_core.specs.laws.Requests.{write_others}
 use Rattle.request_core.proofs.serving.serve_edit.Goals as goal
 use Rattle.export_model.specs.Log.{edit_asked, waits_for_store}
 
-pub returns-in-Ok-clause-asked : goal.returns-in-Ok-clause-asked
-returns-in-Ok-clause-asked g c =
-    let state = g.D.Disk.state in
-    let honest = g.D.Disk.honest in
-    let request = c.args.request in
-    let geometry = c.args.terms.geometry in
-    let head = c.split-edit.result.0 in
-    let old = c.args.order.now in
-    let new = c.accept_edit.new.self in
-    let keeper = c.args.keeper.now in
-    let edit_is = c.split-edit.ensures.edit in
-    let head_is = c.split-edit.ensures.head in
-    let asked = λ (given : Image) (taken : TakesEdit (edit_of c.split-edit.result.1) given old new c.args.pass.now c.accept_edit.new.pass).
-    subst (λ (e : ByteEdit). TakesEdit e given old new c.args.pass.now c.accept_edit.new.pass) edit_is taken in
-    let (image, shows, own) = c.in-Ok.ensures.taken in
-    let takes : IsEdit geometry.blocks (edit_asked request) = edit_takes request geometry c.requires.range c.split-edit.ensures.whole c.split-edit.ensures.few in
-    let left = not_refused old (becomes (edit_asked request) (image_in old.cache)) c.requires.needs.accepted c.in-Ok.ensures.numbers.mark in
-    let room = sym (room_shown old (edit_asked request) image shows) ∙ left.1 in
-    let waits = waits_for_store c.args.terms.mode request in
-    inl (record {
-      served = inr (
-        left.0,
-        image,
-        inr (inr (
-          taken_over request geometry (IsKnownBy state honest keeper old) old new c.args.pass.now c.accept_edit.new.pass image shows takes room (asked image own)
-              (λ given known. asked given (c.in-Ok.ensures.image known.sure known.base given known.fronts known.last known.holds known.shows known.clean)),
-          c.accepted.ensures ∙ ap (λ (b : Bool). served_after b head.cookie c.in-Ok.number) (waits_same c.args.terms.mode head request head_is)
-              ∙ ap (λ (h : RequestHead). served_after waits h.cookie c.in-Ok.number) head_is ∙ ap (λ (n : ℕ). served_after waits request.head.cookie n) c.in-Ok.ensures.number,
-        )),
-      );
-      works = λ failed. let wrong = c.in-Ok.ensures.failed.1 (failed, subst (λ (e : ByteEdit). NeedsDevice old e) (sym edit_is) c.requires.needs) in absurd wrong;
-      keeper_is = c.in-Ok.ensures.keeper_ok;
-      level = c.in-Ok.ensures.faults_ok;
-      only_read = c.in-Ok.ensures.only_read;
-      holds = λ sure base fronts last holds. c.in-Ok.ensures.holds sure base fronts last holds (λ none. none);
-    })
+pub returns-in-Ok : goal.returns-in-Ok
+returns-in-Ok g c = record {
+  blocks = c.in-Ok.ensures.blocks;
+  geometry = ap (λ (k : KeeperState g.row.D.Denot). k.geometry) c.in-Ok.ensures.keeper_ok;
+  count = ap (λ (k : KeeperState g.row.D.Denot). k.count) c.in-Ok.ensures.keeper_ok;
+  extent = c.in-Ok.ensures.extent;
+  honest = c.in-Ok.ensures.honest;
+  asked =
+      let state = g.D.Disk.state in
+      let honest = g.D.Disk.honest in
+      let request = c.args.request in
+      let geometry = c.args.terms.geometry in
+      let head = c.split-edit.result.0 in
+      let old = c.args.order.now in
+      let new = c.accept_edit.new.self in
+      let keeper = c.args.keeper.now in
+      let edit_is = c.split-edit.ensures.edit in
+      let head_is = c.split-edit.ensures.head in
+      let asked = λ (given : Image) (taken : TakesEdit (edit_of c.split-edit.result.1) given old new c.args.pass.now c.accept_edit.new.pass).
+      subst (λ (e : ByteEdit). TakesEdit e given old new c.args.pass.now c.accept_edit.new.pass) edit_is taken in
+      let (image, shows, own) = c.in-Ok.ensures.taken in
+      let takes : IsEdit geometry.blocks (edit_asked request) = edit_takes request geometry c.requires.range c.split-edit.ensures.whole c.split-edit.ensures.few in
+      let left = not_refused old (becomes (edit_asked request) (image_in old.cache)) c.requires.needs.accepted c.in-Ok.ensures.numbers.mark in
+      let room = sym (room_shown old (edit_asked request) image shows) ∙ left.1 in
+      let waits = waits_for_store c.args.terms.mode request in
+      inl (record {
+        served = inr (
+          left.0,
+          image,
+          inr (inr (
+            taken_over request geometry (IsKnownBy state honest keeper old) old new c.args.pass.now c.accept_edit.new.pass image shows takes room (asked image own)
+                (λ given known. asked given (c.in-Ok.ensures.image known.sure known.base given known.fronts known.last known.holds known.shows known.clean)),
+            c.accepted.ensures ∙ ap (λ (b : Bool). served_after b head.cookie c.in-Ok.number) (waits_same c.args.terms.mode head request head_is)
+                ∙ ap (λ (h : RequestHead). served_after waits h.cookie c.in-Ok.number) head_is ∙ ap (λ (n : ℕ). served_after waits request.head.cookie n) c.in-Ok.ensures.number,
+          )),
+        );
+        works = λ failed. let wrong = c.in-Ok.ensures.failed.1 (failed, subst (λ (e : ByteEdit). NeedsDevice old e) (sym edit_is) c.requires.needs) in absurd wrong;
+        keeper_is = c.in-Ok.ensures.keeper_ok;
+        level = c.in-Ok.ensures.faults_ok;
+        only_read = c.in-Ok.ensures.only_read;
+        holds = λ sure base fronts last holds. c.in-Ok.ensures.holds sure base fronts last holds (λ none. none);
+      });
+  pass =
+      let request = c.args.request in
+      let head = c.split-edit.result.0 in
+      let old = c.args.order.now in
+      let new = c.accept_edit.new.self in
+      let edit_is = c.split-edit.ensures.edit in
+      let head_is = c.split-edit.ensures.head in
+      let (image, shows, own) = c.in-Ok.ensures.taken in
+      let taken = subst (λ (e : ByteEdit). TakesEdit e image old new c.args.pass.now c.accept_edit.new.pass) edit_is own in
+      let waits = waits_for_store c.args.terms.mode request in
+      let others = write_others request.head.kind c.requires.write in
+      let known_is = c.in-Ok.ensures.known in
+      taken_passes g.B.BoardName.opening request c.args.terms.mode old new image c.args.pass.now c.accept_edit.new.pass others.0 (omega (arith, known_is, c.in-Ok.ensures.number)) c.in-Ok.ensures.knew c.in-Ok.ensures.place taken c.accepted.result
+      (c.accepted.ensures ∙ ap (λ (b : Bool). served_after b head.cookie c.in-Ok.number) (waits_same c.args.terms.mode head request head_is)
+      ∙ ap (λ (h : RequestHead). served_after waits h.cookie c.in-Ok.number) head_is ∙ ap (λ (n : ℕ). served_after waits request.head.cookie n) c.in-Ok.ensures.number);
+  grown =
+      λ more.
+      let (image, shows, own) = c.in-Ok.ensures.taken in
+      ap (λ (p : PassState). p.history) own.pass;
+}
 
-pub returns-in-Ok-clause-pass : goal.returns-in-Ok-clause-pass
-returns-in-Ok-clause-pass g c =
-    let request = c.args.request in
-    let head = c.split-edit.result.0 in
-    let old = c.args.order.now in
-    let new = c.accept_edit.new.self in
-    let edit_is = c.split-edit.ensures.edit in
-    let head_is = c.split-edit.ensures.head in
-    let (image, shows, own) = c.in-Ok.ensures.taken in
-    let taken = subst (λ (e : ByteEdit). TakesEdit e image old new c.args.pass.now c.accept_edit.new.pass) edit_is own in
-    let waits = waits_for_store c.args.terms.mode request in
-    let others = write_others request.head.kind c.requires.write in
-    let known_is = c.in-Ok.ensures.known in
-    taken_passes g.B.BoardName.opening request c.args.terms.mode old new image c.args.pass.now c.accept_edit.new.pass others.0 (omega (arith, known_is, c.in-Ok.ensures.number)) c.in-Ok.ensures.knew c.in-Ok.ensures.place taken c.accepted.result
-    (c.accepted.ensures ∙ ap (λ (b : Bool). served_after b head.cookie c.in-Ok.number) (waits_same c.args.terms.mode head request head_is)
-    ∙ ap (λ (h : RequestHead). served_after waits h.cookie c.in-Ok.number) head_is ∙ ap (λ (n : ℕ). served_after waits request.head.cookie n) c.in-Ok.ensures.number)
+pub returns-in-Err-NoMemory-default : goal.returns-in-Err-NoMemory-default
+returns-in-Err-NoMemory-default g c = record {
+  blocks = c.in-Err-NoMemory-default.ensures.blocks;
+  geometry = ap (λ (k : KeeperState g.row.D.Denot). k.geometry) (c.in-Err-NoMemory-default.ensures.keeper_err ∙ ap (λ (f : OrderFault). keeper_after f c.args.keeper.now c.accept_edit.new.keeper.disk) c.in-Err-NoMemory-default.field-0-0-is);
+  count = ap (λ (k : KeeperState g.row.D.Denot). k.count) (c.in-Err-NoMemory-default.ensures.keeper_err ∙ ap (λ (f : OrderFault). keeper_after f c.args.keeper.now c.accept_edit.new.keeper.disk) c.in-Err-NoMemory-default.field-0-0-is);
+  extent = c.in-Err-NoMemory-default.ensures.extent;
+  honest = c.in-Err-NoMemory-default.ensures.honest;
+  asked =
+      let state = g.D.Disk.state in
+      let honest = g.D.Disk.honest in
+      let request = c.args.request in
+      let old = c.args.order.now in
+      let keeper = c.args.keeper.now in
+      let left = not_refused old (becomes (edit_asked request) (image_in old.cache)) c.requires.needs.accepted c.in-Err-NoMemory-default.ensures.numbers.mark in
+      let fault_is = c.in-Err-NoMemory-default.field-0-0-is in
+      inl (record {
+        served = inr (
+          left.0,
+          image_in old.cache,
+          inr (inl (
+            room_over request (IsKnownBy state honest keeper old) old true (λ given known. known.shows) left.1,
+            c.in-Err-NoMemory-default.ensures.unchanged,
+            c.refused.ensures ∙ ap (λ (h : RequestHead). ready_for h.cookie (Refused NoMemory)) c.split-edit.ensures.head,
+          )),
+        );
+        works = λ failed. c.in-Err-NoMemory-default.ensures.unchanged;
+        keeper_is = c.in-Err-NoMemory-default.ensures.keeper_err ∙ ap (λ (f : OrderFault). keeper_after f keeper c.accept_edit.new.keeper.disk) fault_is;
+        level = c.in-Err-NoMemory-default.ensures.faults_err ∙ ap (λ (f : OrderFault). faults_after f (g.D.Disk.faults keeper.disk)) fault_is;
+        only_read = c.in-Err-NoMemory-default.ensures.only_read;
+        holds = λ sure base fronts last holds. c.in-Err-NoMemory-default.ensures.holds sure base fronts last holds (λ is. faults_apart.2 (sym fault_is ∙ is));
+      });
+  pass = refused_passes g.B.BoardName.opening c.args.request c.args.order.now.mark c.refused.result c.args.pass.now _ _ _ _ c.refused.ensures (ap (λ (o : OrderState). o.mark) c.in-Err-NoMemory-default.ensures.unchanged) c.in-Err-NoMemory-default.ensures.pass_unchanged;
+  grown = not_grown _ _ (ap (λ (o : OrderState). o.mark) c.in-Err-NoMemory-default.ensures.unchanged);
+}
 
-pub returns-in-Ok-clause-grown : goal.returns-in-Ok-clause-grown
-returns-in-Ok-clause-grown g c = λ more.
-    let (image, shows, own) = c.in-Ok.ensures.taken in
-    ap (λ (p : PassState). p.history) own.pass
+pub returns-in-Err-DeviceFault-default : goal.returns-in-Err-DeviceFault-default
+returns-in-Err-DeviceFault-default g c = record {
+  blocks = ap (λ (o : OrderState). length o.cache.states) c.failed.ensures.order ∙ c.in-Err-DeviceFault-default.ensures.blocks;
+  geometry = ap (λ (k : KeeperState g.row.D.Denot). k.geometry) (c.in-Err-DeviceFault-default.ensures.keeper_err ∙ ap (λ (f : OrderFault). keeper_after f c.args.keeper.now c.accept_edit.new.keeper.disk) c.in-Err-DeviceFault-default.field-0-0-is);
+  count = ap (λ (k : KeeperState g.row.D.Denot). k.count) (c.in-Err-DeviceFault-default.ensures.keeper_err ∙ ap (λ (f : OrderFault). keeper_after f c.args.keeper.now c.accept_edit.new.keeper.disk) c.in-Err-DeviceFault-default.field-0-0-is);
+  extent = c.in-Err-DeviceFault-default.ensures.extent;
+  honest = c.in-Err-DeviceFault-default.ensures.honest;
+  asked =
+      let request = c.args.request in
+      let geometry = c.args.terms.geometry in
+      let keeper = c.args.keeper.now in
+      let fault_is = c.in-Err-DeviceFault-default.field-0-0-is in
+      let takes : IsEdit geometry.blocks (edit_asked request) = edit_takes request geometry c.requires.range c.split-edit.ensures.whole c.split-edit.ensures.few in
+      inr (edit_refused g.D.Disk.state g.D.Disk.faults g.D.Disk.honest request geometry c.args.order.now c.failed.new.order keeper c.accept_edit.new.keeper c.failed.result takes c.requires.needs
+      c.in-Err-DeviceFault-default.ensures.numbers.mark (record {
+        refusal = refusal.DeviceFault;
+        cause = inl refl;
+        answer = c.failed.ensures.answer ∙ ap (λ (h : RequestHead). ready_for h.cookie (Refused Io)) c.split-edit.ensures.head;
+        order = c.failed.ensures.order ∙ ap (λ (o : OrderState). record o { stopped = true }) c.in-Err-DeviceFault-default.ensures.unchanged;
+        keeper_is = c.in-Err-DeviceFault-default.ensures.keeper_err ∙ ap (λ (f : OrderFault). keeper_after f keeper c.accept_edit.new.keeper.disk) fault_is;
+        level = c.in-Err-DeviceFault-default.ensures.faults_err ∙ ap (λ (f : OrderFault). faults_after f (g.D.Disk.faults keeper.disk)) fault_is;
+        only_read = c.in-Err-DeviceFault-default.ensures.only_read;
+      }));
+  pass = refused_passes g.B.BoardName.opening c.args.request c.args.order.now.mark c.failed.result c.args.pass.now _ _ _ _ c.failed.ensures.answer (ap (λ (o : OrderState). o.mark) c.failed.ensures.order ∙ ap (λ (o : OrderState). o.mark) c.in-Err-DeviceFault-default.ensures.unchanged) c.in-Err-DeviceFault-default.ensures.pass_unchanged;
+  grown = not_grown _ _ (ap (λ (o : OrderState). o.mark) c.failed.ensures.order ∙ ap (λ (o : OrderState). o.mark) c.in-Err-DeviceFault-default.ensures.unchanged);
+}
 
-pub returns-in-Err-NoMemory-default-clause-asked : goal.returns-in-Err-NoMemory-default-clause-asked
-returns-in-Err-NoMemory-default-clause-asked g c =
-    let state = g.D.Disk.state in
-    let honest = g.D.Disk.honest in
-    let request = c.args.request in
-    let old = c.args.order.now in
-    let keeper = c.args.keeper.now in
-    let left = not_refused old (becomes (edit_asked request) (image_in old.cache)) c.requires.needs.accepted c.in-Err-NoMemory-default.ensures.numbers.mark in
-    let fault_is = c.in-Err-NoMemory-default.field-0-0-is in
-    inl (record {
-      served = inr (
-        left.0,
-        image_in old.cache,
-        inr (inl (
-          room_over request (IsKnownBy state honest keeper old) old true (λ given known. known.shows) left.1,
-          c.in-Err-NoMemory-default.ensures.unchanged,
-          c.refused.ensures ∙ ap (λ (h : RequestHead). ready_for h.cookie (Refused NoMemory)) c.split-edit.ensures.head,
-        )),
-      );
-      works = λ failed. c.in-Err-NoMemory-default.ensures.unchanged;
-      keeper_is = c.in-Err-NoMemory-default.ensures.keeper_err ∙ ap (λ (f : OrderFault). keeper_after f keeper c.accept_edit.new.keeper.disk) fault_is;
-      level = c.in-Err-NoMemory-default.ensures.faults_err ∙ ap (λ (f : OrderFault). faults_after f (g.D.Disk.faults keeper.disk)) fault_is;
-      only_read = c.in-Err-NoMemory-default.ensures.only_read;
-      holds = λ sure base fronts last holds. c.in-Err-NoMemory-default.ensures.holds sure base fronts last holds (λ is. faults_apart.2 (sym fault_is ∙ is));
-    })
+pub returns-in-Err-Failed-default : goal.returns-in-Err-Failed-default
+returns-in-Err-Failed-default g c = record {
+  blocks = ap (λ (o : OrderState). length o.cache.states) c.failed-in-Err-Failed-default.ensures.order ∙ c.in-Err-Failed-default.ensures.blocks;
+  geometry = ap (λ (k : KeeperState g.row.D.Denot). k.geometry) (c.in-Err-Failed-default.ensures.keeper_err ∙ ap (λ (f : OrderFault). keeper_after f c.args.keeper.now c.accept_edit.new.keeper.disk) c.in-Err-Failed-default.field-0-0-is);
+  count = ap (λ (k : KeeperState g.row.D.Denot). k.count) (c.in-Err-Failed-default.ensures.keeper_err ∙ ap (λ (f : OrderFault). keeper_after f c.args.keeper.now c.accept_edit.new.keeper.disk) c.in-Err-Failed-default.field-0-0-is);
+  extent = c.in-Err-Failed-default.ensures.extent;
+  honest = c.in-Err-Failed-default.ensures.honest;
+  asked =
+      let request = c.args.request in
+      let geometry = c.args.terms.geometry in
+      let keeper = c.args.keeper.now in
+      let fault_is = c.in-Err-Failed-default.field-0-0-is in
+      let takes : IsEdit geometry.blocks (edit_asked request) = edit_takes request geometry c.requires.range c.split-edit.ensures.whole c.split-edit.ensures.few in
+      inr (edit_refused g.D.Disk.state g.D.Disk.faults g.D.Disk.honest request geometry c.args.order.now c.failed-in-Err-Failed-default.new.order keeper c.accept_edit.new.keeper c.failed-in-Err-Failed-default.result takes c.requires.needs
+      c.in-Err-Failed-default.ensures.numbers.mark (record {
+        refusal = refusal.Failed;
+        cause = inr (refl, (c.in-Err-Failed-default.ensures.failed.0 c.in-Err-Failed-default.field-0-0-is).0);
+        answer = c.failed-in-Err-Failed-default.ensures.answer ∙ ap (λ (h : RequestHead). ready_for h.cookie (Refused Io)) c.split-edit.ensures.head;
+        order = c.failed-in-Err-Failed-default.ensures.order ∙ ap (λ (o : OrderState). record o { stopped = true }) c.in-Err-Failed-default.ensures.unchanged;
+        keeper_is = c.in-Err-Failed-default.ensures.keeper_err ∙ ap (λ (f : OrderFault). keeper_after f keeper c.accept_edit.new.keeper.disk) fault_is;
+        level = c.in-Err-Failed-default.ensures.faults_err ∙ ap (λ (f : OrderFault). faults_after f (g.D.Disk.faults keeper.disk)) fault_is;
+        only_read = c.in-Err-Failed-default.ensures.only_read;
+      }));
+  pass = refused_passes g.B.BoardName.opening c.args.request c.args.order.now.mark c.failed-in-Err-Failed-default.result c.args.pass.now _ _ _ _ c.failed-in-Err-Failed-default.ensures.answer (ap (λ (o : OrderState). o.mark) c.failed-in-Err-Failed-default.ensures.order ∙ ap (λ (o : OrderState). o.mark) c.in-Err-Failed-default.ensures.unchanged) c.in-Err-Failed-default.ensures.pass_unchanged;
+  grown = not_grown _ _ (ap (λ (o : OrderState). o.mark) c.failed-in-Err-Failed-default.ensures.order ∙ ap (λ (o : OrderState). o.mark) c.in-Err-Failed-default.ensures.unchanged);
+}
 
-pub returns-in-Err-DeviceFault-default-clause-asked : goal.returns-in-Err-DeviceFault-default-clause-asked
-returns-in-Err-DeviceFault-default-clause-asked g c =
-    let request = c.args.request in
-    let geometry = c.args.terms.geometry in
-    let keeper = c.args.keeper.now in
-    let fault_is = c.in-Err-DeviceFault-default.field-0-0-is in
-    let takes : IsEdit geometry.blocks (edit_asked request) = edit_takes request geometry c.requires.range c.split-edit.ensures.whole c.split-edit.ensures.few in
-    inr (edit_refused g.D.Disk.state g.D.Disk.faults g.D.Disk.honest request geometry c.args.order.now c.failed.new.order keeper c.accept_edit.new.keeper c.failed.result takes c.requires.needs
-    c.in-Err-DeviceFault-default.ensures.numbers.mark (record {
-      refusal = refusal.DeviceFault;
-      cause = inl refl;
-      answer = c.failed.ensures.answer ∙ ap (λ (h : RequestHead). ready_for h.cookie (Refused Io)) c.split-edit.ensures.head;
-      order = c.failed.ensures.order ∙ ap (λ (o : OrderState). record o { stopped = true }) c.in-Err-DeviceFault-default.ensures.unchanged;
-      keeper_is = c.in-Err-DeviceFault-default.ensures.keeper_err ∙ ap (λ (f : OrderFault). keeper_after f keeper c.accept_edit.new.keeper.disk) fault_is;
-      level = c.in-Err-DeviceFault-default.ensures.faults_err ∙ ap (λ (f : OrderFault). faults_after f (g.D.Disk.faults keeper.disk)) fault_is;
-      only_read = c.in-Err-DeviceFault-default.ensures.only_read;
-    }))
+pub returns-in-Err-NoRoom-default : goal.returns-in-Err-NoRoom-default
+returns-in-Err-NoRoom-default g c = record {
+  blocks = c.in-Err-NoRoom-default.ensures.blocks;
+  geometry = ap (λ (k : KeeperState g.row.D.Denot). k.geometry) (c.in-Err-NoRoom-default.ensures.keeper_err ∙ ap (λ (f : OrderFault). keeper_after f c.args.keeper.now c.accept_edit.new.keeper.disk) c.in-Err-NoRoom-default.field-0-0-is);
+  count = ap (λ (k : KeeperState g.row.D.Denot). k.count) (c.in-Err-NoRoom-default.ensures.keeper_err ∙ ap (λ (f : OrderFault). keeper_after f c.args.keeper.now c.accept_edit.new.keeper.disk) c.in-Err-NoRoom-default.field-0-0-is);
+  extent = c.in-Err-NoRoom-default.ensures.extent;
+  honest = c.in-Err-NoRoom-default.ensures.honest;
+  asked =
+      let left = not_refused c.args.order.now (becomes (edit_asked c.args.request) (image_in c.args.order.now.cache)) c.requires.needs.accepted c.in-Err-NoRoom-default.ensures.numbers.mark in
+      let none = c.in-Err-NoRoom-default.ensures.no_room.0 c.in-Err-NoRoom-default.field-0-0-is in
+      absurd (true≢false (sym left.1 ∙ ap (λ (e : ByteEdit). has_room_for c.args.order.now (becomes e (image_in c.args.order.now.cache))) (sym c.split-edit.ensures.edit) ∙ none.2));
+  pass = c.in-Err-NoRoom-default.ensures.pass_unchanged;
+  grown = not_grown _ _ (ap (λ (o : OrderState). o.mark) c.in-Err-NoRoom-default.ensures.unchanged);
+}
 
-pub returns-in-Err-Failed-default-clause-asked : goal.returns-in-Err-Failed-default-clause-asked
-returns-in-Err-Failed-default-clause-asked g c =
-    let request = c.args.request in
-    let geometry = c.args.terms.geometry in
-    let keeper = c.args.keeper.now in
-    let fault_is = c.in-Err-Failed-default.field-0-0-is in
-    let takes : IsEdit geometry.blocks (edit_asked request) = edit_takes request geometry c.requires.range c.split-edit.ensures.whole c.split-edit.ensures.few in
-    inr (edit_refused g.D.Disk.state g.D.Disk.faults g.D.Disk.honest request geometry c.args.order.now c.failed-in-Err-Failed-default.new.order keeper c.accept_edit.new.keeper c.failed-in-Err-Failed-default.result takes c.requires.needs
-    c.in-Err-Failed-default.ensures.numbers.mark (record {
-      refusal = refusal.Failed;
-      cause = inr (refl, (c.in-Err-Failed-default.ensures.failed.0 c.in-Err-Failed-default.field-0-0-is).0);
-      answer = c.failed-in-Err-Failed-default.ensures.answer ∙ ap (λ (h : RequestHead). ready_for h.cookie (Refused Io)) c.split-edit.ensures.head;
-      order = c.failed-in-Err-Failed-default.ensures.order ∙ ap (λ (o : OrderState). record o { stopped = true }) c.in-Err-Failed-default.ensures.unchanged;
-      keeper_is = c.in-Err-Failed-default.ensures.keeper_err ∙ ap (λ (f : OrderFault). keeper_after f keeper c.accept_edit.new.keeper.disk) fault_is;
-      level = c.in-Err-Failed-default.ensures.faults_err ∙ ap (λ (f : OrderFault). faults_after f (g.D.Disk.faults keeper.disk)) fault_is;
-      only_read = c.in-Err-Failed-default.ensures.only_read;
-    }))
+pub returns-in-Err-NumbersFull-default : goal.returns-in-Err-NumbersFull-default
+returns-in-Err-NumbersFull-default g c = record {
+  blocks = c.in-Err-NumbersFull-default.ensures.blocks;
+  geometry = ap (λ (k : KeeperState g.row.D.Denot). k.geometry) (c.in-Err-NumbersFull-default.ensures.keeper_err ∙ ap (λ (f : OrderFault). keeper_after f c.args.keeper.now c.accept_edit.new.keeper.disk) c.in-Err-NumbersFull-default.field-0-0-is);
+  count = ap (λ (k : KeeperState g.row.D.Denot). k.count) (c.in-Err-NumbersFull-default.ensures.keeper_err ∙ ap (λ (f : OrderFault). keeper_after f c.args.keeper.now c.accept_edit.new.keeper.disk) c.in-Err-NumbersFull-default.field-0-0-is);
+  extent = c.in-Err-NumbersFull-default.ensures.extent;
+  honest = c.in-Err-NumbersFull-default.ensures.honest;
+  asked =
+      let left = not_refused c.args.order.now (becomes (edit_asked c.args.request) (image_in c.args.order.now.cache)) c.requires.needs.accepted c.in-Err-NumbersFull-default.ensures.numbers.mark in
+      let full = c.in-Err-NumbersFull-default.ensures.numbers_full.0 c.in-Err-NumbersFull-default.field-0-0-is in
+      absurd (omega (arith, left.0, full.1));
+  pass = refused_passes g.B.BoardName.opening c.args.request c.args.order.now.mark c.refused-in-Err-NumbersFull-default.result c.args.pass.now _ _ _ _ c.refused-in-Err-NumbersFull-default.ensures (ap (λ (o : OrderState). o.mark) c.in-Err-NumbersFull-default.ensures.unchanged) c.in-Err-NumbersFull-default.ensures.pass_unchanged;
+  grown = not_grown _ _ (ap (λ (o : OrderState). o.mark) c.in-Err-NumbersFull-default.ensures.unchanged);
+}
 
-pub returns-in-Ok-clause-blocks : goal.returns-in-Ok-clause-blocks
-returns-in-Ok-clause-blocks g c = c.in-Ok.ensures.blocks
-
-pub returns-in-Ok-clause-geometry : goal.returns-in-Ok-clause-geometry
-returns-in-Ok-clause-geometry g c = ap (λ (k : KeeperState g.row.D.Denot). k.geometry) c.in-Ok.ensures.keeper_ok
-
-pub returns-in-Ok-clause-count : goal.returns-in-Ok-clause-count
-returns-in-Ok-clause-count g c = ap (λ (k : KeeperState g.row.D.Denot). k.count) c.in-Ok.ensures.keeper_ok
-
-pub returns-in-Ok-clause-extent : goal.returns-in-Ok-clause-extent
-returns-in-Ok-clause-extent g c = c.in-Ok.ensures.extent
-
-pub returns-in-Ok-clause-honest : goal.returns-in-Ok-clause-honest
-returns-in-Ok-clause-honest g c = c.in-Ok.ensures.honest
-
-pub returns-in-Err-NoRoom-default-clause-geometry : goal.returns-in-Err-NoRoom-default-clause-geometry
-returns-in-Err-NoRoom-default-clause-geometry g c = ap (λ (k : KeeperState g.row.D.Denot). k.geometry) (c.in-Err-NoRoom-default.ensures.keeper_err ∙ ap (λ (f : OrderFault). keeper_after f c.args.keeper.now c.accept_edit.new.keeper.disk) c.in-Err-NoRoom-default.field-0-0-is)
-
-pub returns-in-Err-NoRoom-default-clause-count : goal.returns-in-Err-NoRoom-default-clause-count
-returns-in-Err-NoRoom-default-clause-count g c = ap (λ (k : KeeperState g.row.D.Denot). k.count) (c.in-Err-NoRoom-default.ensures.keeper_err ∙ ap (λ (f : OrderFault). keeper_after f c.args.keeper.now c.accept_edit.new.keeper.disk) c.in-Err-NoRoom-default.field-0-0-is)
-
-pub returns-in-Err-NoRoom-default-clause-extent : goal.returns-in-Err-NoRoom-default-clause-extent
-returns-in-Err-NoRoom-default-clause-extent g c = c.in-Err-NoRoom-default.ensures.extent
-
-pub returns-in-Err-NoRoom-default-clause-honest : goal.returns-in-Err-NoRoom-default-clause-honest
-returns-in-Err-NoRoom-default-clause-honest g c = c.in-Err-NoRoom-default.ensures.honest
-
-pub returns-in-Err-NoRoom-default-clause-blocks : goal.returns-in-Err-NoRoom-default-clause-blocks
-returns-in-Err-NoRoom-default-clause-blocks g c = c.in-Err-NoRoom-default.ensures.blocks
-
-pub returns-in-Err-NoRoom-default-clause-pass : goal.returns-in-Err-NoRoom-default-clause-pass
-returns-in-Err-NoRoom-default-clause-pass g c = c.in-Err-NoRoom-default.ensures.pass_unchanged
-
-pub returns-in-Err-NoRoom-default-clause-grown : goal.returns-in-Err-NoRoom-default-clause-grown
-returns-in-Err-NoRoom-default-clause-grown g c = not_grown _ _ (ap (λ (o : OrderState). o.mark) c.in-Err-NoRoom-default.ensures.unchanged)
-
-pub returns-in-Err-NoMemory-default-clause-geometry : goal.returns-in-Err-NoMemory-default-clause-geometry
-returns-in-Err-NoMemory-default-clause-geometry g c = ap (λ (k : KeeperState g.row.D.Denot). k.geometry) (c.in-Err-NoMemory-default.ensures.keeper_err ∙ ap (λ (f : OrderFault). keeper_after f c.args.keeper.now c.accept_edit.new.keeper.disk) c.in-Err-NoMemory-default.field-0-0-is)
-
-pub returns-in-Err-NoMemory-default-clause-count : goal.returns-in-Err-NoMemory-default-clause-count
-returns-in-Err-NoMemory-default-clause-count g c = ap (λ (k : KeeperState g.row.D.Denot). k.count) (c.in-Err-NoMemory-default.ensures.keeper_err ∙ ap (λ (f : OrderFault). keeper_after f c.args.keeper.now c.accept_edit.new.keeper.disk) c.in-Err-NoMemory-default.field-0-0-is)
-
-pub returns-in-Err-NoMemory-default-clause-extent : goal.returns-in-Err-NoMemory-default-clause-extent
-returns-in-Err-NoMemory-default-clause-extent g c = c.in-Err-NoMemory-default.ensures.extent
-
-pub returns-in-Err-NoMemory-default-clause-honest : goal.returns-in-Err-NoMemory-default-clause-honest
-returns-in-Err-NoMemory-default-clause-honest g c = c.in-Err-NoMemory-default.ensures.honest
-
-pub returns-in-Err-NoMemory-default-clause-blocks : goal.returns-in-Err-NoMemory-default-clause-blocks
-returns-in-Err-NoMemory-default-clause-blocks g c = c.in-Err-NoMemory-default.ensures.blocks
-
-pub returns-in-Err-NoMemory-default-clause-pass : goal.returns-in-Err-NoMemory-default-clause-pass
-returns-in-Err-NoMemory-default-clause-pass g c = refused_passes g.B.BoardName.opening c.args.request c.args.order.now.mark c.refused.result c.args.pass.now _ _ _ _ c.refused.ensures (ap (λ (o : OrderState). o.mark) c.in-Err-NoMemory-default.ensures.unchanged) c.in-Err-NoMemory-default.ensures.pass_unchanged
-
-pub returns-in-Err-NoMemory-default-clause-grown : goal.returns-in-Err-NoMemory-default-clause-grown
-returns-in-Err-NoMemory-default-clause-grown g c = not_grown _ _ (ap (λ (o : OrderState). o.mark) c.in-Err-NoMemory-default.ensures.unchanged)
-
-pub returns-in-Err-NumbersFull-default-clause-geometry : goal.returns-in-Err-NumbersFull-default-clause-geometry
-returns-in-Err-NumbersFull-default-clause-geometry g c = ap (λ (k : KeeperState g.row.D.Denot). k.geometry) (c.in-Err-NumbersFull-default.ensures.keeper_err ∙ ap (λ (f : OrderFault). keeper_after f c.args.keeper.now c.accept_edit.new.keeper.disk) c.in-Err-NumbersFull-default.field-0-0-is)
-
-pub returns-in-Err-NumbersFull-default-clause-count : goal.returns-in-Err-NumbersFull-default-clause-count
-returns-in-Err-NumbersFull-default-clause-count g c = ap (λ (k : KeeperState g.row.D.Denot). k.count) (c.in-Err-NumbersFull-default.ensures.keeper_err ∙ ap (λ (f : OrderFault). keeper_after f c.args.keeper.now c.accept_edit.new.keeper.disk) c.in-Err-NumbersFull-default.field-0-0-is)
-
-pub returns-in-Err-NumbersFull-default-clause-extent : goal.returns-in-Err-NumbersFull-default-clause-extent
-returns-in-Err-NumbersFull-default-clause-extent g c = c.in-Err-NumbersFull-default.ensures.extent
-
-pub returns-in-Err-NumbersFull-default-clause-honest : goal.returns-in-Err-NumbersFull-default-clause-honest
-returns-in-Err-NumbersFull-default-clause-honest g c = c.in-Err-NumbersFull-default.ensures.honest
-
-pub returns-in-Err-NumbersFull-default-clause-blocks : goal.returns-in-Err-NumbersFull-default-clause-blocks
-returns-in-Err-NumbersFull-default-clause-blocks g c = c.in-Err-NumbersFull-default.ensures.blocks
-
-pub returns-in-Err-NumbersFull-default-clause-pass : goal.returns-in-Err-NumbersFull-default-clause-pass
-returns-in-Err-NumbersFull-default-clause-pass g c = refused_passes g.B.BoardName.opening c.args.request c.args.order.now.mark c.refused-in-Err-NumbersFull-default.result c.args.pass.now _ _ _ _ c.refused-in-Err-NumbersFull-default.ensures (ap (λ (o : OrderState). o.mark) c.in-Err-NumbersFull-default.ensures.unchanged) c.in-Err-NumbersFull-default.ensures.pass_unchanged
-
-pub returns-in-Err-NumbersFull-default-clause-grown : goal.returns-in-Err-NumbersFull-default-clause-grown
-returns-in-Err-NumbersFull-default-clause-grown g c = not_grown _ _ (ap (λ (o : OrderState). o.mark) c.in-Err-NumbersFull-default.ensures.unchanged)
-
-pub returns-in-Err-DeviceFault-default-clause-geometry : goal.returns-in-Err-DeviceFault-default-clause-geometry
-returns-in-Err-DeviceFault-default-clause-geometry g c = ap (λ (k : KeeperState g.row.D.Denot). k.geometry) (c.in-Err-DeviceFault-default.ensures.keeper_err ∙ ap (λ (f : OrderFault). keeper_after f c.args.keeper.now c.accept_edit.new.keeper.disk) c.in-Err-DeviceFault-default.field-0-0-is)
-
-pub returns-in-Err-DeviceFault-default-clause-count : goal.returns-in-Err-DeviceFault-default-clause-count
-returns-in-Err-DeviceFault-default-clause-count g c = ap (λ (k : KeeperState g.row.D.Denot). k.count) (c.in-Err-DeviceFault-default.ensures.keeper_err ∙ ap (λ (f : OrderFault). keeper_after f c.args.keeper.now c.accept_edit.new.keeper.disk) c.in-Err-DeviceFault-default.field-0-0-is)
-
-pub returns-in-Err-DeviceFault-default-clause-extent : goal.returns-in-Err-DeviceFault-default-clause-extent
-returns-in-Err-DeviceFault-default-clause-extent g c = c.in-Err-DeviceFault-default.ensures.extent
-
-pub returns-in-Err-DeviceFault-default-clause-honest : goal.returns-in-Err-DeviceFault-default-clause-honest
-returns-in-Err-DeviceFault-default-clause-honest g c = c.in-Err-DeviceFault-default.ensures.honest
-
-pub returns-in-Err-DeviceFault-default-clause-blocks : goal.returns-in-Err-DeviceFault-default-clause-blocks
-returns-in-Err-DeviceFault-default-clause-blocks g c = ap (λ (o : OrderState). length o.cache.states) c.failed.ensures.order ∙ c.in-Err-DeviceFault-default.ensures.blocks
-
-pub returns-in-Err-DeviceFault-default-clause-pass : goal.returns-in-Err-DeviceFault-default-clause-pass
-returns-in-Err-DeviceFault-default-clause-pass g c = refused_passes g.B.BoardName.opening c.args.request c.args.order.now.mark c.failed.result c.args.pass.now _ _ _ _ c.failed.ensures.answer (ap (λ (o : OrderState). o.mark) c.failed.ensures.order ∙ ap (λ (o : OrderState). o.mark) c.in-Err-DeviceFault-default.ensures.unchanged) c.in-Err-DeviceFault-default.ensures.pass_unchanged
-
-pub returns-in-Err-DeviceFault-default-clause-grown : goal.returns-in-Err-DeviceFault-default-clause-grown
-returns-in-Err-DeviceFault-default-clause-grown g c = not_grown _ _ (ap (λ (o : OrderState). o.mark) c.failed.ensures.order ∙ ap (λ (o : OrderState). o.mark) c.in-Err-DeviceFault-default.ensures.unchanged)
-
-pub returns-in-Err-Failed-default-clause-geometry : goal.returns-in-Err-Failed-default-clause-geometry
-returns-in-Err-Failed-default-clause-geometry g c = ap (λ (k : KeeperState g.row.D.Denot). k.geometry) (c.in-Err-Failed-default.ensures.keeper_err ∙ ap (λ (f : OrderFault). keeper_after f c.args.keeper.now c.accept_edit.new.keeper.disk) c.in-Err-Failed-default.field-0-0-is)
-
-pub returns-in-Err-Failed-default-clause-count : goal.returns-in-Err-Failed-default-clause-count
-returns-in-Err-Failed-default-clause-count g c = ap (λ (k : KeeperState g.row.D.Denot). k.count) (c.in-Err-Failed-default.ensures.keeper_err ∙ ap (λ (f : OrderFault). keeper_after f c.args.keeper.now c.accept_edit.new.keeper.disk) c.in-Err-Failed-default.field-0-0-is)
-
-pub returns-in-Err-Failed-default-clause-extent : goal.returns-in-Err-Failed-default-clause-extent
-returns-in-Err-Failed-default-clause-extent g c = c.in-Err-Failed-default.ensures.extent
-
-pub returns-in-Err-Failed-default-clause-honest : goal.returns-in-Err-Failed-default-clause-honest
-returns-in-Err-Failed-default-clause-honest g c = c.in-Err-Failed-default.ensures.honest
-
-pub returns-in-Err-Failed-default-clause-blocks : goal.returns-in-Err-Failed-default-clause-blocks
-returns-in-Err-Failed-default-clause-blocks g c = ap (λ (o : OrderState). length o.cache.states) c.failed-in-Err-Failed-default.ensures.order ∙ c.in-Err-Failed-default.ensures.blocks
-
-pub returns-in-Err-Failed-default-clause-pass : goal.returns-in-Err-Failed-default-clause-pass
-returns-in-Err-Failed-default-clause-pass g c = refused_passes g.B.BoardName.opening c.args.request c.args.order.now.mark c.failed-in-Err-Failed-default.result c.args.pass.now _ _ _ _ c.failed-in-Err-Failed-default.ensures.answer (ap (λ (o : OrderState). o.mark) c.failed-in-Err-Failed-default.ensures.order ∙ ap (λ (o : OrderState). o.mark) c.in-Err-Failed-default.ensures.unchanged) c.in-Err-Failed-default.ensures.pass_unchanged
-
-pub returns-in-Err-Failed-default-clause-grown : goal.returns-in-Err-Failed-default-clause-grown
-returns-in-Err-Failed-default-clause-grown g c = not_grown _ _ (ap (λ (o : OrderState). o.mark) c.failed-in-Err-Failed-default.ensures.order ∙ ap (λ (o : OrderState). o.mark) c.in-Err-Failed-default.ensures.unchanged)
-
-pub returns-in-Err-Stopped-default-clause-geometry : goal.returns-in-Err-Stopped-default-clause-geometry
-returns-in-Err-Stopped-default-clause-geometry g c = ap (λ (k : KeeperState g.row.D.Denot). k.geometry) (c.in-Err-Stopped-default.ensures.keeper_err ∙ ap (λ (f : OrderFault). keeper_after f c.args.keeper.now c.accept_edit.new.keeper.disk) c.in-Err-Stopped-default.field-0-0-is)
-
-pub returns-in-Err-Stopped-default-clause-count : goal.returns-in-Err-Stopped-default-clause-count
-returns-in-Err-Stopped-default-clause-count g c = ap (λ (k : KeeperState g.row.D.Denot). k.count) (c.in-Err-Stopped-default.ensures.keeper_err ∙ ap (λ (f : OrderFault). keeper_after f c.args.keeper.now c.accept_edit.new.keeper.disk) c.in-Err-Stopped-default.field-0-0-is)
-
-pub returns-in-Err-Stopped-default-clause-extent : goal.returns-in-Err-Stopped-default-clause-extent
-returns-in-Err-Stopped-default-clause-extent g c = c.in-Err-Stopped-default.ensures.extent
-
-pub returns-in-Err-Stopped-default-clause-honest : goal.returns-in-Err-Stopped-default-clause-honest
-returns-in-Err-Stopped-default-clause-honest g c = c.in-Err-Stopped-default.ensures.honest
-
-pub returns-in-Err-Stopped-default-clause-blocks : goal.returns-in-Err-Stopped-default-clause-blocks
-returns-in-Err-Stopped-default-clause-blocks g c = ap (λ (o : OrderState). length o.cache.states) c.failed-in-Err-Stopped-default.ensures.order ∙ c.in-Err-Stopped-default.ensures.blocks
-
-pub returns-in-Err-Stopped-default-clause-pass : goal.returns-in-Err-Stopped-default-clause-pass
-returns-in-Err-Stopped-default-clause-pass g c = refused_passes g.B.BoardName.opening c.args.request c.args.order.now.mark c.failed-in-Err-Stopped-default.result c.args.pass.now _ _ _ _ c.failed-in-Err-Stopped-default.ensures.answer (ap (λ (o : OrderState). o.mark) c.failed-in-Err-Stopped-default.ensures.order ∙ ap (λ (o : OrderState). o.mark) c.in-Err-Stopped-default.ensures.unchanged) c.in-Err-Stopped-default.ensures.pass_unchanged
-
-pub returns-in-Err-Stopped-default-clause-grown : goal.returns-in-Err-Stopped-default-clause-grown
-returns-in-Err-Stopped-default-clause-grown g c = not_grown _ _ (ap (λ (o : OrderState). o.mark) c.failed-in-Err-Stopped-default.ensures.order ∙ ap (λ (o : OrderState). o.mark) c.in-Err-Stopped-default.ensures.unchanged)
-
-pub returns-in-Err-NumbersFull-default-clause-asked : goal.returns-in-Err-NumbersFull-default-clause-asked
-returns-in-Err-NumbersFull-default-clause-asked g c =
-    let left = not_refused c.args.order.now (becomes (edit_asked c.args.request) (image_in c.args.order.now.cache)) c.requires.needs.accepted c.in-Err-NumbersFull-default.ensures.numbers.mark in
-    let full = c.in-Err-NumbersFull-default.ensures.numbers_full.0 c.in-Err-NumbersFull-default.field-0-0-is in
-    absurd (omega (arith, left.0, full.1))
-
-pub returns-in-Err-NoRoom-default-clause-asked : goal.returns-in-Err-NoRoom-default-clause-asked
-returns-in-Err-NoRoom-default-clause-asked g c =
-    let left = not_refused c.args.order.now (becomes (edit_asked c.args.request) (image_in c.args.order.now.cache)) c.requires.needs.accepted c.in-Err-NoRoom-default.ensures.numbers.mark in
-    let none = c.in-Err-NoRoom-default.ensures.no_room.0 c.in-Err-NoRoom-default.field-0-0-is in
-    absurd (true≢false (sym left.1 ∙ ap (λ (e : ByteEdit). has_room_for c.args.order.now (becomes e (image_in c.args.order.now.cache))) (sym c.split-edit.ensures.edit) ∙ none.2))
-
-pub returns-in-Err-Stopped-default-clause-asked : goal.returns-in-Err-Stopped-default-clause-asked
-returns-in-Err-Stopped-default-clause-asked g c = absurd (true≢false (sym (c.in-Err-Stopped-default.ensures.stopped.0 c.in-Err-Stopped-default.field-0-0-is) ∙ c.requires.works))
+pub returns-in-Err-Stopped-default : goal.returns-in-Err-Stopped-default
+returns-in-Err-Stopped-default g c = record {
+  blocks = ap (λ (o : OrderState). length o.cache.states) c.failed-in-Err-Stopped-default.ensures.order ∙ c.in-Err-Stopped-default.ensures.blocks;
+  geometry = ap (λ (k : KeeperState g.row.D.Denot). k.geometry) (c.in-Err-Stopped-default.ensures.keeper_err ∙ ap (λ (f : OrderFault). keeper_after f c.args.keeper.now c.accept_edit.new.keeper.disk) c.in-Err-Stopped-default.field-0-0-is);
+  count = ap (λ (k : KeeperState g.row.D.Denot). k.count) (c.in-Err-Stopped-default.ensures.keeper_err ∙ ap (λ (f : OrderFault). keeper_after f c.args.keeper.now c.accept_edit.new.keeper.disk) c.in-Err-Stopped-default.field-0-0-is);
+  extent = c.in-Err-Stopped-default.ensures.extent;
+  honest = c.in-Err-Stopped-default.ensures.honest;
+  asked = absurd (true≢false (sym (c.in-Err-Stopped-default.ensures.stopped.0 c.in-Err-Stopped-default.field-0-0-is) ∙ c.requires.works));
+  pass = refused_passes g.B.BoardName.opening c.args.request c.args.order.now.mark c.failed-in-Err-Stopped-default.result c.args.pass.now _ _ _ _ c.failed-in-Err-Stopped-default.ensures.answer (ap (λ (o : OrderState). o.mark) c.failed-in-Err-Stopped-default.ensures.order ∙ ap (λ (o : OrderState). o.mark) c.in-Err-Stopped-default.ensures.unchanged) c.in-Err-Stopped-default.ensures.pass_unchanged;
+  grown = not_grown _ _ (ap (λ (o : OrderState). o.mark) c.failed-in-Err-Stopped-default.ensures.order ∙ ap (λ (o : OrderState). o.mark) c.in-Err-Stopped-default.ensures.unchanged);
+}
 
 pub split-edit-requires : goal.split-edit-requires
 split-edit-requires g c = record { write = c.requires.write }

@@ -24,160 +24,149 @@ use Rattle.request_core.specs.laws.Requests.{write_others}
 use Rattle.request_core.proofs.serving.serve_held_edit.Goals as goal
 use Rattle.export_model.specs.Log.{edit_asked, waits_for_store}
 
-pub returns-in-Ok-clause-served : goal.returns-in-Ok-clause-served
-returns-in-Ok-clause-served g c =
-    let request = c.args.request in
-    let geometry = c.args.terms.geometry in
-    let head = c.split-edit.result.0 in
-    let old = c.args.order.now in
-    let new = c.accept_held.new.self in
-    let image : Image = image_in old.cache in
-    let edit_is = c.split-edit.ensures.edit in
-    let head_is = c.split-edit.ensures.head in
-    let takes : IsEdit geometry.blocks (edit_asked request) = edit_takes request geometry c.requires.range c.split-edit.ensures.whole c.split-edit.ensures.few in
-    let left = some_left old (becomes (edit_of c.split-edit.result.1) image) c.in-Ok.ensures.numbers_full c.in-Ok.ensures.no_room (λ none. none) (λ none. none) c.requires.works c.in-Ok.ensures.numbers.mark in
-    let room : has_room_for old (becomes (edit_asked request) image) ≡ true = subst (λ (e : ByteEdit). has_room_for old (becomes e image) ≡ true) edit_is left.1 in
-    let over = λ (given : Image) (shows : ShowsImage given old.cache).
-    subst (λ (e : ByteEdit). TakesEdit e given old new c.args.pass.now c.accept_held.new.pass) edit_is (c.in-Ok.ensures.taken given shows) in
-    let waits = waits_for_store c.args.terms.mode request in
-    inr (
-      left.0,
-      image,
-      inr (inr (
-        taken_over request geometry (λ given. ShowsImage given old.cache) old new c.args.pass.now c.accept_held.new.pass image (shows_in old.cache) takes room (over image (shows_in old.cache)) over,
-        c.accepted.ensures ∙ ap (λ (b : Bool). served_after b head.cookie c.in-Ok.number) (waits_same c.args.terms.mode head request head_is)
-            ∙ ap (λ (h : RequestHead). served_after waits h.cookie c.in-Ok.number) head_is ∙ ap (λ (n : ℕ). served_after waits request.head.cookie n) c.in-Ok.ensures.number,
-      )),
-    )
+pub returns-in-Ok : goal.returns-in-Ok
+returns-in-Ok g c = record {
+  blocks = c.in-Ok.ensures.blocks;
+  served =
+      let request = c.args.request in
+      let geometry = c.args.terms.geometry in
+      let head = c.split-edit.result.0 in
+      let old = c.args.order.now in
+      let new = c.accept_held.new.self in
+      let image : Image = image_in old.cache in
+      let edit_is = c.split-edit.ensures.edit in
+      let head_is = c.split-edit.ensures.head in
+      let takes : IsEdit geometry.blocks (edit_asked request) = edit_takes request geometry c.requires.range c.split-edit.ensures.whole c.split-edit.ensures.few in
+      let left = some_left old (becomes (edit_of c.split-edit.result.1) image) c.in-Ok.ensures.numbers_full c.in-Ok.ensures.no_room (λ none. none) (λ none. none) c.requires.works c.in-Ok.ensures.numbers.mark in
+      let room : has_room_for old (becomes (edit_asked request) image) ≡ true = subst (λ (e : ByteEdit). has_room_for old (becomes e image) ≡ true) edit_is left.1 in
+      let over = λ (given : Image) (shows : ShowsImage given old.cache).
+      subst (λ (e : ByteEdit). TakesEdit e given old new c.args.pass.now c.accept_held.new.pass) edit_is (c.in-Ok.ensures.taken given shows) in
+      let waits = waits_for_store c.args.terms.mode request in
+      inr (
+        left.0,
+        image,
+        inr (inr (
+          taken_over request geometry (λ given. ShowsImage given old.cache) old new c.args.pass.now c.accept_held.new.pass image (shows_in old.cache) takes room (over image (shows_in old.cache)) over,
+          c.accepted.ensures ∙ ap (λ (b : Bool). served_after b head.cookie c.in-Ok.number) (waits_same c.args.terms.mode head request head_is)
+              ∙ ap (λ (h : RequestHead). served_after waits h.cookie c.in-Ok.number) head_is ∙ ap (λ (n : ℕ). served_after waits request.head.cookie n) c.in-Ok.ensures.number,
+        )),
+      );
+  needs = (λ e. absurd (true≢false (sym e)), λ needs. absurd (true≢false (sym (c.needs_device.ensures.1 (subst (NeedsOld c.args.order.now) (sym c.split-edit.ensures.edit) needs)) ∙ c.if-needs_device.false)));
+  handed_back = tt;
+  unchanged = tt;
+  pass =
+      let request = c.args.request in
+      let head = c.split-edit.result.0 in
+      let old = c.args.order.now in
+      let new = c.accept_held.new.self in
+      let image : Image = image_in old.cache in
+      let edit_is = c.split-edit.ensures.edit in
+      let head_is = c.split-edit.ensures.head in
+      let taken = subst (λ (e : ByteEdit). TakesEdit e image old new c.args.pass.now c.accept_held.new.pass) edit_is (c.in-Ok.ensures.taken image (shows_in old.cache)) in
+      let waits = waits_for_store c.args.terms.mode request in
+      let others = write_others request.head.kind c.requires.write in
+      let known_is = c.in-Ok.ensures.known in
+      taken_passes g.B.BoardName.opening request c.args.terms.mode old new image c.args.pass.now c.accept_held.new.pass others.0 (omega (arith, known_is, c.in-Ok.ensures.number)) c.in-Ok.ensures.knew c.in-Ok.ensures.place taken c.accepted.result
+      (c.accepted.ensures ∙ ap (λ (b : Bool). served_after b head.cookie c.in-Ok.number) (waits_same c.args.terms.mode head request head_is)
+      ∙ ap (λ (h : RequestHead). served_after waits h.cookie c.in-Ok.number) head_is ∙ ap (λ (n : ℕ). served_after waits request.head.cookie n) c.in-Ok.ensures.number);
+  grown =
+      λ more.
+      let old = c.args.order.now in
+      ap (λ (p : PassState). p.history) (c.in-Ok.ensures.taken (image_in old.cache) (shows_in old.cache)).pass;
+}
 
-pub returns-in-Ok-clause-pass : goal.returns-in-Ok-clause-pass
-returns-in-Ok-clause-pass g c =
-    let request = c.args.request in
-    let head = c.split-edit.result.0 in
-    let old = c.args.order.now in
-    let new = c.accept_held.new.self in
-    let image : Image = image_in old.cache in
-    let edit_is = c.split-edit.ensures.edit in
-    let head_is = c.split-edit.ensures.head in
-    let taken = subst (λ (e : ByteEdit). TakesEdit e image old new c.args.pass.now c.accept_held.new.pass) edit_is (c.in-Ok.ensures.taken image (shows_in old.cache)) in
-    let waits = waits_for_store c.args.terms.mode request in
-    let others = write_others request.head.kind c.requires.write in
-    let known_is = c.in-Ok.ensures.known in
-    taken_passes g.B.BoardName.opening request c.args.terms.mode old new image c.args.pass.now c.accept_held.new.pass others.0 (omega (arith, known_is, c.in-Ok.ensures.number)) c.in-Ok.ensures.knew c.in-Ok.ensures.place taken c.accepted.result
-    (c.accepted.ensures ∙ ap (λ (b : Bool). served_after b head.cookie c.in-Ok.number) (waits_same c.args.terms.mode head request head_is)
-    ∙ ap (λ (h : RequestHead). served_after waits h.cookie c.in-Ok.number) head_is ∙ ap (λ (n : ℕ). served_after waits request.head.cookie n) c.in-Ok.ensures.number)
+pub returns-in-Err-NoRoom-default : goal.returns-in-Err-NoRoom-default
+returns-in-Err-NoRoom-default g c = record {
+  blocks = c.in-Err-NoRoom-default.ensures.blocks;
+  served =
+      let request = c.args.request in
+      let old = c.args.order.now in
+      let image : Image = image_in old.cache in
+      let edit_is = c.split-edit.ensures.edit in
+      let none = c.in-Err-NoRoom-default.ensures.no_room.0 c.in-Err-NoRoom-default.field-0-0-is in
+      let room : has_room_for old (becomes (edit_asked request) image) ≡ false = subst (λ (e : ByteEdit). has_room_for old (becomes e image) ≡ false) edit_is none.2 in
+      let back = ap edit_of c.in-Err-NoRoom-default.ensures.handed_back ∙ edit_is in
+      inr (
+        none.1,
+        image,
+        inl (
+          room_over request (λ given. ShowsImage given old.cache) old false (λ given shows. shows) room,
+          c.in-Err-NoRoom-default.ensures.unchanged,
+          ap NoRoom (c.joined-in-Err-NoRoom-default.ensures request (sym c.split-edit.ensures.head) (c.split-edit.ensures.whole ∙ ap handed_len (sym c.split-edit.ensures.head)) back),
+        ),
+      );
+  needs = (λ e. absurd (true≢false (sym e)), λ needs. absurd (true≢false (sym (c.needs_device.ensures.1 (subst (NeedsOld c.args.order.now) (sym c.split-edit.ensures.edit) needs)) ∙ c.if-needs_device.false)));
+  handed_back = tt;
+  unchanged = tt;
+  pass = c.in-Err-NoRoom-default.ensures.pass_unchanged;
+  grown = not_grown _ _ (ap (λ (o : OrderState). o.mark) c.in-Err-NoRoom-default.ensures.unchanged);
+}
 
-pub returns-in-Ok-clause-grown : goal.returns-in-Ok-clause-grown
-returns-in-Ok-clause-grown g c = λ more.
-    let old = c.args.order.now in
-    ap (λ (p : PassState). p.history) (c.in-Ok.ensures.taken (image_in old.cache) (shows_in old.cache)).pass
+pub returns-in-Err-NoMemory-default : goal.returns-in-Err-NoMemory-default
+returns-in-Err-NoMemory-default g c = record {
+  blocks = c.in-Err-NoMemory-default.ensures.blocks;
+  served =
+      let request = c.args.request in
+      let old = c.args.order.now in
+      let image : Image = image_in old.cache in
+      let edit_is = c.split-edit.ensures.edit in
+      let fault_is = c.in-Err-NoMemory-default.field-0-0-is in
+      let left = some_left old (becomes (edit_of c.split-edit.result.1) image) c.in-Err-NoMemory-default.ensures.numbers_full c.in-Err-NoMemory-default.ensures.no_room
+      (λ full. faults_apart.0 (sym fault_is ∙ full)) (λ full. faults_apart.1 (sym fault_is ∙ full)) c.requires.works c.in-Err-NoMemory-default.ensures.numbers.mark in
+      let room : has_room_for old (becomes (edit_asked request) image) ≡ true = subst (λ (e : ByteEdit). has_room_for old (becomes e image) ≡ true) edit_is left.1 in
+      inr (
+        left.0,
+        image,
+        inr (inl (
+          room_over request (λ given. ShowsImage given old.cache) old true (λ given shows. shows) room,
+          c.in-Err-NoMemory-default.ensures.unchanged,
+          c.refused.ensures ∙ ap (λ (h : RequestHead). ready_for h.cookie (Refused NoMemory)) c.split-edit.ensures.head,
+        )),
+      );
+  needs = (λ e. absurd (true≢false (sym e)), λ needs. absurd (true≢false (sym (c.needs_device.ensures.1 (subst (NeedsOld c.args.order.now) (sym c.split-edit.ensures.edit) needs)) ∙ c.if-needs_device.false)));
+  handed_back = tt;
+  unchanged = tt;
+  pass = refused_passes g.B.BoardName.opening c.args.request c.args.order.now.mark c.refused.result c.args.pass.now _ _ _ _ c.refused.ensures (ap (λ (o : OrderState). o.mark) c.in-Err-NoMemory-default.ensures.unchanged) c.in-Err-NoMemory-default.ensures.pass_unchanged;
+  grown = not_grown _ _ (ap (λ (o : OrderState). o.mark) c.in-Err-NoMemory-default.ensures.unchanged);
+}
 
-pub returns-in-Err-NoRoom-default-clause-served : goal.returns-in-Err-NoRoom-default-clause-served
-returns-in-Err-NoRoom-default-clause-served g c =
-    let request = c.args.request in
-    let old = c.args.order.now in
-    let image : Image = image_in old.cache in
-    let edit_is = c.split-edit.ensures.edit in
-    let none = c.in-Err-NoRoom-default.ensures.no_room.0 c.in-Err-NoRoom-default.field-0-0-is in
-    let room : has_room_for old (becomes (edit_asked request) image) ≡ false = subst (λ (e : ByteEdit). has_room_for old (becomes e image) ≡ false) edit_is none.2 in
-    let back = ap edit_of c.in-Err-NoRoom-default.ensures.handed_back ∙ edit_is in
-    inr (
-      none.1,
-      image,
+pub returns-then-needs_device : goal.returns-then-needs_device
+returns-then-needs_device g c = record {
+  blocks = refl;
+  served = tt;
+  needs = (λ e. subst (NeedsOld c.args.order.now) c.split-edit.ensures.edit (c.needs_device.ensures.0 c.if-needs_device.true), λ needs. refl);
+  handed_back = c.joined.ensures c.args.request (sym c.split-edit.ensures.head) (c.split-edit.ensures.whole ∙ ap handed_len (sym c.split-edit.ensures.head)) c.split-edit.ensures.edit;
+  unchanged = (refl, refl);
+  pass = tt;
+  grown = not_grown _ _ refl;
+}
+
+pub returns-in-Err-NumbersFull-default : goal.returns-in-Err-NumbersFull-default
+returns-in-Err-NumbersFull-default g c = record {
+  blocks = c.in-Err-NumbersFull-default.ensures.blocks;
+  served =
       inl (
-        room_over request (λ given. ShowsImage given old.cache) old false (λ given shows. shows) room,
-        c.in-Err-NoRoom-default.ensures.unchanged,
-        ap NoRoom (c.joined-in-Err-NoRoom-default.ensures request (sym c.split-edit.ensures.head) (c.split-edit.ensures.whole ∙ ap handed_len (sym c.split-edit.ensures.head)) back),
-      ),
-    )
+        (c.in-Err-NumbersFull-default.ensures.numbers_full.0 c.in-Err-NumbersFull-default.field-0-0-is).1,
+        c.in-Err-NumbersFull-default.ensures.unchanged,
+        c.refused-in-Err-NumbersFull-default.ensures ∙ ap (λ (h : RequestHead). ready_for h.cookie (Refused NoSpace)) c.split-edit.ensures.head,
+      );
+  needs = (λ e. absurd (true≢false (sym e)), λ needs. absurd (true≢false (sym (c.needs_device.ensures.1 (subst (NeedsOld c.args.order.now) (sym c.split-edit.ensures.edit) needs)) ∙ c.if-needs_device.false)));
+  handed_back = tt;
+  unchanged = tt;
+  pass = refused_passes g.B.BoardName.opening c.args.request c.args.order.now.mark c.refused-in-Err-NumbersFull-default.result c.args.pass.now _ _ _ _ c.refused-in-Err-NumbersFull-default.ensures (ap (λ (o : OrderState). o.mark) c.in-Err-NumbersFull-default.ensures.unchanged) c.in-Err-NumbersFull-default.ensures.pass_unchanged;
+  grown = not_grown _ _ (ap (λ (o : OrderState). o.mark) c.in-Err-NumbersFull-default.ensures.unchanged);
+}
 
-pub returns-in-Err-NoMemory-default-clause-served : goal.returns-in-Err-NoMemory-default-clause-served
-returns-in-Err-NoMemory-default-clause-served g c =
-    let request = c.args.request in
-    let old = c.args.order.now in
-    let image : Image = image_in old.cache in
-    let edit_is = c.split-edit.ensures.edit in
-    let fault_is = c.in-Err-NoMemory-default.field-0-0-is in
-    let left = some_left old (becomes (edit_of c.split-edit.result.1) image) c.in-Err-NoMemory-default.ensures.numbers_full c.in-Err-NoMemory-default.ensures.no_room
-    (λ full. faults_apart.0 (sym fault_is ∙ full)) (λ full. faults_apart.1 (sym fault_is ∙ full)) c.requires.works c.in-Err-NoMemory-default.ensures.numbers.mark in
-    let room : has_room_for old (becomes (edit_asked request) image) ≡ true = subst (λ (e : ByteEdit). has_room_for old (becomes e image) ≡ true) edit_is left.1 in
-    inr (
-      left.0,
-      image,
-      inr (inl (
-        room_over request (λ given. ShowsImage given old.cache) old true (λ given shows. shows) room,
-        c.in-Err-NoMemory-default.ensures.unchanged,
-        c.refused.ensures ∙ ap (λ (h : RequestHead). ready_for h.cookie (Refused NoMemory)) c.split-edit.ensures.head,
-      )),
-    )
-
-pub returns-then-needs_device-clause-needs : goal.returns-then-needs_device-clause-needs
-returns-then-needs_device-clause-needs g c = (λ e. subst (NeedsOld c.args.order.now) c.split-edit.ensures.edit (c.needs_device.ensures.0 c.if-needs_device.true), λ needs. refl)
-
-pub returns-then-needs_device-clause-handed_back : goal.returns-then-needs_device-clause-handed_back
-returns-then-needs_device-clause-handed_back g c = c.joined.ensures c.args.request (sym c.split-edit.ensures.head) (c.split-edit.ensures.whole ∙ ap handed_len (sym c.split-edit.ensures.head)) c.split-edit.ensures.edit
-
-pub returns-then-needs_device-clause-blocks : goal.returns-then-needs_device-clause-blocks
-returns-then-needs_device-clause-blocks g c = refl
-
-pub returns-then-needs_device-clause-unchanged : goal.returns-then-needs_device-clause-unchanged
-returns-then-needs_device-clause-unchanged g c = (refl, refl)
-
-pub returns-then-needs_device-clause-grown : goal.returns-then-needs_device-clause-grown
-returns-then-needs_device-clause-grown g c = not_grown _ _ refl
-
-pub returns-in-Ok-clause-needs : goal.returns-in-Ok-clause-needs
-returns-in-Ok-clause-needs g c = (λ e. absurd (true≢false (sym e)), λ needs. absurd (true≢false (sym (c.needs_device.ensures.1 (subst (NeedsOld c.args.order.now) (sym c.split-edit.ensures.edit) needs)) ∙ c.if-needs_device.false)))
-
-pub returns-in-Ok-clause-blocks : goal.returns-in-Ok-clause-blocks
-returns-in-Ok-clause-blocks g c = c.in-Ok.ensures.blocks
-
-pub returns-in-Err-NoRoom-default-clause-needs : goal.returns-in-Err-NoRoom-default-clause-needs
-returns-in-Err-NoRoom-default-clause-needs g c = (λ e. absurd (true≢false (sym e)), λ needs. absurd (true≢false (sym (c.needs_device.ensures.1 (subst (NeedsOld c.args.order.now) (sym c.split-edit.ensures.edit) needs)) ∙ c.if-needs_device.false)))
-
-pub returns-in-Err-NoRoom-default-clause-blocks : goal.returns-in-Err-NoRoom-default-clause-blocks
-returns-in-Err-NoRoom-default-clause-blocks g c = c.in-Err-NoRoom-default.ensures.blocks
-
-pub returns-in-Err-NoRoom-default-clause-pass : goal.returns-in-Err-NoRoom-default-clause-pass
-returns-in-Err-NoRoom-default-clause-pass g c = c.in-Err-NoRoom-default.ensures.pass_unchanged
-
-pub returns-in-Err-NoRoom-default-clause-grown : goal.returns-in-Err-NoRoom-default-clause-grown
-returns-in-Err-NoRoom-default-clause-grown g c = not_grown _ _ (ap (λ (o : OrderState). o.mark) c.in-Err-NoRoom-default.ensures.unchanged)
-
-pub returns-in-Err-NoMemory-default-clause-needs : goal.returns-in-Err-NoMemory-default-clause-needs
-returns-in-Err-NoMemory-default-clause-needs g c = (λ e. absurd (true≢false (sym e)), λ needs. absurd (true≢false (sym (c.needs_device.ensures.1 (subst (NeedsOld c.args.order.now) (sym c.split-edit.ensures.edit) needs)) ∙ c.if-needs_device.false)))
-
-pub returns-in-Err-NoMemory-default-clause-blocks : goal.returns-in-Err-NoMemory-default-clause-blocks
-returns-in-Err-NoMemory-default-clause-blocks g c = c.in-Err-NoMemory-default.ensures.blocks
-
-pub returns-in-Err-NoMemory-default-clause-pass : goal.returns-in-Err-NoMemory-default-clause-pass
-returns-in-Err-NoMemory-default-clause-pass g c = refused_passes g.B.BoardName.opening c.args.request c.args.order.now.mark c.refused.result c.args.pass.now _ _ _ _ c.refused.ensures (ap (λ (o : OrderState). o.mark) c.in-Err-NoMemory-default.ensures.unchanged) c.in-Err-NoMemory-default.ensures.pass_unchanged
-
-pub returns-in-Err-NoMemory-default-clause-grown : goal.returns-in-Err-NoMemory-default-clause-grown
-returns-in-Err-NoMemory-default-clause-grown g c = not_grown _ _ (ap (λ (o : OrderState). o.mark) c.in-Err-NoMemory-default.ensures.unchanged)
-
-pub returns-in-Err-NumbersFull-default-clause-needs : goal.returns-in-Err-NumbersFull-default-clause-needs
-returns-in-Err-NumbersFull-default-clause-needs g c = (λ e. absurd (true≢false (sym e)), λ needs. absurd (true≢false (sym (c.needs_device.ensures.1 (subst (NeedsOld c.args.order.now) (sym c.split-edit.ensures.edit) needs)) ∙ c.if-needs_device.false)))
-
-pub returns-in-Err-NumbersFull-default-clause-blocks : goal.returns-in-Err-NumbersFull-default-clause-blocks
-returns-in-Err-NumbersFull-default-clause-blocks g c = c.in-Err-NumbersFull-default.ensures.blocks
-
-pub returns-in-Err-NumbersFull-default-clause-pass : goal.returns-in-Err-NumbersFull-default-clause-pass
-returns-in-Err-NumbersFull-default-clause-pass g c = refused_passes g.B.BoardName.opening c.args.request c.args.order.now.mark c.refused-in-Err-NumbersFull-default.result c.args.pass.now _ _ _ _ c.refused-in-Err-NumbersFull-default.ensures (ap (λ (o : OrderState). o.mark) c.in-Err-NumbersFull-default.ensures.unchanged) c.in-Err-NumbersFull-default.ensures.pass_unchanged
-
-pub returns-in-Err-NumbersFull-default-clause-grown : goal.returns-in-Err-NumbersFull-default-clause-grown
-returns-in-Err-NumbersFull-default-clause-grown g c = not_grown _ _ (ap (λ (o : OrderState). o.mark) c.in-Err-NumbersFull-default.ensures.unchanged)
-
-pub returns-in-Err-NumbersFull-default-clause-served : goal.returns-in-Err-NumbersFull-default-clause-served
-returns-in-Err-NumbersFull-default-clause-served g c =
-    inl (
-      (c.in-Err-NumbersFull-default.ensures.numbers_full.0 c.in-Err-NumbersFull-default.field-0-0-is).1,
-      c.in-Err-NumbersFull-default.ensures.unchanged,
-      c.refused-in-Err-NumbersFull-default.ensures ∙ ap (λ (h : RequestHead). ready_for h.cookie (Refused NoSpace)) c.split-edit.ensures.head,
-    )
-
-pub returns-in-Err-clause-needs : goal.returns-in-Err-clause-needs
-returns-in-Err-clause-needs g c = (λ e. absurd (true≢false (sym e)), λ needs. absurd (true≢false (sym (c.needs_device.ensures.1 (subst (NeedsOld c.args.order.now) (sym c.split-edit.ensures.edit) needs)) ∙ c.if-needs_device.false)))
+pub returns-in-Err : goal.returns-in-Err
+returns-in-Err g c = record {
+  blocks = search rules;
+  served = search rules;
+  needs = (λ e. absurd (true≢false (sym e)), λ needs. absurd (true≢false (sym (c.needs_device.ensures.1 (subst (NeedsOld c.args.order.now) (sym c.split-edit.ensures.edit) needs)) ∙ c.if-needs_device.false)));
+  handed_back = tt;
+  unchanged = tt;
+  pass = search rules;
+  grown = search rules;
+}
 
 pub split-edit-requires : goal.split-edit-requires
 split-edit-requires g c = record { write = c.requires.write }
@@ -196,54 +185,6 @@ accept_held-requires-clause-held g c = search rules
 
 pub joined-requires-in-Err-NoRoom-default : goal.joined-requires-in-Err-NoRoom-default
 joined-requires-in-Err-NoRoom-default g c = search rules
-
-pub returns-in-Err-clause-blocks : goal.returns-in-Err-clause-blocks
-returns-in-Err-clause-blocks g c = search rules
-
-pub returns-in-Err-clause-served : goal.returns-in-Err-clause-served
-returns-in-Err-clause-served g c = search rules
-
-pub returns-in-Err-clause-pass : goal.returns-in-Err-clause-pass
-returns-in-Err-clause-pass g c = search rules
-
-pub returns-in-Err-clause-grown : goal.returns-in-Err-clause-grown
-returns-in-Err-clause-grown g c = search rules
-
-pub returns-then-needs_device-clause-served : goal.returns-then-needs_device-clause-served
-returns-then-needs_device-clause-served g c = tt
-
-pub returns-then-needs_device-clause-pass : goal.returns-then-needs_device-clause-pass
-returns-then-needs_device-clause-pass g c = tt
-
-pub returns-in-Ok-clause-handed_back : goal.returns-in-Ok-clause-handed_back
-returns-in-Ok-clause-handed_back g c = tt
-
-pub returns-in-Ok-clause-unchanged : goal.returns-in-Ok-clause-unchanged
-returns-in-Ok-clause-unchanged g c = tt
-
-pub returns-in-Err-NoRoom-default-clause-handed_back : goal.returns-in-Err-NoRoom-default-clause-handed_back
-returns-in-Err-NoRoom-default-clause-handed_back g c = tt
-
-pub returns-in-Err-NoRoom-default-clause-unchanged : goal.returns-in-Err-NoRoom-default-clause-unchanged
-returns-in-Err-NoRoom-default-clause-unchanged g c = tt
-
-pub returns-in-Err-NoMemory-default-clause-handed_back : goal.returns-in-Err-NoMemory-default-clause-handed_back
-returns-in-Err-NoMemory-default-clause-handed_back g c = tt
-
-pub returns-in-Err-NoMemory-default-clause-unchanged : goal.returns-in-Err-NoMemory-default-clause-unchanged
-returns-in-Err-NoMemory-default-clause-unchanged g c = tt
-
-pub returns-in-Err-NumbersFull-default-clause-handed_back : goal.returns-in-Err-NumbersFull-default-clause-handed_back
-returns-in-Err-NumbersFull-default-clause-handed_back g c = tt
-
-pub returns-in-Err-NumbersFull-default-clause-unchanged : goal.returns-in-Err-NumbersFull-default-clause-unchanged
-returns-in-Err-NumbersFull-default-clause-unchanged g c = tt
-
-pub returns-in-Err-clause-handed_back : goal.returns-in-Err-clause-handed_back
-returns-in-Err-clause-handed_back g c = tt
-
-pub returns-in-Err-clause-unchanged : goal.returns-in-Err-clause-unchanged
-returns-in-Err-clause-unchanged g c = tt
 
 pub accept_held-requires-clause-edit : goal.accept_held-requires-clause-edit
 accept_held-requires-clause-edit g c =

@@ -6,44 +6,45 @@ use Rattle.request_core.proofs.Needing.{lacks_blocks, lacks_given, neither_3, ne
 use Rattle.request_core.proofs.Passes.{held_passes, not_grown, status_passes}
 use Rattle.request_core.proofs.serving.serve_passed.Goals as goal
 
-pub returns-in-7-clause-pass : goal.returns-in-7-clause-pass
-returns-in-7-clause-pass g c =
-    status_passes g.B.BoardName.opening c.args.request c.args.order.now.mark c.serve_status.result c.args.pass.now c.head-head.result c.args.order.now c.serve_status.ensures
+pub returns-in-7 : goal.returns-in-7
+returns-in-7 g c = record {
+  blocks = refl;
+  serves = inl (inr (inr (inl (c.requires.works, (sym (ap (λ (h : RequestHead). h.kind) c.head-head.ensures) ∙ c.in-7.is), refl, subst (λ (h : RequestHead). IsStatusServed h c.args.order.now c.serve_status.result) c.head-head.ensures c.serve_status.ensures))));
+  needs = (λ e. absurd (false≢true e), λ needs. absurd (neither_7 c.args.request c.args.order.now (sym (ap (λ (h : RequestHead). h.kind) c.head-head.ensures) ∙ c.in-7.is) needs.2));
+  handed_back = tt;
+  unchanged = tt;
+  pass = status_passes g.B.BoardName.opening c.args.request c.args.order.now.mark c.serve_status.result c.args.pass.now c.head-head.result c.args.order.now c.serve_status.ensures;
+  grown = not_grown _ _ refl;
+}
 
 pub returns-in-3-clause-needs : goal.returns-in-3-clause-needs
 returns-in-3-clause-needs g c =
     (λ e. absurd (false≢true e), λ needs. absurd (neither_3 c.args.request c.args.order.now (sym (ap (λ (h : RequestHead). h.kind) c.head-head.ensures) ∙ c.in-3.is) needs.2))
 
-pub returns-in-7-clause-needs : goal.returns-in-7-clause-needs
-returns-in-7-clause-needs g c =
-    (λ e. absurd (false≢true e), λ needs. absurd (neither_7 c.args.request c.args.order.now (sym (ap (λ (h : RequestHead). h.kind) c.head-head.ensures) ∙ c.in-7.is) needs.2))
+pub returns-then-holds : goal.returns-then-holds
+returns-then-holds g c = record {
+  blocks = refl;
+  serves = inr (c.requires.works, (sym (ap (λ (h : RequestHead). h.kind) c.head-head.ensures) ∙ c.in-0.is), refl, subst (λ (h : RequestHead). IsHeldReadServed h c.args.order.now c.serve_held_read.result) c.head-head.ensures c.serve_held_read.ensures);
+  needs = (
+    λ e. absurd (false≢true e),
+    λ needs. absurd (not_read c.args.request c.args.order.now (sym (ap (λ (h : RequestHead). h.kind) c.head-head.ensures) ∙ c.in-0.is) (λ lacks. false≢true (sym (c.holds.ensures.1 (lacks_blocks c.args.request c.args.order.now c.head-head.result c.of-blocks.result.first c.of-blocks.result.count c.head-head.ensures c.of-blocks.ensures.first c.of-blocks.ensures.count lacks)) ∙ c.if-holds.true)) needs.2),
+  );
+  handed_back = tt;
+  unchanged = tt;
+  pass = held_passes g.B.BoardName.opening c.args.request c.args.order.now.mark c.serve_held_read.result c.args.pass.now c.head-head.result c.args.order.now c.serve_held_read.ensures;
+  grown = not_grown _ _ refl;
+}
 
-pub returns-in-7-clause-grown : goal.returns-in-7-clause-grown
-returns-in-7-clause-grown g c = not_grown _ _ refl
-
-pub returns-then-holds-clause-grown : goal.returns-then-holds-clause-grown
-returns-then-holds-clause-grown g c = not_grown _ _ refl
-
-pub returns-else-holds-clause-grown : goal.returns-else-holds-clause-grown
-returns-else-holds-clause-grown g c = not_grown _ _ refl
-
-pub returns-in-7-clause-serves : goal.returns-in-7-clause-serves
-returns-in-7-clause-serves g c = inl (inr (inr (inl (c.requires.works, (sym (ap (λ (h : RequestHead). h.kind) c.head-head.ensures) ∙ c.in-7.is), refl, subst (λ (h : RequestHead). IsStatusServed h c.args.order.now c.serve_status.result) c.head-head.ensures c.serve_status.ensures))))
-
-pub returns-then-holds-clause-serves : goal.returns-then-holds-clause-serves
-returns-then-holds-clause-serves g c = inr (c.requires.works, (sym (ap (λ (h : RequestHead). h.kind) c.head-head.ensures) ∙ c.in-0.is), refl, subst (λ (h : RequestHead). IsHeldReadServed h c.args.order.now c.serve_held_read.result) c.head-head.ensures c.serve_held_read.ensures)
-
-pub returns-then-holds-clause-needs : goal.returns-then-holds-clause-needs
-returns-then-holds-clause-needs g c = (
-  λ e. absurd (false≢true e),
-  λ needs. absurd (not_read c.args.request c.args.order.now (sym (ap (λ (h : RequestHead). h.kind) c.head-head.ensures) ∙ c.in-0.is) (λ lacks. false≢true (sym (c.holds.ensures.1 (lacks_blocks c.args.request c.args.order.now c.head-head.result c.of-blocks.result.first c.of-blocks.result.count c.head-head.ensures c.of-blocks.ensures.first c.of-blocks.ensures.count lacks)) ∙ c.if-holds.true)) needs.2),
-)
-
-pub returns-else-holds-clause-needs : goal.returns-else-holds-clause-needs
-returns-else-holds-clause-needs g c = (λ e. (refl, c.requires.works, inl ((sym (ap (λ (h : RequestHead). h.kind) c.head-head.ensures) ∙ c.in-0.is), lacks_given c.args.request c.args.order.now c.head-head.result c.of-blocks.result.first c.of-blocks.result.count c.head-head.ensures c.of-blocks.ensures.first c.of-blocks.ensures.count (c.holds.ensures.0 c.if-holds.false))), λ needs. refl)
-
-pub returns-then-holds-clause-pass : goal.returns-then-holds-clause-pass
-returns-then-holds-clause-pass g c = held_passes g.B.BoardName.opening c.args.request c.args.order.now.mark c.serve_held_read.result c.args.pass.now c.head-head.result c.args.order.now c.serve_held_read.ensures
+pub returns-else-holds : goal.returns-else-holds
+returns-else-holds g c = record {
+  blocks = refl;
+  serves = tt;
+  needs = (λ e. (refl, c.requires.works, inl ((sym (ap (λ (h : RequestHead). h.kind) c.head-head.ensures) ∙ c.in-0.is), lacks_given c.args.request c.args.order.now c.head-head.result c.of-blocks.result.first c.of-blocks.result.count c.head-head.ensures c.of-blocks.ensures.first c.of-blocks.ensures.count (c.holds.ensures.0 c.if-holds.false))), λ needs. refl);
+  handed_back = refl;
+  unchanged = (refl, refl);
+  pass = tt;
+  grown = not_grown _ _ refl;
+}
 
 pub of-blocks-requires : goal.of-blocks-requires
 of-blocks-requires g c = search rules
@@ -110,39 +111,6 @@ returns-in-3-clause-handed_back g c = tt
 
 pub returns-in-3-clause-unchanged : goal.returns-in-3-clause-unchanged
 returns-in-3-clause-unchanged g c = tt
-
-pub returns-then-holds-clause-handed_back : goal.returns-then-holds-clause-handed_back
-returns-then-holds-clause-handed_back g c = tt
-
-pub returns-then-holds-clause-unchanged : goal.returns-then-holds-clause-unchanged
-returns-then-holds-clause-unchanged g c = tt
-
-pub returns-else-holds-clause-serves : goal.returns-else-holds-clause-serves
-returns-else-holds-clause-serves g c = tt
-
-pub returns-else-holds-clause-pass : goal.returns-else-holds-clause-pass
-returns-else-holds-clause-pass g c = tt
-
-pub returns-in-7-clause-handed_back : goal.returns-in-7-clause-handed_back
-returns-in-7-clause-handed_back g c = tt
-
-pub returns-in-7-clause-unchanged : goal.returns-in-7-clause-unchanged
-returns-in-7-clause-unchanged g c = tt
-
-pub returns-then-holds-clause-blocks : goal.returns-then-holds-clause-blocks
-returns-then-holds-clause-blocks g c = refl
-
-pub returns-else-holds-clause-blocks : goal.returns-else-holds-clause-blocks
-returns-else-holds-clause-blocks g c = refl
-
-pub returns-else-holds-clause-handed_back : goal.returns-else-holds-clause-handed_back
-returns-else-holds-clause-handed_back g c = refl
-
-pub returns-in-7-clause-blocks : goal.returns-in-7-clause-blocks
-returns-in-7-clause-blocks g c = refl
-
-pub returns-else-holds-clause-unchanged : goal.returns-else-holds-clause-unchanged
-returns-else-holds-clause-unchanged g c = (refl, refl)
 
 pub serve_held_edit-requires-clause-works : goal.serve_held_edit-requires-clause-works
 serve_held_edit-requires-clause-works g c = c.requires.works

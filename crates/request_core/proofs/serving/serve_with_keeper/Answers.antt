@@ -15,19 +15,28 @@ use Rattle.export_model.specs.Log.{edit_asked, is_write}
 use Rattle.export_model.specs.Verdict.{IsServedRange, verdict}
 use Rattle.export_model.specs.declared.action.Action.TheVariants.{Serve}
 
-pub returns-in-Ok-clause-serves : goal.returns-in-Ok-clause-serves
-returns-in-Ok-clause-serves g c = (
-  verdict c.args.request.head c.args.terms.geometry c.args.terms.flags,
-  refl,
-  served_here g.D.Disk.state g.D.Disk.faults g.D.Disk.honest c.args.keeper.now (λ sure. none_read (g.met.D.Disk.sound c.args.keeper.now.disk sure))
-      (verdict c.args.request.head c.args.terms.geometry c.args.terms.flags) c.args.request c.args.terms.geometry c.args.terms.mode c.args.order.now c.serve_held.new.order c.in-Ok.served c.in-Ok.ensures.serves,
-)
-
-pub returns-in-Ok-clause-hit : goal.returns-in-Ok-clause-hit
-returns-in-Ok-clause-hit g c = λ kind held. (
-  read_leaves (verdict c.args.request.head c.args.terms.geometry c.args.terms.flags) c.args.request c.args.terms.geometry c.args.terms.mode c.args.order.now c.serve_held.new.order c.in-Ok.served kind c.in-Ok.ensures.serves,
-  refl,
-)
+pub returns-in-Ok : goal.returns-in-Ok
+returns-in-Ok g c = record {
+  blocks = c.in-Ok.ensures.blocks;
+  geometry = refl;
+  count = refl;
+  extent = refl;
+  honest = (λ honest. honest, λ honest. honest);
+  serves = (
+    verdict c.args.request.head c.args.terms.geometry c.args.terms.flags,
+    refl,
+    served_here g.D.Disk.state g.D.Disk.faults g.D.Disk.honest c.args.keeper.now (λ sure. none_read (g.met.D.Disk.sound c.args.keeper.now.disk sure))
+        (verdict c.args.request.head c.args.terms.geometry c.args.terms.flags) c.args.request c.args.terms.geometry c.args.terms.mode c.args.order.now c.serve_held.new.order c.in-Ok.served c.in-Ok.ensures.serves,
+  );
+  kept = λ none. refl;
+  hit =
+      λ kind held. (
+        read_leaves (verdict c.args.request.head c.args.terms.geometry c.args.terms.flags) c.args.request c.args.terms.geometry c.args.terms.mode c.args.order.now c.serve_held.new.order c.in-Ok.served kind c.in-Ok.ensures.serves,
+        refl,
+      );
+  pass = c.in-Ok.ensures.pass;
+  grown = c.in-Ok.ensures.grown;
+}
 
 pub returns-in-Err-clause-serves : goal.returns-in-Err-clause-serves
 returns-in-Err-clause-serves g c =
@@ -74,57 +83,43 @@ serve_edit-requires-clause-needs g c =
     by_kind (inl read) other = absurd (other read.0)
     by_kind (inr edit) other = edit.1
 
-pub returns-in-Ok-clause-kept : goal.returns-in-Ok-clause-kept
-returns-in-Ok-clause-kept g c none = refl
-
-pub returns-in-Ok-clause-pass : goal.returns-in-Ok-clause-pass
-returns-in-Ok-clause-pass g c = c.in-Ok.ensures.pass
-
-pub returns-in-Ok-clause-blocks : goal.returns-in-Ok-clause-blocks
-returns-in-Ok-clause-blocks g c = c.in-Ok.ensures.blocks
-
-pub returns-in-Ok-clause-grown : goal.returns-in-Ok-clause-grown
-returns-in-Ok-clause-grown g c = c.in-Ok.ensures.grown
-
-pub returns-in-Ok-clause-geometry : goal.returns-in-Ok-clause-geometry
-returns-in-Ok-clause-geometry g c = refl
-
-pub returns-in-Ok-clause-count : goal.returns-in-Ok-clause-count
-returns-in-Ok-clause-count g c = refl
-
-pub returns-in-Ok-clause-extent : goal.returns-in-Ok-clause-extent
-returns-in-Ok-clause-extent g c = refl
-
-pub returns-in-Ok-clause-honest : goal.returns-in-Ok-clause-honest
-returns-in-Ok-clause-honest g c = (λ honest. honest, λ honest. honest)
-
 pub returns-in-Err-clause-kept : goal.returns-in-Err-clause-kept
 returns-in-Err-clause-kept g c none = absurd (none (c.in-Err.ensures.needs.0 refl))
 
-pub returns-in-Err-2-clause-kept : goal.returns-in-Err-2-clause-kept
-returns-in-Err-2-clause-kept g c none = absurd (none (c.in-Err-2.ensures.needs.0 refl))
+pub returns-in-Err-2 : goal.returns-in-Err-2
+returns-in-Err-2 g c = record {
+  blocks = c.serve_edit.ensures.blocks ∙ ap (λ (o : OrderState). length o.cache.states) c.in-Err-2.ensures.unchanged.0;
+  geometry = c.serve_edit.ensures.geometry;
+  count = c.serve_edit.ensures.count;
+  extent = c.serve_edit.ensures.extent;
+  honest = c.serve_edit.ensures.honest;
+  serves =
+      let needs = c.in-Err-2.ensures.needs.0 refl in
+      let write = is_edit c.args.request c.args.order.now (λ kind. c.if-head-eq-READ.false (ap (λ (h : RequestHead). h.kind) c.head.ensures ∙ ap (λ (r : Message). r.head.kind) c.in-Err.ensures.handed_back ∙ kind)) needs.2 in (
+        Ok Serve,
+        sym needs.0,
+        inr (inr (
+          needs.1,
+          write,
+          subst (λ (r : Message). IsWriteAsked g.D.Disk.state g.D.Disk.faults g.D.Disk.honest r c.args.terms.geometry c.args.terms.mode c.args.order.now c.serve_edit.new.order c.args.keeper.now c.serve_edit.new.keeper c.serve_edit.result) c.in-Err.ensures.handed_back
+              (subst (λ (o : OrderState). IsWriteAsked g.D.Disk.state g.D.Disk.faults g.D.Disk.honest c.in-Err.field-0.0 c.args.terms.geometry c.args.terms.mode o c.serve_edit.new.order c.args.keeper.now c.serve_edit.new.keeper c.serve_edit.result) c.in-Err-2.ensures.unchanged.0 c.serve_edit.ensures.asked),
+        )),
+      );
+  kept = λ none. absurd (none (c.in-Err-2.ensures.needs.0 refl));
+  hit = λ kind held.
+      let needs = c.in-Err-2.ensures.needs.0 refl in
+      absurd (not_read c.args.request c.args.order.now kind held needs.2);
+  pass =
+      subst (λ (r : Message). IsPassServed g.B.BoardName.opening r c.args.order.now.mark c.serve_edit.new.order.mark c.serve_edit.result c.args.pass.now c.serve_edit.new.pass) c.in-Err.ensures.handed_back
+      (subst (λ (o : OrderState). IsPassServed g.B.BoardName.opening c.in-Err.field-0.0 o.mark c.serve_edit.new.order.mark c.serve_edit.result c.args.pass.now c.serve_edit.new.pass) c.in-Err-2.ensures.unchanged.0
+      (subst (λ (p : PassState). IsPassServed g.B.BoardName.opening c.in-Err.field-0.0 c.serve_held.new.order.mark c.serve_edit.new.order.mark c.serve_edit.result p c.serve_edit.new.pass) c.in-Err-2.ensures.unchanged.1 c.serve_edit.ensures.pass));
+  grown = λ more. c.serve_edit.ensures.grown (subst (λ (o : OrderState). o.mark < c.serve_edit.new.order.mark) (sym c.in-Err-2.ensures.unchanged.0) more);
+}
 
 pub returns-in-Err-clause-hit : goal.returns-in-Err-clause-hit
 returns-in-Err-clause-hit g c kind held =
     let needs = c.in-Err.ensures.needs.0 refl in
     absurd (not_read c.args.request c.args.order.now kind held needs.2)
-
-pub returns-in-Err-2-clause-hit : goal.returns-in-Err-2-clause-hit
-returns-in-Err-2-clause-hit g c kind held =
-    let needs = c.in-Err-2.ensures.needs.0 refl in
-    absurd (not_read c.args.request c.args.order.now kind held needs.2)
-
-pub returns-in-Err-2-clause-count : goal.returns-in-Err-2-clause-count
-returns-in-Err-2-clause-count g c = c.serve_edit.ensures.count
-
-pub returns-in-Err-2-clause-geometry : goal.returns-in-Err-2-clause-geometry
-returns-in-Err-2-clause-geometry g c = c.serve_edit.ensures.geometry
-
-pub returns-in-Err-2-clause-extent : goal.returns-in-Err-2-clause-extent
-returns-in-Err-2-clause-extent g c = c.serve_edit.ensures.extent
-
-pub returns-in-Err-2-clause-honest : goal.returns-in-Err-2-clause-honest
-returns-in-Err-2-clause-honest g c = c.serve_edit.ensures.honest
 
 pub returns-in-Err-clause-count : goal.returns-in-Err-clause-count
 returns-in-Err-clause-count g c = c.serve_read.ensures.count
@@ -134,32 +129,6 @@ returns-in-Err-clause-extent g c = c.serve_read.ensures.extent
 
 pub returns-in-Err-clause-honest : goal.returns-in-Err-clause-honest
 returns-in-Err-clause-honest g c = c.serve_read.ensures.honest
-
-pub returns-in-Err-2-clause-blocks : goal.returns-in-Err-2-clause-blocks
-returns-in-Err-2-clause-blocks g c = c.serve_edit.ensures.blocks ∙ ap (λ (o : OrderState). length o.cache.states) c.in-Err-2.ensures.unchanged.0
-
-pub returns-in-Err-2-clause-serves : goal.returns-in-Err-2-clause-serves
-returns-in-Err-2-clause-serves g c =
-    let needs = c.in-Err-2.ensures.needs.0 refl in
-    let write = is_edit c.args.request c.args.order.now (λ kind. c.if-head-eq-READ.false (ap (λ (h : RequestHead). h.kind) c.head.ensures ∙ ap (λ (r : Message). r.head.kind) c.in-Err.ensures.handed_back ∙ kind)) needs.2 in (
-      Ok Serve,
-      sym needs.0,
-      inr (inr (
-        needs.1,
-        write,
-        subst (λ (r : Message). IsWriteAsked g.D.Disk.state g.D.Disk.faults g.D.Disk.honest r c.args.terms.geometry c.args.terms.mode c.args.order.now c.serve_edit.new.order c.args.keeper.now c.serve_edit.new.keeper c.serve_edit.result) c.in-Err.ensures.handed_back
-            (subst (λ (o : OrderState). IsWriteAsked g.D.Disk.state g.D.Disk.faults g.D.Disk.honest c.in-Err.field-0.0 c.args.terms.geometry c.args.terms.mode o c.serve_edit.new.order c.args.keeper.now c.serve_edit.new.keeper c.serve_edit.result) c.in-Err-2.ensures.unchanged.0 c.serve_edit.ensures.asked),
-      )),
-    )
-
-pub returns-in-Err-2-clause-pass : goal.returns-in-Err-2-clause-pass
-returns-in-Err-2-clause-pass g c =
-    subst (λ (r : Message). IsPassServed g.B.BoardName.opening r c.args.order.now.mark c.serve_edit.new.order.mark c.serve_edit.result c.args.pass.now c.serve_edit.new.pass) c.in-Err.ensures.handed_back
-    (subst (λ (o : OrderState). IsPassServed g.B.BoardName.opening c.in-Err.field-0.0 o.mark c.serve_edit.new.order.mark c.serve_edit.result c.args.pass.now c.serve_edit.new.pass) c.in-Err-2.ensures.unchanged.0
-    (subst (λ (p : PassState). IsPassServed g.B.BoardName.opening c.in-Err.field-0.0 c.serve_held.new.order.mark c.serve_edit.new.order.mark c.serve_edit.result p c.serve_edit.new.pass) c.in-Err-2.ensures.unchanged.1 c.serve_edit.ensures.pass))
-
-pub returns-in-Err-2-clause-grown : goal.returns-in-Err-2-clause-grown
-returns-in-Err-2-clause-grown g c more = c.serve_edit.ensures.grown (subst (λ (o : OrderState). o.mark < c.serve_edit.new.order.mark) (sym c.in-Err-2.ensures.unchanged.0) more)
 
 pub serve_edit-requires-clause-write : goal.serve_edit-requires-clause-write
 serve_edit-requires-clause-write g c =
