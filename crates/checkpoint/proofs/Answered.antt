@@ -1,5 +1,5 @@
 -- which refusals an answer of the keeper isn't
-use Rattle.std.specs.Prelude.{ℕ, IfErr, IfOk, IsErr, OnOk}
+use Rattle.std.specs.Prelude.{ℕ, IfErr, IsErr}
 use Rattle.std.specs.Result.{IsErrAnd}
 use Rattle.std.proofs.Common.{◌≡◌, ◌↔◌, None, Some, Result, Ok, Err, ap, refl, subst, sym}
 use Rattle.disk_model.specs.Faults.{counted, faults_after}

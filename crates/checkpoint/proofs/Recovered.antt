@@ -1,5 +1,5 @@
 -- A keeper while an opening recovers it.
-use Rattle.std.proofs.Common.{◌≡◌, ◌≢◌, ℕ, ◌+◌, ◌-◌, ◌≤◌, Result, Ok, Err, IfErr, IsErrAnd, OnOk, List, [], ◌∷◌, ◌++◌, ◌<◌, length, refl, sym, ◌∙◌, ap, subst, arith, false}
+use Rattle.std.proofs.Common.{◌≡◌, ◌≢◌, ℕ, ◌+◌, ◌-◌, ◌≤◌, Result, Ok, Err, IfErr, OnOk, List, [], ◌∷◌, ◌++◌, ◌<◌, length, refl, sym, ◌∙◌, ap, subst, arith, false}
 use Rattle.disk_model.specs.Disk.{State}
 use Rattle.device_image.specs.Keeper.{KeeperState, Memory, Phase, Copying, Mapped, One}
 use Rattle.device_image.specs.Keeps.{Keeps}

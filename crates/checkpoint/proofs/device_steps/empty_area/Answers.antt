@@ -5,10 +5,6 @@ use Rattle.disk_model.specs.Faults.{faults_after}
 use Rattle.checkpoint.proofs.Answered.{both_ways, failed_counted}
 use Rattle.checkpoint.proofs.device_steps.empty_area.Goals as goal
 
-pub returns-in_err-close_first-clause-any_moment : goal.returns-in_err-close_first-clause-any_moment
-returns-in_err-close_first-clause-any_moment g c =
-    c.in_err-close_first.ensures.any_moment
-
 pub returns-clause-honest : goal.returns-clause-honest
 returns-clause-honest g c =
     both_ways c.sync.ensures.honest c.in_ok-close_first.ensures.honest
@@ -19,22 +15,6 @@ returns-clause-any_moment g c honest =
     let mid_honest = first.honest.1 honest in
     stays_on (first.any_moment honest) (g.met.D.Disk.sound c.close_first.new.disk mid_honest) (c.sync.ensures.any_moment mid_honest)
 
-pub returns-in_err-close_first-clause-ok : goal.returns-in_err-close_first-clause-ok
-returns-in_err-close_first-clause-ok g c =
-    IfOk-from_err c.from_residual.result _ c.from_residual.ensures.0
-
-pub returns-in_err-close_first-clause-stored : goal.returns-in_err-close_first-clause-stored
-returns-in_err-close_first-clause-stored g c given =
-    IfOk-from_err c.from_residual.result _ c.from_residual.ensures.0
-
-pub returns-in_err-close_first-clause-extent : goal.returns-in_err-close_first-clause-extent
-returns-in_err-close_first-clause-extent g c =
-    c.in_err-close_first.ensures.extent
-
-pub returns-in_err-close_first-clause-honest : goal.returns-in_err-close_first-clause-honest
-returns-in_err-close_first-clause-honest g c =
-    c.in_err-close_first.ensures.honest
-
 pub returns-clause-extent : goal.returns-clause-extent
 returns-clause-extent g c =
     c.sync.ensures.extent ∙ c.in_ok-close_first.ensures.extent
@@ -43,6 +23,12 @@ pub returns-clause-faults : goal.returns-clause-faults
 returns-clause-faults g c =
     c.sync.ensures.faults ∙ ap (faults_after c.sync.result) c.in_ok-close_first.ensures.faults
 
-pub returns-in_err-close_first-clause-faults : goal.returns-in_err-close_first-clause-faults
-returns-in_err-close_first-clause-faults g c =
-    c.in_err-close_first.ensures.faults ∙ sym (failed_counted c.from_residual.result _ c.from_residual.ensures.0)
+pub returns-in_err-close_first : goal.returns-in_err-close_first
+returns-in_err-close_first g c = record {
+  ok = IfOk-from_err c.from_residual.result _ c.from_residual.ensures.0;
+  extent = c.in_err-close_first.ensures.extent;
+  faults = c.in_err-close_first.ensures.faults ∙ sym (failed_counted c.from_residual.result _ c.from_residual.ensures.0);
+  honest = c.in_err-close_first.ensures.honest;
+  stored = λ given. IfOk-from_err c.from_residual.result _ c.from_residual.ensures.0;
+  any_moment = c.in_err-close_first.ensures.any_moment;
+}

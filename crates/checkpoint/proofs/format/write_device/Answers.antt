@@ -43,14 +43,6 @@ returns-clause-honest g c =
     let third = c.open_header.ensures in
     (λ honest. first.honest.0 (second.honest.0 (third.honest.0 honest)), λ honest. third.honest.1 (second.honest.1 (first.honest.1 honest)))
 
-pub returns-in_err-close_headers-clause-synced : goal.returns-in_err-close_headers-clause-synced
-returns-in_err-close_headers-clause-synced g c honest steady =
-    IfOk-from_err c.from_residual.result _ c.from_residual.ensures.0
-
-pub returns-in_err-close_headers-clause-formatted : goal.returns-in_err-close_headers-clause-formatted
-returns-in_err-close_headers-clause-formatted g c honest steady =
-    IfOk-from_err c.from_residual.result _ c.from_residual.ensures.0
-
 pub returns-in_err-write_parts-clause-synced : goal.returns-in_err-write_parts-clause-synced
 returns-in_err-write_parts-clause-synced g c honest steady =
     IfOk-from_err c.from_residual-in_err-write_parts.result _ c.from_residual-in_err-write_parts.ensures.0
@@ -67,21 +59,15 @@ pub returns-clause-extent : goal.returns-clause-extent
 returns-clause-extent g c =
     c.open_header.ensures.extent ∙ c.in_ok-write_parts.ensures.extent ∙ c.in_ok-close_headers.ensures.extent
 
-pub returns-in_err-close_headers-clause-honest : goal.returns-in_err-close_headers-clause-honest
-returns-in_err-close_headers-clause-honest g c =
-    c.in_err-close_headers.ensures.honest
-
-pub returns-in_err-close_headers-clause-extent : goal.returns-in_err-close_headers-clause-extent
-returns-in_err-close_headers-clause-extent g c =
-    c.in_err-close_headers.ensures.extent
-
-pub returns-in_err-close_headers-clause-faults : goal.returns-in_err-close_headers-clause-faults
-returns-in_err-close_headers-clause-faults g c =
-    c.in_err-close_headers.ensures.faults ∙ sym (failed_counted c.from_residual.result _ c.from_residual.ensures.0)
-
-pub returns-in_err-close_headers-clause-any_moment : goal.returns-in_err-close_headers-clause-any_moment
-returns-in_err-close_headers-clause-any_moment g c honest steady =
-    weakens (c.close_headers.ensures.any_moment honest) (λ content left. inl left)
+pub returns-in_err-close_headers : goal.returns-in_err-close_headers
+returns-in_err-close_headers g c = record {
+  extent = c.in_err-close_headers.ensures.extent;
+  faults = c.in_err-close_headers.ensures.faults ∙ sym (failed_counted c.from_residual.result _ c.from_residual.ensures.0);
+  honest = c.in_err-close_headers.ensures.honest;
+  synced = λ honest steady. IfOk-from_err c.from_residual.result _ c.from_residual.ensures.0;
+  formatted = λ honest steady. IfOk-from_err c.from_residual.result _ c.from_residual.ensures.0;
+  any_moment = λ honest steady. weakens (c.close_headers.ensures.any_moment honest) (λ content left. inl left);
+}
 
 pub returns-clause-faults : goal.returns-clause-faults
 returns-clause-faults g c =

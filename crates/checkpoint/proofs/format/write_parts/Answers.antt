@@ -12,18 +12,6 @@ use Rattle.checkpoint.proofs.Answered.{failed_counted}
 use Rattle.checkpoint.proofs.Formatted.{body_moments, gate_moments, map_moments, parts_written}
 use Rattle.checkpoint.proofs.format.write_parts.Goals as goal
 
-pub returns-in_err-close_first-clause-any_moment : goal.returns-in_err-close_first-clause-any_moment
-returns-in_err-close_first-clause-any_moment g c honest closed =
-    let from : c.new-area.result.from ≡ c.area_from.result = ap (λ (area : AreaState). area.from) c.new-area.ensures in
-    gate_moments _ closed c.new-area.result.from (omega (arith, c.area_from.ensures.place, from)) (c.close_first.ensures.any_moment honest)
-
-pub returns-in_err-write_at-clause-any_moment : goal.returns-in_err-write_at-clause-any_moment
-returns-in_err-write_at-clause-any_moment g c honest closed =
-    let from : c.new-area.result.from ≡ c.area_from.result = ap (λ (area : AreaState). area.from) c.new-area.ensures in
-    let gate = c.in_ok-close_first.ensures in
-    map_moments _ closed c.new-area.result.from (omega (arith, c.area_from.ensures.place, from)) _ (gate.written honest) c.map_from.result (omega (arith, c.map_from.ensures.place)) _
-    (gate.any_moment honest) (c.write_at.ensures.any_moment (gate.honest.1 honest))
-
 pub returns-clause-any_moment : goal.returns-clause-any_moment
 returns-clause-any_moment g c honest closed =
     let from : c.new-area.result.from ≡ c.area_from.result = ap (λ (area : AreaState). area.from) c.new-area.ensures in
@@ -52,12 +40,6 @@ returns-clause-fresh g c honest closed =
     (subst (λ (header : Header). IsBodyWritten two Zero header three) c.first_header.ensures written))
     (c.fill_slot.ensures.written (map.honest.1 one_honest))
 
-pub returns-in_err-write_at-clause-honest : goal.returns-in_err-write_at-clause-honest
-returns-in_err-write_at-clause-honest g c =
-    let first = c.in_ok-close_first.ensures in
-    let second = c.write_at.ensures in
-    (λ honest. first.honest.0 (second.honest.0 honest), λ honest. second.honest.1 (first.honest.1 honest))
-
 pub returns-clause-honest : goal.returns-clause-honest
 returns-clause-honest g c =
     let first = c.in_ok-close_first.ensures in
@@ -65,41 +47,34 @@ returns-clause-honest g c =
     let third = c.fill_slot.ensures in
     (λ honest. first.honest.0 (second.honest.0 (third.honest.0 honest)), λ honest. third.honest.1 (second.honest.1 (first.honest.1 honest)))
 
-pub returns-in_err-close_first-clause-closed : goal.returns-in_err-close_first-clause-closed
-returns-in_err-close_first-clause-closed g c honest closed =
-    IfOk-from_err c.from_residual.result _ c.from_residual.ensures.0
+pub returns-in_err-close_first : goal.returns-in_err-close_first
+returns-in_err-close_first g c = record {
+  extent = c.in_err-close_first.ensures.extent;
+  faults = c.in_err-close_first.ensures.faults ∙ sym (failed_counted c.from_residual.result _ c.from_residual.ensures.0);
+  honest = c.in_err-close_first.ensures.honest;
+  closed = λ honest closed. IfOk-from_err c.from_residual.result _ c.from_residual.ensures.0;
+  fresh = λ honest closed. IfOk-from_err c.from_residual.result _ c.from_residual.ensures.0;
+  any_moment = λ honest closed.
+      let from : c.new-area.result.from ≡ c.area_from.result = ap (λ (area : AreaState). area.from) c.new-area.ensures in
+      gate_moments _ closed c.new-area.result.from (omega (arith, c.area_from.ensures.place, from)) (c.close_first.ensures.any_moment honest);
+}
 
-pub returns-in_err-close_first-clause-fresh : goal.returns-in_err-close_first-clause-fresh
-returns-in_err-close_first-clause-fresh g c honest closed =
-    IfOk-from_err c.from_residual.result _ c.from_residual.ensures.0
-
-pub returns-in_err-write_at-clause-closed : goal.returns-in_err-write_at-clause-closed
-returns-in_err-write_at-clause-closed g c honest closed =
-    IfOk-from_err c.from_residual-in_err-write_at.result _ c.from_residual-in_err-write_at.ensures.0
-
-pub returns-in_err-write_at-clause-fresh : goal.returns-in_err-write_at-clause-fresh
-returns-in_err-write_at-clause-fresh g c honest closed =
-    IfOk-from_err c.from_residual-in_err-write_at.result _ c.from_residual-in_err-write_at.ensures.0
-
-pub returns-in_err-close_first-clause-extent : goal.returns-in_err-close_first-clause-extent
-returns-in_err-close_first-clause-extent g c =
-    c.in_err-close_first.ensures.extent
-
-pub returns-in_err-close_first-clause-honest : goal.returns-in_err-close_first-clause-honest
-returns-in_err-close_first-clause-honest g c =
-    c.in_err-close_first.ensures.honest
-
-pub returns-in_err-close_first-clause-faults : goal.returns-in_err-close_first-clause-faults
-returns-in_err-close_first-clause-faults g c =
-    c.in_err-close_first.ensures.faults ∙ sym (failed_counted c.from_residual.result _ c.from_residual.ensures.0)
-
-pub returns-in_err-write_at-clause-extent : goal.returns-in_err-write_at-clause-extent
-returns-in_err-write_at-clause-extent g c =
-    c.in_err-write_at.ensures.extent ∙ c.in_ok-close_first.ensures.extent
-
-pub returns-in_err-write_at-clause-faults : goal.returns-in_err-write_at-clause-faults
-returns-in_err-write_at-clause-faults g c =
-    c.in_err-write_at.ensures.faults ∙ ap counted c.in_ok-close_first.ensures.faults ∙ sym (failed_counted c.from_residual-in_err-write_at.result _ c.from_residual-in_err-write_at.ensures.0)
+pub returns-in_err-write_at : goal.returns-in_err-write_at
+returns-in_err-write_at g c = record {
+  extent = c.in_err-write_at.ensures.extent ∙ c.in_ok-close_first.ensures.extent;
+  faults = c.in_err-write_at.ensures.faults ∙ ap counted c.in_ok-close_first.ensures.faults ∙ sym (failed_counted c.from_residual-in_err-write_at.result _ c.from_residual-in_err-write_at.ensures.0);
+  honest =
+      let first = c.in_ok-close_first.ensures in
+      let second = c.write_at.ensures in
+      (λ honest. first.honest.0 (second.honest.0 honest), λ honest. second.honest.1 (first.honest.1 honest));
+  closed = λ honest closed. IfOk-from_err c.from_residual-in_err-write_at.result _ c.from_residual-in_err-write_at.ensures.0;
+  fresh = λ honest closed. IfOk-from_err c.from_residual-in_err-write_at.result _ c.from_residual-in_err-write_at.ensures.0;
+  any_moment = λ honest closed.
+      let from : c.new-area.result.from ≡ c.area_from.result = ap (λ (area : AreaState). area.from) c.new-area.ensures in
+      let gate = c.in_ok-close_first.ensures in
+      map_moments _ closed c.new-area.result.from (omega (arith, c.area_from.ensures.place, from)) _ (gate.written honest) c.map_from.result (omega (arith, c.map_from.ensures.place)) _
+      (gate.any_moment honest) (c.write_at.ensures.any_moment (gate.honest.1 honest));
+}
 
 pub returns-clause-extent : goal.returns-clause-extent
 returns-clause-extent g c =

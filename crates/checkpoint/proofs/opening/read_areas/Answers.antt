@@ -15,147 +15,56 @@ use Rattle.checkpoint.proofs.Areas.{AreHeldSoFar, all_held, area_damaged, last-p
 use Rattle.checkpoint.proofs.Readings.{at_refusal, damage_weaker, seen_same, still_synced}
 use Rattle.checkpoint.proofs.opening.read_areas.Goals as goal
 
-pub returns-in_err-plan-clause-placed : goal.returns-in_err-plan-clause-placed
-returns-in_err-plan-clause-placed g c =
-    IfOk-from_err c.from_residual.result _ c.from_residual.ensures.0
+pub returns-in_err-plan : goal.returns-in_err-plan
+returns-in_err-plan g c = record {
+  extent = c.in_err-plan.ensures.extent ∙ c.loop-place.invariant.extent;
+  faults_ok = IfOk-from_err c.from_residual.result _ c.from_residual.ensures.0;
+  faults_err = err_given _ c.from_residual.result c.in_err-plan.field-0.0 c.from_residual.ensures.1 (c.in_err-plan.ensures.faults_err ∙ ap (faults_by c.in_err-plan.field-0.0) c.loop-place.invariant.faults);
+  honest = both_ways c.in_err-plan.ensures.honest c.loop-place.invariant.honest;
+  placed = IfOk-from_err c.from_residual.result _ c.from_residual.ensures.0;
+  none = IfOk-from_err c.from_residual.result _ c.from_residual.ensures.0;
+  sized = IfOk-from_err c.from_residual.result _ c.from_residual.ensures.0;
+  uncopied = IfOk-from_err c.from_residual.result _ c.from_residual.ensures.0;
+  many = IfOk-from_err c.from_residual.result _ c.from_residual.ensures.0;
+  only_read = λ honest.
+      let so_far = c.loop-place.invariant in
+      reads_on (g.met.D.Disk.sound c.args.disk.now honest) (so_far.only_read honest) (c.in_err-plan.ensures.only_read (so_far.honest.1 honest));
+  read = λ honest synced.
+      let header = c.args.header.now in
+      let so_far = c.loop-place.invariant in
+      let call = c.in_err-plan.ensures in
+      let before = g.D.Disk.state c.loop-place.disk in
+      let after = g.D.Disk.state c.read_plan.new.disk in
+      let mid_honest = so_far.honest.1 honest in
+      let mid_synced = still_synced synced (so_far.only_read honest) in
+      let read = call.only_read mid_honest in
+      let same = seen_same (g.met.D.Disk.sound c.loop-place.disk mid_honest) mid_synced read in
+      let index : c.area_behind-index.result ≡ behind (areas_in header.geometry) c.loop-place.place header.first_area =
+      c.area_behind-index.ensures.area ∙ ap (λ (size : Geometry). behind (areas_in size) c.loop-place.place header.first_area) c.of-regions.ensures in
+      at_refusal _ _ _ _ c.from_residual.ensures.1
+      (damage_weaker c.in_err-plan.field-0.0
+      (λ damaged. area_damaged header c.loop-place.place c.loop-place.plans.items before after c.loop-place.next (so_far.held honest synced) same (still_synced mid_synced read)
+      (omega (arith, c.loop-place-test.true)) after.seen refl
+      (subst (λ (i : ℕ). IsDamaged (area_of header.geometry i) c.loop-place.next after.seen) index damaged))
+      (call.read mid_honest mid_synced));
+}
 
-pub returns-in_err-plan-clause-none : goal.returns-in_err-plan-clause-none
-returns-in_err-plan-clause-none g c =
-    IfOk-from_err c.from_residual.result _ c.from_residual.ensures.0
-
-pub returns-in_err-plan-clause-sized : goal.returns-in_err-plan-clause-sized
-returns-in_err-plan-clause-sized g c =
-    IfOk-from_err c.from_residual.result _ c.from_residual.ensures.0
-
-pub returns-in_err-plan-clause-uncopied : goal.returns-in_err-plan-clause-uncopied
-returns-in_err-plan-clause-uncopied g c =
-    IfOk-from_err c.from_residual.result _ c.from_residual.ensures.0
-
-pub returns-in_err-plan-clause-many : goal.returns-in_err-plan-clause-many
-returns-in_err-plan-clause-many g c =
-    IfOk-from_err c.from_residual.result _ c.from_residual.ensures.0
-
-pub returns-in_err-plan-clause-faults_ok : goal.returns-in_err-plan-clause-faults_ok
-returns-in_err-plan-clause-faults_ok g c =
-    IfOk-from_err c.from_residual.result _ c.from_residual.ensures.0
-
-pub returns-in_err-plan-clause-faults_err : goal.returns-in_err-plan-clause-faults_err
-returns-in_err-plan-clause-faults_err g c =
-    err_given _ c.from_residual.result c.in_err-plan.field-0.0 c.from_residual.ensures.1 (c.in_err-plan.ensures.faults_err ∙ ap (faults_by c.in_err-plan.field-0.0) c.loop-place.invariant.faults)
-
-pub returns-in_err-map_err-clause-placed : goal.returns-in_err-map_err-clause-placed
-returns-in_err-map_err-clause-placed g c =
-    IfOk-from_err c.from_residual-in_err-map_err.result _ c.from_residual-in_err-map_err.ensures.0
-
-pub returns-in_err-map_err-clause-none : goal.returns-in_err-map_err-clause-none
-returns-in_err-map_err-clause-none g c =
-    IfOk-from_err c.from_residual-in_err-map_err.result _ c.from_residual-in_err-map_err.ensures.0
-
-pub returns-in_err-map_err-clause-sized : goal.returns-in_err-map_err-clause-sized
-returns-in_err-map_err-clause-sized g c =
-    IfOk-from_err c.from_residual-in_err-map_err.result _ c.from_residual-in_err-map_err.ensures.0
-
-pub returns-in_err-map_err-clause-uncopied : goal.returns-in_err-map_err-clause-uncopied
-returns-in_err-map_err-clause-uncopied g c =
-    IfOk-from_err c.from_residual-in_err-map_err.result _ c.from_residual-in_err-map_err.ensures.0
-
-pub returns-in_err-map_err-clause-many : goal.returns-in_err-map_err-clause-many
-returns-in_err-map_err-clause-many g c =
-    IfOk-from_err c.from_residual-in_err-map_err.result _ c.from_residual-in_err-map_err.ensures.0
-
-pub returns-in_err-map_err-clause-faults_ok : goal.returns-in_err-map_err-clause-faults_ok
-returns-in_err-map_err-clause-faults_ok g c =
-    IfOk-from_err c.from_residual-in_err-map_err.result _ c.from_residual-in_err-map_err.ensures.0
-
-pub returns-in_err-area-clause-placed : goal.returns-in_err-area-clause-placed
-returns-in_err-area-clause-placed g c =
-    IfOk-from_err c.from_residual-in_err-area.result _ c.from_residual-in_err-area.ensures.0
-
-pub returns-in_err-area-clause-none : goal.returns-in_err-area-clause-none
-returns-in_err-area-clause-none g c =
-    IfOk-from_err c.from_residual-in_err-area.result _ c.from_residual-in_err-area.ensures.0
-
-pub returns-in_err-area-clause-sized : goal.returns-in_err-area-clause-sized
-returns-in_err-area-clause-sized g c =
-    IfOk-from_err c.from_residual-in_err-area.result _ c.from_residual-in_err-area.ensures.0
-
-pub returns-in_err-area-clause-uncopied : goal.returns-in_err-area-clause-uncopied
-returns-in_err-area-clause-uncopied g c =
-    IfOk-from_err c.from_residual-in_err-area.result _ c.from_residual-in_err-area.ensures.0
-
-pub returns-in_err-area-clause-many : goal.returns-in_err-area-clause-many
-returns-in_err-area-clause-many g c =
-    IfOk-from_err c.from_residual-in_err-area.result _ c.from_residual-in_err-area.ensures.0
-
-pub returns-in_err-area-clause-faults_ok : goal.returns-in_err-area-clause-faults_ok
-returns-in_err-area-clause-faults_ok g c =
-    IfOk-from_err c.from_residual-in_err-area.result _ c.from_residual-in_err-area.ensures.0
-
-pub returns-in_err-area-clause-faults_err : goal.returns-in_err-area-clause-faults_err
-returns-in_err-area-clause-faults_err g c =
-    err_given _ c.from_residual-in_err-area.result c.in_err-area.field-0.0 c.from_residual-in_err-area.ensures.1 (c.in_err-area.ensures.faults_err ∙ ap (faults_by c.in_err-area.field-0.0) c.loop-place.invariant.faults)
-
-pub returns-in_err-plan-clause-extent : goal.returns-in_err-plan-clause-extent
-returns-in_err-plan-clause-extent g c =
-    c.in_err-plan.ensures.extent ∙ c.loop-place.invariant.extent
-
-pub returns-in_err-plan-clause-honest : goal.returns-in_err-plan-clause-honest
-returns-in_err-plan-clause-honest g c =
-    both_ways c.in_err-plan.ensures.honest c.loop-place.invariant.honest
-
-pub returns-in_err-map_err-clause-extent : goal.returns-in_err-map_err-clause-extent
-returns-in_err-map_err-clause-extent g c =
-    c.in_ok-plan.ensures.extent ∙ c.loop-place.invariant.extent
-
-pub returns-in_err-map_err-clause-honest : goal.returns-in_err-map_err-clause-honest
-returns-in_err-map_err-clause-honest g c =
-    both_ways c.in_ok-plan.ensures.honest c.loop-place.invariant.honest
-
-pub returns-in_err-area-clause-extent : goal.returns-in_err-area-clause-extent
-returns-in_err-area-clause-extent g c =
-    c.in_err-area.ensures.extent ∙ c.loop-place.invariant.extent
-
-pub returns-in_err-area-clause-honest : goal.returns-in_err-area-clause-honest
-returns-in_err-area-clause-honest g c =
-    both_ways c.in_err-area.ensures.honest c.loop-place.invariant.honest
-
-pub returns-in_err-map_err-clause-faults_err : goal.returns-in_err-map_err-clause-faults_err
-returns-in_err-map_err-clause-faults_err g c =
-    err_given _ c.from_residual-in_err-map_err.result NoMemory c.from_residual-in_err-map_err.ensures.1 (c.in_ok-plan.ensures.faults_ok ∙ c.loop-place.invariant.faults)
-
-pub returns-in_err-map_err-clause-read : goal.returns-in_err-map_err-clause-read
-returns-in_err-map_err-clause-read g c honest synced =
-    at_refusal _ _ _ NoMemory c.from_residual-in_err-map_err.ensures.1 tt
-
-pub returns-in_err-plan-clause-only_read : goal.returns-in_err-plan-clause-only_read
-returns-in_err-plan-clause-only_read g c honest =
-    let so_far = c.loop-place.invariant in
-    reads_on (g.met.D.Disk.sound c.args.disk.now honest) (so_far.only_read honest) (c.in_err-plan.ensures.only_read (so_far.honest.1 honest))
-
-pub returns-in_err-plan-clause-read : goal.returns-in_err-plan-clause-read
-returns-in_err-plan-clause-read g c honest synced =
-    let header = c.args.header.now in
-    let so_far = c.loop-place.invariant in
-    let call = c.in_err-plan.ensures in
-    let before = g.D.Disk.state c.loop-place.disk in
-    let after = g.D.Disk.state c.read_plan.new.disk in
-    let mid_honest = so_far.honest.1 honest in
-    let mid_synced = still_synced synced (so_far.only_read honest) in
-    let read = call.only_read mid_honest in
-    let same = seen_same (g.met.D.Disk.sound c.loop-place.disk mid_honest) mid_synced read in
-    let index : c.area_behind-index.result ≡ behind (areas_in header.geometry) c.loop-place.place header.first_area =
-    c.area_behind-index.ensures.area ∙ ap (λ (size : Geometry). behind (areas_in size) c.loop-place.place header.first_area) c.of-regions.ensures in
-    at_refusal _ _ _ _ c.from_residual.ensures.1
-    (damage_weaker c.in_err-plan.field-0.0
-    (λ damaged. area_damaged header c.loop-place.place c.loop-place.plans.items before after c.loop-place.next (so_far.held honest synced) same (still_synced mid_synced read)
-    (omega (arith, c.loop-place-test.true)) after.seen refl
-    (subst (λ (i : ℕ). IsDamaged (area_of header.geometry i) c.loop-place.next after.seen) index damaged))
-    (call.read mid_honest mid_synced))
-
-pub returns-in_err-map_err-clause-only_read : goal.returns-in_err-map_err-clause-only_read
-returns-in_err-map_err-clause-only_read g c honest =
-    let so_far = c.loop-place.invariant in
-    reads_on (g.met.D.Disk.sound c.args.disk.now honest) (so_far.only_read honest) (c.in_ok-plan.ensures.only_read (so_far.honest.1 honest))
+pub returns-in_err-map_err : goal.returns-in_err-map_err
+returns-in_err-map_err g c = record {
+  extent = c.in_ok-plan.ensures.extent ∙ c.loop-place.invariant.extent;
+  faults_ok = IfOk-from_err c.from_residual-in_err-map_err.result _ c.from_residual-in_err-map_err.ensures.0;
+  faults_err = err_given _ c.from_residual-in_err-map_err.result NoMemory c.from_residual-in_err-map_err.ensures.1 (c.in_ok-plan.ensures.faults_ok ∙ c.loop-place.invariant.faults);
+  honest = both_ways c.in_ok-plan.ensures.honest c.loop-place.invariant.honest;
+  placed = IfOk-from_err c.from_residual-in_err-map_err.result _ c.from_residual-in_err-map_err.ensures.0;
+  none = IfOk-from_err c.from_residual-in_err-map_err.result _ c.from_residual-in_err-map_err.ensures.0;
+  sized = IfOk-from_err c.from_residual-in_err-map_err.result _ c.from_residual-in_err-map_err.ensures.0;
+  uncopied = IfOk-from_err c.from_residual-in_err-map_err.result _ c.from_residual-in_err-map_err.ensures.0;
+  many = IfOk-from_err c.from_residual-in_err-map_err.result _ c.from_residual-in_err-map_err.ensures.0;
+  only_read = λ honest.
+      let so_far = c.loop-place.invariant in
+      reads_on (g.met.D.Disk.sound c.args.disk.now honest) (so_far.only_read honest) (c.in_ok-plan.ensures.only_read (so_far.honest.1 honest));
+  read = λ honest synced. at_refusal _ _ _ NoMemory c.from_residual-in_err-map_err.ensures.1 tt;
+}
 
 pub loop-place-preserved : goal.loop-place-preserved
 loop-place-preserved g c =
@@ -196,31 +105,40 @@ loop-place-preserved g c =
           (subst (λ (i : ℕ). IsPlaced plan.first header.geometry i) index call.placed) (call.read mid_honest mid_synced) now_is));
     }
 
-pub returns-in_err-area-clause-only_read : goal.returns-in_err-area-clause-only_read
-returns-in_err-area-clause-only_read g c honest =
-    let so_far = c.loop-place.invariant in
-    reads_on (g.met.D.Disk.sound c.args.disk.now honest) (so_far.only_read honest) (c.in_err-area.ensures.only_read (so_far.honest.1 honest))
-
-pub returns-in_err-area-clause-read : goal.returns-in_err-area-clause-read
-returns-in_err-area-clause-read g c honest synced =
-    let header = c.args.header.now in
-    let so_far = c.loop-place.invariant in
-    let call = c.in_err-area.ensures in
-    let before = g.D.Disk.state c.loop-place.disk in
-    let after = g.D.Disk.state c.read_area.new.disk in
-    let mid_honest = so_far.honest.1 honest in
-    let mid_synced = still_synced synced (so_far.only_read honest) in
-    let read = call.only_read mid_honest in
-    let same = seen_same (g.met.D.Disk.sound c.loop-place.disk mid_honest) mid_synced read in
-    let place : c.loop-place.place ≡ header.in_front = omega (arith, c.loop-place-test.false) in
-    let held = subst (λ (n : ℕ). AreHeldSoFar before header n c.loop-place.plans.items c.loop-place.next) place (so_far.held honest synced) in
-    let index : c.area_behind-last.result ≡ last_area header =
-    c.area_behind-last.ensures.area ∙ ap (λ (size : Geometry). behind (areas_in size) header.in_front header.first_area) c.of-regions.ensures in
-    at_refusal _ _ _ _ c.from_residual-in_err-area.ensures.1
-    (damage_weaker c.in_err-area.field-0.0
-    (λ damaged. area_damaged header header.in_front c.loop-place.plans.items before after c.loop-place.next held same (still_synced mid_synced read) (omega arith) after.seen refl
-    (subst (λ (i : ℕ). IsDamaged (area_of header.geometry i) c.loop-place.next after.seen) index damaged))
-    (call.read mid_honest mid_synced))
+pub returns-in_err-area : goal.returns-in_err-area
+returns-in_err-area g c = record {
+  extent = c.in_err-area.ensures.extent ∙ c.loop-place.invariant.extent;
+  faults_ok = IfOk-from_err c.from_residual-in_err-area.result _ c.from_residual-in_err-area.ensures.0;
+  faults_err = err_given _ c.from_residual-in_err-area.result c.in_err-area.field-0.0 c.from_residual-in_err-area.ensures.1 (c.in_err-area.ensures.faults_err ∙ ap (faults_by c.in_err-area.field-0.0) c.loop-place.invariant.faults);
+  honest = both_ways c.in_err-area.ensures.honest c.loop-place.invariant.honest;
+  placed = IfOk-from_err c.from_residual-in_err-area.result _ c.from_residual-in_err-area.ensures.0;
+  none = IfOk-from_err c.from_residual-in_err-area.result _ c.from_residual-in_err-area.ensures.0;
+  sized = IfOk-from_err c.from_residual-in_err-area.result _ c.from_residual-in_err-area.ensures.0;
+  uncopied = IfOk-from_err c.from_residual-in_err-area.result _ c.from_residual-in_err-area.ensures.0;
+  many = IfOk-from_err c.from_residual-in_err-area.result _ c.from_residual-in_err-area.ensures.0;
+  only_read = λ honest.
+      let so_far = c.loop-place.invariant in
+      reads_on (g.met.D.Disk.sound c.args.disk.now honest) (so_far.only_read honest) (c.in_err-area.ensures.only_read (so_far.honest.1 honest));
+  read = λ honest synced.
+      let header = c.args.header.now in
+      let so_far = c.loop-place.invariant in
+      let call = c.in_err-area.ensures in
+      let before = g.D.Disk.state c.loop-place.disk in
+      let after = g.D.Disk.state c.read_area.new.disk in
+      let mid_honest = so_far.honest.1 honest in
+      let mid_synced = still_synced synced (so_far.only_read honest) in
+      let read = call.only_read mid_honest in
+      let same = seen_same (g.met.D.Disk.sound c.loop-place.disk mid_honest) mid_synced read in
+      let place : c.loop-place.place ≡ header.in_front = omega (arith, c.loop-place-test.false) in
+      let held = subst (λ (n : ℕ). AreHeldSoFar before header n c.loop-place.plans.items c.loop-place.next) place (so_far.held honest synced) in
+      let index : c.area_behind-last.result ≡ last_area header =
+      c.area_behind-last.ensures.area ∙ ap (λ (size : Geometry). behind (areas_in size) header.in_front header.first_area) c.of-regions.ensures in
+      at_refusal _ _ _ _ c.from_residual-in_err-area.ensures.1
+      (damage_weaker c.in_err-area.field-0.0
+      (λ damaged. area_damaged header header.in_front c.loop-place.plans.items before after c.loop-place.next held same (still_synced mid_synced read) (omega arith) after.seen refl
+      (subst (λ (i : ℕ). IsDamaged (area_of header.geometry i) c.loop-place.next after.seen) index damaged))
+      (call.read mid_honest mid_synced));
+}
 
 pub returns-clause-only_read : goal.returns-clause-only_read
 returns-clause-only_read g c honest =

@@ -43,51 +43,6 @@ pub returns-in_err-sync-clause-faults_err : goal.returns-in_err-sync-clause-faul
 returns-in_err-sync-clause-faults_err g c =
     err_given _ c.from_residual.result DeviceFault c.from_residual.ensures.1 c.in_err-sync.ensures.faults
 
-pub returns-clause-honest : goal.returns-clause-honest
-returns-clause-honest g c =
-    let first = c.sync.ensures in
-    let second = c.read_parts.ensures in
-    (λ honest. first.honest.0 (second.honest.0 honest), λ honest. second.honest.1 (first.honest.1 honest))
-
-pub returns-clause-extent : goal.returns-clause-extent
-returns-clause-extent g c =
-    c.read_parts.ensures.extent ∙ c.sync.ensures.extent
-
-pub returns-clause-faults_ok : goal.returns-clause-faults_ok
-returns-clause-faults_ok g c =
-    on_ok_weaker c.read_parts.result (λ same. same ∙ c.in_ok-sync.ensures.faults) c.read_parts.ensures.faults_ok
-
-pub returns-clause-faults_err : goal.returns-clause-faults_err
-returns-clause-faults_err g c =
-    IfErr-weaker c.read_parts.result _ _ (λ fault same. same ∙ ap (faults_by fault) c.in_ok-sync.ensures.faults) c.read_parts.ensures.faults_err
-
-pub returns-clause-whole : goal.returns-clause-whole
-returns-clause-whole g c =
-    IfOk-weaker c.read_parts.result _ _ (λ opened whole. sym c.sync.ensures.extent ∙ whole) c.read_parts.ensures.whole
-
-pub returns-clause-sized : goal.returns-clause-sized
-returns-clause-sized g c =
-    IfOk-weaker c.read_parts.result _ _ (λ opened sized. subst (AreSized opened.plans.items opened.header.geometry) c.sync.ensures.extent sized) c.read_parts.ensures.sized
-
-pub returns-clause-placed : goal.returns-clause-placed
-returns-clause-placed g c = c.read_parts.ensures.placed
-
-pub returns-clause-none : goal.returns-clause-none
-returns-clause-none g c = c.read_parts.ensures.none
-
-pub returns-clause-blocks : goal.returns-clause-blocks
-returns-clause-blocks g c = c.read_parts.ensures.blocks
-
-pub returns-clause-uncopied : goal.returns-clause-uncopied
-returns-clause-uncopied g c = c.read_parts.ensures.uncopied
-
-pub returns-clause-many : goal.returns-clause-many
-returns-clause-many g c = c.read_parts.ensures.many
-
-pub returns-clause-read : goal.returns-clause-read
-returns-clause-read g c honest =
-    c.read_parts.ensures.read (c.sync.ensures.honest.1 honest) (c.in_ok-sync.ensures.synced honest).synced
-
 pub returns-in_err-sync-clause-extent : goal.returns-in_err-sync-clause-extent
 returns-in_err-sync-clause-extent g c = c.sync.ensures.extent
 
@@ -100,19 +55,32 @@ returns-in_err-sync-clause-fixed g c honest = (c.in_err-sync.ensures.failed hone
 pub returns-in_err-sync-clause-any_moment : goal.returns-in_err-sync-clause-any_moment
 returns-in_err-sync-clause-any_moment g c = c.sync.ensures.any_moment
 
-pub returns-clause-any_moment : goal.returns-clause-any_moment
-returns-clause-any_moment g c honest =
-    let trusted = c.sync.ensures.honest.1 honest in
-    stays_on (c.sync.ensures.any_moment honest) (g.met.D.Disk.sound c.sync.new.self trusted) (c.read_parts.ensures.only_read trusted).any_moment
-
-pub returns-clause-fixed : goal.returns-clause-fixed
-returns-clause-fixed g c honest =
-    let trusted = c.sync.ensures.honest.1 honest in
-    let moments = stays_on (c.sync.ensures.any_moment honest) (g.met.D.Disk.sound c.sync.new.self trusted) (c.read_parts.ensures.only_read trusted).any_moment in
-    let sound = g.met.D.Disk.sound c.read_parts.new.disk (c.read_parts.ensures.honest.1 trusted) in
-    ends moments sound _ sound.as_read
-
-pub returns-clause-settled : goal.returns-clause-settled
-returns-clause-settled g c honest =
-    let trusted = c.sync.ensures.honest.1 honest in
-    IfErr-weaker c.read_parts.result _ _ (λ _ _ _. still_synced (c.in_ok-sync.ensures.synced honest).synced (c.read_parts.ensures.only_read trusted)) c.read_parts.ensures.faults_err
+pub returns : goal.returns
+returns g c = record {
+  extent = c.read_parts.ensures.extent ∙ c.sync.ensures.extent;
+  faults_ok = on_ok_weaker c.read_parts.result (λ same. same ∙ c.in_ok-sync.ensures.faults) c.read_parts.ensures.faults_ok;
+  faults_err = IfErr-weaker c.read_parts.result _ _ (λ fault same. same ∙ ap (faults_by fault) c.in_ok-sync.ensures.faults) c.read_parts.ensures.faults_err;
+  honest =
+      let first = c.sync.ensures in
+      let second = c.read_parts.ensures in
+      (λ honest. first.honest.0 (second.honest.0 honest), λ honest. second.honest.1 (first.honest.1 honest));
+  whole = IfOk-weaker c.read_parts.result _ _ (λ opened whole. sym c.sync.ensures.extent ∙ whole) c.read_parts.ensures.whole;
+  placed = c.read_parts.ensures.placed;
+  none = c.read_parts.ensures.none;
+  sized = IfOk-weaker c.read_parts.result _ _ (λ opened sized. subst (AreSized opened.plans.items opened.header.geometry) c.sync.ensures.extent sized) c.read_parts.ensures.sized;
+  blocks = c.read_parts.ensures.blocks;
+  uncopied = c.read_parts.ensures.uncopied;
+  many = c.read_parts.ensures.many;
+  fixed = λ honest.
+      let trusted = c.sync.ensures.honest.1 honest in
+      let moments = stays_on (c.sync.ensures.any_moment honest) (g.met.D.Disk.sound c.sync.new.self trusted) (c.read_parts.ensures.only_read trusted).any_moment in
+      let sound = g.met.D.Disk.sound c.read_parts.new.disk (c.read_parts.ensures.honest.1 trusted) in
+      ends moments sound _ sound.as_read;
+  settled = λ honest.
+      let trusted = c.sync.ensures.honest.1 honest in
+      IfErr-weaker c.read_parts.result _ _ (λ _ _ _. still_synced (c.in_ok-sync.ensures.synced honest).synced (c.read_parts.ensures.only_read trusted)) c.read_parts.ensures.faults_err;
+  read = λ honest. c.read_parts.ensures.read (c.sync.ensures.honest.1 honest) (c.in_ok-sync.ensures.synced honest).synced;
+  any_moment = λ honest.
+      let trusted = c.sync.ensures.honest.1 honest in
+      stays_on (c.sync.ensures.any_moment honest) (g.met.D.Disk.sound c.sync.new.self trusted) (c.read_parts.ensures.only_read trusted).any_moment;
+}

@@ -25,12 +25,6 @@ loop-self-init g c = record {
   any_moment = λ honest image number keeps. begins (g.met.D.Disk.sound c.args.self.now.disk honest) (λ content left. kept_content _ _ image number keeps content left);
 }
 
-pub returns-in_err-_blocks-clause-any_moment : goal.returns-in_err-_blocks-clause-any_moment
-returns-in_err-_blocks-clause-any_moment g c honest image number keeps =
-    let so_far = c.loop-self.invariant in
-    goes_on (so_far.any_moment honest image number keeps)
-    (c.in_err-_blocks.ensures.any_moment (so_far.honest.1 honest) image number (so_far.kept honest image number keeps)) (λ content stands. stands)
-
 pub loop-self-preserved : goal.loop-self-preserved
 loop-self-preserved g c =
     let so_far = c.loop-self.invariant in
@@ -48,82 +42,45 @@ loop-self-preserved g c =
           (call.any_moment (so_far.honest.1 honest) image number (so_far.kept honest image number keeps)) (λ content stands. stands);
     }
 
-pub returns-clause-ok : goal.returns-clause-ok
-returns-clause-ok g c = copied_last c.args.self.now c.loop-self.self c.loop-self.invariant.copied (omega (arith, c.left.ensures, c.loop-self-test.false))
+pub returns : goal.returns
+returns g c = record {
+  ok = copied_last c.args.self.now c.loop-self.self c.loop-self.invariant.copied (omega (arith, c.left.ensures, c.loop-self-test.false));
+  only = tt;
+  not_full = ok_apart _ _;
+  extent = c.loop-self.invariant.extent;
+  faults_ok = c.loop-self.invariant.faults;
+  faults_err = tt;
+  honest = c.loop-self.invariant.honest;
+  remembered = λ commands remembers. c.loop-self.invariant.remembered commands remembers;
+  kept = c.loop-self.invariant.kept;
+  kept_still = λ honest image number keeps. tt;
+  any_moment = c.loop-self.invariant.any_moment;
+}
 
-pub returns-clause-remembered : goal.returns-clause-remembered
-returns-clause-remembered g c commands remembers = c.loop-self.invariant.remembered commands remembers
-
-pub returns-in_err-_blocks-clause-ok : goal.returns-in_err-_blocks-clause-ok
-returns-in_err-_blocks-clause-ok g c =
-    IfOk-from_err c.from_residual.result _ c.from_residual.ensures.0
-
-pub returns-in_err-_blocks-clause-faults_ok : goal.returns-in_err-_blocks-clause-faults_ok
-returns-in_err-_blocks-clause-faults_ok g c =
-    IfOk-from_err c.from_residual.result _ c.from_residual.ensures.0
-
-pub returns-in_err-_blocks-clause-remembered : goal.returns-in_err-_blocks-clause-remembered
-returns-in_err-_blocks-clause-remembered g c commands remembers =
-    IfOk-from_err c.from_residual.result _ c.from_residual.ensures.0
-
-pub returns-in_err-_blocks-clause-kept : goal.returns-in_err-_blocks-clause-kept
-returns-in_err-_blocks-clause-kept g c honest image number keeps =
-    IfOk-from_err c.from_residual.result _ c.from_residual.ensures.0
-
-pub returns-in_err-_blocks-clause-extent : goal.returns-in_err-_blocks-clause-extent
-returns-in_err-_blocks-clause-extent g c =
-    c.in_err-_blocks.ensures.extent ∙ c.loop-self.invariant.extent
-
-pub returns-in_err-_blocks-clause-faults_err : goal.returns-in_err-_blocks-clause-faults_err
-returns-in_err-_blocks-clause-faults_err g c =
-    let fault = c.in_err-_blocks.field-0.0 in
-    err_given _ c.from_residual.result fault c.from_residual.ensures.1 (c.in_err-_blocks.ensures.faults_err ∙ ap (faults_by fault) c.loop-self.invariant.faults)
-
-pub returns-in_err-_blocks-clause-honest : goal.returns-in_err-_blocks-clause-honest
-returns-in_err-_blocks-clause-honest g c =
-    both_ways c.in_err-_blocks.ensures.honest c.loop-self.invariant.honest
-
-pub returns-clause-kept : goal.returns-clause-kept
-returns-clause-kept g c = c.loop-self.invariant.kept
-
-pub returns-clause-any_moment : goal.returns-clause-any_moment
-returns-clause-any_moment g c = c.loop-self.invariant.any_moment
-
-pub returns-clause-honest : goal.returns-clause-honest
-returns-clause-honest g c = c.loop-self.invariant.honest
-
-pub returns-clause-only : goal.returns-clause-only
-returns-clause-only g c = tt
-
-pub returns-clause-not_full : goal.returns-clause-not_full
-returns-clause-not_full g c = ok_apart _ _
-
-pub returns-clause-extent : goal.returns-clause-extent
-returns-clause-extent g c = c.loop-self.invariant.extent
-
-pub returns-clause-faults_ok : goal.returns-clause-faults_ok
-returns-clause-faults_ok g c = c.loop-self.invariant.faults
-
-pub returns-clause-faults_err : goal.returns-clause-faults_err
-returns-clause-faults_err g c = tt
-
-pub returns-clause-kept_still : goal.returns-clause-kept_still
-returns-clause-kept_still g c honest image number keeps = tt
-
-pub returns-in_err-_blocks-clause-only : goal.returns-in_err-_blocks-clause-only
-returns-in_err-_blocks-clause-only g c =
-    let copied = c.loop-self.invariant.copied in
-    let call = c.in_err-_blocks.ensures in
-    let works = ap (λ (k : KeeperState g.row.D.Denot). k.failed) copied ∙ c.requires.works in
-    let time : IsCopyTime c.loop-self.self.phase = subst IsCopyTime (sym (ap (λ (k : KeeperState g.row.D.Denot). k.phase) copied)) (omega (arith, c.left.ensures, c.loop-self-test.true)) in
-    err_given IsRecoveryFault c.from_residual.result c.in_err-_blocks.field-0.0 c.from_residual.ensures.1
-    (in_time c.in_err-_blocks.field-0.0 call.only (λ is. absurd (false≢true (sym works ∙ call.failed.0 (ap (λ (f : KeeperFault). Err f) is)))) (λ is. absurd ((call.not_now.0 (ap (λ (f : KeeperFault). Err f) is)).1 time)))
-
-pub returns-in_err-_blocks-clause-not_full : goal.returns-in_err-_blocks-clause-not_full
-returns-in_err-_blocks-clause-not_full g c is =
-    c.in_err-_blocks.ensures.not_full (ap (λ (f : KeeperFault). Err f) (same_fault c.in_err-_blocks.field-0.0 NumbersFull (sym (same_answer c.from_residual.result c.in_err-_blocks.field-0.0 c.from_residual.ensures.1) ∙ is)))
-
-pub returns-in_err-_blocks-clause-kept_still : goal.returns-in_err-_blocks-clause-kept_still
-returns-in_err-_blocks-clause-kept_still g c honest image number keeps =
-    err_given _ c.from_residual.result c.in_err-_blocks.field-0.0 c.from_residual.ensures.1
-    (still_kept g.D.Disk.state (given {T = ℕ} c.in_err-_blocks.field-0.0) c.loop-self.self c.copy_some.new.self image number c.in_err-_blocks.ensures.err (c.loop-self.invariant.kept honest image number keeps))
+pub returns-in_err-_blocks : goal.returns-in_err-_blocks
+returns-in_err-_blocks g c = record {
+  ok = IfOk-from_err c.from_residual.result _ c.from_residual.ensures.0;
+  only =
+      let copied = c.loop-self.invariant.copied in
+      let call = c.in_err-_blocks.ensures in
+      let works = ap (λ (k : KeeperState g.row.D.Denot). k.failed) copied ∙ c.requires.works in
+      let time : IsCopyTime c.loop-self.self.phase = subst IsCopyTime (sym (ap (λ (k : KeeperState g.row.D.Denot). k.phase) copied)) (omega (arith, c.left.ensures, c.loop-self-test.true)) in
+      err_given IsRecoveryFault c.from_residual.result c.in_err-_blocks.field-0.0 c.from_residual.ensures.1
+      (in_time c.in_err-_blocks.field-0.0 call.only (λ is. absurd (false≢true (sym works ∙ call.failed.0 (ap (λ (f : KeeperFault). Err f) is)))) (λ is. absurd ((call.not_now.0 (ap (λ (f : KeeperFault). Err f) is)).1 time)));
+  not_full = λ is. c.in_err-_blocks.ensures.not_full (ap (λ (f : KeeperFault). Err f) (same_fault c.in_err-_blocks.field-0.0 NumbersFull (sym (same_answer c.from_residual.result c.in_err-_blocks.field-0.0 c.from_residual.ensures.1) ∙ is)));
+  extent = c.in_err-_blocks.ensures.extent ∙ c.loop-self.invariant.extent;
+  faults_ok = IfOk-from_err c.from_residual.result _ c.from_residual.ensures.0;
+  faults_err =
+      let fault = c.in_err-_blocks.field-0.0 in
+      err_given _ c.from_residual.result fault c.from_residual.ensures.1 (c.in_err-_blocks.ensures.faults_err ∙ ap (faults_by fault) c.loop-self.invariant.faults);
+  honest = both_ways c.in_err-_blocks.ensures.honest c.loop-self.invariant.honest;
+  remembered = λ commands remembers. IfOk-from_err c.from_residual.result _ c.from_residual.ensures.0;
+  kept = λ honest image number keeps. IfOk-from_err c.from_residual.result _ c.from_residual.ensures.0;
+  kept_still = λ honest image number keeps.
+      err_given _ c.from_residual.result c.in_err-_blocks.field-0.0 c.from_residual.ensures.1
+      (still_kept g.D.Disk.state (given {T = ℕ} c.in_err-_blocks.field-0.0) c.loop-self.self c.copy_some.new.self image number c.in_err-_blocks.ensures.err (c.loop-self.invariant.kept honest image number keeps));
+  any_moment = λ honest image number keeps.
+      let so_far = c.loop-self.invariant in
+      goes_on (so_far.any_moment honest image number keeps)
+      (c.in_err-_blocks.ensures.any_moment (so_far.honest.1 honest) image number (so_far.kept honest image number keeps)) (λ content stands. stands);
+}

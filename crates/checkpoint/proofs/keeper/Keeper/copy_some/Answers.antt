@@ -23,174 +23,12 @@ use Rattle.checkpoint.proofs.Copying.{copy_held, copy_left}
 use Rattle.checkpoint.proofs.keeper.Keeper.copy_some.Goals as goal
 use Rattle.device_image.specs.Holds.{Holds}
 
-pub returns-in_err-buffer-clause-any_moment : goal.returns-in_err-buffer-clause-any_moment
-returns-in_err-buffer-clause-any_moment g c honest image number keeps =
-    let same = ap (λ (k : KeeperState g.row.D.Denot). k.disk) (sym c.self.view_is) in
-    subst (λ (disk : g.row.D.Denot). LeavesOnly (g.D.Disk.state c.args.self.now.disk) (g.D.Disk.state disk) (λ content. StandsFor content image number)) same
-    (begins (g.met.D.Disk.sound c.args.self.now.disk honest) (λ content left. kept_content _ _ image number keeps content left))
-
 -- That the bytes are read from the area that the plan copies is searched for: of another place it is found nowhere.
-pub returns-in-Ok-clause-held : goal.returns-in-Ok-clause-held
-returns-in-Ok-clause-held g c honest base fronts last holds =
-    let inside = subst (λ (k : KeeperState g.row.D.Denot). Holds k (g.D.Disk.state k.disk) base fronts last) (sym c.self.view_is) holds in
-    let sound = subst (λ (k : KeeperState g.row.D.Denot). g.D.Disk.honest k.disk) (sym c.self.view_is) honest in
-    let put = c.in-Some-next_copy.put in
-    let place : block_at c.of-regions.result.geometry put.first ≡ block_at inside.keeps.stands.header.geometry put.first = ap (λ (size : Geometry). block_at size put.first) (c.of-regions.ensures ∙ inside.keeps.sizes) in
-    let count : length c.deref_mut.result.now ≡ 4096 * put.blocks = omega (arith, c.deref_mut.ensures.len, c.in_ok-buffer.ensures.len) in
-    copy_held _ (g.D.Disk.state c.self.inside.disk) base fronts last inside c.in-Some.plan c.self.inside.waiting.items (ap (λ (p : Option PlanState). plans_of p c.self.inside.waiting.items) c.in-Some.is) put c.args.most c.in-Some-next_copy.ensures.some c.in-Some-next_copy.ensures.unmapped
-    (g.D.Disk.state c.copy_over.new.disk) _ _ _ _ c.advance.new.self place count (search rules)
-    (c.in-Ok.ensures.copied sound inside.keeps.steady) c.advance.ensures refl
-
-pub returns-in-Ok-clause-any_moment : goal.returns-in-Ok-clause-any_moment
-returns-in-Ok-clause-any_moment g c honest image number keeps =
-    let put = c.in-Some-next_copy.put in
-    subst (λ (k : KeeperState g.row.D.Denot). g.D.Disk.honest k.disk → Keeps k (g.D.Disk.state k.disk) image number → LeavesOnly (g.D.Disk.state k.disk) (g.D.Disk.state c.copy_over.new.disk) (λ content. StandsFor content image number)) c.self.view_is
-    (λ sound inside.
-    let place : block_at c.of-regions.result.geometry put.first ≡ block_at inside.stands.header.geometry put.first = ap (λ (size : Geometry). block_at size put.first) (c.of-regions.ensures ∙ inside.sizes) in
-    let count : length c.deref_mut.result.now ≡ 4096 * put.blocks = omega (arith, c.deref_mut.ensures.len, c.in_ok-buffer.ensures.len) in
-    weakens (c.copy_over.ensures.any_moment sound)
-    (copy_left _ (g.D.Disk.state c.self.inside.disk) image number inside c.in-Some.plan c.self.inside.waiting.items (ap (λ (p : Option PlanState). plans_of p c.self.inside.waiting.items) c.in-Some.is) put c.args.most c.in-Some-next_copy.ensures.some c.in-Some-next_copy.ensures.unmapped _ _ place count))
-    honest keeps
-
-pub returns-clause-any_moment : goal.returns-clause-any_moment
-returns-clause-any_moment g c honest image number keeps =
-    let put = c.in-Some-next_copy.put in
-    subst (λ (k : KeeperState g.row.D.Denot). g.D.Disk.honest k.disk → Keeps k (g.D.Disk.state k.disk) image number → LeavesOnly (g.D.Disk.state k.disk) (g.D.Disk.state c.copy_over.new.disk) (λ content. StandsFor content image number)) c.self.view_is
-    (λ sound inside.
-    let place : block_at c.of-regions.result.geometry put.first ≡ block_at inside.stands.header.geometry put.first = ap (λ (size : Geometry). block_at size put.first) (c.of-regions.ensures ∙ inside.sizes) in
-    let count : length c.deref_mut.result.now ≡ 4096 * put.blocks = omega (arith, c.deref_mut.ensures.len, c.in_ok-buffer.ensures.len) in
-    weakens (c.copy_over.ensures.any_moment sound)
-    (copy_left _ (g.D.Disk.state c.self.inside.disk) image number inside c.in-Some.plan c.self.inside.waiting.items (ap (λ (p : Option PlanState). plans_of p c.self.inside.waiting.items) c.in-Some.is) put c.args.most c.in-Some-next_copy.ensures.some c.in-Some-next_copy.ensures.unmapped _ _ place count))
-    honest keeps
-
 phase_less : (plan : PlanState) (blocks : ℕ) → plan.mapped ≡ None → phase_in (plan.left - blocks) plan.mapped ≡ Copying (left_in (phase_in plan.left plan.mapped) - blocks)
 phase_less plan blocks unmapped = subst (λ (m : Option (List Kind)). phase_in (plan.left - blocks) m ≡ Copying (left_in (phase_in plan.left m) - blocks)) (sym unmapped) refl
 
 copy_time : (plan : PlanState) → plan.mapped ≡ None → 0 < plan.left → IsCopyTime (phase_in plan.left plan.mapped)
 copy_time plan unmapped some = subst (λ (m : Option (List Kind)). IsCopyTime (phase_in plan.left m)) (sym unmapped) some
-
-pub returns-in-Ok-clause-failed : goal.returns-in-Ok-clause-failed
-returns-in-Ok-clause-failed g c =
-    let works = ap (λ (k : KeeperState g.row.D.Denot). k.failed) (sym c.self.view_is) ∙ c.if-self.false in
-    (λ is. absurd (ok_apart _ _ is), λ fails. absurd (false≢true (sym works ∙ fails)))
-
-pub returns-in-Ok-clause-not_now : goal.returns-in-Ok-clause-not_now
-returns-in-Ok-clause-not_now g c =
-    let plan = c.in-Some.plan in
-    let phase = ap (λ (p : Option PlanState). phase_of (plans_of p c.self.inside.waiting.items)) (sym c.in-Some.is) ∙ ap (λ (k : KeeperState g.row.D.Denot). k.phase) c.self.view_is in
-    let some : 0 < plan.left = omega (arith, c.in-Some-next_copy.ensures.some.some, c.in-Some-next_copy.ensures.some.left) in
-    let time : IsCopyTime c.args.self.now.phase = subst IsCopyTime phase (copy_time plan c.in-Some-next_copy.ensures.unmapped some) in
-    (λ is. absurd (ok_apart _ _ is), λ none. absurd (none.1 time))
-
-pub returns-in-Ok-clause-not_full : goal.returns-in-Ok-clause-not_full
-returns-in-Ok-clause-not_full g c =
-    λ is. absurd (ok_apart _ _ is)
-
-pub returns-in-Ok-clause-extent : goal.returns-in-Ok-clause-extent
-returns-in-Ok-clause-extent g c =
-    c.in-Ok.ensures.extent ∙ ap (λ (k : KeeperState g.row.D.Denot). g.D.Disk.extent k.disk) c.self.view_is
-
-pub returns-in-Ok-clause-honest : goal.returns-in-Ok-clause-honest
-returns-in-Ok-clause-honest g c =
-    let honest = c.in-Ok.ensures.honest in (
-      λ trusted. subst (λ (k : KeeperState g.row.D.Denot). g.D.Disk.honest k.disk) c.self.view_is (honest.0 trusted),
-      λ trusted. honest.1 (subst (λ (k : KeeperState g.row.D.Denot). g.D.Disk.honest k.disk) (sym c.self.view_is) trusted),
-    )
-
-pub returns-clause-failed : goal.returns-clause-failed
-returns-clause-failed g c =
-    let works = ap (λ (k : KeeperState g.row.D.Denot). k.failed) (sym c.self.view_is) ∙ c.if-self.false in
-    (λ is. absurd ((device_apart c.from.result c.from.ensures).failed is), λ fails. absurd (false≢true (sym works ∙ fails)))
-
-pub returns-clause-not_now : goal.returns-clause-not_now
-returns-clause-not_now g c =
-    let plan = c.in-Some.plan in
-    let phase = ap (λ (p : Option PlanState). phase_of (plans_of p c.self.inside.waiting.items)) (sym c.in-Some.is) ∙ ap (λ (k : KeeperState g.row.D.Denot). k.phase) c.self.view_is in
-    let some : 0 < plan.left = omega (arith, c.in-Some-next_copy.ensures.some.some, c.in-Some-next_copy.ensures.some.left) in
-    let time : IsCopyTime c.args.self.now.phase = subst IsCopyTime phase (copy_time plan c.in-Some-next_copy.ensures.unmapped some) in
-    (λ is. absurd ((device_apart c.from.result c.from.ensures).not_now is), λ none. absurd (none.1 time))
-
-pub returns-clause-not_full : goal.returns-clause-not_full
-returns-clause-not_full g c =
-    λ is. absurd ((device_apart c.from.result c.from.ensures).full is)
-
-pub returns-clause-extent : goal.returns-clause-extent
-returns-clause-extent g c =
-    c.in-Err.ensures.extent ∙ ap (λ (k : KeeperState g.row.D.Denot). g.D.Disk.extent k.disk) c.self.view_is
-
-pub returns-clause-honest : goal.returns-clause-honest
-returns-clause-honest g c =
-    let honest = c.in-Err.ensures.honest in (
-      λ trusted. subst (λ (k : KeeperState g.row.D.Denot). g.D.Disk.honest k.disk) c.self.view_is (honest.0 trusted),
-      λ trusted. honest.1 (subst (λ (k : KeeperState g.row.D.Denot). g.D.Disk.honest k.disk) (sym c.self.view_is) trusted),
-    )
-
-pub returns-in_err-buffer-clause-failed : goal.returns-in_err-buffer-clause-failed
-returns-in_err-buffer-clause-failed g c =
-    let works = ap (λ (k : KeeperState g.row.D.Denot). k.failed) (sym c.self.view_is) ∙ c.if-self.false in
-    (λ is. absurd ((memory_apart c.from_residual.result c.from_residual.ensures.1).failed is), λ fails. absurd (false≢true (sym works ∙ fails)))
-
-pub returns-in_err-buffer-clause-not_now : goal.returns-in_err-buffer-clause-not_now
-returns-in_err-buffer-clause-not_now g c =
-    let plan = c.in-Some.plan in
-    let phase = ap (λ (p : Option PlanState). phase_of (plans_of p c.self.inside.waiting.items)) (sym c.in-Some.is) ∙ ap (λ (k : KeeperState g.row.D.Denot). k.phase) c.self.view_is in
-    let some : 0 < plan.left = omega (arith, c.in-Some-next_copy.ensures.some.some, c.in-Some-next_copy.ensures.some.left) in
-    let time : IsCopyTime c.args.self.now.phase = subst IsCopyTime phase (copy_time plan c.in-Some-next_copy.ensures.unmapped some) in
-    (λ is. absurd ((memory_apart c.from_residual.result c.from_residual.ensures.1).not_now is), λ none. absurd (none.1 time))
-
-pub returns-in_err-buffer-clause-not_full : goal.returns-in_err-buffer-clause-not_full
-returns-in_err-buffer-clause-not_full g c =
-    λ is. absurd ((memory_apart c.from_residual.result c.from_residual.ensures.1).full is)
-
-pub returns-in-Ok-clause-faults_ok : goal.returns-in-Ok-clause-faults_ok
-returns-in-Ok-clause-faults_ok g c =
-    c.in-Ok.ensures.faults ∙ ap (λ (k : KeeperState g.row.D.Denot). g.D.Disk.faults k.disk) c.self.view_is
-
-pub returns-clause-only : goal.returns-clause-only
-returns-clause-only g c =
-    subst IsStepFault (sym c.from.ensures) tt
-
-pub returns-clause-unchanged : goal.returns-clause-unchanged
-returns-clause-unchanged g c =
-    inl c.from.ensures
-
-pub returns-clause-faults_err : goal.returns-clause-faults_err
-returns-clause-faults_err g c =
-    c.in-Err.ensures.faults ∙ ap (λ (k : KeeperState g.row.D.Denot). counted (g.D.Disk.faults k.disk)) c.self.view_is ∙ ap (λ (f : KeeperFault). faults_by f (g.D.Disk.faults c.args.self.now.disk)) (sym c.from.ensures)
-
-pub returns-clause-err : goal.returns-clause-err
-returns-clause-err g c =
-    let inside = c.self.inside in
-    let plan = c.in-Some.plan in
-    let waiting = inside.waiting.items in
-    let made : Option PlanState → KeeperState g.row.D.Denot = λ first. let plans = plans_of first waiting in record {
-      disk = inside.disk;
-      geometry = inside.header.geometry;
-      generation = inside.header.generation;
-      count = inside.count;
-      base = inside.header.base;
-      turned = turned_of plans;
-      lefts = lefts_of plans;
-      used = inside.area.gate;
-      phase = phase_of plans;
-      failed = inside.failed;
-      memory = record { header = inside.header; slot = inside.slot; map = inside.map; plans = plans; area = inside.area };
-    } in
-    let same = ap made (sym c.in-Some.is) ∙ c.self.view_is in
-    let disk = c.copy_over.new.disk in
-    ap (λ (k : KeeperState g.row.D.Denot). let next : KeeperState g.row.D.Denot = record k { disk = disk; failed = true } in next) same ∙ ap (λ (f : KeeperFault). refused_by f c.args.self.now disk) (sym c.from.ensures)
-
-pub returns-in-Ok-clause-left : goal.returns-in-Ok-clause-left
-returns-in-Ok-clause-left g c =
-    let plan = c.in-Some.plan in
-    let phase = ap (λ (p : Option PlanState). phase_of (plans_of p c.self.inside.waiting.items)) (sym c.in-Some.is) ∙ ap (λ (k : KeeperState g.row.D.Denot). k.phase) c.self.view_is in
-    subst (λ (p : Phase). c.in-Some-next_copy.put.blocks ≤ left_in p) phase
-    (subst (λ (m : Option (List Kind)). c.in-Some-next_copy.put.blocks ≤ left_in (phase_in plan.left m)) (sym c.in-Some-next_copy.ensures.unmapped) c.in-Some-next_copy.ensures.some.left)
-
-pub returns-in-Ok-clause-remembered : goal.returns-in-Ok-clause-remembered
-returns-in-Ok-clause-remembered g c commands remembers =
-    let inside = subst (λ (k : KeeperState g.row.D.Denot). Remembers k commands) (sym c.self.view_is) remembers in
-    record { takes = inside.takes; noted = inside.noted }
 
 pub invariant_of-self-in_default-next_copy : goal.invariant_of-self-in_default-next_copy
 invariant_of-self-in_default-next_copy g c =
@@ -259,88 +97,6 @@ invariant_of-self-in-Ok g c =
       λ none. ((is.8 none).0, (is.8 none).1 ∙ ap (λ (p : Option PlanState). last_turned base (turned_of (plans_of p waiting))) some ∙ ap (λ (p : PlanState). last_turned base (turned_of (p ∷ waiting))) (sym c.advance.ensures)),
       is.9,
     )
-
-pub returns-in_err-buffer-clause-faults_ok : goal.returns-in_err-buffer-clause-faults_ok
-returns-in_err-buffer-clause-faults_ok g c =
-    IfOk-from_err c.from_residual.result _ c.from_residual.ensures.0
-
-pub returns-in_err-buffer-clause-remembered : goal.returns-in_err-buffer-clause-remembered
-returns-in_err-buffer-clause-remembered g c commands remembers =
-    IfOk-from_err c.from_residual.result _ c.from_residual.ensures.0
-
-pub returns-in_err-buffer-clause-held : goal.returns-in_err-buffer-clause-held
-returns-in_err-buffer-clause-held g c honest base fronts last_commands holds =
-    IfOk-from_err c.from_residual.result _ c.from_residual.ensures.0
-
-pub returns-in_err-buffer-clause-only : goal.returns-in_err-buffer-clause-only
-returns-in_err-buffer-clause-only g c =
-    err_given IsStepFault c.from_residual.result NoMemory c.from_residual.ensures.1 tt
-
-pub returns-in-Ok-clause-ok : goal.returns-in-Ok-clause-ok
-returns-in-Ok-clause-ok g c =
-    let inside = c.self.inside in
-    let plan = c.in-Some.plan in
-    let waiting = inside.waiting.items in
-    let made : Option PlanState → KeeperState g.row.D.Denot = λ first. let plans = plans_of first waiting in record {
-      disk = inside.disk;
-      geometry = inside.header.geometry;
-      generation = inside.header.generation;
-      count = inside.count;
-      base = inside.header.base;
-      turned = turned_of plans;
-      lefts = lefts_of plans;
-      used = inside.area.gate;
-      phase = phase_of plans;
-      failed = inside.failed;
-      memory = record { header = inside.header; slot = inside.slot; map = inside.map; plans = plans; area = inside.area };
-    } in
-    let same = ap made (sym c.in-Some.is) ∙ c.self.view_is in
-    let put = c.in-Some-next_copy.put in
-    let put_is = c.in-Some-next_copy.ensures.some in
-    let next = c.advance.new.self in
-    let disk = c.copy_over.new.disk in
-    let memory : Memory = record { header = inside.header; slot = inside.slot; map = inside.map; plans = next ∷ waiting; area = inside.area } in
-    let turned = ap (λ (p : PlanState). turned_of (p ∷ waiting)) c.advance.ensures in
-    let lefts = ap (λ (p : PlanState). lefts_of (p ∷ waiting)) c.advance.ensures in
-    let phase = ap (λ (p : PlanState). phase_of (p ∷ waiting)) c.advance.ensures ∙ phase_less plan put.blocks c.in-Some-next_copy.ensures.unmapped in
-    let moved : KeeperState g.row.D.Denot = record {
-      disk = disk;
-      geometry = inside.header.geometry;
-      generation = inside.header.generation;
-      count = inside.count;
-      base = inside.header.base;
-      turned = turned_of (next ∷ waiting);
-      lefts = lefts_of (next ∷ waiting);
-      used = inside.area.gate;
-      phase = phase_of (next ∷ waiting);
-      failed = inside.failed;
-      memory = memory;
-    } in (
-      put_is.some,
-      put_is.few,
-      subst (λ (k : KeeperState g.row.D.Denot). moved ≡ copied_by k put.blocks disk memory) same
-          (λ i. record {
-            disk = disk;
-            geometry = inside.header.geometry;
-            generation = inside.header.generation;
-            count = inside.count;
-            base = inside.header.base;
-            turned = turned i;
-            lefts = lefts i;
-            used = inside.area.gate;
-            phase = phase i;
-            failed = inside.failed;
-            memory = memory;
-          }),
-    )
-
-pub returns-in_err-buffer-clause-ok : goal.returns-in_err-buffer-clause-ok
-returns-in_err-buffer-clause-ok g c =
-    IfOk-from_err c.from_residual.result _ c.from_residual.ensures.0
-
-pub returns-in_err-buffer-clause-left : goal.returns-in_err-buffer-clause-left
-returns-in_err-buffer-clause-left g c =
-    IfOk-from_err c.from_residual.result _ c.from_residual.ensures.0
 
 pub returns-then-self : goal.returns-then-self
 returns-then-self g c =
@@ -424,42 +180,53 @@ returns-in_default-next_copy g c =
           (begins (g.met.D.Disk.sound c.args.self.now.disk honest) (λ content left. kept_content _ _ image number keeps content left));
     }
 
-pub returns-in_err-buffer-clause-err : goal.returns-in_err-buffer-clause-err
-returns-in_err-buffer-clause-err g c =
-    let inside = c.self.inside in
-    let plan = c.in-Some.plan in
-    let waiting = inside.waiting.items in
-    let made : Option PlanState → KeeperState g.row.D.Denot = λ first. let plans = plans_of first waiting in record {
-      disk = inside.disk;
-      geometry = inside.header.geometry;
-      generation = inside.header.generation;
-      count = inside.count;
-      base = inside.header.base;
-      turned = turned_of plans;
-      lefts = lefts_of plans;
-      used = inside.area.gate;
-      phase = phase_of plans;
-      failed = inside.failed;
-      memory = record { header = inside.header; slot = inside.slot; map = inside.map; plans = plans; area = inside.area };
-    } in
-    err_given (λ (fault : KeeperFault). made (Some plan) ≡ refused_by fault c.args.self.now inside.disk) c.from_residual.result NoMemory c.from_residual.ensures.1 (ap made (sym c.in-Some.is) ∙ c.self.view_is)
-
-pub returns-in_err-buffer-clause-unchanged : goal.returns-in_err-buffer-clause-unchanged
-returns-in_err-buffer-clause-unchanged g c =
-    err_given (λ (fault : KeeperFault). (fault ≡ DeviceFault) ⊎ (c.self.inside.disk ≡ c.args.self.now.disk)) c.from_residual.result NoMemory c.from_residual.ensures.1 (inr (ap (λ (k : KeeperState g.row.D.Denot). k.disk) c.self.view_is))
-
-pub returns-in_err-buffer-clause-extent : goal.returns-in_err-buffer-clause-extent
-returns-in_err-buffer-clause-extent g c =
-    ap (λ (k : KeeperState g.row.D.Denot). g.D.Disk.extent k.disk) c.self.view_is
-
-pub returns-in_err-buffer-clause-faults_err : goal.returns-in_err-buffer-clause-faults_err
-returns-in_err-buffer-clause-faults_err g c =
-    err_given (λ (fault : KeeperFault). g.D.Disk.faults c.self.inside.disk ≡ faults_by fault (g.D.Disk.faults c.args.self.now.disk)) c.from_residual.result NoMemory c.from_residual.ensures.1 (ap (λ (k : KeeperState g.row.D.Denot). g.D.Disk.faults k.disk) c.self.view_is)
-
-pub returns-in_err-buffer-clause-honest : goal.returns-in_err-buffer-clause-honest
-returns-in_err-buffer-clause-honest g c =
-    let same = ap (λ (k : KeeperState g.row.D.Denot). k.disk) c.self.view_is in
-    (λ trusted. subst g.D.Disk.honest same trusted, λ trusted. subst g.D.Disk.honest (sym same) trusted)
+pub returns-in_err-buffer : goal.returns-in_err-buffer
+returns-in_err-buffer g c = record {
+  ok = IfOk-from_err c.from_residual.result _ c.from_residual.ensures.0;
+  left = IfOk-from_err c.from_residual.result _ c.from_residual.ensures.0;
+  err =
+      let inside = c.self.inside in
+      let plan = c.in-Some.plan in
+      let waiting = inside.waiting.items in
+      let made : Option PlanState → KeeperState g.row.D.Denot = λ first. let plans = plans_of first waiting in record {
+        disk = inside.disk;
+        geometry = inside.header.geometry;
+        generation = inside.header.generation;
+        count = inside.count;
+        base = inside.header.base;
+        turned = turned_of plans;
+        lefts = lefts_of plans;
+        used = inside.area.gate;
+        phase = phase_of plans;
+        failed = inside.failed;
+        memory = record { header = inside.header; slot = inside.slot; map = inside.map; plans = plans; area = inside.area };
+      } in
+      err_given (λ (fault : KeeperFault). made (Some plan) ≡ refused_by fault c.args.self.now inside.disk) c.from_residual.result NoMemory c.from_residual.ensures.1 (ap made (sym c.in-Some.is) ∙ c.self.view_is);
+  failed =
+      let works = ap (λ (k : KeeperState g.row.D.Denot). k.failed) (sym c.self.view_is) ∙ c.if-self.false in
+      (λ is. absurd ((memory_apart c.from_residual.result c.from_residual.ensures.1).failed is), λ fails. absurd (false≢true (sym works ∙ fails)));
+  not_now =
+      let plan = c.in-Some.plan in
+      let phase = ap (λ (p : Option PlanState). phase_of (plans_of p c.self.inside.waiting.items)) (sym c.in-Some.is) ∙ ap (λ (k : KeeperState g.row.D.Denot). k.phase) c.self.view_is in
+      let some : 0 < plan.left = omega (arith, c.in-Some-next_copy.ensures.some.some, c.in-Some-next_copy.ensures.some.left) in
+      let time : IsCopyTime c.args.self.now.phase = subst IsCopyTime phase (copy_time plan c.in-Some-next_copy.ensures.unmapped some) in
+      (λ is. absurd ((memory_apart c.from_residual.result c.from_residual.ensures.1).not_now is), λ none. absurd (none.1 time));
+  only = err_given IsStepFault c.from_residual.result NoMemory c.from_residual.ensures.1 tt;
+  not_full = λ is. absurd ((memory_apart c.from_residual.result c.from_residual.ensures.1).full is);
+  unchanged = err_given (λ (fault : KeeperFault). (fault ≡ DeviceFault) ⊎ (c.self.inside.disk ≡ c.args.self.now.disk)) c.from_residual.result NoMemory c.from_residual.ensures.1 (inr (ap (λ (k : KeeperState g.row.D.Denot). k.disk) c.self.view_is));
+  extent = ap (λ (k : KeeperState g.row.D.Denot). g.D.Disk.extent k.disk) c.self.view_is;
+  faults_ok = IfOk-from_err c.from_residual.result _ c.from_residual.ensures.0;
+  faults_err = err_given (λ (fault : KeeperFault). g.D.Disk.faults c.self.inside.disk ≡ faults_by fault (g.D.Disk.faults c.args.self.now.disk)) c.from_residual.result NoMemory c.from_residual.ensures.1 (ap (λ (k : KeeperState g.row.D.Denot). g.D.Disk.faults k.disk) c.self.view_is);
+  honest =
+      let same = ap (λ (k : KeeperState g.row.D.Denot). k.disk) c.self.view_is in
+      (λ trusted. subst g.D.Disk.honest same trusted, λ trusted. subst g.D.Disk.honest (sym same) trusted);
+  remembered = λ commands remembers. IfOk-from_err c.from_residual.result _ c.from_residual.ensures.0;
+  held = λ honest base fronts last_commands holds. IfOk-from_err c.from_residual.result _ c.from_residual.ensures.0;
+  any_moment = λ honest image number keeps.
+      let same = ap (λ (k : KeeperState g.row.D.Denot). k.disk) (sym c.self.view_is) in
+      subst (λ (disk : g.row.D.Denot). LeavesOnly (g.D.Disk.state c.args.self.now.disk) (g.D.Disk.state disk) (λ content. StandsFor content image number)) same
+      (begins (g.met.D.Disk.sound c.args.self.now.disk honest) (λ content left. kept_content _ _ image number keeps content left));
+}
 
 pub invariant_of-self-in_err-buffer : goal.invariant_of-self-in_err-buffer
 invariant_of-self-in_err-buffer g c =
@@ -483,41 +250,169 @@ invariant_of-self-in_err-buffer g c =
       is.9,
     )
 
-pub returns-in-Ok-clause-err : goal.returns-in-Ok-clause-err
-returns-in-Ok-clause-err g c =
-    tt
+pub returns-in-Ok : goal.returns-in-Ok
+returns-in-Ok g c = record {
+  ok =
+      let inside = c.self.inside in
+      let plan = c.in-Some.plan in
+      let waiting = inside.waiting.items in
+      let made : Option PlanState → KeeperState g.row.D.Denot = λ first. let plans = plans_of first waiting in record {
+        disk = inside.disk;
+        geometry = inside.header.geometry;
+        generation = inside.header.generation;
+        count = inside.count;
+        base = inside.header.base;
+        turned = turned_of plans;
+        lefts = lefts_of plans;
+        used = inside.area.gate;
+        phase = phase_of plans;
+        failed = inside.failed;
+        memory = record { header = inside.header; slot = inside.slot; map = inside.map; plans = plans; area = inside.area };
+      } in
+      let same = ap made (sym c.in-Some.is) ∙ c.self.view_is in
+      let put = c.in-Some-next_copy.put in
+      let put_is = c.in-Some-next_copy.ensures.some in
+      let next = c.advance.new.self in
+      let disk = c.copy_over.new.disk in
+      let memory : Memory = record { header = inside.header; slot = inside.slot; map = inside.map; plans = next ∷ waiting; area = inside.area } in
+      let turned = ap (λ (p : PlanState). turned_of (p ∷ waiting)) c.advance.ensures in
+      let lefts = ap (λ (p : PlanState). lefts_of (p ∷ waiting)) c.advance.ensures in
+      let phase = ap (λ (p : PlanState). phase_of (p ∷ waiting)) c.advance.ensures ∙ phase_less plan put.blocks c.in-Some-next_copy.ensures.unmapped in
+      let moved : KeeperState g.row.D.Denot = record {
+        disk = disk;
+        geometry = inside.header.geometry;
+        generation = inside.header.generation;
+        count = inside.count;
+        base = inside.header.base;
+        turned = turned_of (next ∷ waiting);
+        lefts = lefts_of (next ∷ waiting);
+        used = inside.area.gate;
+        phase = phase_of (next ∷ waiting);
+        failed = inside.failed;
+        memory = memory;
+      } in (
+        put_is.some,
+        put_is.few,
+        subst (λ (k : KeeperState g.row.D.Denot). moved ≡ copied_by k put.blocks disk memory) same
+            (λ i. record {
+              disk = disk;
+              geometry = inside.header.geometry;
+              generation = inside.header.generation;
+              count = inside.count;
+              base = inside.header.base;
+              turned = turned i;
+              lefts = lefts i;
+              used = inside.area.gate;
+              phase = phase i;
+              failed = inside.failed;
+              memory = memory;
+            }),
+      );
+  left =
+      let plan = c.in-Some.plan in
+      let phase = ap (λ (p : Option PlanState). phase_of (plans_of p c.self.inside.waiting.items)) (sym c.in-Some.is) ∙ ap (λ (k : KeeperState g.row.D.Denot). k.phase) c.self.view_is in
+      subst (λ (p : Phase). c.in-Some-next_copy.put.blocks ≤ left_in p) phase
+      (subst (λ (m : Option (List Kind)). c.in-Some-next_copy.put.blocks ≤ left_in (phase_in plan.left m)) (sym c.in-Some-next_copy.ensures.unmapped) c.in-Some-next_copy.ensures.some.left);
+  err = tt;
+  failed =
+      let works = ap (λ (k : KeeperState g.row.D.Denot). k.failed) (sym c.self.view_is) ∙ c.if-self.false in
+      (λ is. absurd (ok_apart _ _ is), λ fails. absurd (false≢true (sym works ∙ fails)));
+  not_now =
+      let plan = c.in-Some.plan in
+      let phase = ap (λ (p : Option PlanState). phase_of (plans_of p c.self.inside.waiting.items)) (sym c.in-Some.is) ∙ ap (λ (k : KeeperState g.row.D.Denot). k.phase) c.self.view_is in
+      let some : 0 < plan.left = omega (arith, c.in-Some-next_copy.ensures.some.some, c.in-Some-next_copy.ensures.some.left) in
+      let time : IsCopyTime c.args.self.now.phase = subst IsCopyTime phase (copy_time plan c.in-Some-next_copy.ensures.unmapped some) in
+      (λ is. absurd (ok_apart _ _ is), λ none. absurd (none.1 time));
+  only = tt;
+  not_full = λ is. absurd (ok_apart _ _ is);
+  unchanged = tt;
+  extent = c.in-Ok.ensures.extent ∙ ap (λ (k : KeeperState g.row.D.Denot). g.D.Disk.extent k.disk) c.self.view_is;
+  faults_ok = c.in-Ok.ensures.faults ∙ ap (λ (k : KeeperState g.row.D.Denot). g.D.Disk.faults k.disk) c.self.view_is;
+  faults_err = tt;
+  honest =
+      let honest = c.in-Ok.ensures.honest in (
+        λ trusted. subst (λ (k : KeeperState g.row.D.Denot). g.D.Disk.honest k.disk) c.self.view_is (honest.0 trusted),
+        λ trusted. honest.1 (subst (λ (k : KeeperState g.row.D.Denot). g.D.Disk.honest k.disk) (sym c.self.view_is) trusted),
+      );
+  remembered = λ commands remembers.
+      let inside = subst (λ (k : KeeperState g.row.D.Denot). Remembers k commands) (sym c.self.view_is) remembers in
+      record { takes = inside.takes; noted = inside.noted };
+  held = λ honest base fronts last holds.
+      let inside = subst (λ (k : KeeperState g.row.D.Denot). Holds k (g.D.Disk.state k.disk) base fronts last) (sym c.self.view_is) holds in
+      let sound = subst (λ (k : KeeperState g.row.D.Denot). g.D.Disk.honest k.disk) (sym c.self.view_is) honest in
+      let put = c.in-Some-next_copy.put in
+      let place : block_at c.of-regions.result.geometry put.first ≡ block_at inside.keeps.stands.header.geometry put.first = ap (λ (size : Geometry). block_at size put.first) (c.of-regions.ensures ∙ inside.keeps.sizes) in
+      let count : length c.deref_mut.result.now ≡ 4096 * put.blocks = omega (arith, c.deref_mut.ensures.len, c.in_ok-buffer.ensures.len) in
+      copy_held _ (g.D.Disk.state c.self.inside.disk) base fronts last inside c.in-Some.plan c.self.inside.waiting.items (ap (λ (p : Option PlanState). plans_of p c.self.inside.waiting.items) c.in-Some.is) put c.args.most c.in-Some-next_copy.ensures.some c.in-Some-next_copy.ensures.unmapped
+      (g.D.Disk.state c.copy_over.new.disk) _ _ _ _ c.advance.new.self place count (search rules)
+      (c.in-Ok.ensures.copied sound inside.keeps.steady) c.advance.ensures refl;
+  any_moment = λ honest image number keeps.
+      let put = c.in-Some-next_copy.put in
+      subst (λ (k : KeeperState g.row.D.Denot). g.D.Disk.honest k.disk → Keeps k (g.D.Disk.state k.disk) image number → LeavesOnly (g.D.Disk.state k.disk) (g.D.Disk.state c.copy_over.new.disk) (λ content. StandsFor content image number)) c.self.view_is
+      (λ sound inside.
+      let place : block_at c.of-regions.result.geometry put.first ≡ block_at inside.stands.header.geometry put.first = ap (λ (size : Geometry). block_at size put.first) (c.of-regions.ensures ∙ inside.sizes) in
+      let count : length c.deref_mut.result.now ≡ 4096 * put.blocks = omega (arith, c.deref_mut.ensures.len, c.in_ok-buffer.ensures.len) in
+      weakens (c.copy_over.ensures.any_moment sound)
+      (copy_left _ (g.D.Disk.state c.self.inside.disk) image number inside c.in-Some.plan c.self.inside.waiting.items (ap (λ (p : Option PlanState). plans_of p c.self.inside.waiting.items) c.in-Some.is) put c.args.most c.in-Some-next_copy.ensures.some c.in-Some-next_copy.ensures.unmapped _ _ place count))
+      honest keeps;
+}
 
-pub returns-in-Ok-clause-only : goal.returns-in-Ok-clause-only
-returns-in-Ok-clause-only g c =
-    tt
-
-pub returns-in-Ok-clause-unchanged : goal.returns-in-Ok-clause-unchanged
-returns-in-Ok-clause-unchanged g c =
-    tt
-
-pub returns-in-Ok-clause-faults_err : goal.returns-in-Ok-clause-faults_err
-returns-in-Ok-clause-faults_err g c =
-    tt
-
-pub returns-clause-ok : goal.returns-clause-ok
-returns-clause-ok g c =
-    tt
-
-pub returns-clause-left : goal.returns-clause-left
-returns-clause-left g c =
-    tt
-
-pub returns-clause-faults_ok : goal.returns-clause-faults_ok
-returns-clause-faults_ok g c =
-    tt
-
-pub returns-clause-remembered : goal.returns-clause-remembered
-returns-clause-remembered g c commands remembers =
-    tt
-
-pub returns-clause-held : goal.returns-clause-held
-returns-clause-held g c honest base fronts last holds =
-    tt
+pub returns : goal.returns
+returns g c = record {
+  ok = tt;
+  left = tt;
+  err =
+      let inside = c.self.inside in
+      let plan = c.in-Some.plan in
+      let waiting = inside.waiting.items in
+      let made : Option PlanState → KeeperState g.row.D.Denot = λ first. let plans = plans_of first waiting in record {
+        disk = inside.disk;
+        geometry = inside.header.geometry;
+        generation = inside.header.generation;
+        count = inside.count;
+        base = inside.header.base;
+        turned = turned_of plans;
+        lefts = lefts_of plans;
+        used = inside.area.gate;
+        phase = phase_of plans;
+        failed = inside.failed;
+        memory = record { header = inside.header; slot = inside.slot; map = inside.map; plans = plans; area = inside.area };
+      } in
+      let same = ap made (sym c.in-Some.is) ∙ c.self.view_is in
+      let disk = c.copy_over.new.disk in
+      ap (λ (k : KeeperState g.row.D.Denot). let next : KeeperState g.row.D.Denot = record k { disk = disk; failed = true } in next) same ∙ ap (λ (f : KeeperFault). refused_by f c.args.self.now disk) (sym c.from.ensures);
+  failed =
+      let works = ap (λ (k : KeeperState g.row.D.Denot). k.failed) (sym c.self.view_is) ∙ c.if-self.false in
+      (λ is. absurd ((device_apart c.from.result c.from.ensures).failed is), λ fails. absurd (false≢true (sym works ∙ fails)));
+  not_now =
+      let plan = c.in-Some.plan in
+      let phase = ap (λ (p : Option PlanState). phase_of (plans_of p c.self.inside.waiting.items)) (sym c.in-Some.is) ∙ ap (λ (k : KeeperState g.row.D.Denot). k.phase) c.self.view_is in
+      let some : 0 < plan.left = omega (arith, c.in-Some-next_copy.ensures.some.some, c.in-Some-next_copy.ensures.some.left) in
+      let time : IsCopyTime c.args.self.now.phase = subst IsCopyTime phase (copy_time plan c.in-Some-next_copy.ensures.unmapped some) in
+      (λ is. absurd ((device_apart c.from.result c.from.ensures).not_now is), λ none. absurd (none.1 time));
+  only = subst IsStepFault (sym c.from.ensures) tt;
+  not_full = λ is. absurd ((device_apart c.from.result c.from.ensures).full is);
+  unchanged = inl c.from.ensures;
+  extent = c.in-Err.ensures.extent ∙ ap (λ (k : KeeperState g.row.D.Denot). g.D.Disk.extent k.disk) c.self.view_is;
+  faults_ok = tt;
+  faults_err = c.in-Err.ensures.faults ∙ ap (λ (k : KeeperState g.row.D.Denot). counted (g.D.Disk.faults k.disk)) c.self.view_is ∙ ap (λ (f : KeeperFault). faults_by f (g.D.Disk.faults c.args.self.now.disk)) (sym c.from.ensures);
+  honest =
+      let honest = c.in-Err.ensures.honest in (
+        λ trusted. subst (λ (k : KeeperState g.row.D.Denot). g.D.Disk.honest k.disk) c.self.view_is (honest.0 trusted),
+        λ trusted. honest.1 (subst (λ (k : KeeperState g.row.D.Denot). g.D.Disk.honest k.disk) (sym c.self.view_is) trusted),
+      );
+  remembered = λ commands remembers. tt;
+  held = λ honest base fronts last holds. tt;
+  any_moment = λ honest image number keeps.
+      let put = c.in-Some-next_copy.put in
+      subst (λ (k : KeeperState g.row.D.Denot). g.D.Disk.honest k.disk → Keeps k (g.D.Disk.state k.disk) image number → LeavesOnly (g.D.Disk.state k.disk) (g.D.Disk.state c.copy_over.new.disk) (λ content. StandsFor content image number)) c.self.view_is
+      (λ sound inside.
+      let place : block_at c.of-regions.result.geometry put.first ≡ block_at inside.stands.header.geometry put.first = ap (λ (size : Geometry). block_at size put.first) (c.of-regions.ensures ∙ inside.sizes) in
+      let count : length c.deref_mut.result.now ≡ 4096 * put.blocks = omega (arith, c.deref_mut.ensures.len, c.in_ok-buffer.ensures.len) in
+      weakens (c.copy_over.ensures.any_moment sound)
+      (copy_left _ (g.D.Disk.state c.self.inside.disk) image number inside c.in-Some.plan c.self.inside.waiting.items (ap (λ (p : Option PlanState). plans_of p c.self.inside.waiting.items) c.in-Some.is) put c.args.most c.in-Some-next_copy.ensures.some c.in-Some-next_copy.ensures.unmapped _ _ place count))
+      honest keeps;
+}
 
 pub copy_over-requires-clause-device : goal.copy_over-requires-clause-device
 copy_over-requires-clause-device g c =

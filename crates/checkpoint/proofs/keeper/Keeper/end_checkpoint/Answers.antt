@@ -103,22 +103,6 @@ returns-in_err-write_map-clause-honest g c =
     let second = c.in_err-write_map.ensures in
     (λ trusted. first.honest.0 (second.honest.0 trusted), λ trusted. second.honest.1 (first.honest.1 trusted))
 
-pub returns-in_err-copy_all-clause-ok : goal.returns-in_err-copy_all-clause-ok
-returns-in_err-copy_all-clause-ok g c =
-    ok_none c.from_residual.result _ c.from_residual.ensures.0
-
-pub returns-in_err-copy_all-clause-faults_ok : goal.returns-in_err-copy_all-clause-faults_ok
-returns-in_err-copy_all-clause-faults_ok g c =
-    ok_none c.from_residual.result _ c.from_residual.ensures.0
-
-pub returns-in_err-copy_all-clause-remembered : goal.returns-in_err-copy_all-clause-remembered
-returns-in_err-copy_all-clause-remembered g c commands remembers =
-    ok_none c.from_residual.result _ c.from_residual.ensures.0
-
-pub returns-in_err-copy_all-clause-kept : goal.returns-in_err-copy_all-clause-kept
-returns-in_err-copy_all-clause-kept g c honest image number keeps =
-    ok_none c.from_residual.result _ c.from_residual.ensures.0
-
 pub returns-in_err-write_map-clause-ok : goal.returns-in_err-write_map-clause-ok
 returns-in_err-write_map-clause-ok g c =
     ok_none c.from_residual-in_err-write_map.result _ c.from_residual-in_err-write_map.ensures.0
@@ -135,37 +119,21 @@ pub returns-in_err-write_map-clause-kept : goal.returns-in_err-write_map-clause-
 returns-in_err-write_map-clause-kept g c honest image number keeps =
     ok_none c.from_residual-in_err-write_map.result _ c.from_residual-in_err-write_map.ensures.0
 
-pub returns-in_err-copy_all-clause-extent : goal.returns-in_err-copy_all-clause-extent
-returns-in_err-copy_all-clause-extent g c =
-    c.in_err-copy_all.ensures.extent
-
-pub returns-in_err-copy_all-clause-honest : goal.returns-in_err-copy_all-clause-honest
-returns-in_err-copy_all-clause-honest g c =
-    c.in_err-copy_all.ensures.honest
-
-pub returns-in_err-copy_all-clause-any_moment : goal.returns-in_err-copy_all-clause-any_moment
-returns-in_err-copy_all-clause-any_moment g c =
-    c.in_err-copy_all.ensures.any_moment
-
-pub returns-in_err-copy_all-clause-full : goal.returns-in_err-copy_all-clause-full
-returns-in_err-copy_all-clause-full g c is =
-    absurd (c.in_err-copy_all.ensures.not_full (sym (same_answer c.from_residual.result c.in_err-copy_all.field-0.0 c.from_residual.ensures.1) ∙ is))
-
-pub returns-in_err-copy_all-clause-wanted : goal.returns-in_err-copy_all-clause-wanted
-returns-in_err-copy_all-clause-wanted g c is one =
-    absurd (c.in_err-copy_all.ensures.not_full (sym (same_answer c.from_residual.result c.in_err-copy_all.field-0.0 c.from_residual.ensures.1) ∙ is))
-
-pub returns-in_err-copy_all-clause-only : goal.returns-in_err-copy_all-clause-only
-returns-in_err-copy_all-clause-only g c =
-    err_given IsRecoveryFault c.from_residual.result c.in_err-copy_all.field-0.0 c.from_residual.ensures.1 c.in_err-copy_all.ensures.only
-
-pub returns-in_err-copy_all-clause-faults_err : goal.returns-in_err-copy_all-clause-faults_err
-returns-in_err-copy_all-clause-faults_err g c =
-    err_given _ c.from_residual.result c.in_err-copy_all.field-0.0 c.from_residual.ensures.1 c.in_err-copy_all.ensures.faults_err
-
-pub returns-in_err-copy_all-clause-kept_still : goal.returns-in_err-copy_all-clause-kept_still
-returns-in_err-copy_all-clause-kept_still g c honest image number keeps =
-    err_given _ c.from_residual.result c.in_err-copy_all.field-0.0 c.from_residual.ensures.1 (c.in_err-copy_all.ensures.kept_still honest image number keeps)
+pub returns-in_err-copy_all : goal.returns-in_err-copy_all
+returns-in_err-copy_all g c = record {
+  ok = ok_none c.from_residual.result _ c.from_residual.ensures.0;
+  only = err_given IsRecoveryFault c.from_residual.result c.in_err-copy_all.field-0.0 c.from_residual.ensures.1 c.in_err-copy_all.ensures.only;
+  full = λ is. absurd (c.in_err-copy_all.ensures.not_full (sym (same_answer c.from_residual.result c.in_err-copy_all.field-0.0 c.from_residual.ensures.1) ∙ is));
+  wanted = λ is one. absurd (c.in_err-copy_all.ensures.not_full (sym (same_answer c.from_residual.result c.in_err-copy_all.field-0.0 c.from_residual.ensures.1) ∙ is));
+  extent = c.in_err-copy_all.ensures.extent;
+  faults_ok = ok_none c.from_residual.result _ c.from_residual.ensures.0;
+  faults_err = err_given _ c.from_residual.result c.in_err-copy_all.field-0.0 c.from_residual.ensures.1 c.in_err-copy_all.ensures.faults_err;
+  honest = c.in_err-copy_all.ensures.honest;
+  remembered = λ commands remembers. ok_none c.from_residual.result _ c.from_residual.ensures.0;
+  kept = λ honest image number keeps. ok_none c.from_residual.result _ c.from_residual.ensures.0;
+  kept_still = λ honest image number keeps. err_given _ c.from_residual.result c.in_err-copy_all.field-0.0 c.from_residual.ensures.1 (c.in_err-copy_all.ensures.kept_still honest image number keeps);
+  any_moment = c.in_err-copy_all.ensures.any_moment;
+}
 
 pub returns-in_err-write_map-clause-full : goal.returns-in_err-write_map-clause-full
 returns-in_err-write_map-clause-full g c is =

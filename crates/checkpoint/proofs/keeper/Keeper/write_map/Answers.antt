@@ -1,5 +1,5 @@
-use Rattle.std.specs.Prelude.{IfSome}
-use Rattle.std.proofs.Common.{◌≡◌, ℕ, inl, inr, List, Option, length, refl, rules, sym, ◌∙◌, ap, subst, arith, ◌∷◌}
+use Rattle.std.specs.Prelude.{IfSome, is_some}
+use Rattle.std.proofs.Common.{◌≡◌, ◌<◌, ℕ, inl, inr, List, Option, Some, None, true, false, length, refl, rules, sym, ◌∙◌, ap, subst, arith, ◌∷◌}
 use Rattle.device_image.specs.Remembers.{Remembers}
 use Rattle.checkpoint.specs.declared.fault.KeeperFault.TheVariants.{NoMemory}
 use Rattle.std.proofs.lemmas.Result.{IfOk-from_err}
@@ -12,11 +12,11 @@ use Rattle.image_model.specs.declared.command.Kind.{Kind}
 use Rattle.image_model.specs.declared.geometry.Geometry.{Geometry}
 use Rattle.image_model.specs.declared.side.Side.{Side}
 use Rattle.header_slots.specs.declared.header.Header.{Header}
-use Rattle.checkpoint.specs.Keeper.{AreSized, IsSized, faults_by, plans_of}
-use Rattle.checkpoint.specs.Steps.{IsStepFault, mapped_by}
+use Rattle.checkpoint.specs.Keeper.{AreSized, IsSized, faults_by, plans_of, refused_by}
+use Rattle.checkpoint.specs.Steps.{IsMapTime, IsStepFault, mapped_by}
 use Rattle.checkpoint.specs.declared.fault.KeeperFault.{KeeperFault}
 use Rattle.checkpoint.proofs.Answered.{device_apart, failed-full, failed-not_now, memory_apart, not_now-failed, not_now-full, ok_apart, some_apart, err_given}
-use Rattle.device_image.specs.Keeper.{KeeperState, PlanState, Memory, last_turned, lefts_of, phase_of, turned_of}
+use Rattle.device_image.specs.Keeper.{KeeperState, PlanState, Memory, last_turned, lefts_of, phase_in, phase_of, turned_of}
 use Rattle.device_image.specs.Keeps.{Keeps}
 use Rattle.device_image.specs.Stands.{StandsFor}
 use Rattle.device_image.specs.laws.Kept.{kept_content}
@@ -35,6 +35,19 @@ stored_there : {before after : State} {size geometry : Geometry} {side spare oth
     → IsMapStored before (map_at geometry other) geometry.blocks states after
 stored_there {before} {after} {size} {geometry} {side} {spare} {other} {states} stored sizes same is =
     subst (λ (s : Side). IsMapStored before (map_at geometry s) geometry.blocks states after) (same ∙ is) (subst (λ (s : Geometry). IsMapStored before (map_at s side) s.blocks states after) sizes stored)
+
+-- when the map's time is, of the checkpoint that is under way
+left_over : (left : ℕ) (mapped : Option (List Kind)) → 0 < left → IsMapTime (phase_in left mapped) → ⊥
+left_over left None more none = omega (arith, more, none)
+left_over left (Some states) more never = never
+
+mapped_before : (left : ℕ) (mapped : Option (List Kind)) → is_some mapped ≡ true → IsMapTime (phase_in left mapped) → ⊥
+mapped_before left None is none = false≢true is
+mapped_before left (Some states) is never = never
+
+map_due : (left : ℕ) (mapped : Option (List Kind)) → left ≡ 0 → is_some mapped ≡ false → IsMapTime (phase_in left mapped)
+map_due left None none is = none
+map_due left (Some states) none is = absurd (false≢true (sym is))
 
 pub invariant_of-self-then-left-gt0 : goal.invariant_of-self-then-left-gt0
 invariant_of-self-then-left-gt0 g c =
@@ -192,11 +205,27 @@ returns-in_default g c =
 pub returns-then-left-gt0 : goal.returns-then-left-gt0
 returns-then-left-gt0 g c =
     let works = ap (λ (k : KeeperState g.row.D.Denot). k.failed) (sym c.self.view_is) ∙ c.if-self.false in
+    let plan = c.in-Some.plan in
+    let phase_is : phase_in plan.left plan.mapped ≡ c.args.self.now.phase = ap (λ (p : Option PlanState). phase_of (plans_of p c.self.inside.waiting.items)) (sym c.in-Some.is) ∙ ap (λ (k : KeeperState g.row.D.Denot). k.phase) c.self.view_is in
+    let inside = c.self.inside in
+    let made : Option PlanState → KeeperState g.row.D.Denot = λ first. let plans = plans_of first inside.waiting.items in record {
+      disk = inside.disk;
+      geometry = inside.header.geometry;
+      generation = inside.header.generation;
+      count = inside.count;
+      base = inside.header.base;
+      turned = turned_of plans;
+      lefts = lefts_of plans;
+      used = inside.area.gate;
+      phase = phase_of plans;
+      failed = inside.failed;
+      memory = record { header = inside.header; slot = inside.slot; map = inside.map; plans = plans; area = inside.area };
+    } in
     let same = ap (λ (k : KeeperState g.row.D.Denot). k.disk) c.self.view_is in record {
       ok = tt;
-      err = search rules;
+      err = ap made (sym c.in-Some.is) ∙ c.self.view_is;
       failed = (λ is. absurd (not_now-failed is), λ fails. absurd (false≢true (sym works ∙ fails)));
-      not_now = search rules;
+      not_now = (λ _. (works, λ time. left_over plan.left plan.mapped (omega (arith, c.if-left-gt0.true, c.left.ensures)) (subst IsMapTime (sym phase_is) time)), λ _. refl);
       full = not_now-full;
       only = tt;
       unchanged = inr same;
@@ -214,11 +243,27 @@ returns-then-left-gt0 g c =
 pub returns-then-is_mapped : goal.returns-then-is_mapped
 returns-then-is_mapped g c =
     let works = ap (λ (k : KeeperState g.row.D.Denot). k.failed) (sym c.self.view_is) ∙ c.if-self.false in
+    let plan = c.in-Some.plan in
+    let phase_is : phase_in plan.left plan.mapped ≡ c.args.self.now.phase = ap (λ (p : Option PlanState). phase_of (plans_of p c.self.inside.waiting.items)) (sym c.in-Some.is) ∙ ap (λ (k : KeeperState g.row.D.Denot). k.phase) c.self.view_is in
+    let inside = c.self.inside in
+    let made : Option PlanState → KeeperState g.row.D.Denot = λ first. let plans = plans_of first inside.waiting.items in record {
+      disk = inside.disk;
+      geometry = inside.header.geometry;
+      generation = inside.header.generation;
+      count = inside.count;
+      base = inside.header.base;
+      turned = turned_of plans;
+      lefts = lefts_of plans;
+      used = inside.area.gate;
+      phase = phase_of plans;
+      failed = inside.failed;
+      memory = record { header = inside.header; slot = inside.slot; map = inside.map; plans = plans; area = inside.area };
+    } in
     let same = ap (λ (k : KeeperState g.row.D.Denot). k.disk) c.self.view_is in record {
       ok = tt;
-      err = search rules;
+      err = ap made (sym c.in-Some.is) ∙ c.self.view_is;
       failed = (λ is. absurd (not_now-failed is), λ fails. absurd (false≢true (sym works ∙ fails)));
-      not_now = search rules;
+      not_now = (λ _. (works, λ time. mapped_before plan.left plan.mapped (sym c.is_mapped.ensures ∙ c.if-is_mapped.true) (subst IsMapTime (sym phase_is) time)), λ _. refl);
       full = not_now-full;
       only = tt;
       unchanged = inr same;
@@ -236,13 +281,29 @@ returns-then-is_mapped g c =
 pub returns-in_err-map : goal.returns-in_err-map
 returns-in_err-map g c =
     let works = ap (λ (k : KeeperState g.row.D.Denot). k.failed) (sym c.self.view_is) ∙ c.if-self.false in
+    let plan = c.in-Some.plan in
+    let phase_is : phase_in plan.left plan.mapped ≡ c.args.self.now.phase = ap (λ (p : Option PlanState). phase_of (plans_of p c.self.inside.waiting.items)) (sym c.in-Some.is) ∙ ap (λ (k : KeeperState g.row.D.Denot). k.phase) c.self.view_is in
+    let inside = c.self.inside in
+    let made : Option PlanState → KeeperState g.row.D.Denot = λ first. let plans = plans_of first inside.waiting.items in record {
+      disk = inside.disk;
+      geometry = inside.header.geometry;
+      generation = inside.header.generation;
+      count = inside.count;
+      base = inside.header.base;
+      turned = turned_of plans;
+      lefts = lefts_of plans;
+      used = inside.area.gate;
+      phase = phase_of plans;
+      failed = inside.failed;
+      memory = record { header = inside.header; slot = inside.slot; map = inside.map; plans = plans; area = inside.area };
+    } in
     let same = ap (λ (k : KeeperState g.row.D.Denot). k.disk) c.self.view_is in
     let other = memory_apart c.from_residual.result c.from_residual.ensures.1 in record {
       ok =
           IfOk-from_err c.from_residual.result _ c.from_residual.ensures.0;
-      err = search rules;
+      err = err_given (λ (fault : KeeperFault). made (Some plan) ≡ refused_by fault c.args.self.now inside.disk) c.from_residual.result NoMemory c.from_residual.ensures.1 (ap made (sym c.in-Some.is) ∙ c.self.view_is);
       failed = (λ is. absurd (other.failed is), λ fails. absurd (false≢true (sym works ∙ fails)));
-      not_now = search rules;
+      not_now = (λ is. absurd (other.not_now is), λ due. absurd (due.1 (subst IsMapTime phase_is (map_due plan.left plan.mapped (omega (arith, c.if-left-gt0.false, c.left.ensures)) (sym c.is_mapped.ensures ∙ c.if-is_mapped.false)))));
       full = other.full;
       only =
           err_given IsStepFault c.from_residual.result NoMemory c.from_residual.ensures.1 tt;
@@ -318,7 +379,10 @@ returns-in-Ok g c = record {
   failed =
       let works = ap (λ (k : KeeperState g.row.D.Denot). k.failed) (sym c.self.view_is) ∙ c.if-self.false in
       (λ is. absurd (ok_apart _ _ is), λ fails. absurd (false≢true (sym works ∙ fails)));
-  not_now = search rules;
+  not_now =
+      let plan = c.in-Some.plan in
+      let phase_is : phase_in plan.left plan.mapped ≡ c.args.self.now.phase = ap (λ (p : Option PlanState). phase_of (plans_of p c.self.inside.waiting.items)) (sym c.in-Some.is) ∙ ap (λ (k : KeeperState g.row.D.Denot). k.phase) c.self.view_is in
+      (λ is. absurd (ok_apart _ _ is), λ due. absurd (due.1 (subst IsMapTime phase_is (map_due plan.left plan.mapped (omega (arith, c.if-left-gt0.false, c.left.ensures)) (sym c.is_mapped.ensures ∙ c.if-is_mapped.false)))));
   full =
       λ is. absurd (ok_apart _ _ is);
   only = tt;
@@ -359,11 +423,31 @@ returns-in-Ok g c = record {
 pub returns-in-Err : goal.returns-in-Err
 returns-in-Err g c = record {
   ok = tt;
-  err = search rules;
+  err =
+      let disk = c.store_map.new.disk in
+      let inside = c.self.inside in
+      let made : Option PlanState → KeeperState g.row.D.Denot = λ first. let plans = plans_of first inside.waiting.items in record {
+        disk = disk;
+        geometry = inside.header.geometry;
+        generation = inside.header.generation;
+        count = inside.count;
+        base = inside.header.base;
+        turned = turned_of plans;
+        lefts = lefts_of plans;
+        used = inside.area.gate;
+        phase = phase_of plans;
+        failed = true;
+        memory = record { header = inside.header; slot = inside.slot; map = inside.map; plans = plans; area = inside.area };
+      } in
+      ap made (sym c.in-Some.is) ∙ ap (λ (k : KeeperState g.row.D.Denot). let next : KeeperState g.row.D.Denot = record k { disk = disk; failed = true } in next) c.self.view_is
+      ∙ ap (λ (f : KeeperFault). refused_by f c.args.self.now disk) (sym c.from.ensures);
   failed =
       let works = ap (λ (k : KeeperState g.row.D.Denot). k.failed) (sym c.self.view_is) ∙ c.if-self.false in
       (λ is. absurd ((device_apart c.from.result c.from.ensures).failed is), λ fails. absurd (false≢true (sym works ∙ fails)));
-  not_now = search rules;
+  not_now =
+      let plan = c.in-Some.plan in
+      let phase_is : phase_in plan.left plan.mapped ≡ c.args.self.now.phase = ap (λ (p : Option PlanState). phase_of (plans_of p c.self.inside.waiting.items)) (sym c.in-Some.is) ∙ ap (λ (k : KeeperState g.row.D.Denot). k.phase) c.self.view_is in
+      (λ is. absurd ((device_apart c.from.result c.from.ensures).not_now is), λ due. absurd (due.1 (subst IsMapTime phase_is (map_due plan.left plan.mapped (omega (arith, c.if-left-gt0.false, c.left.ensures)) (sym c.is_mapped.ensures ∙ c.if-is_mapped.false)))));
   full =
       λ is. absurd ((device_apart c.from.result c.from.ensures).full is);
   only =
