@@ -69,7 +69,7 @@ pub returns-in_default-vec : goal.returns-in_default-vec
 returns-in_default-vec g c = inl c.refused-in_default-vec.ensures
 
 pub of-blocks-requires : goal.of-blocks-requires
-of-blocks-requires g c = search rules
+of-blocks-requires g c = omega arith
 
 pub bytes-requires : goal.bytes-requires
 bytes-requires g c = search rules
@@ -102,7 +102,7 @@ pub bytes_answer-requires-clause-inside : goal.bytes_answer-requires-clause-insi
 bytes_answer-requires-clause-inside g c = c.requires.inside
 
 pub bytes_answer-requires-clause-runs : goal.bytes_answer-requires-clause-runs
-bytes_answer-requires-clause-runs g c = search rules
+bytes_answer-requires-clause-runs g c = c.in-Ok.ensures
 
 pub bytes_answer-requires-clause-size : goal.bytes_answer-requires-clause-size
 bytes_answer-requires-clause-size g c =

@@ -1,5 +1,5 @@
 use Rattle.device_image.specs.Keeper.{KeeperState}
-use Rattle.std.proofs.Common.{◌≡◌, ◌≢◌, ◌+◌, ◌-◌, ◌*◌, ◌/◌, ◌%◌, ℕ, false, inl, inr, List, drop, take, get_or, length, None, Some, sym, ◌∙◌, ap, refl, arith, rules}
+use Rattle.std.proofs.Common.{◌≡◌, ◌≢◌, ◌+◌, ◌-◌, ◌*◌, ◌/◌, ◌%◌, ℕ, false, inl, inr, List, drop, take, get_or, length, None, Some, sym, ◌∙◌, ◌≤◌, ap, refl, arith, rules, subst}
 use Rattle.alloc_map.specs.Codes.{state_at}
 use Rattle.device_image.specs.Holds.{is_written, joined}
 use Rattle.image_model.specs.Edit.{blocks_met}
@@ -110,7 +110,7 @@ pub read_runs-requires-clause-inside : goal.read_runs-requires-clause-inside
 read_runs-requires-clause-inside g c = c.requires.inside
 
 pub of-blocks-requires : goal.of-blocks-requires
-of-blocks-requires g c = search rules
+of-blocks-requires g c = omega arith
 
 pub bytes-requires : goal.bytes-requires
 bytes-requires g c = search rules
@@ -152,10 +152,10 @@ pub bytes_answer-requires-clause-most : goal.bytes_answer-requires-clause-most
 bytes_answer-requires-clause-most g c = c.requires.most
 
 pub bytes_answer-requires-clause-few : goal.bytes_answer-requires-clause-few
-bytes_answer-requires-clause-few g c = search rules
+bytes_answer-requires-clause-few g c = subst (λ (states : List Kind). length states ≤ 16777216) (sym c.in-Ok-read_with.ensures.view.states) c.requires.few
 
 pub bytes_answer-requires-clause-inside : goal.bytes_answer-requires-clause-inside
-bytes_answer-requires-clause-inside g c = search rules
+bytes_answer-requires-clause-inside g c = subst (λ (states : List Kind). c.args.head.now.offset + c.args.head.now.length ≤ 4096 * length states) (sym c.in-Ok-read_with.ensures.view.states) c.requires.inside
 
 pub bytes_answer-requires-clause-size : goal.bytes_answer-requires-clause-size
 bytes_answer-requires-clause-size g c =

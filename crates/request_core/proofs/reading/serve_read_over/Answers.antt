@@ -1,4 +1,4 @@
-use Rattle.std.proofs.Common.{◌≡◌, ◌+◌, ◌-◌, ◌*◌, ◌/◌, ◌%◌, ℕ, inr, List, drop, take, get_or, length, None, Some, sym, ◌∙◌, ap, subst, refl, arith, rules}
+use Rattle.std.proofs.Common.{◌≡◌, ◌≤◌, ◌+◌, ◌-◌, ◌*◌, ◌/◌, ◌%◌, ℕ, inr, List, drop, take, get_or, length, None, Some, sym, ◌∙◌, ap, subst, refl, arith, rules}
 use Rattle.alloc_map.specs.Codes.{state_at}
 use Rattle.image_model.specs.Edit.{blocks_met}
 use Rattle.image_model.specs.Image.{Image}
@@ -117,7 +117,7 @@ pub cut-requires : goal.cut-requires
 cut-requires g c = search rules
 
 pub bytes_answer-requires-clause-few : goal.bytes_answer-requires-clause-few
-bytes_answer-requires-clause-few g c = search rules
+bytes_answer-requires-clause-few g c = subst (λ (states : List Kind). length states ≤ 16777216) (sym (c.if-not-read_over.ensures.view refl).states) (omega (arith, c.requires.blocks))
 
 pub bytes_answer-requires-clause-inside : goal.bytes_answer-requires-clause-inside
 bytes_answer-requires-clause-inside g c = search rules

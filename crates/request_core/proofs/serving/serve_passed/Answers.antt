@@ -1,10 +1,17 @@
-use Rattle.std.proofs.Common.{◌∙◌, ap, inl, inr, refl, subst, sym, rules}
+use Rattle.std.proofs.Common.{◌≡◌, ◌≢◌, ◌*◌, ◌+◌, ◌≤◌, ◌∙◌, ℕ, ap, arith, inl, inr, refl, subst, sym, rules}
 use Rattle.std.proofs.lemmas.Bool.{false≢true}
+use Rattle.export_model.specs.Verdict.{IsServedRange}
+use Rattle.image_model.specs.declared.geometry.Geometry.{Geometry}
 use Rattle.nbd_wire.specs.declared.head.RequestHead.{RequestHead}
 use Rattle.request_core.specs.Reading.{IsHeldReadServed, IsStatusServed}
 use Rattle.request_core.proofs.Needing.{lacks_blocks, lacks_given, neither_3, neither_7, not_read}
 use Rattle.request_core.proofs.Passes.{held_passes, not_grown, status_passes}
 use Rattle.request_core.proofs.serving.serve_passed.Goals as goal
+
+-- the range of a head whose type isn't that of a FLUSH
+in_range : (head given : RequestHead) (geometry : Geometry) (kind : ℕ) → head ≡ given → head.kind ≡ kind → (kind ≡ 3 → ⊥) → (given.kind ≢ 3 → IsServedRange given geometry) → IsServedRange head geometry
+in_range head given geometry kind is at other range =
+    subst (λ (h : RequestHead). IsServedRange h geometry) (sym is) (range (λ three. other (sym at ∙ ap (λ (h : RequestHead). h.kind) is ∙ three)))
 
 pub returns-in-7 : goal.returns-in-7
 returns-in-7 g c = record {
@@ -47,25 +54,25 @@ returns-else-holds g c = record {
 }
 
 pub of-blocks-requires : goal.of-blocks-requires
-of-blocks-requires g c = search rules
+of-blocks-requires g c = let range = in_range _ _ _ 0 c.head-head.ensures c.in-0.is (λ e. cc) c.requires.range in omega (arith, range.inside)
 
 pub holds-requires : goal.holds-requires
 holds-requires g c = search rules
 
 pub serve_held_read-requires-clause-kind : goal.serve_held_read-requires-clause-kind
-serve_held_read-requires-clause-kind g c = search rules
+serve_held_read-requires-clause-kind g c = c.in-0.is
 
 pub serve_held_read-requires-clause-some : goal.serve_held_read-requires-clause-some
-serve_held_read-requires-clause-some g c = search rules
+serve_held_read-requires-clause-some g c = (in_range _ _ _ 0 c.head-head.ensures c.in-0.is (λ e. cc) c.requires.range).some
 
 pub serve_held_read-requires-clause-most : goal.serve_held_read-requires-clause-most
-serve_held_read-requires-clause-most g c = search rules
+serve_held_read-requires-clause-most g c = (in_range _ _ _ 0 c.head-head.ensures c.in-0.is (λ e. cc) c.requires.range).most_read c.in-0.is
 
 pub serve_held_read-requires-clause-few : goal.serve_held_read-requires-clause-few
-serve_held_read-requires-clause-few g c = search rules
+serve_held_read-requires-clause-few g c = omega (arith, c.requires.blocks)
 
 pub serve_held_read-requires-clause-inside : goal.serve_held_read-requires-clause-inside
-serve_held_read-requires-clause-inside g c = search rules
+serve_held_read-requires-clause-inside g c = subst (λ (n : ℕ). c.head-head.result.offset + c.head-head.result.length ≤ 4096 * n) (sym c.requires.blocks) (in_range _ _ _ 0 c.head-head.ensures c.in-0.is (λ e. cc) c.requires.range).inside
 
 pub serve_held_read-requires-clause-held : goal.serve_held_read-requires-clause-held
 serve_held_read-requires-clause-held g c = search rules
@@ -74,13 +81,13 @@ pub serve_status-requires-clause-kind : goal.serve_status-requires-clause-kind
 serve_status-requires-clause-kind g c = search rules
 
 pub serve_status-requires-clause-some : goal.serve_status-requires-clause-some
-serve_status-requires-clause-some g c = search rules
+serve_status-requires-clause-some g c = (in_range _ _ _ 7 c.head-head.ensures c.in-7.is (λ e. cc) c.requires.range).some
 
 pub serve_status-requires-clause-few : goal.serve_status-requires-clause-few
-serve_status-requires-clause-few g c = search rules
+serve_status-requires-clause-few g c = omega (arith, c.requires.blocks)
 
 pub serve_status-requires-clause-inside : goal.serve_status-requires-clause-inside
-serve_status-requires-clause-inside g c = search rules
+serve_status-requires-clause-inside g c = subst (λ (n : ℕ). c.head-head.result.offset + c.head-head.result.length ≤ 4096 * n) (sym c.requires.blocks) (in_range _ _ _ 7 c.head-head.ensures c.in-7.is (λ e. cc) c.requires.range).inside
 
 pub serve_held_edit-requires-clause-write : goal.serve_held_edit-requires-clause-write
 serve_held_edit-requires-clause-write g c = search rules

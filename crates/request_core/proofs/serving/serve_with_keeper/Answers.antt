@@ -169,10 +169,10 @@ pub serve_read-requires-clause-device : goal.serve_read-requires-clause-device
 serve_read-requires-clause-device g c = search rules
 
 pub serve_edit-requires-clause-blocks : goal.serve_edit-requires-clause-blocks
-serve_edit-requires-clause-blocks g c = search rules
+serve_edit-requires-clause-blocks g c = ap (λ (o : OrderState). length o.cache.states) c.in-Err-2.ensures.unchanged.0 ∙ c.requires.blocks
 
 pub serve_edit-requires-clause-device : goal.serve_edit-requires-clause-device
-serve_edit-requires-clause-device g c = search rules
+serve_edit-requires-clause-device g c = c.requires.device
 
 pub returns-in-Err-clause-blocks : goal.returns-in-Err-clause-blocks
 returns-in-Err-clause-blocks g c = search rules
