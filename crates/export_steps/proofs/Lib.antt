@@ -5,6 +5,7 @@ mod Copied
 mod Fresh
 mod Lifted
 mod Performed
+mod Refusals
 mod Runs
 mod Serves
 mod Steady
