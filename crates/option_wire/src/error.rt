@@ -10,7 +10,7 @@ use thiserror::Error;
 pub struct Malformed;
 
 /// Why an option isn't read.
-#[derive(Clone, Copy, Debug, PartialEq, Eq, Error)]
+#[derive(Clone, Copy, Debug, Error)]
 pub enum OptionFault {
     /// Refusal 0 (no memory): memory ran out.
     #[error("no memory")]

@@ -11,7 +11,7 @@ const NBD_MAGIC: u64 = 0x4e42_444d_4147_4943;
 pub const OPTION_MAGIC: u64 = 0x4948_4156_454f_5054;
 
 /// What the server offers in its greeting ("Handshake flags" of NBD's `proto.md`).
-#[derive(Clone, Copy, PartialEq, Eq)]
+#[derive(Clone, Copy)]
 pub struct HandshakeFlags(u16);
 
 bitflag_items! {

@@ -67,7 +67,7 @@ pub enum Information {
 }
 
 /// Why an option is refused ("Option reply types" of NBD's `proto.md`).
-#[derive(Clone, Copy, PartialEq, Eq)]
+#[derive(Clone, Copy)]
 pub enum OptionError {
     /// ERR_UNSUP: the server doesn't know the option.
     Unsupported,
