@@ -67,6 +67,9 @@ fn turned(event: &Event) -> Result<(), Refusal>
     }
 }
 
+// A function of its own, it is proved once, and not variant by variant wherever an event is let go.
+fn let_go(_event: Event) {}
+
 // Says what the proof of serving takes from a request's invariant: its data are 1 MiB at most.
 fn few_bytes(request: &Request)
     ensures { length request.now.bytes ≤ 1048576 }
@@ -140,7 +143,9 @@ impl<B: BoardName, D: Disk> Export<B, D> {
             × MatchResult result (λ done. IsDone world (after_step world step failure)) (λ refusal. HasCause refusal world (after_step world step failure)) }
     {
         let event = self.store_step(step);
-        turned(&event)
+        let goes_on = turned(&event);
+        let_go(event);
+        goes_on
     }
 
     // Copies the next blocks of the first of several areas in use into data, or gives the event of the step that didn't.
@@ -183,7 +188,11 @@ impl<B: BoardName, D: Disk> Export<B, D> {
         loop {
             match self.copy_some() {
                 Ok(_) => {}
-                Err(event) => return turned(&event),
+                Err(event) => {
+                    let end = turned(&event);
+                    let_go(event);
+                    return end;
+                }
             }
         }
     }
@@ -244,7 +253,7 @@ impl<B: BoardName, D: Disk> Export<B, D> {
         self.finish_checkpoint()?;
         self.turn(Step::Rotate)?;
         self.finish_checkpoint()?;
-        self.store_step(Step::Clean);
+        let_go(self.store_step(Step::Clean));
         Ok(())
     }
 
@@ -267,7 +276,11 @@ impl<B: BoardName, D: Disk> Export<B, D> {
         let sealed = self.store_step(Step::Seal);
         let appended = self.store_step(Step::Append);
         let published = self.store_step(Step::Publish);
-        stored(&sealed, &appended, &published)
+        let fits = stored(&sealed, &appended, &published);
+        let_go(sealed);
+        let_go(appended);
+        let_go(published);
+        fits
     }
 
     // Whether there is nothing to store, or nothing that can be.

@@ -10,6 +10,7 @@ ghost use Rattle.nbdj_pipe.specs.inner.Refusals.{IsOfExport};
 ghost use Rattle.nbdj_pipe.specs.inner.Session.{IsEndOr, IsEndShown, IsFed, Runs, Serves, StaysOpen, Takes};
 ghost use Rattle.nbdj_pipe.specs.Talk.{data_of, error_of, plain, reply_to};
 ghost use Rattle.front_end.specs.declared.refusal.Refusal.TheVariants as Refusal;
+ghost use Rattle.nbd_wire.specs.Stream.{fresh};
 ghost use Rattle.device_image.specs.Holds.{Holds};
 ghost use Rattle.image_model.specs.Image.{Image};
 ghost use Rattle.image_model.specs.declared.command.Kind.{Kind};
@@ -124,7 +125,9 @@ fn pipe_over<B: BoardName, D: Disk, R: Read, W: Write>(
         },
         replies: Vec::new(alloc),
     };
-    let end = session.run(alloc, input, output);
+    let mut reader = StreamReader::new(alloc);
+    let mut piece = Vec::new(alloc);
+    let end = session.run(&mut reader, &mut piece, input, output);
     let outcome = session.finish(end);
     let Session { export, replies: _ } = session;
     (outcome, export.into_disk())
@@ -172,13 +175,16 @@ struct Session<B: BoardName, D: Disk> {
 }
 
 impl<B: BoardName, D: Disk> Session<B, D> {
-    // Serves the requests up to the first end.
+    // Serves the requests up to the first end. Reader and piece are the caller's, where they are let go once, and not at each
+    // exit.
     fn run<R: Read, W: Write>(
         &mut self,
-        alloc: Global,
+        reader: &mut StreamReader,
+        piece: &mut Vec<u8>,
         input: &mut R,
         output: &mut W,
     ) -> Result<(), Refusal>
+        requires fresh { reader.old ≡ fresh }
         requires group { IfSome self.old.export.connections.group (IsInHand self.old.export.order) }
         requires none_due { self.old.replies.items ≡ [] }
         ensures group { IfSome self.new.export.connections.group (IsInHand self.new.export.order) }
@@ -190,14 +196,12 @@ impl<B: BoardName, D: Disk> Session<B, D> {
         ensures early { IsErrOf result Refusal.DeviceFault → ⊥ }
     {
         leads_law::<D>();
-        let mut reader = StreamReader::new(alloc);
-        let mut piece = Vec::new(alloc);
         for _ in 0..u64::MAX {
-            let count = read_piece(&reader, input, &mut piece)?;
+            let count = read_piece(reader, input, piece)?;
             if count == 0 {
                 return Err(Refusal::PeerClosed);
             }
-            let flow = self.take(&mut reader, &piece[..count]);
+            let flow = self.take(reader, &piece[..count]);
             self.write_replies(output)?;
             match flow? {
                 Flow::Ended => return Ok(()),

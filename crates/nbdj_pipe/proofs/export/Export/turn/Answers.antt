@@ -9,5 +9,5 @@ returns-clause-world g c = λ world trusted of.
     let next = after_step world c.args.step done.0 in (
       done.0,
       done.1,
-      turn_shown world next c.args.step c.store_step-event.result c.turned.result (done.0, refl) c.requires.storing done.2 c.turned.ensures,
+      turn_shown world next c.args.step c.store_step-event.result c.turned-goes_on.result (done.0, refl) c.requires.storing done.2 c.turned-goes_on.ensures,
     )

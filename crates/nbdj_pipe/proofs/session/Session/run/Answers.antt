@@ -7,7 +7,7 @@ use Rattle.nbdj_pipe.specs.Pipe.{IsPiped}
 use Rattle.nbdj_pipe.specs.inner.Refusals.{IsEarly}
 use Rattle.nbdj_pipe.specs.inner.Session.{Runs, Takes}
 use Rattle.front_end.specs.declared.refusal.Refusal.{Refusal}
-use Rattle.front_end.specs.declared.refusal.Refusal.TheVariants.{DeviceFault, NoMemory, StreamFault}
+use Rattle.front_end.specs.declared.refusal.Refusal.TheVariants.{DeviceFault, NoMemory, PeerClosed, StreamFault}
 use Rattle.nbdj_pipe.specs.declared.session.Flow.{Flow}
 use Rattle.byte_streams.specs.laws.Bytes.{keeps_same}
 use Rattle.nbdj_pipe.proofs.Runs.{runs_bare, runs_none, runs_on}
@@ -28,6 +28,15 @@ no_fault_of told (Err other) refusal none was is fault = none (was ∙ ap Err (s
   where
     same : (let outcome : Result (Unit {0}) Refusal = Err other in outcome ≡ Err DeviceFault) → other ≡ DeviceFault
     same is = cc
+
+closed_apart : (let outcome : Result (Unit {0}) Refusal = Err PeerClosed in outcome ≡ Err DeviceFault) → ⊥
+closed_apart is = cc
+
+stream_apart : (let outcome : Result (Unit {0}) Refusal = Err StreamFault in outcome ≡ Err DeviceFault) → ⊥
+stream_apart is = cc
+
+ok_apart : (let outcome : Result (Unit {0}) Refusal = Ok tt in outcome ≡ Err DeviceFault) → ⊥
+ok_apart is = cc
 
 is_unshown : (refusal : Refusal) → (refusal ≡ NoMemory) ⊎ (refusal ≡ StreamFault) → IsUnshown refusal
 is_unshown refusal (inl is) = subst IsUnshown (sym is) unshown_memory
@@ -190,7 +199,7 @@ loop-init g c =
       extent = refl;
       honest = (λ is. is, λ is. is);
       none_due = c.requires.none_due;
-      going = subst (λ (r : Reader). IsGoing input input output output r (Runs disk.state disk.faults disk.honest a.order a.keeper a.connections a.order a.keeper a.connections)) (sym c.new-reader.ensures)
+      going = subst (λ (r : Reader). IsGoing input input output output r (Runs disk.state disk.faults disk.honest a.order a.keeper a.connections a.order a.keeper a.connections)) (sym c.requires.fresh)
           (going_first (Runs disk.state disk.faults disk.honest a.order a.keeper a.connections a.order a.keeper a.connections) input output
           (runs_none disk.state disk.faults disk.honest c.leads_law.ensures a.order a.keeper a.connections));
     }
@@ -248,3 +257,15 @@ returns-clause-extent g c = c.loop.invariant.extent
 
 pub returns-clause-honest : goal.returns-clause-honest
 returns-clause-honest g c = c.loop.invariant.honest
+
+pub take-flow-requires : goal.take-flow-requires
+take-flow-requires g c = record { group = c.loop.invariant.group }
+
+pub returns-then-count-eq0-clause-early : goal.returns-then-count-eq0-clause-early
+returns-then-count-eq0-clause-early g c = closed_apart
+
+pub returns-in-Ended-clause-early : goal.returns-in-Ended-clause-early
+returns-in-Ended-clause-early g c = ok_apart
+
+pub returns-clause-early : goal.returns-clause-early
+returns-clause-early g c = stream_apart

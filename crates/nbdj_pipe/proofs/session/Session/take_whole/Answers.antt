@@ -2,7 +2,7 @@ use Rattle.std.proofs.Common.{arith, rules, ◌++◌, ◌≡◌, ◌≢◌, [], 
 use Rattle.std.specs.Prelude.{reverse}
 use Rattle.nbd_wire.specs.Request.{Message}
 use Rattle.nbd_wire.specs.Stream.{Reader}
-use Rattle.nbdj_pipe.specs.inner.Session.{Runs, Serves, Takes, TakesOn}
+use Rattle.nbdj_pipe.specs.inner.Session.{IsFed, Runs, Serves, Takes, TakesOn}
 use Rattle.nbdj_pipe.specs.Talk.{Exchange, asked, dialog, reply_to}
 use Rattle.front_end.specs.Refusals.{of_wire}
 use Rattle.front_end.specs.declared.refusal.Refusal.{Refusal}
@@ -24,6 +24,28 @@ unserved run served_run exchanges join old new piece all reads none before mid a
 unserved run served_run exchanges join old new piece all reads none before mid after request more refusal same due (early, is, inr (answer, kind, ran)) =
     takes_unwritten run old new piece all exchanges reads none before after (record { request = request; answer = answer }) more refusal same (is ∙ due) kind
     (join (record { request = request; answer = answer } ∷ []) None (Err refusal) ran) early
+
+err_apart : (refusal : Refusal) → (let result : Result Flow Refusal = Err refusal in result ≡ Ok Flow.Open) → ⊥
+err_apart refusal is = cc
+
+ended_apart : (let result : Result Flow Refusal = Ok Flow.Ended in result ≡ Ok Flow.Open) → ⊥
+ended_apart is = cc
+
+pub serve-requires : goal.serve-requires
+serve-requires g c = record { group = c.loop-request.invariant.group }
+
+pub returns-in_err-requests-clause-is_open : goal.returns-in_err-requests-clause-is_open
+returns-in_err-requests-clause-is_open g c =
+    as_error (IsFed c.args.reader.now c.args.piece.now c.feed.new.self) (of_wire c.in_err-requests.field-0.0) c.from_residual.result c.from_residual.ensures.1
+    (λ is. absurd (err_apart (of_wire c.in_err-requests.field-0.0) is))
+
+pub returns-in_err-serve-clause-is_open : goal.returns-in_err-serve-clause-is_open
+returns-in_err-serve-clause-is_open g c =
+    as_error (IsFed c.args.reader.now c.args.piece.now c.feed.new.self) c.in_err-serve.field-0.0 c.from_residual-in_err-serve.result c.from_residual-in_err-serve.ensures.1
+    (λ is. absurd (err_apart c.in_err-serve.field-0.0 is))
+
+pub returns-in-Ended-clause-is_open : goal.returns-in-Ended-clause-is_open
+returns-in-Ended-clause-is_open g c = λ is. absurd (ended_apart is)
 
 pub returns-in_err-requests-clause-takes : goal.returns-in_err-requests-clause-takes
 returns-in_err-requests-clause-takes g c =
