@@ -18,7 +18,7 @@ pub struct Agreed {
 }
 
 /// What comes behind an option.
-#[derive(Clone, Copy, PartialEq, Eq)]
+#[derive(Clone, Copy)]
 pub enum Next {
     /// Another option.
     Option,
@@ -70,13 +70,6 @@ impl OptionAnswer {
             agreed,
             next: Next::Transmission,
         }
-    }
-
-    /// The replies, in their order.
-    pub fn replies(&self) -> &[OptionReply]
-        ensures { result.now ≡ self.now.replies }
-    {
-        &self.replies
     }
 
     /// Appends the replies to the option of this number, or the export that an EXPORT_NAME is told. Refusal 0 (no memory): then
