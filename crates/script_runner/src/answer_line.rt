@@ -24,8 +24,8 @@ impl<'a> Display for AnswerLine<'a> {
 
 fn write_bytes<W: fmt::Write>(f: &mut Formatter<W>, bytes: &[u8]) -> fmt::Result {
     f.write_str(" bytes")?;
-    for byte in bytes.iter().step_by(BLOCK_BYTES as usize) {
-        write!(f, " {byte:02x}")?;
+    for at in (0..bytes.len()).step_by(BLOCK_BYTES as usize) {
+        write!(f, " {:02x}", bytes[at])?;
     }
     Ok(())
 }
