@@ -7,7 +7,7 @@ use Rattle.header_slots.specs.Slots.{HoldsHeader}
 use Rattle.header_slots.specs.declared.header.Header.{Header}
 use Rattle.header_slots.specs.laws.Frame.{same_reading}
 use Rattle.image_model.specs.declared.side.Side.{Side}
-use Rattle.device_image.specs.Copied.{IsTurnBegun, LeavesTurn}
+use Rattle.device_image.specs.inner.Copied.{IsTurnBegun, LeavesTurn}
 
 module _ (before : State) (extent from : ℕ) (calm : IsSteady before) (synced : IsSyncedIn before 0 8192) (behind : 8192 ≤ from) (current : Header) (slot : Side) (held : HoldsHeader before.seen extent current slot) (header : Header) where
   in_slots : (place : ℕ) → place < 8192 → before.unsynced place → ⊥

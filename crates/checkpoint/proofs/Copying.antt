@@ -9,8 +9,8 @@ use Rattle.journal_format.specs.Touches.{last_touch, touched_by_groups}
 use Rattle.journal_format.specs.declared.touch.Touch.TheVariants.{Put}
 use Rattle.latest_writes.specs.declared.range.PutRange.{PutRange}
 use Rattle.regions.specs.Layout.{areas_in, block_at, ring}
-use Rattle.device_image.specs.Copied.{IsCopiedOver}
-use Rattle.device_image.specs.Free.{to_be_copied}
+use Rattle.device_image.specs.inner.Copied.{IsCopiedOver}
+use Rattle.device_image.specs.inner.Free.{to_be_copied}
 use Rattle.device_image.specs.Keeper.{AreUncopied, KeeperState, PlanState, TellSame, count_puts, earlier_of, is_put, phase_of}
 use Rattle.device_image.specs.Keeps.{AreHeld, IsCopying, IsInPhase, IsPlaced, Keeps, touched_first}
 use Rattle.device_image.specs.Stands.{StandsFor, areas_in_front, next_number}

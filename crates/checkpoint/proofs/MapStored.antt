@@ -8,7 +8,7 @@ use Rattle.image_model.specs.declared.side.Side.{Side}
 use Rattle.regions.specs.Layout.{map_at}
 use Rattle.regions.specs.Map.{HoldsMap}
 use Rattle.regions.specs.Writes.{IsMapWritten, IsSameOutside}
-use Rattle.device_image.specs.Copied.{IsMapStored}
+use Rattle.device_image.specs.inner.Copied.{IsMapStored}
 use Rattle.device_image.specs.laws.HeaderReplaced.{slot_kept}
 
 pub map_stored : (before mid after : State) (geometry : Geometry) (slot : Side) (states : List Kind) {extent other : ℕ} → IsSound extent before → IsSound other mid → other ≡ extent → IsSteady before

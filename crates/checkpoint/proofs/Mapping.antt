@@ -10,8 +10,8 @@ use Rattle.journal_format.specs.Touches.{kind_after}
 use Rattle.journal_format.specs.declared.touch.Touch.{Touch}
 use Rattle.journal_format.specs.declared.touch.TouchedRange.{TouchedRange}
 use Rattle.regions.specs.Layout.{block_at, map_at}
-use Rattle.device_image.specs.Copied.{IsMapStored}
-use Rattle.device_image.specs.Free.{in_spare_map}
+use Rattle.device_image.specs.inner.Copied.{IsMapStored}
+use Rattle.device_image.specs.inner.Free.{in_spare_map}
 use Rattle.device_image.specs.Keeper.{AreStatesAfter, KeeperState, PlanState, TellSame, earlier_of, phase_of}
 use Rattle.device_image.specs.Keeps.{AreCopied, Keeps, touched_first}
 use Rattle.device_image.specs.Stands.{StandsFor}

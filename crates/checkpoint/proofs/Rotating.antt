@@ -18,8 +18,8 @@ use Rattle.image_model.specs.declared.side.Side.{Side}
 use Rattle.journal_format.specs.Area.{AreaState}
 use Rattle.regions.specs.Layout.{area_at, area_size, areas_in, behind, block_at, next_of}
 use Rattle.regions.specs.laws.Ring.{area_high, area_low, behind_below}
-use Rattle.device_image.specs.CheckpointHeader.{with_next, without_first}
-use Rattle.device_image.specs.Copied.{IsTurnBegun, LeavesTurn}
+use Rattle.device_image.specs.inner.CheckpointHeader.{with_next, without_first}
+use Rattle.device_image.specs.inner.Copied.{IsTurnBegun, LeavesTurn}
 use Rattle.device_image.specs.Holds.{Holds}
 use Rattle.device_image.specs.Keeper.{AreUncopied, IsPlanOf, IsUncopied, KeeperState, PlanState, count_puts, last_number, last_turned, lefts_of, phase_in, phase_of, turned_of}
 use Rattle.device_image.specs.Keeps.{Keeps}

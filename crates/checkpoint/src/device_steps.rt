@@ -1,5 +1,5 @@
 ghost use Rattle.std.specs.Prelude.{◌≡◌, ◌+◌, ◌*◌, ◌%◌, ◌<◌, ◌≤◌, ◌↔◌, ◌∷◌, [], length, OnOk};
-ghost use Rattle.device_image.specs.Copied.{IsCopiedOver, IsMapStored, IsTurnBegun, LeavesTurn};
+ghost use Rattle.device_image.specs.inner.Copied.{IsCopiedOver, IsMapStored, IsTurnBegun, LeavesTurn};
 ghost use Rattle.disk_model.specs.Disk.{IsSteady, IsStored, IsSyncedIn, LeavesOnly, MayLeaveTorn};
 ghost use Rattle.disk_model.specs.Faults.{faults_after};
 ghost use Rattle.header_slots.specs.Change.{ComesNext};

@@ -9,7 +9,7 @@ ghost use Rattle.device_image.specs.Remembers.{Remembers};
 ghost use Rattle.image_model.specs.Dirty.{dirty_blocks};
 ghost use Rattle.std.specs.FinMap.{len};
 ghost use Rattle.device_image.specs.Stands.{StandsFor};
-ghost use Rattle.device_image.specs.CheckpointHeader.{with_next, without_first};
+ghost use Rattle.device_image.specs.inner.CheckpointHeader.{with_next, without_first};
 ghost use Rattle.disk_model.specs.Disk.{LeavesOnly};
 ghost use Rattle.image_model.specs.Change.{Change};
 ghost use Rattle.image_model.specs.Image.{Image, apply_all};

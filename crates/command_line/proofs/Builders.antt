@@ -10,7 +10,7 @@ use Rattle.clap.specs.declared.builder.arg.Arg.{Arg}
 use Rattle.clap.specs.declared.builder.arg.ArgPredicate.{ArgPredicate}
 use Rattle.clap.specs.declared.builder.command.Command.{Command}
 use Rattle.std.specs.Borrow.{Bor}
-use Rattle.command_line.specs.Rows.{rule_of_row, tied_rule, app_of_row, with_rows}
+use Rattle.command_line.specs.inner.Rows.{rule_of_row, tied_rule, app_of_row, with_rows}
 use Rattle.command_line.specs.declared.commands.ArgumentRow.{ArgumentRow}
 use Rattle.command_line.specs.declared.commands.SubcommandRow.{SubcommandRow}
 use Rattle.command_line.specs.declared.commands.Tie.{Tie}

@@ -1,4 +1,4 @@
 pub mod Commands
 pub mod Line
 pub mod Size
-pub mod Rows
+pub mod inner

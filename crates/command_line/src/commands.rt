@@ -3,7 +3,7 @@ ghost use Rattle.clap.specs.Words.{app_of, new_app, rule_of, with_rule, with_sub
 ghost use Rattle.command_line.specs.Commands.{bare_app, nbdj_app};
 ghost use Rattle.clap.specs.declared.builder.action.ArgAction.TheVariants.{SetTrue};
 ghost use Rattle.clap.specs.declared.builder.value_parser.ValueParser.{ValueParser};
-ghost use Rattle.command_line.specs.Rows.{app_of_row, rule_of_form, rule_of_row};
+ghost use Rattle.command_line.specs.inner.Rows.{app_of_row, rule_of_form, rule_of_row};
 
 use clap::builder::ValueParser;
 use clap::{Arg, ArgAction, Command};

@@ -1,10 +1,8 @@
-pub mod Copied
 pub mod Damage
-pub mod Free
 pub mod Holds
 pub mod Keeper
 pub mod Keeps
 pub mod Remembers
 pub mod Stands
-pub mod CheckpointHeader
+pub mod inner
 pub mod laws

@@ -1,6 +1,5 @@
 pub mod Cells
 pub mod Frames
-pub mod Lends
 pub mod Linked
 pub mod Lists
 pub mod Nodes
@@ -9,4 +8,5 @@ pub mod Ownership
 pub mod Pool
 pub mod Region
 pub mod Ring
+pub mod inner
 pub mod laws

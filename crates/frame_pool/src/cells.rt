@@ -109,7 +109,7 @@ pub fn deallocate<T, A: Allocator>(
 }
 
 impl<T> Cells<T> {
-    ghost use Rattle.frame_pool.specs.Lends.{lends_cell};
+    ghost use Rattle.frame_pool.specs.inner.Lends.{lends_cell};
 
     // Writes a cell, over the value that it holds, if any, which is forgotten.
     pub fn write(&mut self, base: Base<T>, index: usize, item: T)

@@ -8,7 +8,7 @@ use Rattle.atomic_table.proofs.Lists.{at_set, at_snoc}
 use Rattle.image_model.specs.declared.command.Command.{Command}
 use Rattle.marks.specs.declared.view.View.{View}
 use Rattle.marks.specs.Rule.{World, Fits, IsBoard, first_view}
-use Rattle.marks.specs.Steps.{without_keeper, keeper_only, nothing}
+use Rattle.marks.specs.inner.Steps.{without_keeper, keeper_only, nothing}
 use Rattle.marks.specs.laws.Beginnings.{prefix_none, prefix_self, prefix_trans}
 
 abbrev pub Board : Type 0

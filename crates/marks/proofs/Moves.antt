@@ -10,7 +10,7 @@ use Rattle.atomic_table.proofs.Lists.{at_set}
 use Rattle.image_model.specs.declared.command.Command.{Command}
 use Rattle.marks.specs.declared.view.View.{View}
 use Rattle.marks.specs.Rule.{World, Fits, IsBoard}
-use Rattle.marks.specs.Steps.{LooksAccepted, LooksDurable, TakesIn, RaisesAccepted, RaisesDurable, RaisesBase, own_after, without_keeper, keeper_only, telling, nothing, hearing, learning_base, taking_history, taking_in, taking_over}
+use Rattle.marks.specs.inner.Steps.{LooksAccepted, LooksDurable, TakesIn, RaisesAccepted, RaisesDurable, RaisesBase, own_after, without_keeper, keeper_only, telling, nothing, hearing, learning_base, taking_history, taking_in, taking_over}
 use Rattle.marks.specs.laws.Beginnings.{longer_of, prefix_length, prefix_none, prefix_of_append, prefix_self, prefix_shorter, prefix_take, prefix_trans}
 use Rattle.marks.proofs.Fitting.{Board, Grows, grows_none, same_for, words_of, moved, split, gives, join}
 

@@ -17,7 +17,7 @@ impl TableRule<Command, View, u64> for Law {
 pub(crate) struct LookAccepted;
 
 impl Play<Command, View> for LookAccepted {
-    ghost use Rattle.marks.specs.Steps.{LooksAccepted};
+    ghost use Rattle.marks.specs.inner.Steps.{LooksAccepted};
 
     ghost then = { LooksAccepted };
 }
@@ -26,7 +26,7 @@ impl Play<Command, View> for LookAccepted {
 pub(crate) struct LookDurable;
 
 impl Play<Command, View> for LookDurable {
-    ghost use Rattle.marks.specs.Steps.{LooksDurable};
+    ghost use Rattle.marks.specs.inner.Steps.{LooksDurable};
 
     ghost then = { LooksDurable };
 }
@@ -35,7 +35,7 @@ impl Play<Command, View> for LookDurable {
 pub(crate) struct TakeIn;
 
 impl Play<Command, View> for TakeIn {
-    ghost use Rattle.marks.specs.Steps.{TakesIn};
+    ghost use Rattle.marks.specs.inner.Steps.{TakesIn};
 
     ghost then = { TakesIn };
 }
@@ -44,7 +44,7 @@ impl Play<Command, View> for TakeIn {
 pub(crate) struct RaiseAccepted;
 
 impl Play<Command, View> for RaiseAccepted {
-    ghost use Rattle.marks.specs.Steps.{RaisesAccepted};
+    ghost use Rattle.marks.specs.inner.Steps.{RaisesAccepted};
 
     ghost then = { RaisesAccepted };
 }
@@ -53,7 +53,7 @@ impl Play<Command, View> for RaiseAccepted {
 pub(crate) struct RaiseDurable;
 
 impl Play<Command, View> for RaiseDurable {
-    ghost use Rattle.marks.specs.Steps.{RaisesDurable};
+    ghost use Rattle.marks.specs.inner.Steps.{RaisesDurable};
 
     ghost then = { RaisesDurable };
 }
@@ -62,7 +62,7 @@ impl Play<Command, View> for RaiseDurable {
 pub(crate) struct RaiseBase;
 
 impl Play<Command, View> for RaiseBase {
-    ghost use Rattle.marks.specs.Steps.{RaisesBase};
+    ghost use Rattle.marks.specs.inner.Steps.{RaisesBase};
 
     ghost then = { RaisesBase };
 }
@@ -71,7 +71,7 @@ impl Play<Command, View> for RaiseBase {
 pub(crate) struct GiveKeeper;
 
 impl Split<View> for GiveKeeper {
-    ghost use Rattle.marks.specs.Steps.{without_keeper, keeper_only};
+    ghost use Rattle.marks.specs.inner.Steps.{without_keeper, keeper_only};
 
     ghost left = { without_keeper };
 
@@ -82,7 +82,7 @@ impl Split<View> for GiveKeeper {
 pub(crate) struct Tell;
 
 impl Split<View> for Tell {
-    ghost use Rattle.marks.specs.Steps.{telling};
+    ghost use Rattle.marks.specs.inner.Steps.{telling};
 
     ghost left = { λ view. view };
 
@@ -93,7 +93,7 @@ impl Split<View> for Tell {
 pub(crate) struct Hear;
 
 impl Join<View> for Hear {
-    ghost use Rattle.marks.specs.Steps.{hearing, nothing};
+    ghost use Rattle.marks.specs.inner.Steps.{hearing, nothing};
 
     ghost both = { hearing };
 
@@ -104,7 +104,7 @@ impl Join<View> for Hear {
 pub(crate) struct TakeHistory;
 
 impl Join<View> for TakeHistory {
-    ghost use Rattle.marks.specs.Steps.{nothing, taking_history};
+    ghost use Rattle.marks.specs.inner.Steps.{nothing, taking_history};
 
     ghost both = { taking_history };
 
@@ -115,7 +115,7 @@ impl Join<View> for TakeHistory {
 pub(crate) struct TakeOver;
 
 impl Join<View> for TakeOver {
-    ghost use Rattle.marks.specs.Steps.{nothing, taking_over};
+    ghost use Rattle.marks.specs.inner.Steps.{nothing, taking_over};
 
     ghost both = { taking_over };
 
@@ -126,7 +126,7 @@ impl Join<View> for TakeOver {
 pub(crate) struct LearnBase;
 
 impl Join<View> for LearnBase {
-    ghost use Rattle.marks.specs.Steps.{learning_base, nothing};
+    ghost use Rattle.marks.specs.inner.Steps.{learning_base, nothing};
 
     ghost both = { learning_base };
 

@@ -3,7 +3,7 @@
 ghost use Rattle.std.specs.Prelude.{◌≡◌, ◌+◌, ◌<◌, ◌≤◌, ◌^◌, ◌++◌, ◌∷◌, [], max, true, false, length, Some};
 ghost use mathlib.Core.List.{IsPrefix};
 ghost use Rattle.marks.specs.Seats.{IsSeat, changes_of, last_number};
-ghost use Rattle.marks.specs.Steps.{hearing, learning_base, taking_history, taking_in, taking_over, telling};
+ghost use Rattle.marks.specs.inner.Steps.{hearing, learning_base, taking_history, taking_in, taking_over, telling};
 
 use crate::board::Board;
 use crate::name::BoardName;

@@ -18,8 +18,8 @@ use Rattle.journal_format.specs.declared.touch.Touch.TheVariants.{Put}
 use Rattle.journal_format.specs.declared.touch.TouchedRange.{TouchedRange}
 use Rattle.regions.specs.Layout.{area_at, area_size, areas_in, behind, block_at, next_of, ring}
 use Rattle.regions.specs.laws.Ring.{area_high, area_low, behind_apart, behind_below, next_below, ring-last}
-use Rattle.device_image.specs.Copied.{IsTurnBegun, LeavesTurn}
-use Rattle.device_image.specs.Free.{IsFree, in_spare_area, to_be_copied}
+use Rattle.device_image.specs.inner.Copied.{IsTurnBegun, LeavesTurn}
+use Rattle.device_image.specs.inner.Free.{IsFree, in_spare_area, to_be_copied}
 use Rattle.device_image.specs.Keeper.{AreStatesAfter, AreUncopied, IsPlanOf, IsRemembered, IsUncopied, KeeperState, PlanState, count_puts, earlier_of, is_put, last_number, phase_of}
 use Rattle.device_image.specs.Keeps.{AreHeld, IsCopying, IsInPhase, IsListed, IsMapWritten, IsPlaced, Keeps, behind_lists, touched_first}
 use Rattle.device_image.specs.Stands.{StandsFor, HoldLists, all_changes, areas_in_front, in_use, last_area, next_number, stored_image}

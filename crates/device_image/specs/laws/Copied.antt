@@ -11,8 +11,8 @@ use Rattle.journal_format.specs.Touches.{last_touch}
 use Rattle.journal_format.specs.declared.touch.Touch.{Touch}
 use Rattle.journal_format.specs.declared.touch.Touch.TheVariants.{Put}
 use Rattle.regions.specs.Layout.{area_at, area_size, areas_in, block_at}
-use Rattle.device_image.specs.Copied.{IsCopiedOver}
-use Rattle.device_image.specs.Free.{to_be_copied}
+use Rattle.device_image.specs.inner.Copied.{IsCopiedOver}
+use Rattle.device_image.specs.inner.Free.{to_be_copied}
 use Rattle.device_image.specs.Keeper.{AreUncopied, KeeperState, PlanState, count_puts, earlier_of, is_put, phase_of}
 use Rattle.device_image.specs.Keeps.{AreCopied, IsCopyPlace, IsCopying, IsInPhase, IsMapWritten, Keeps, touched_first}
 use Rattle.device_image.specs.Stands.{HoldLists, areas_in_front, next_number}

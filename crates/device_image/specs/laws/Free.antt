@@ -15,7 +15,7 @@ use Rattle.journal_format.specs.Spelling.{StoredGroup}
 use Rattle.regions.specs.Layout.{area_at, area_size, areas_in, behind, block_at, map_at, next_of, ring}
 use Rattle.regions.specs.Map.{HoldsMap}
 use Rattle.regions.specs.laws.Ring.{apart, area_high, area_low, behind_below, next_below}
-use Rattle.device_image.specs.Free.{IsFree, in_spare_area, in_spare_map, to_be_copied}
+use Rattle.device_image.specs.inner.Free.{IsFree, in_spare_area, in_spare_map, to_be_copied}
 use Rattle.device_image.specs.Keeper.{KeeperState}
 use Rattle.device_image.specs.Keeps.{IsCopyPlace, Keeps}
 use Rattle.device_image.specs.Stands.{StandsFor, HoldLists, all_changes, area_of, areas_in_front, in_use, next_number, stored_image}

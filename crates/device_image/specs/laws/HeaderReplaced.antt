@@ -23,7 +23,7 @@ use Rattle.journal_format.specs.laws.LastTouches.{groups_kind, groups_byte}
 use Rattle.regions.specs.Layout.{area_at, area_size, areas_in, behind, block_at, map_at, next_of, ring}
 use Rattle.regions.specs.Map.{HoldsMap}
 use Rattle.regions.specs.laws.Ring.{area_low, ring-last}
-use Rattle.device_image.specs.Free.{IsFree}
+use Rattle.device_image.specs.inner.Free.{IsFree}
 use Rattle.device_image.specs.Keeper.{AreStatesAfter}
 use Rattle.device_image.specs.Stands.{StandsFor, HoldLists, all_changes, areas_in_front, in_use, is_data, next_number, stored_image}
 use Rattle.device_image.specs.laws.Frame.{all_changes-append, apply_all-append, blocks-apply_all, image_kept, map_low, with_last}

@@ -9,7 +9,7 @@ use Rattle.journal_format.specs.GroupList.{next_behind}
 use Rattle.journal_format.specs.Spelling.{StoredGroup}
 use Rattle.regions.specs.Layout.{area_at, area_size, areas_in}
 use Rattle.regions.specs.laws.Ring.{area_high, behind_apart}
-use Rattle.device_image.specs.Free.{IsFree}
+use Rattle.device_image.specs.inner.Free.{IsFree}
 use Rattle.device_image.specs.Keeper.{KeeperState, PlanState, earlier_of, phase_of}
 use Rattle.device_image.specs.Keeps.{AreHeld, HoldsAreas, IsCopyPlace, IsInPhase, Keeps}
 use Rattle.device_image.specs.Stands.{areas_in_front, last_area, next_number}

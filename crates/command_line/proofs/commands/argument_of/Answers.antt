@@ -1,6 +1,6 @@
 use Rattle.std.proofs.Common.{false}
 use Rattle.std.proofs.lemmas.Result.{IfOk-weaker}
-use Rattle.command_line.specs.Rows.{rule_of_form}
+use Rattle.command_line.specs.inner.Rows.{rule_of_form}
 use Rattle.command_line.proofs.Builders.{conflicting, requiring, ruled, tied_by, wanted_unless}
 use Rattle.command_line.proofs.commands.argument_of.Goals as goal
 

@@ -1,6 +1,6 @@
 use Rattle.std.proofs.Common.{◌≡◌}
 use Rattle.clap.specs.Words.{app_of, with_subcommand}
-use Rattle.command_line.specs.Rows.{app_of_row}
+use Rattle.command_line.specs.inner.Rows.{app_of_row}
 use Rattle.command_line.proofs.Builders.{at_ok, subcommand_added}
 use Rattle.command_line.proofs.commands.joined.Goals as goal
 

@@ -1,6 +1,6 @@
 use Rattle.std.proofs.Common.{◌≡◌, drop}
 use Rattle.clap.specs.Words.{app_of}
-use Rattle.command_line.specs.Rows.{app_of_row, with_rows}
+use Rattle.command_line.specs.inner.Rows.{app_of_row, with_rows}
 use Rattle.command_line.proofs.commands.subcommand.Given as goal
 
 -- the rows that are left make the command whole

@@ -8,7 +8,7 @@ use Rattle.header_slots.specs.Change.{IsRenewed}
 use Rattle.header_slots.specs.declared.change.HeaderChange.{HeaderChange}
 use Rattle.image_model.specs.Image.{apply_all}
 use Rattle.image_model.specs.Side.{other_of}
-use Rattle.device_image.specs.CheckpointHeader.{without_first}
+use Rattle.device_image.specs.inner.CheckpointHeader.{without_first}
 use Rattle.device_image.specs.Holds.{Holds}
 use Rattle.device_image.specs.Keeper.{KeeperState, lefts_of, phase_of, turned_of}
 use Rattle.device_image.specs.Keeps.{Keeps}

@@ -15,7 +15,7 @@ use Rattle.image_model.specs.declared.geometry.Geometry.{Geometry}
 use Rattle.journal_format.specs.Area.{AreaState}
 use Rattle.journal_format.specs.declared.touch.TouchedRange.{TouchedRange}
 use Rattle.regions.specs.Layout.{area_at, area_size, areas_in, behind}
-use Rattle.device_image.specs.CheckpointHeader.{with_next}
+use Rattle.device_image.specs.inner.CheckpointHeader.{with_next}
 use Rattle.device_image.specs.Holds.{Holds}
 use Rattle.device_image.specs.Keeper.{AreUncopied, IsPlanOf, KeeperState, Memory, PlanState, count_puts, last_number, last_turned, lefts_of, phase_of, turned_of}
 use Rattle.device_image.specs.Keeps.{Keeps}

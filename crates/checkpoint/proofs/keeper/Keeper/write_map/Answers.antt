@@ -22,7 +22,7 @@ use Rattle.device_image.specs.Stands.{StandsFor}
 use Rattle.device_image.specs.laws.Kept.{kept_content}
 use Rattle.image_model.specs.Geometry.{map_bytes_of}
 use Rattle.regions.specs.Layout.{map_at}
-use Rattle.device_image.specs.Copied.{IsMapStored}
+use Rattle.device_image.specs.inner.Copied.{IsMapStored}
 use Rattle.checkpoint.proofs.Mapping.{map_held, map_left}
 use Rattle.checkpoint.proofs.keeper.Keeper.write_map.Goals as goal
 use Rattle.device_image.specs.Holds.{Holds}

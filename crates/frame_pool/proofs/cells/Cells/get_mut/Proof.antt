@@ -49,7 +49,7 @@ use Rattle.frame_pool.specs.Cells.{IsWritten}
 use Rattle.frame_pool.specs.Ownership.{slot, slots, cells_own}
 use Rattle.frame_pool.proofs.Memory.{Cr, Bs, Mark, sz, Place, word_had, filled_within, Besides, slot_out, slot_in}
 use denote.Follow.{follows, Part, lends_Part}
-use Rattle.frame_pool.specs.Lends.{with_slots}
+use Rattle.frame_pool.specs.inner.Lends.{with_slots}
 use Rattle.frame_pool.specs.contracts.cells.Cells.get_mut.Key.{name as #self}
 use Rattle.frame_pool.proofs.cells.Cells.get_mut.Statement as stated
 use Rattle.frame_pool.proofs.cells.Cells.get_mut.Code as code

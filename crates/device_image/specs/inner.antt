@@ -1,0 +1,3 @@
+pub mod CheckpointHeader
+pub mod Copied
+pub mod Free
