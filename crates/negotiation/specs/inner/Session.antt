@@ -1,5 +1,5 @@
 -- What functions of this crate hand to one another, beside `Session`.
-use Rattle.std.specs.Prelude.{◌≡◌, ◌⊎◌, ℕ, ◌+◌, ◌-◌, Option, Some, List, [], ◌++◌, length}
+use Rattle.std.specs.Prelude.{◌≡◌, ◌⊎◌, ℕ, Option, Some, List, [], ◌++◌, length}
 use Rattle.std.specs.Io.KnownBytes.{Consumes, IsAtEnd}
 use Rattle.nbd_wire.specs.Request.{Message}
 use Rattle.option_wire.specs.Handshake.{greeting_bytes}
