@@ -51,13 +51,13 @@ fn order_with<B: BoardName>(
     requires few { dirty < 2 ^ 32 }
 {
     let area = keeper.geometry().area;
-    let mut open = load::open_order::<B>(alloc, blank, keeper.count(), FRAMES, area)?;
+    let mut opened = load::open_order::<B>(alloc, blank, keeper.count(), FRAMES, area)?;
     for start in 0..dirty.div_ceil(load::BATCH) {
         let commands = load::batch(alloc, start, dirty)?;
-        load::accept_all(&mut open, commands)?;
-        load::store(&mut open, keeper)?;
+        load::accept_all(&mut opened, commands)?;
+        load::store(&mut opened, keeper)?;
     }
-    Ok(open)
+    Ok(opened)
 }
 
 // The time that the accepts of a batch take.
@@ -66,7 +66,7 @@ fn timed_batch<B: BoardName>(
     alloc: Global,
     start: u64,
     dirty: u64,
-    open: &mut OpenOrder<B>,
+    opened: &mut OpenOrder<B>,
 ) -> Result<Duration>
     requires some { 0 < dirty }
     requires few { dirty < 2 ^ 32 }
@@ -74,7 +74,7 @@ fn timed_batch<B: BoardName>(
 {
     let commands = load::batch(alloc, start, dirty)?;
     let begin = Instant::now(rt)?;
-    load::accept_all(open, commands)?;
+    load::accept_all(opened, commands)?;
     Ok(begin.elapsed(rt)?)
 }
 
@@ -83,7 +83,7 @@ fn timed_batches<B: BoardName>(
     rt: &HostRuntime,
     alloc: Global,
     dirty: u64,
-    open: &mut OpenOrder<B>,
+    opened: &mut OpenOrder<B>,
     keeper: &mut Keeper<SimDisk>,
 ) -> Result<Duration>
     requires some { 0 < dirty }
@@ -91,8 +91,8 @@ fn timed_batches<B: BoardName>(
 {
     let mut time = Duration::ZERO;
     for start in 0..BATCHES {
-        time = time.saturating_add(timed_batch(rt, alloc, start, dirty, open)?);
-        load::store(open, keeper)?;
+        time = time.saturating_add(timed_batch(rt, alloc, start, dirty, opened)?);
+        load::store(opened, keeper)?;
     }
     Ok(time)
 }
@@ -111,8 +111,8 @@ fn accepts<B: BoardName>(
     requires some { 0 < dirty }
     requires few { dirty < 2 ^ 32 }
 {
-    let mut open = order_with::<B>(alloc, blank, dirty, keeper)?;
-    timed_batches(rt, alloc, dirty, &mut open, keeper)
+    let mut opened = order_with::<B>(alloc, blank, dirty, keeper)?;
+    timed_batches(rt, alloc, dirty, &mut opened, keeper)
 }
 
 // How many of these a second.
@@ -161,8 +161,8 @@ fn measure_clean<B: BoardName>(
 }
 
 // Looks at the durable number.
-fn measure_looks<B: BoardName>(rt: &HostRuntime, open: &mut OpenOrder<B>) -> Result<()> {
-    let tenths = threads::looks(rt, open, LOOKS)?.as_nanos() / u128::from(LOOKS / 10);
+fn measure_looks<B: BoardName>(rt: &HostRuntime, opened: &mut OpenOrder<B>) -> Result<()> {
+    let tenths = threads::looks(rt, opened, LOOKS)?.as_nanos() / u128::from(LOOKS / 10);
     println!(rt; "a look: {}.{} ns", tenths / 10, tenths % 10)?;
     Ok(())
 }
@@ -187,7 +187,7 @@ fn measure_threads<R: Threads + Wait + Sync + Clock + Print>(
 fn measure_edits<B: BoardName>(
     rt: &HostRuntime,
     alloc: Global,
-    open: &mut OpenOrder<B>,
+    opened: &mut OpenOrder<B>,
     keeper: &mut Keeper<SimDisk>,
 ) -> Result<()> {
     for (name, batches, offset, count) in [
@@ -197,7 +197,7 @@ fn measure_edits<B: BoardName>(
         ("1 MiB", 2, 0, 1_048_576),
         ("1 MiB from byte 1 on", 2, 1, 1_048_576),
     ] {
-        let time = edits::timed_puts(rt, alloc, open, keeper, batches, offset, count)?;
+        let time = edits::timed_puts(rt, alloc, opened, keeper, batches, offset, count)?;
         let each = time.as_nanos() / u128::from(edits::edits_in(batches).max(1));
         println!(rt; "a put of {name}: {each} ns")?;
     }
@@ -208,15 +208,15 @@ fn measure_edits<B: BoardName>(
 fn measure_order<B: BoardName>(
     rt: &HostRuntime,
     alloc: Global,
-    open: &mut OpenOrder<B>,
+    opened: &mut OpenOrder<B>,
     keeper: &mut Keeper<SimDisk>,
 ) -> Result<()> {
-    measure_looks(rt, open)?;
-    measure_read(rt, alloc, &open.order, 1)?;
-    measure_read(rt, alloc, &open.order, 256)?;
-    measure_edits(rt, alloc, open, keeper)?;
+    measure_looks(rt, opened)?;
+    measure_read(rt, alloc, &opened.order, 1)?;
+    measure_read(rt, alloc, &opened.order, 256)?;
+    measure_edits(rt, alloc, opened, keeper)?;
     load::checkpoint(keeper)?;
-    measure_clean(rt, &mut open.order, keeper)
+    measure_clean(rt, &mut opened.order, keeper)
 }
 
 fn measure_reads<B: BoardName>(
@@ -229,8 +229,8 @@ fn measure_reads<B: BoardName>(
     requires named { blank.opening ≡ B.opening }
     requires opening { blank.opening ≡ keeper.old.count }
 {
-    let mut open = order_with::<B>(alloc, blank, DIRTY, keeper)?;
-    measure_order(rt, alloc, &mut open, keeper)
+    let mut opened = order_with::<B>(alloc, blank, DIRTY, keeper)?;
+    measure_order(rt, alloc, &mut opened, keeper)
 }
 
 // What stands at the limits: groups, dirty blocks, and what isn't durable.
@@ -265,8 +265,11 @@ fn stored<B: BoardName>(
     requires named { blank.opening ≡ B.opening }
     requires opening { blank.opening ≡ keeper.old.count }
 {
-    let mut open = order_with::<B>(alloc, blank, 1_000, keeper)?;
-    Ok((open.order.mark(), open.board.look_durable(&mut open.pass)))
+    let mut opened = order_with::<B>(alloc, blank, 1_000, keeper)?;
+    Ok((
+        opened.order.mark(),
+        opened.board.look_durable(&mut opened.pass),
+    ))
 }
 
 fn print_stored(rt: &impl Print, alloc: Global) -> Result<()> {

@@ -106,14 +106,14 @@ fn dirty_before(case: Case) -> u32 {
 
 // The number of the next command.
 fn next_number<B: BoardName>(subject: &Subject<B>) -> u64 {
-    subject.open.order.mark().wrapping_add(1)
+    subject.opened.order.mark().wrapping_add(1)
 }
 
 // Whether a block of data comes to be this.
 fn prepares<B: BoardName>(subject: &mut Subject<B>, block: u64, before: Before) -> bool {
     let number = next_number(subject);
     match before {
-        Before::Dirty => takes_put(subject.alloc, &mut subject.open, block, 1, number),
+        Before::Dirty => takes_put(subject.alloc, &mut subject.opened, block, 1, number),
         Before::Clean => subject.reads(block, 1) && subject.holds(block),
         Before::Missing => !subject.holds(block),
         Before::Zero => {
@@ -122,7 +122,7 @@ fn prepares<B: BoardName>(subject: &mut Subject<B>, block: u64, before: Before) 
                 blocks: 1,
                 kind: Kind::Zero,
             };
-            takes(&mut subject.open, clear, number)
+            takes(&mut subject.opened, clear, number)
         }
     }
 }
@@ -134,8 +134,8 @@ fn clears<B: BoardName>(subject: &mut Subject<B>, case: Case) -> bool {
     };
     let body = 14 + bytes.len() as u64;
     let edges = case.edges.count() as u32;
-    let dirty = subject.open.order.dirty_blocks().wrapping_add(edges);
-    let backlog = subject.open.order.backlog_bytes().wrapping_add(body);
+    let dirty = subject.opened.order.dirty_blocks().wrapping_add(edges);
+    let backlog = subject.opened.order.backlog_bytes().wrapping_add(body);
     let number = next_number(subject);
     let command = Command::Edged {
         first: case.first.wrapping_add(2),
@@ -144,14 +144,14 @@ fn clears<B: BoardName>(subject: &mut Subject<B>, case: Case) -> bool {
         edges: case.edges,
         bytes,
     };
-    takes(&mut subject.open, command, number)
-        && subject.open.order.dirty_blocks() == dirty.wrapping_sub(dirty_before(case))
-        && subject.open.order.backlog_bytes() == backlog
+    takes(&mut subject.opened, command, number)
+        && subject.opened.order.dirty_blocks() == dirty.wrapping_sub(dirty_before(case))
+        && subject.opened.order.backlog_bytes() == backlog
 }
 
 // Whether a block is in this state.
 fn is_in<B: BoardName>(subject: &Subject<B>, block: u64, kind: Kind) -> bool {
-    block < subject.open.order.blocks() && subject.open.order.state(block) == kind
+    block < subject.opened.order.blocks() && subject.opened.order.state(block) == kind
 }
 
 // Whether a block of the eight is what the clear leaves of it.

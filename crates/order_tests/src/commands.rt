@@ -139,15 +139,15 @@ pub fn accept<B: BoardName>(
 
 // The same of the order and the pass that lie together.
 pub fn offer<B: BoardName>(
-    open: &mut OpenOrder<B>,
+    opened: &mut OpenOrder<B>,
     command: Command,
 ) -> Option<Result<u64, OrderFault>> {
-    accept(&mut open.order, &open.board, &mut open.pass, command)
+    accept(&mut opened.order, &opened.board, &mut opened.pass, command)
 }
 
 // Whether the order accepts a command by this number.
-pub fn takes<B: BoardName>(open: &mut OpenOrder<B>, command: Command, number: u64) -> bool {
-    match offer(open, command) {
+pub fn takes<B: BoardName>(opened: &mut OpenOrder<B>, command: Command, number: u64) -> bool {
+    match offer(opened, command) {
         Some(Ok(given)) => given == number,
         _ => false,
     }
@@ -156,21 +156,21 @@ pub fn takes<B: BoardName>(open: &mut OpenOrder<B>, command: Command, number: u6
 // Whether the order accepts a put of blocks by this number.
 pub fn takes_put<B: BoardName>(
     alloc: Global,
-    open: &mut OpenOrder<B>,
+    opened: &mut OpenOrder<B>,
     first: u64,
     blocks: u32,
     number: u64,
 ) -> bool {
     match put(alloc, first, blocks, 7) {
-        Ok(command) => takes(open, command, number),
+        Ok(command) => takes(opened, command, number),
         Err(_) => false,
     }
 }
 
 // Whether the order has no room for a put of one block.
-pub fn is_full<B: BoardName>(alloc: Global, open: &mut OpenOrder<B>, block: u64) -> bool {
+pub fn is_full<B: BoardName>(alloc: Global, opened: &mut OpenOrder<B>, block: u64) -> bool {
     match put(alloc, block, 1, 7) {
-        Ok(command) => matches!(offer(open, command), Some(Err(OrderFault::NoRoom))),
+        Ok(command) => matches!(offer(opened, command), Some(Err(OrderFault::NoRoom))),
         Err(_) => false,
     }
 }

@@ -127,12 +127,12 @@ impl<B: BoardName> Compared<B> {
 
     // Whether the states are those of the image.
     fn tells(&self) -> bool {
-        if self.subject.open.order.blocks() != BLOCKS {
+        if self.subject.opened.order.blocks() != BLOCKS {
             return false;
         }
         let runs = self
             .subject
-            .open
+            .opened
             .order
             .status(self.subject.alloc, 0, BLOCKS, 64);
         match runs {
@@ -222,15 +222,15 @@ fn refuses<B: BoardName>(
 ) -> bool
     requires { length < 2 ^ 32 }
 {
-    let mark = subject.open.order.mark();
-    let bytes = subject.open.order.backlog_bytes();
+    let mark = subject.opened.order.mark();
+    let bytes = subject.opened.order.backlog_bytes();
     let Ok(given) = put(subject.alloc, offset, length) else {
         return false;
     };
     match subject.edit(given) {
         Some(Err(fault)) => fault == wanted
-            && subject.open.order.mark() == mark
-            && subject.open.order.backlog_bytes() == bytes,
+            && subject.opened.order.mark() == mark
+            && subject.opened.order.backlog_bytes() == bytes,
         _ => false,
     }
 }

@@ -12,17 +12,17 @@ use std::marker::Brand;
 
 // Whether two puts of 256 blocks leave no room for one of block 512.
 fn fills<B: BoardName>(alloc: Global, subject: &mut Subject<B>) -> bool {
-    subject.fill(2) && is_full(alloc, &mut subject.open, 512)
+    subject.fill(2) && is_full(alloc, &mut subject.opened, 512)
 }
 
 // Whether there is still none once both are stored, since no frame is let go before a checkpoint.
 fn waits<B: BoardName>(alloc: Global, subject: &mut Subject<B>) -> bool {
-    subject.store() && !subject.clean() && is_full(alloc, &mut subject.open, 512)
+    subject.store() && !subject.clean() && is_full(alloc, &mut subject.opened, 512)
 }
 
 // Whether the put of block 512 is the third command, once a checkpoint has moved the others and a clean let their frames go.
 fn is_served<B: BoardName>(alloc: Global, subject: &mut Subject<B>) -> bool {
-    subject.checkpoint() && subject.clean() && takes_put(alloc, &mut subject.open, 512, 1, 3)
+    subject.checkpoint() && subject.clean() && takes_put(alloc, &mut subject.opened, 512, 1, 3)
 }
 
 // Two puts of 256 blocks fill 512 frames. A third one waits until their blocks are at the base, and then takes a frame of one.
@@ -76,7 +76,7 @@ fn with_one_frame<B: BoardName>(
 
 // Whether a clear of blocks is accepted by this number.
 fn takes_clear<B: BoardName>(
-    open: &mut OpenOrder<B>,
+    opened: &mut OpenOrder<B>,
     first: u64,
     blocks: u32,
     kind: Kind,
@@ -87,7 +87,7 @@ fn takes_clear<B: BoardName>(
         blocks,
         kind,
     };
-    takes(open, clear, number)
+    takes(opened, clear, number)
 }
 
 // The first two runs from block 1,000 on.
@@ -117,13 +117,13 @@ fn frees<B: BoardName>(alloc: Global, blank: BlankBoard) -> Option<bool>
     requires named { blank.opening ≡ B.opening }
     requires opening { blank.opening ≡ 0 }
 {
-    let mut open = with_one_frame::<B>(alloc, blank, 16_777_216)?;
-    let open = &mut open;
+    let mut opened = with_one_frame::<B>(alloc, blank, 16_777_216)?;
+    let opened = &mut opened;
     Some(
-        takes_put(alloc, open, 70_000, 1, 1)
-            && is_full(alloc, open, 5)
-            && takes_clear(open, 0, 16_777_216, Kind::Hole, 2)
-            && takes_put(alloc, open, 5, 1, 3),
+        takes_put(alloc, opened, 70_000, 1, 1)
+            && is_full(alloc, opened, 5)
+            && takes_clear(opened, 0, 16_777_216, Kind::Hole, 2)
+            && takes_put(alloc, opened, 5, 1, 3),
     )
 }
 
@@ -139,11 +139,11 @@ fn runs_of_a_clear<B: BoardName>(alloc: Global, blank: BlankBoard) -> Option<Vec
     requires named { blank.opening ≡ B.opening }
     requires opening { blank.opening ≡ 0 }
 {
-    let mut open = with_one_frame::<B>(alloc, blank, 16_777_216)?;
-    if !takes_clear(&mut open, 1_000, 524_288, Kind::Zero, 1) {
+    let mut opened = with_one_frame::<B>(alloc, blank, 16_777_216)?;
+    if !takes_clear(&mut opened, 1_000, 524_288, Kind::Zero, 1) {
         return None;
     }
-    two_runs(alloc, &open.order)
+    two_runs(alloc, &opened.order)
 }
 
 // A clear of many blocks is one run.
@@ -161,11 +161,11 @@ fn longest_group<B: BoardName>(alloc: Global, start: Start) -> Option<usize>
 {
     let mut subject = start.subject::<B>(alloc, 4096)?;
     for place in 0..8 {
-        if !takes_put(alloc, &mut subject.open, 257 * place, 257, place + 1) {
+        if !takes_put(alloc, &mut subject.opened, 257 * place, 257, place + 1) {
             return None;
         }
     }
-    let Ok(Some(group)) = subject.open.order.seal() else {
+    let Ok(Some(group)) = subject.opened.order.seal() else {
         return None;
     };
     let (_first, commands) = group.into_parts();

@@ -34,7 +34,7 @@ impl Drop for Start {
 // An order with its board, and the keeper that it reads from, with its seat.
 pub struct Subject<B: BoardName> {
     pub alloc: Global,
-    pub open: OpenOrder<B>,
+    pub opened: OpenOrder<B>,
     seat: KeeperSeat<B>,
     pub keeper: Keeper<SimDisk>,
 }
@@ -44,7 +44,7 @@ impl<B: BoardName> Drop for Subject<B> {
     fn drop(self) {
         let Subject {
             alloc: _,
-            open: _,
+            opened: _,
             seat: _,
             keeper: _,
         } = self;
@@ -113,7 +113,7 @@ impl Start {
         let pass = passes.pop()?;
         Some(Subject {
             alloc,
-            open: OpenOrder { board, pass, order },
+            opened: OpenOrder { board, pass, order },
             seat,
             keeper,
         })
@@ -195,7 +195,7 @@ impl<B: BoardName> Subject<B> {
     fn into_disk(self) -> SimDisk {
         let Subject {
             alloc: _,
-            open: _,
+            opened: _,
             seat: _,
             keeper,
         } = self;
@@ -207,7 +207,7 @@ impl<B: BoardName> Subject<B> {
         requires { puts < 2 ^ 32 }
     {
         for place in 0..puts {
-            if !takes_put(self.alloc, &mut self.open, 256 * place, 256, place + 1) {
+            if !takes_put(self.alloc, &mut self.opened, 256 * place, 256, place + 1) {
                 return false;
             }
         }
@@ -216,7 +216,7 @@ impl<B: BoardName> Subject<B> {
 
     // Stores what is pending, as far as one group takes it.
     pub fn store(&mut self) -> bool {
-        let Ok(sealed) = self.open.order.seal() else {
+        let Ok(sealed) = self.opened.order.seal() else {
             return false;
         };
         let Some(group) = sealed else {
@@ -231,9 +231,10 @@ impl<B: BoardName> Subject<B> {
     }
 
     fn publish(&mut self) {
-        let open = &mut self.open;
-        open.order
-            .publish(&open.board, &mut self.seat, &self.keeper);
+        let opened = &mut self.opened;
+        opened
+            .order
+            .publish(&opened.board, &mut self.seat, &self.keeper);
     }
 
     // Moves all that is stored into map and data, where it isn't there yet.
@@ -246,15 +247,15 @@ impl<B: BoardName> Subject<B> {
 
     // Lets frames go, and tells whether there were any.
     pub fn clean(&mut self) -> bool {
-        self.open.order.clean(&self.keeper)
+        self.opened.order.clean(&self.keeper)
     }
 
     // Whether so many blocks from the first one on lie in the image.
     fn has(&self, first: u64, blocks: u64) -> bool
-        ensures order { result ≡ true → first + blocks ≤ length self.now.open.order.cache.states }
+        ensures order { result ≡ true → first + blocks ≤ length self.now.opened.order.cache.states }
         ensures keeper { result ≡ true → first + blocks ≤ self.now.keeper.geometry.blocks }
     {
-        let image = self.open.order.blocks();
+        let image = self.opened.order.blocks();
         image == self.keeper.geometry().blocks && blocks <= image && first <= image - blocks
     }
 
@@ -263,18 +264,21 @@ impl<B: BoardName> Subject<B> {
     pub fn edit(&mut self, edit: Edit) -> Option<Result<u64, OrderFault>> {
         if !is_edit(
             &edit,
-            self.open.order.blocks(),
+            self.opened.order.blocks(),
             self.keeper.geometry().blocks,
         ) {
             return None;
         }
-        let open = &mut self.open;
-        let held = open.order.mark() % 2 == 0 && !open.order.needs_device(&edit);
+        let opened = &mut self.opened;
+        let held = opened.order.mark() % 2 == 0 && !opened.order.needs_device(&edit);
         let answer = if held {
-            open.order.accept_held(&open.board, &mut open.pass, edit)
+            opened
+                .order
+                .accept_held(&opened.board, &mut opened.pass, edit)
         } else {
-            open.order
-                .accept_edit(&mut self.keeper, &open.board, &mut open.pass, edit)
+            opened
+                .order
+                .accept_edit(&mut self.keeper, &opened.board, &mut opened.pass, edit)
         };
         match answer {
             Ok(number) => Some(Ok(number)),
@@ -291,7 +295,7 @@ impl<B: BoardName> Subject<B> {
         }
         let mut into = buffer(self.alloc, blocks)?;
         match self
-            .open
+            .opened
             .order
             .read_with(&mut self.keeper, first, &mut into)
         {
@@ -332,8 +336,12 @@ impl<B: BoardName> Subject<B> {
 
     // Whether a block is in memory.
     pub fn holds(&self, block: u64) -> bool {
-        block < self.open.order.blocks()
-            && self.open.order.read_cached(block, &mut [[0; 4096]]).is_ok()
+        block < self.opened.order.blocks()
+            && self
+                .opened
+                .order
+                .read_cached(block, &mut [[0; 4096]])
+                .is_ok()
     }
 }
 

@@ -17,8 +17,8 @@ const MOST_BYTES: usize = 1_048_576;
 const BATCH: u64 = 32;
 
 // Accepts a put of bytes, as a server does for a WRITE.
-fn accept_put<B: BoardName>(open: &mut OpenOrder<B>, offset: u64, bytes: Vec<u8>) -> Result<()> {
-    let blocks = open.order.blocks();
+fn accept_put<B: BoardName>(opened: &mut OpenOrder<B>, offset: u64, bytes: Vec<u8>) -> Result<()> {
+    let blocks = opened.order.blocks();
     if blocks > MOST_BLOCKS || bytes.is_empty() || bytes.len() > MOST_BYTES {
         bail!("no put of an image")
     }
@@ -27,10 +27,13 @@ fn accept_put<B: BoardName>(open: &mut OpenOrder<B>, offset: u64, bytes: Vec<u8>
         bail!("outside the image")
     }
     let edit = Edit::Put { offset, bytes };
-    if open.order.needs_device(&edit) {
+    if opened.order.needs_device(&edit) {
         bail!("old bytes aren't in memory")
     }
-    match open.order.accept_held(&open.board, &mut open.pass, edit) {
+    match opened
+        .order
+        .accept_held(&opened.board, &mut opened.pass, edit)
+    {
         Ok(_) => Ok(()),
         Err((fault, _)) => Err(fault.into()),
     }
@@ -40,7 +43,7 @@ fn accept_put<B: BoardName>(open: &mut OpenOrder<B>, offset: u64, bytes: Vec<u8>
 fn timed_batch<B: BoardName>(
     rt: &HostRuntime,
     alloc: Global,
-    open: &mut OpenOrder<B>,
+    opened: &mut OpenOrder<B>,
     offset: u64,
     count: usize,
     apart: u64,
@@ -55,7 +58,7 @@ fn timed_batch<B: BoardName>(
     let mut place = offset;
     let begin = Instant::now(rt)?;
     for bytes in puts {
-        accept_put(open, place, bytes)?;
+        accept_put(opened, place, bytes)?;
         place = place.saturating_add(apart);
     }
     Ok(begin.elapsed(rt)?)
@@ -65,7 +68,7 @@ fn timed_batch<B: BoardName>(
 pub fn timed_puts<B: BoardName>(
     rt: &HostRuntime,
     alloc: Global,
-    open: &mut OpenOrder<B>,
+    opened: &mut OpenOrder<B>,
     keeper: &mut Keeper<SimDisk>,
     batches: u64,
     offset: u64,
@@ -77,10 +80,10 @@ pub fn timed_puts<B: BoardName>(
     let apart = (count as u64).next_multiple_of(BLOCK_BYTES);
     let mut time = Duration::ZERO;
     for _ in 0..batches {
-        time = time.saturating_add(timed_batch(rt, alloc, open, offset, count, apart)?);
+        time = time.saturating_add(timed_batch(rt, alloc, opened, offset, count, apart)?);
         // (each group has one of them at least)
         for _ in 0..BATCH {
-            store(open, keeper)?;
+            store(opened, keeper)?;
         }
     }
     Ok(time)

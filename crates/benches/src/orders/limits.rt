@@ -53,18 +53,18 @@ pub fn long_group<B: BoardName>(alloc: Global, blank: BlankBoard) -> Result<Shap
     requires named { blank.opening ≡ B.opening }
     requires opening { blank.opening ≡ 7 }
 {
-    let mut open = open_order::<B>(alloc, blank, 7, 4_096, LEAST_AREA_BYTES)?;
+    let mut opened = open_order::<B>(alloc, blank, 7, 4_096, LEAST_AREA_BYTES)?;
     for block in 0..41 {
-        let _number = accept(&mut open, put(alloc, block, 1)?)?;
+        let _number = accept(&mut opened, put(alloc, block, 1)?)?;
     }
-    if let Some(group) = open.order.seal()? {
-        if !open.order.is_in_hand(&group) {
+    if let Some(group) = opened.order.seal()? {
+        if !opened.order.is_in_hand(&group) {
             let _parts = group.into_parts();
             bail!("another group is in hand");
         }
-        open.order.put_back(group);
+        opened.order.put_back(group);
     }
-    next_group(&mut open.order)
+    next_group(&mut opened.order)
 }
 
 /// Commands with bodies of one command more than the least area takes in a group.
@@ -73,13 +73,13 @@ pub fn cut_group<B: BoardName>(alloc: Global, blank: BlankBoard) -> Result<Shape
     requires named { blank.opening ≡ B.opening }
     requires opening { blank.opening ≡ 0 }
 {
-    let mut open = open_order::<B>(alloc, blank, 0, 4_096, LEAST_AREA_BYTES)?;
-    let _first = accept(&mut open, put(alloc, 0, 256)?)?;
-    let _second = accept(&mut open, put(alloc, 256, 251)?)?;
+    let mut opened = open_order::<B>(alloc, blank, 0, 4_096, LEAST_AREA_BYTES)?;
+    let _first = accept(&mut opened, put(alloc, 0, 256)?)?;
+    let _second = accept(&mut opened, put(alloc, 256, 251)?)?;
     for _ in 0..1_573 {
-        let _number = accept(&mut open, clear(9, 1))?;
+        let _number = accept(&mut opened, clear(9, 1))?;
     }
-    next_group(&mut open.order)
+    next_group(&mut opened.order)
 }
 
 // An order whose 512 frames all hold a dirty block.
@@ -88,18 +88,18 @@ fn full_order<B: BoardName>(alloc: Global, blank: BlankBoard) -> Result<OpenOrde
     requires named { blank.opening ≡ B.opening }
     requires opening { blank.opening ≡ 0 }
 {
-    let mut open = open_order::<B>(alloc, blank, 0, 512, LEAST_AREA_BYTES)?;
-    let _first = accept(&mut open, put(alloc, 0, 256)?)?;
-    let _second = accept(&mut open, put(alloc, 256, 256)?)?;
-    Ok(open)
+    let mut opened = open_order::<B>(alloc, blank, 0, 512, LEAST_AREA_BYTES)?;
+    let _first = accept(&mut opened, put(alloc, 0, 256)?)?;
+    let _second = accept(&mut opened, put(alloc, 256, 256)?)?;
+    Ok(opened)
 }
 
 // A put of a block that isn't dirty, where no frame is left.
 fn refused_put<B: BoardName>(
     alloc: Global,
-    open: &mut OpenOrder<B>,
+    opened: &mut OpenOrder<B>,
 ) -> Result<(OrderFault, Command)> {
-    match offer(open, put(alloc, 512, 1)?)? {
+    match offer(opened, put(alloc, 512, 1)?)? {
         Ok(_) => bail!("accepted"),
         Err(refused) => Ok(refused),
     }
@@ -114,22 +114,22 @@ pub fn full_frames<B: BoardName>(
     requires named { blank.opening ≡ B.opening }
     requires opening { blank.opening ≡ 0 }
 {
-    let mut open = full_order::<B>(alloc, blank)?;
-    let (fault, command) = refused_put(alloc, &mut open)?;
+    let mut opened = full_order::<B>(alloc, blank)?;
+    let (fault, command) = refused_put(alloc, &mut opened)?;
     let Command::Put { first: block, .. } = command else {
         bail!("another command")
     };
-    let again = accept(&mut open, put(alloc, 511, 1)?)?;
-    let cleared = accept(&mut open, clear(0, 1 << 24))?;
+    let again = accept(&mut opened, put(alloc, 511, 1)?)?;
+    let cleared = accept(&mut opened, clear(0, 1 << 24))?;
     Ok((fault, block, again, cleared))
 }
 
 // How many puts of a block each are accepted from this block on, until one has no room.
-fn free_frames<B: BoardName>(alloc: Global, open: &mut OpenOrder<B>, first: u64) -> Result<u64>
+fn free_frames<B: BoardName>(alloc: Global, opened: &mut OpenOrder<B>, first: u64) -> Result<u64>
     requires { first < 2 ^ 16 }
 {
     for block in 0..1_000 {
-        match offer(open, put(alloc, first + block, 1)?)? {
+        match offer(opened, put(alloc, first + block, 1)?)? {
             Ok(_) => {}
             Err((OrderFault::NoRoom, _)) => return Ok(block),
             Err((fault, _)) => return Err(fault.into()),
@@ -144,42 +144,42 @@ pub fn cleared_frames<B: BoardName>(alloc: Global, blank: BlankBoard) -> Result<
     requires named { blank.opening ≡ B.opening }
     requires opening { blank.opening ≡ 0 }
 {
-    let mut open = full_order::<B>(alloc, blank)?;
-    let _few = accept(&mut open, clear(0, 10))?;
-    let after_few = free_frames(alloc, &mut open, 1_000)?;
-    let _many = accept(&mut open, clear(20, (1 << 24) - 20))?;
-    Ok((after_few, free_frames(alloc, &mut open, 2_000)?))
+    let mut opened = full_order::<B>(alloc, blank)?;
+    let _few = accept(&mut opened, clear(0, 10))?;
+    let after_few = free_frames(alloc, &mut opened, 1_000)?;
+    let _many = accept(&mut opened, clear(20, (1 << 24) - 20))?;
+    Ok((after_few, free_frames(alloc, &mut opened, 2_000)?))
 }
 
 // Commands that take 67,108,864 bytes in groups.
-fn fill_backlog<B: BoardName>(alloc: Global, open: &mut OpenOrder<B>) -> Result<()> {
+fn fill_backlog<B: BoardName>(alloc: Global, opened: &mut OpenOrder<B>) -> Result<()> {
     for _ in 0..63 {
-        let _number = accept(open, put(alloc, 0, 256)?)?;
+        let _number = accept(opened, put(alloc, 0, 256)?)?;
     }
-    let _number = accept(open, put(alloc, 0, 243)?)?;
-    clear_often(open, 4_032)
+    let _number = accept(opened, put(alloc, 0, 243)?)?;
+    clear_often(opened, 4_032)
 }
 
-fn clear_often<B: BoardName>(open: &mut OpenOrder<B>, times: u32) -> Result<()> {
+fn clear_often<B: BoardName>(opened: &mut OpenOrder<B>, times: u32) -> Result<()> {
     for _ in 0..times {
-        let _number = accept(open, clear(9, 1))?;
+        let _number = accept(opened, clear(9, 1))?;
     }
     Ok(())
 }
 
 // Why a clear is refused.
-fn refused_clear<B: BoardName>(open: &mut OpenOrder<B>) -> Result<OrderFault> {
-    match offer(open, clear(9, 1))? {
+fn refused_clear<B: BoardName>(opened: &mut OpenOrder<B>) -> Result<OrderFault> {
+    match offer(opened, clear(9, 1))? {
         Ok(_) => bail!("accepted"),
         Err((fault, _)) => Ok(fault),
     }
 }
 
 // The number of a clear once a group is durable.
-fn number_after_store<B: BoardName>(alloc: Global, open: &mut OpenOrder<B>) -> Result<u64> {
+fn number_after_store<B: BoardName>(alloc: Global, opened: &mut OpenOrder<B>) -> Result<u64> {
     let mut keeper = keeper(alloc, 256, ROOMY_AREA_BYTES)?;
-    store(open, &mut keeper)?;
-    accept(open, clear(9, 1))
+    store(opened, &mut keeper)?;
+    accept(opened, clear(9, 1))
 }
 
 /// The last number that 67,108,864 bytes take, why the next command is refused, and its number once a group is durable.
@@ -191,11 +191,11 @@ pub fn full_backlog<B: BoardName>(
     requires named { blank.opening ≡ B.opening }
     requires opening { blank.opening ≡ 0 }
 {
-    let mut open = open_order::<B>(alloc, blank, 0, 4_096, ROOMY_AREA_BYTES)?;
-    fill_backlog(alloc, &mut open)?;
-    let full = open.order.mark();
-    let fault = refused_clear(&mut open)?;
-    Ok((full, fault, number_after_store(alloc, &mut open)?))
+    let mut opened = open_order::<B>(alloc, blank, 0, 4_096, ROOMY_AREA_BYTES)?;
+    fill_backlog(alloc, &mut opened)?;
+    let full = opened.order.mark();
+    let fault = refused_clear(&mut opened)?;
+    Ok((full, fault, number_after_store(alloc, &mut opened)?))
 }
 
 /// The last number of an order that was stopped before its first command, and why it refuses that command.
@@ -204,11 +204,11 @@ pub fn stopped_order<B: BoardName>(alloc: Global, blank: BlankBoard) -> Result<(
     requires named { blank.opening ≡ B.opening }
     requires opening { blank.opening ≡ 7 }
 {
-    let mut open = open_order::<B>(alloc, blank, 7, 4_096, LEAST_AREA_BYTES)?;
-    open.order.stop();
-    if !open.order.stopped() {
+    let mut opened = open_order::<B>(alloc, blank, 7, 4_096, LEAST_AREA_BYTES)?;
+    opened.order.stop();
+    if !opened.order.stopped() {
         bail!("not stopped");
     }
-    let fault = refused_clear(&mut open)?;
-    Ok((open.order.opening(), fault))
+    let fault = refused_clear(&mut opened)?;
+    Ok((opened.order.opening(), fault))
 }

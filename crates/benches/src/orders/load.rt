@@ -152,13 +152,17 @@ fn is_inside(image: u64, command: &Command) -> bool
 
 /// What the order says to the command, which has to lie in the image.
 pub fn offer<B: BoardName>(
-    open: &mut OpenOrder<B>,
+    opened: &mut OpenOrder<B>,
     command: Command,
 ) -> Result<Result<u64, (OrderFault, Command)>> {
-    if !is_inside(open.order.blocks(), &command) {
+    if !is_inside(opened.order.blocks(), &command) {
         bail!("outside the image")
     }
-    Ok(open.order.accept(&open.board, &mut open.pass, command))
+    Ok(
+        opened
+            .order
+            .accept(&opened.board, &mut opened.pass, command),
+    )
 }
 
 /// Whether the order accepts the command for a pass, which has to lie in the image.
@@ -172,17 +176,20 @@ pub fn takes<B: BoardName>(
 }
 
 /// Accepts the command, and lets it go where it is refused.
-pub fn accept<B: BoardName>(open: &mut OpenOrder<B>, command: Command) -> Result<u64> {
-    match offer(open, command)? {
+pub fn accept<B: BoardName>(opened: &mut OpenOrder<B>, command: Command) -> Result<u64> {
+    match offer(opened, command)? {
         Ok(number) => Ok(number),
         Err((fault, _)) => Err(fault.into()),
     }
 }
 
 /// Accepts the commands, the last one first.
-pub fn accept_all<B: BoardName>(open: &mut OpenOrder<B>, mut commands: Vec<Command>) -> Result<()> {
+pub fn accept_all<B: BoardName>(
+    opened: &mut OpenOrder<B>,
+    mut commands: Vec<Command>,
+) -> Result<()> {
     while let Some(command) = commands.pop() {
-        let _number = accept(open, command)?;
+        let _number = accept(opened, command)?;
     }
     Ok(())
 }
@@ -201,13 +208,15 @@ pub fn keeper(alloc: Global, blocks: u64, area: u32) -> Result<Keeper<SimDisk>> 
 }
 
 /// Stores what is pending, as far as one group takes it.
-pub fn store<B: BoardName>(open: &mut OpenOrder<B>, keeper: &mut Keeper<SimDisk>) -> Result<()> {
-    if let Some(group) = open.order.seal()? {
+pub fn store<B: BoardName>(opened: &mut OpenOrder<B>, keeper: &mut Keeper<SimDisk>) -> Result<()> {
+    if let Some(group) = opened.order.seal()? {
         if let Err((fault, group)) = keeper.append(group) {
             let _refused = group.into_parts();
             return Err(fault.into());
         }
-        open.order.publish(&open.board, &mut open.seat, keeper);
+        opened
+            .order
+            .publish(&opened.board, &mut opened.seat, keeper);
     }
     Ok(())
 }

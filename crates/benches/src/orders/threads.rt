@@ -79,13 +79,13 @@ pub fn shared_accepts<B: BoardName + Send + Sync, R: Threads + Wait + Sync + Clo
 /// The time that so many looks at the durable number take.
 pub fn looks<B: BoardName, R: Clock>(
     rt: &R,
-    open: &mut OpenOrder<B>,
+    opened: &mut OpenOrder<B>,
     count: u64,
 ) -> Result<Duration> {
     let begin = Instant::now(rt)?;
     let mut sum = 0u64;
     for _ in 0..count {
-        sum = sum.wrapping_add(open.board.look_durable(&mut open.pass));
+        sum = sum.wrapping_add(opened.board.look_durable(&mut opened.pass));
     }
     black_box(sum);
     Ok(begin.elapsed(rt)?)
