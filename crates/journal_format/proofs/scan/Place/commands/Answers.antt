@@ -1,12 +1,16 @@
-use Rattle.std.proofs.Common.{◌≡◌, ◌≤◌, ◌+◌, ◌∙◌, ℕ, List, [], ◌∷◌, length, sym, subst, refl, arith}
+use Rattle.std.proofs.Common.{◌≡◌, ◌≤◌, ◌+◌, ◌∙◌, ℕ, List, [], ◌∷◌, length, ap, sym, subst, refl, arith}
 use Rattle.std.proofs.lemmas.Result.{IfOk-from_err}
 use Rattle.image_model.specs.Change.{Change}
 use Rattle.journal_format.specs.declared.touch.TouchedRange.{TouchedRange}
-use Rattle.journal_format.specs.inner.Scanning.{StandBetween}
+use Rattle.journal_format.specs.inner.Scanning.{FoundChanges, StandBetween}
 use Rattle.journal_format.specs.Touches.{AreWithin, ranges_of}
 use Rattle.journal_format.specs.laws.Chained.{none_read, reads_on}
 use Rattle.journal_format.specs.laws.Found.{found_none, left_none, found_more, left_more, none_next, within_append, within_more}
 use Rattle.journal_format.specs.laws.Noted.{passed_on}
+use Rattle.journal_format.specs.Faults.{faults_by}
+use Rattle.journal_format.specs.Scanning.{IsScanFault}
+use Rattle.journal_format.specs.declared.fault.JournalFault.TheVariants.{NoMemory, DamagedGroup}
+use Rattle.journal_format.proofs.Refused.{err_with, memory_undamaged, ok_apart}
 use Rattle.journal_format.proofs.scan.Place.commands.Goals as goal
 
 pub loop-init : goal.loop-init
@@ -44,45 +48,52 @@ loop-preserved g c =
       left = λ honest content known. left_more area.blocks area.blocks_fit content (area.from + c.args.from) _ _ _ _ (loop.left honest content known) _ _ (read.found (loop.honest.1 honest) content (loop.read_as honest content known)) c.loop-test.true;
     }
 
-pub returns-in_err-found-clause-damaged : goal.returns-in_err-found-clause-damaged
-returns-in_err-found-clause-damaged g c honest content known damaged =
-    let area = c.args.self.now in
-    let loop = c.loop.invariant in
-    none_next area.blocks area.blocks_fit content (area.from + c.args.from) _ _ _ _ (loop.left honest content known)
-    (c.in_err-found.ensures.damaged (loop.honest.1 honest) content (loop.read_as honest content known) (passed_on c.from_residual.result c.in_err-found.field-0.0 _ c.from_residual.ensures.1 damaged))
-    c.loop-test.true
+pub returns-in_err-found : goal.returns-in_err-found
+returns-in_err-found g c = record {
+  causes = err_with c.from_residual.result c.in_err-found.field-0.0 IsScanFault c.from_residual.ensures.1 c.in_err-found.ensures.causes;
+  extent = c.in_err-found.ensures.extent ∙ c.loop.invariant.extent;
+  faults_ok = IfOk-from_err c.from_residual.result _ c.from_residual.ensures.0;
+  faults_err = err_with c.from_residual.result c.in_err-found.field-0.0 (λ fault. g.D.Disk.faults c.command.new.disk ≡ faults_by fault (g.D.Disk.faults c.args.disk.now)) c.from_residual.ensures.1 (c.in_err-found.ensures.faults_err ∙ ap (faults_by c.in_err-found.field-0.0) c.loop.invariant.faults);
+  honest =
+      let loop = c.loop.invariant in
+      let read = c.in_err-found.ensures in
+      (λ honest. loop.honest.0 (read.honest.0 honest), λ honest. read.honest.1 (loop.honest.1 honest));
+  only_read = λ honest.
+      let loop = c.loop.invariant in
+      reads_on (g.met.D.Disk.sound c.args.disk.now honest) (loop.only_read honest) (c.in_err-found.ensures.only_read (loop.honest.1 honest));
+  read_as = λ honest content known.
+      let loop = c.loop.invariant in
+      c.in_err-found.ensures.read_as (loop.honest.1 honest) content (loop.read_as honest content known);
+  within = IfOk-from_err c.from_residual.result _ c.from_residual.ensures.0;
+  found = λ honest content known. IfOk-from_err c.from_residual.result _ c.from_residual.ensures.0;
+  damaged = λ honest content known damaged.
+      let area = c.args.self.now in
+      let loop = c.loop.invariant in
+      none_next area.blocks area.blocks_fit content (area.from + c.args.from) _ _ _ _ (loop.left honest content known)
+      (c.in_err-found.ensures.damaged (loop.honest.1 honest) content (loop.read_as honest content known) (passed_on c.from_residual.result c.in_err-found.field-0.0 _ c.from_residual.ensures.1 damaged))
+      c.loop-test.true;
+}
 
-pub returns-in_err-found-clause-honest : goal.returns-in_err-found-clause-honest
-returns-in_err-found-clause-honest g c =
-    let loop = c.loop.invariant in
-    let read = c.in_err-found.ensures in
-    (λ honest. loop.honest.0 (read.honest.0 honest), λ honest. read.honest.1 (loop.honest.1 honest))
-
-pub returns-in_err-found-clause-only_read : goal.returns-in_err-found-clause-only_read
-returns-in_err-found-clause-only_read g c honest =
-    let loop = c.loop.invariant in
-    reads_on (g.met.D.Disk.sound c.args.disk.now honest) (loop.only_read honest) (c.in_err-found.ensures.only_read (loop.honest.1 honest))
-
-pub returns-in_err-found-clause-read_as : goal.returns-in_err-found-clause-read_as
-returns-in_err-found-clause-read_as g c honest content known =
-    let loop = c.loop.invariant in
-    c.in_err-found.ensures.read_as (loop.honest.1 honest) content (loop.read_as honest content known)
-
-pub returns-in_err-note-clause-honest : goal.returns-in_err-note-clause-honest
-returns-in_err-note-clause-honest g c =
-    let loop = c.loop.invariant in
-    let read = c.in_ok-found.ensures in
-    (λ honest. loop.honest.0 (read.honest.0 honest), λ honest. read.honest.1 (loop.honest.1 honest))
-
-pub returns-in_err-note-clause-only_read : goal.returns-in_err-note-clause-only_read
-returns-in_err-note-clause-only_read g c honest =
-    let loop = c.loop.invariant in
-    reads_on (g.met.D.Disk.sound c.args.disk.now honest) (loop.only_read honest) (c.in_ok-found.ensures.only_read (loop.honest.1 honest))
-
-pub returns-in_err-note-clause-read_as : goal.returns-in_err-note-clause-read_as
-returns-in_err-note-clause-read_as g c honest content known =
-    let loop = c.loop.invariant in
-    c.in_ok-found.ensures.read_as (loop.honest.1 honest) content (loop.read_as honest content known)
+pub returns-in_err-note : goal.returns-in_err-note
+returns-in_err-note g c = record {
+  causes = err_with c.from_residual-in_err-note.result NoMemory IsScanFault c.from_residual-in_err-note.ensures.1 tt;
+  extent = c.in_ok-found.ensures.extent ∙ c.loop.invariant.extent;
+  faults_ok = IfOk-from_err c.from_residual-in_err-note.result _ c.from_residual-in_err-note.ensures.0;
+  faults_err = err_with c.from_residual-in_err-note.result NoMemory (λ fault. g.D.Disk.faults c.command.new.disk ≡ faults_by fault (g.D.Disk.faults c.args.disk.now)) c.from_residual-in_err-note.ensures.1 (c.in_ok-found.ensures.faults_ok ∙ c.loop.invariant.faults);
+  honest =
+      let loop = c.loop.invariant in
+      let read = c.in_ok-found.ensures in
+      (λ honest. loop.honest.0 (read.honest.0 honest), λ honest. read.honest.1 (loop.honest.1 honest));
+  only_read = λ honest.
+      let loop = c.loop.invariant in
+      reads_on (g.met.D.Disk.sound c.args.disk.now honest) (loop.only_read honest) (c.in_ok-found.ensures.only_read (loop.honest.1 honest));
+  read_as = λ honest content known.
+      let loop = c.loop.invariant in
+      c.in_ok-found.ensures.read_as (loop.honest.1 honest) content (loop.read_as honest content known);
+  within = IfOk-from_err c.from_residual-in_err-note.result _ c.from_residual-in_err-note.ensures.0;
+  found = λ honest content known. IfOk-from_err c.from_residual-in_err-note.result _ c.from_residual-in_err-note.ensures.0;
+  damaged = λ honest content known damaged. absurd (memory_undamaged c.from_residual-in_err-note.result c.from_residual-in_err-note.ensures.1 damaged);
+}
 
 -- where all were read and the end isn't reached, so many changes don't stand up to it
 none_left : (image : ℕ) (content : List ℕ) (place end passed count : ℕ) (left : List Change) → StandBetween image content place end left → passed + length left ≡ count → count ≤ passed → (place ≡ end → ⊥) → ⊥
@@ -91,19 +102,36 @@ none_left image content place end passed count [] between is all apart =
     apart same
 none_left image content place end passed count (change ∷ left) between is all apart = absurd (omega (arith, is, all))
 
-pub returns-else-place-end-clause-damaged : goal.returns-else-place-end-clause-damaged
-returns-else-place-end-clause-damaged g c honest content known damaged changes between is =
-    let there = (c.loop.invariant.left honest content known).rest changes between is in
-    none_left c.args.self.now.blocks content _ _ _ _ there.0 there.1 there.2 c.loop-test.false (λ same. c.if-place-end.false (omega (arith, same)))
+pub returns-else-place-end : goal.returns-else-place-end
+returns-else-place-end g c = record {
+  causes = tt;
+  extent = c.loop.invariant.extent;
+  faults_ok = tt;
+  faults_err = c.loop.invariant.faults;
+  honest = c.loop.invariant.honest;
+  only_read = c.loop.invariant.only_read;
+  read_as = c.loop.invariant.read_as;
+  within = tt;
+  found = λ honest content known. tt;
+  damaged = λ honest content known damaged changes between is.
+      let there = (c.loop.invariant.left honest content known).rest changes between is in
+      none_left c.args.self.now.blocks content _ _ _ _ there.0 there.1 there.2 c.loop-test.false (λ same. c.if-place-end.false (omega (arith, same)));
+}
 
-pub returns-in_err-found-clause-within : goal.returns-in_err-found-clause-within
-returns-in_err-found-clause-within g c = IfOk-from_err c.from_residual.result _ c.from_residual.ensures.0
-
-pub returns-in_err-found-clause-found : goal.returns-in_err-found-clause-found
-returns-in_err-found-clause-found g c honest content known = IfOk-from_err c.from_residual.result _ c.from_residual.ensures.0
-
-pub returns-in_err-note-clause-within : goal.returns-in_err-note-clause-within
-returns-in_err-note-clause-within g c = IfOk-from_err c.from_residual-in_err-note.result _ c.from_residual-in_err-note.ensures.0
-
-pub returns-in_err-note-clause-found : goal.returns-in_err-note-clause-found
-returns-in_err-note-clause-found g c honest content known = IfOk-from_err c.from_residual-in_err-note.result _ c.from_residual-in_err-note.ensures.0
+pub returns-then-place-end : goal.returns-then-place-end
+returns-then-place-end g c = record {
+  causes = tt;
+  extent = c.loop.invariant.extent;
+  faults_ok = c.loop.invariant.faults;
+  faults_err = tt;
+  honest = c.loop.invariant.honest;
+  only_read = c.loop.invariant.only_read;
+  read_as = c.loop.invariant.read_as;
+  within = c.loop.invariant.within;
+  found = λ honest content known.
+      let area = c.args.self.now in
+      let all : c.loop.counter ≡ c.args.count = omega arith in
+      let up_to = λ (place count : ℕ). FoundChanges area.blocks content (area.from + c.args.from) (area.from + place) count c.args.touched.now.items c.loop.touched.items in
+      subst (λ (count : ℕ). up_to c.args.end count) all (subst (λ (place : ℕ). up_to place c.loop.counter) c.if-place-end.true (c.loop.invariant.found honest content known));
+  damaged = λ honest content known damaged. absurd (ok_apart _ DamagedGroup damaged);
+}

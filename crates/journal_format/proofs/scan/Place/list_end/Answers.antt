@@ -1,11 +1,14 @@
-use Rattle.std.proofs.Common.{◌+◌, ◌∙◌, List, sym, subst, refl, arith}
+use Rattle.std.proofs.Common.{◌≡◌, ◌+◌, ◌∙◌, List, ap, sym, subst, refl, arith}
 use Rattle.std.proofs.lemmas.Result.{IfOk-from_err}
 use Rattle.journal_format.specs.declared.touch.TouchedRange.{TouchedRange}
-use Rattle.journal_format.specs.Scanning.{FoundList}
+use Rattle.journal_format.specs.Scanning.{FoundList, IsScanFault}
 use Rattle.journal_format.specs.Touches.{AreWithin}
 use Rattle.journal_format.specs.laws.Chained.{none_read, reads_on}
 use Rattle.journal_format.specs.laws.Groups.{lead_none, lead_more, lead_ends, lead_damaged}
 use Rattle.journal_format.specs.laws.Noted.{passed_on}
+use Rattle.journal_format.specs.Faults.{faults_by}
+use Rattle.journal_format.specs.declared.fault.JournalFault.TheVariants.{NoMemory}
+use Rattle.journal_format.proofs.Refused.{err_with, memory_undamaged}
 use Rattle.journal_format.proofs.scan.Place.list_end.Goals as goal
 
 pub loop-window-init : goal.loop-window-init
@@ -23,13 +26,30 @@ loop-window-init g c =
       found = λ honest content known. lead_none area.blocks content area.from c.args.next c.args.touched.now.items c.requires.none_noted;
     }
 
-pub returns-in_err-behind-clause-damaged : goal.returns-in_err-behind-clause-damaged
-returns-in_err-behind-clause-damaged g c honest content known damaged =
-    let area = c.args.self.now in
-    let loop = c.loop-window.invariant in
-    lead_damaged area.blocks content area.from c.args.next _ _ _ (loop.found honest content known) area.bytes loop.within
-    (c.in_err-behind.ensures.damaged (loop.honest.1 honest) content (loop.read_as honest content known)
-    (passed_on c.from_residual-in_err-behind.result c.in_err-behind.field-0.0 _ c.from_residual-in_err-behind.ensures.1 damaged))
+pub returns-in_err-behind : goal.returns-in_err-behind
+returns-in_err-behind g c = record {
+  causes = err_with c.from_residual-in_err-behind.result c.in_err-behind.field-0.0 IsScanFault c.from_residual-in_err-behind.ensures.1 c.in_err-behind.ensures.causes;
+  extent = c.in_err-behind.ensures.extent ∙ c.loop-window.invariant.extent;
+  faults_ok = IfOk-from_err c.from_residual-in_err-behind.result _ c.from_residual-in_err-behind.ensures.0;
+  faults_err = err_with c.from_residual-in_err-behind.result c.in_err-behind.field-0.0 (λ fault. g.D.Disk.faults c.group_at.new.disk ≡ faults_by fault (g.D.Disk.faults c.args.disk.now)) c.from_residual-in_err-behind.ensures.1 (c.in_err-behind.ensures.faults_err ∙ ap (faults_by c.in_err-behind.field-0.0) c.loop-window.invariant.faults);
+  honest =
+      let loop = c.loop-window.invariant in
+      let read = c.in_err-behind.ensures in
+      (λ honest. loop.honest.0 (read.honest.0 honest), λ honest. read.honest.1 (loop.honest.1 honest));
+  only_read = λ honest.
+      let loop = c.loop-window.invariant in
+      reads_on (g.met.D.Disk.sound c.args.disk.now honest) (loop.only_read honest) (c.in_err-behind.ensures.only_read (loop.honest.1 honest));
+  inside = IfOk-from_err c.from_residual-in_err-behind.result _ c.from_residual-in_err-behind.ensures.0;
+  within = IfOk-from_err c.from_residual-in_err-behind.result _ c.from_residual-in_err-behind.ensures.0;
+  none = IfOk-from_err c.from_residual-in_err-behind.result _ c.from_residual-in_err-behind.ensures.0;
+  found = λ honest content known. IfOk-from_err c.from_residual-in_err-behind.result _ c.from_residual-in_err-behind.ensures.0;
+  damaged = λ honest content known damaged.
+      let area = c.args.self.now in
+      let loop = c.loop-window.invariant in
+      lead_damaged area.blocks content area.from c.args.next _ _ _ (loop.found honest content known) area.bytes loop.within
+      (c.in_err-behind.ensures.damaged (loop.honest.1 honest) content (loop.read_as honest content known)
+      (passed_on c.from_residual-in_err-behind.result c.in_err-behind.field-0.0 _ c.from_residual-in_err-behind.ensures.1 damaged));
+}
 
 pub loop-window-preserved : goal.loop-window-preserved
 loop-window-preserved g c =
@@ -68,22 +88,11 @@ returns-clause-found g c honest content known =
     subst (λ (touched : List TouchedRange). FoundList area.blocks content area.from c.args.next c.loop-window.end.gate c.loop-window.end.next touched) (sym {A = List TouchedRange} same)
     (lead_ends area.blocks content area.from c.args.next _ _ _ (loop.found honest content known) closed)
 
-pub returns-in_err-behind-clause-honest : goal.returns-in_err-behind-clause-honest
-returns-in_err-behind-clause-honest g c =
-    let loop = c.loop-window.invariant in
-    let read = c.in_err-behind.ensures in
-    (λ honest. loop.honest.0 (read.honest.0 honest), λ honest. read.honest.1 (loop.honest.1 honest))
-
 pub returns-clause-honest : goal.returns-clause-honest
 returns-clause-honest g c =
     let loop = c.loop-window.invariant in
     let read = c.in_ok-behind.ensures in
     (λ honest. loop.honest.0 (read.honest.0 honest), λ honest. read.honest.1 (loop.honest.1 honest))
-
-pub returns-in_err-behind-clause-only_read : goal.returns-in_err-behind-clause-only_read
-returns-in_err-behind-clause-only_read g c honest =
-    let loop = c.loop-window.invariant in
-    reads_on (g.met.D.Disk.sound c.args.disk.now honest) (loop.only_read honest) (c.in_err-behind.ensures.only_read (loop.honest.1 honest))
 
 pub returns-clause-none : goal.returns-clause-none
 returns-clause-none g c none =
@@ -91,26 +100,17 @@ returns-clause-none g c none =
     let empty = c.loop-window.invariant.none none in
     (same ∙ empty.0, empty.1)
 
-pub returns-in_err-window-clause-inside : goal.returns-in_err-window-clause-inside
-returns-in_err-window-clause-inside g c = IfOk-from_err c.from_residual.result _ c.from_residual.ensures.0
-
-pub returns-in_err-window-clause-within : goal.returns-in_err-window-clause-within
-returns-in_err-window-clause-within g c = IfOk-from_err c.from_residual.result _ c.from_residual.ensures.0
-
-pub returns-in_err-window-clause-none : goal.returns-in_err-window-clause-none
-returns-in_err-window-clause-none g c = IfOk-from_err c.from_residual.result _ c.from_residual.ensures.0
-
-pub returns-in_err-window-clause-found : goal.returns-in_err-window-clause-found
-returns-in_err-window-clause-found g c honest content known = IfOk-from_err c.from_residual.result _ c.from_residual.ensures.0
-
-pub returns-in_err-behind-clause-inside : goal.returns-in_err-behind-clause-inside
-returns-in_err-behind-clause-inside g c = IfOk-from_err c.from_residual-in_err-behind.result _ c.from_residual-in_err-behind.ensures.0
-
-pub returns-in_err-behind-clause-within : goal.returns-in_err-behind-clause-within
-returns-in_err-behind-clause-within g c = IfOk-from_err c.from_residual-in_err-behind.result _ c.from_residual-in_err-behind.ensures.0
-
-pub returns-in_err-behind-clause-none : goal.returns-in_err-behind-clause-none
-returns-in_err-behind-clause-none g c = IfOk-from_err c.from_residual-in_err-behind.result _ c.from_residual-in_err-behind.ensures.0
-
-pub returns-in_err-behind-clause-found : goal.returns-in_err-behind-clause-found
-returns-in_err-behind-clause-found g c honest content known = IfOk-from_err c.from_residual-in_err-behind.result _ c.from_residual-in_err-behind.ensures.0
+pub returns-in_err-window : goal.returns-in_err-window
+returns-in_err-window g c = record {
+  causes = err_with c.from_residual.result NoMemory IsScanFault c.from_residual.ensures.1 tt;
+  extent = refl;
+  faults_ok = IfOk-from_err c.from_residual.result _ c.from_residual.ensures.0;
+  faults_err = err_with c.from_residual.result NoMemory (λ fault. g.D.Disk.faults c.args.disk.now ≡ faults_by fault (g.D.Disk.faults c.args.disk.now)) c.from_residual.ensures.1 refl;
+  honest = (λ honest. honest, λ honest. honest);
+  only_read = λ honest. none_read (g.met.D.Disk.sound c.args.disk.now honest);
+  inside = IfOk-from_err c.from_residual.result _ c.from_residual.ensures.0;
+  within = IfOk-from_err c.from_residual.result _ c.from_residual.ensures.0;
+  none = IfOk-from_err c.from_residual.result _ c.from_residual.ensures.0;
+  found = λ honest content known. IfOk-from_err c.from_residual.result _ c.from_residual.ensures.0;
+  damaged = λ honest content known damaged. absurd (memory_undamaged c.from_residual.result c.from_residual.ensures.1 damaged);
+}
