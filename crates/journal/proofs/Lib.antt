@@ -1,3 +1,4 @@
 mod Bodies
 mod Heads
+mod Refused
 mod Torn
