@@ -1,8 +1,8 @@
-//! The program `nbdj`: the command line, files and streams round the plans of `subcommands`.
+//! The program `nbdj`: the command line, files and streams round the plans of `nbdj_pipe`.
 #![tactic(auto)]
 
 ghost use Rattle.std.specs.Prelude.{ℕ};
-ghost use Rattle.subcommands.specs.Plan.{Suits};
+ghost use Rattle.nbdj_pipe.specs.Plan.{Suits};
 
 mod beside;
 mod serving;
@@ -27,7 +27,7 @@ use std::rt::Clock;
 use std::sync::Wait;
 use std::thread::Threads;
 use std::{env, io};
-use subcommands::{exit_status, perform};
+use nbdj_pipe::{exit_status, perform};
 
 fn main(rt: HostRuntime) -> ExitCode {
     // Before anything else is opened, and kept to the end.

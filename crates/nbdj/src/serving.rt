@@ -18,7 +18,7 @@ use std::rt::Clock;
 use std::sync::Wait;
 use std::thread::Threads;
 use std::time::{Duration, Instant};
-use subcommands::exit_status;
+use nbdj_pipe::exit_status;
 
 // Opens a device, serves it at an address, and gives the exit status.
 pub fn serve_at<R: Threads + Wait + Clock + Copy + Send + Sync + Drop + 'static>(

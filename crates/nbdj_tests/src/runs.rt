@@ -1,5 +1,5 @@
 ghost use Rattle.std.specs.Prelude.{◌≤◌, length};
-ghost use Rattle.subcommands.specs.Plan.{Suits};
+ghost use Rattle.nbdj_pipe.specs.Plan.{Suits};
 
 use disk_model::{Disk, SimDisk};
 use export_model::Mode;
@@ -10,7 +10,7 @@ use std::alloc::{AllocError, Global};
 use std::io::Read;
 use std::process::Abort;
 use std::test::Fail;
-use subcommands::perform;
+use nbdj_pipe::perform;
 
 // What a run of a plan left.
 pub struct Ran {

@@ -1,5 +1,5 @@
 use Rattle.std.proofs.Common.{Ok}
-use Rattle.subcommands.proofs.run.recover.Goals as goal
+use Rattle.nbdj_pipe.proofs.run.recover.Goals as goal
 
 -- the device that is handed back is the keeper's
 pub returns-in-Ok : goal.returns-in-Ok

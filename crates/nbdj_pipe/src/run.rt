@@ -6,14 +6,14 @@ ghost use Rattle.nbdj_pipe.specs.Pipe.{IsPiped, IsUnopened, status_of};
 ghost use Rattle.front_end.specs.declared.refusal.Refusal.{Refusal};
 ghost use Rattle.front_end.specs.declared.refusal.Refusal.TheVariants.{DeviceFault};
 ghost use Rattle.journal_format.specs.Reading.{IsOnlyRead};
-ghost use Rattle.subcommands.specs.Devices.{IsFormatCarriedOut, IsPrinted, IsRecoveryCarriedOut, IsUpgradeCarriedOut};
-ghost use Rattle.subcommands.specs.Plan.{IfCheck, IfFormat, IfPipe, IfRecover, IfUpgrade, Suits};
+ghost use Rattle.nbdj_pipe.specs.Devices.{IsFormatCarriedOut, IsPrinted, IsRecoveryCarriedOut, IsUpgradeCarriedOut};
+ghost use Rattle.nbdj_pipe.specs.Plan.{IfCheck, IfFormat, IfPipe, IfRecover, IfUpgrade, Suits};
 
+use crate::session::pipe;
 use checkpoint::{Keeper, Report};
 use disk_model::Disk;
 use front_end::{Plan, Refusal};
 use image_model::{Geometry, Layout};
-use nbdj_pipe::pipe;
 use std::alloc::Global;
 use std::fmt::Display;
 use std::io;
