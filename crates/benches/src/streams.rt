@@ -6,9 +6,9 @@ ghost use Rattle.std.specs.Prelude.{◌<◌, ◌≤◌};
 mod sessions;
 
 use anyhow::Result;
-use nbd_reply::encode_reply;
 use nbd_wire::{
-    Answer, READ, ReadBytes, Reply, RequestHead, SessionFlags, StreamReader, WRITE, encode_request,
+    Answer, READ, ReadBytes, Reply, RequestHead, SessionFlags, StreamReader, WRITE, encode_reply,
+    encode_request,
 };
 use std::alloc::{AllocError, Global};
 use std::hint::black_box;

@@ -16,7 +16,7 @@ use Rattle.device_image.specs.Keeps.{AreHeld, IsCopying, IsInPhase, IsPlaced, Ke
 use Rattle.device_image.specs.Stands.{StandsFor, areas_in_front, next_number}
 use Rattle.device_image.specs.laws.Copied.{copy_places, keeps_copied}
 use Rattle.device_image.specs.laws.Free.{torn_free}
-use Rattle.copy_plan.specs.Plan.{IsNextCopy}
+use Rattle.device_image.specs.Plan.{IsNextCopy}
 use Rattle.device_image.specs.laws.Puts.{all_counted, none_counted}
 use Rattle.device_image.specs.laws.Lists.{KeepsLists}
 use Rattle.image_model.specs.Change.{Change}

@@ -12,7 +12,7 @@ ghost use Rattle.regions.specs.Layout.{area_size};
 
 use crate::fault::KeeperFault;
 use alloc_map::AllocMap;
-use copy_plan::CopyPlan;
+use device_image::CopyPlan;
 use disk_model::Disk;
 use header_slots::Header;
 use image_model::{Geometry, Side};

@@ -20,7 +20,7 @@ use crate::fault::KeeperFault;
 use crate::keeper::Keeper;
 use crate::plans::take_first;
 use alloc_map::AllocMap;
-use copy_plan::{CopyPlan, latest_writes};
+use device_image::{CopyPlan, latest_writes};
 use disk_model::Disk;
 use header_slots::{Header, read_current};
 use image_model::{Geometry, Side};

@@ -2,7 +2,7 @@ ghost use Rattle.std.specs.Prelude.{◌≡◌, ◌<◌, [], ◌∷◌, ◌++◌,
 ghost use Rattle.checkpoint.specs.Keeper.{plans_of};
 ghost use Rattle.std.specs.Vec.{vec_capacity};
 
-use copy_plan::CopyPlan;
+use device_image::CopyPlan;
 
 // Adds the plan of another area behind those that are under way or wait; there is room for it.
 pub fn add_plan(plan: &mut Option<CopyPlan>, waiting: &mut Vec<CopyPlan>, last: CopyPlan)

@@ -10,7 +10,7 @@ use crate::fault::KeeperFault;
 use crate::keeper::Keeper;
 use crate::opening::{Opened, read_parts};
 use alloc_map::AllocMap;
-use copy_plan::{CopyPlan, map_behind};
+use device_image::{CopyPlan, map_behind};
 use disk_model::Disk;
 use image_model::{Kind, Layout};
 use journal::Area;

@@ -20,7 +20,7 @@ use crate::device_steps::{begin_turn, copy_over, store_map};
 use crate::fault::KeeperFault;
 use crate::keeper::Keeper;
 use crate::plans::{add_plan, take_first};
-use copy_plan::{CopyPlan, latest_writes};
+use device_image::{CopyPlan, latest_writes};
 use disk_model::Disk;
 use header_slots::{Header, HeaderChange, change_header};
 use image_model::BLOCK_BYTES;

@@ -1,0 +1,4 @@
+mod After
+mod Counts
+mod Next
+mod Told

@@ -4,5 +4,6 @@ pub mod Keeper
 pub mod Keeps
 pub mod Remembers
 pub mod Stands
+pub mod Plan
 pub mod inner
 pub mod laws

@@ -1,3 +1,4 @@
 pub mod CheckpointHeader
 pub mod Copied
 pub mod Free
+pub mod Plan

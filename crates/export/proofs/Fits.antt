@@ -7,7 +7,7 @@ use Rattle.device_image.specs.Keeper.{KeeperState}
 use Rattle.disk_model.specs.Disk.{State}
 use Rattle.image_model.specs.Image.{Image}
 use Rattle.image_model.specs.declared.geometry.Geometry.{Geometry}
-use Rattle.nbd_reply.specs.Reply.{IsAnswerTo}
+use Rattle.nbd_wire.specs.Reply.{IsAnswerTo}
 use Rattle.nbd_wire.specs.Answer.{BytesRead}
 use Rattle.nbd_wire.specs.Request.{Message}
 use Rattle.nbd_wire.specs.declared.error.Errno.{Errno}

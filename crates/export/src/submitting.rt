@@ -5,7 +5,7 @@ ghost use Rattle.export.specs.inner.Submits.{FitsServed, IsServedFor, IsWaitedFo
 ghost use Rattle.export.specs.inner.Outcomes.{ComesToImage, FitsOutcome, IsOutcomeFor};
 ghost use Rattle.image_model.specs.Image.{apply_all};
 ghost use Rattle.marks.specs.Known.{known};
-ghost use Rattle.nbd_reply.specs.Reply.{IsAnswerTo};
+ghost use Rattle.nbd_wire.specs.Reply.{IsAnswerTo};
 ghost use Rattle.nbd_wire.specs.declared.message.Answer.TheVariants as Answer;
 ghost use Rattle.regions.specs.Layout.{block_at};
 ghost use Rattle.request_core.specs.Reading.{IsPlanned};

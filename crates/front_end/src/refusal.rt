@@ -2,10 +2,9 @@ ghost use Rattle.std.specs.Prelude.{◌≡◌};
 ghost use Rattle.front_end.specs.Refusals.{number_of, of_keeper, of_wire};
 ghost use Rattle.front_end.specs.declared.refusal.Refusal.TheVariants as Refusal;
 
-use byte_streams::StreamFault;
 use checkpoint::KeeperFault;
 use disk_model::DeviceFault;
-use nbd_wire::WireFault;
+use nbd_wire::{StreamFault, WireFault};
 use std::alloc::AllocError;
 use std::error::Error;
 use std::fmt;

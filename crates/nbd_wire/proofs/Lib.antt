@@ -1,2 +1,7 @@
 mod Parts
 mod Filling
+mod Appends
+mod Chunks
+mod Decoding
+mod ReplyParts
+mod Spelling

@@ -4,5 +4,9 @@ pub mod Stream
 pub mod State
 pub mod Errno
 pub mod Answer
+pub mod Chunk
+pub mod Reply
+pub mod Decoded
+pub mod Writes
 pub mod inner
 pub mod laws

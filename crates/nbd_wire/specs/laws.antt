@@ -1,3 +1,4 @@
 pub mod Heads
 pub mod Requests
 pub mod Streams
+pub mod Bytes

@@ -1,4 +1,5 @@
-//! What holds of requests and of streams, whoever reads them.
+//! What holds of requests, of streams and of replies, whoever reads or writes them.
+ghost use Rattle.nbd_wire.specs.Decoded.{OneReply, OneSpelling, ReadsBack};
 ghost use Rattle.nbd_wire.specs.Head.{OneHead};
 ghost use Rattle.nbd_wire.specs.Request.{OneRequest};
 ghost use Rattle.nbd_wire.specs.Stream.{AnyPieces, FirstOfStream, FirstRequests, NoRequest, OneReading, WholeStream};
@@ -28,4 +29,16 @@ pub fn any_pieces()
     ensures whole { WholeStream }
     ensures first { FirstOfStream }
     ensures same { AnyPieces }
+{}
+
+/// No reply to a request begins another one, each tells a client one answer, and no other reply tells it.
+pub fn one_reply()
+    ensures one { OneReply }
+    ensures spelling { OneSpelling }
+{}
+
+/// What is written for an answer, a client reads as this answer; in which runs bytes are, it learns where they
+/// come in chunks of their own.
+pub fn reads_back()
+    ensures { ReadsBack }
 {}

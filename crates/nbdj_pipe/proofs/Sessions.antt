@@ -14,14 +14,14 @@ use Rattle.nbdj_pipe.specs.Refusals.{IsOfSession}
 use Rattle.nbdj_pipe.specs.inner.Refusals.{IsEarly}
 use Rattle.nbdj_pipe.specs.Talk.{Exchange, asked, dialog}
 use Rattle.nbdj_pipe.specs.Pipe.{Conversation, ReadsTo, IsEnd, IsFaulty, IsOpen, IsOrderly, IsPiped, IsServed, IsToDisc, IsWhole}
-use Rattle.byte_streams.specs.Streams.{WritesPart}
-use Rattle.byte_streams.specs.declared.streams.StreamFault.{StreamFault}
+use Rattle.nbd_wire.specs.Writes.{WritesPart}
+use Rattle.nbd_wire.specs.declared.bytes.StreamFault.{StreamFault}
 use Rattle.nbdj_pipe.specs.inner.Session.{IsFed, IsTaken, StaysOpen, Takes, TakesOn, IsEndOr, ended_by}
 use Rattle.nbdj_pipe.specs.declared.session.Flow.{Flow}
 use Rattle.front_end.specs.declared.refusal.Refusal.{Refusal}
 use Rattle.front_end.specs.declared.refusal.Refusal.TheVariants.{DeviceFault, PeerClosed, ProtocolEnd}
 use Rattle.nbdj_pipe.proofs.Causes.{IsBare}
-use Rattle.byte_streams.specs.laws.Bytes.{appends_none, appends_on, consumes_kept, consumes_none, consumes_on}
+use Rattle.nbd_wire.specs.laws.Bytes.{appends_none, appends_on, consumes_kept, consumes_none, consumes_on}
 use Rattle.nbdj_pipe.proofs.Dialogs.{HaveNoDisc, all_of, asked-append, asked_whole, behind, dialog-append, disc_behind, each_append, nothing, served_all, served_behind, served_cut, served_nothing, whole_all, whole_behind, whole_nothing}
 
 -- what a session does of requests and answers

@@ -1,6 +1,6 @@
 ghost use Rattle.std.specs.Prelude.{◌≡◌, ◌↔◌, ◌⊎◌, ◌<◌, ◌≤◌, ◌++◌, [], Bool, List, false, length, vec_len, IfErr, IfOk, IfSome, IsErrOf, Ok, Err, OnErr, OnOk};
 ghost use Rattle.std.specs.Io.KnownBytes.{ReadConsumes};
-ghost use Rattle.byte_streams.specs.Streams.{WritesPart};
+ghost use Rattle.nbd_wire.specs.Writes.{WritesPart};
 ghost use Rattle.disk_model.specs.Faults.{HasRisen};
 ghost use Rattle.nbdj_pipe.specs.inner.Export.{IsSettled, Settles};
 ghost use Rattle.nbdj_pipe.specs.Life.{IsLived};
@@ -23,7 +23,6 @@ ghost use Rattle.export_steps.specs.Parts.{IsExportOf};
 ghost use Rattle.export_model.specs.World.{World};
 
 use crate::export::Export;
-use byte_streams::{StreamFault, read_some, write_whole};
 use checkpoint::Keeper;
 use device_image::keeper_laws;
 use disk_model::Disk;
@@ -31,8 +30,10 @@ use export_model::schedule_law;
 use export_steps::{Connections, fresh_parts_law, leads_law};
 use front_end::{PipeOptions, Refusal};
 use marks::{BlankBoard, Board, BoardName, KeeperSeat, Opened};
-use nbd_reply::encode_simple_reply;
-use nbd_wire::{Answer, Request, SessionFlags, StreamReader, one_reading};
+use nbd_wire::{
+    Answer, Request, SessionFlags, StreamFault, StreamReader, encode_simple_reply, one_reading,
+    read_some, write_whole,
+};
 use order_book::Order;
 use request_core::fresh_order;
 use std::alloc::{AllocError, Global};

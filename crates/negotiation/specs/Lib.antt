@@ -2,5 +2,9 @@ pub mod Answered
 pub mod Dialog
 pub mod Ends
 pub mod Session
+pub mod Hearing
+pub mod Serving
+pub mod Streams
+pub mod Talk
 pub mod inner
 pub mod laws

@@ -1,1 +1,3 @@
 pub mod Session
+pub mod Hearing
+pub mod Talk

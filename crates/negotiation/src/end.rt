@@ -2,8 +2,7 @@ ghost use Rattle.std.specs.Prelude.{◌≡◌};
 ghost use Rattle.negotiation.specs.declared.end.End.TheVariants.{IoFault, NoMemory};
 ghost use Rattle.negotiation.specs.Ends.{end_for};
 
-use byte_streams::StreamFault;
-use nbd_wire::WireFault;
+use nbd_wire::{StreamFault, WireFault};
 use std::alloc::AllocError;
 use std::error::Error;
 use std::fmt;

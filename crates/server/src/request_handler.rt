@@ -15,7 +15,7 @@ use marks::Pass;
 use nbd_wire::{
     BLOCK_STATUS, CommandFlags, FLUSH, READ, Reply, Request, RequestHead, SessionFlags, WRITE,
 };
-use session::Serve;
+use negotiation::Serve;
 use std::cell::Cell;
 use std::rt::Clock;
 use std::sync::Wait;

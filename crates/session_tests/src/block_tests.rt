@@ -4,7 +4,7 @@ use image_model::Geometry;
 use nbd_wire::{
     Answer, BLOCK_STATUS, Errno, READ, ReadBytes, Reply, Request, RequestHead, SessionFlags, WRITE,
 };
-use session::{Serve, serve_session};
+use negotiation::{Serve, serve_session};
 use std::alloc::{AllocError, Global};
 use std::io::Read;
 use std::test::Fail;

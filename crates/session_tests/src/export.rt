@@ -4,8 +4,7 @@ use image_model::Geometry;
 use nbd_wire::{
     Answer, BLOCK_STATUS, Errno, READ, ReadBytes, Reply, Request, RequestHead, SessionFlags,
 };
-use negotiation::End;
-use session::{Serve, serve_session};
+use negotiation::{End, Serve, serve_session};
 use std::alloc::{AllocError, Global};
 use std::io::{Read, Write};
 use std::test::Fail;

@@ -7,7 +7,7 @@ use nbd_wire::{
     Answer, BLOCK_STATUS, DISCONNECT, Errno, READ, ReadBytes, Reply, Request, RequestHead,
     SessionFlags, WRITE, encode_request,
 };
-use session::{Serve, serve_session};
+use negotiation::{Serve, serve_session};
 use std::alloc::{AllocError, Global};
 use std::hint::black_box;
 use std::io::{self, Write};

@@ -4,7 +4,7 @@ use mathlib.Core.List.{IsPrefix}
 use Rattle.image_model.specs.Image.{Image}
 use Rattle.image_model.specs.declared.geometry.Geometry.{Geometry}
 use Rattle.marks.specs.Known.{PassState, known}
-use Rattle.nbd_reply.specs.Reply.{IsAnswerTo}
+use Rattle.nbd_wire.specs.Reply.{IsAnswerTo}
 use Rattle.nbd_wire.specs.Request.{Message}
 use Rattle.nbd_wire.specs.declared.head.RequestHead.{RequestHead}
 use Rattle.nbd_wire.specs.declared.message.SessionFlags.{SessionFlags}

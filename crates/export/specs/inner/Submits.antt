@@ -5,7 +5,7 @@ use Rattle.image_model.specs.Change.{Change}
 use Rattle.image_model.specs.Image.{Image}
 use Rattle.image_model.specs.declared.geometry.Geometry.{Geometry}
 use Rattle.marks.specs.Known.{PassState, known}
-use Rattle.nbd_reply.specs.Reply.{IsAnswerTo}
+use Rattle.nbd_wire.specs.Reply.{IsAnswerTo}
 use Rattle.nbd_wire.specs.Request.{Message}
 use Rattle.nbd_wire.specs.declared.error.Errno.TheVariants.{Io}
 use Rattle.nbd_wire.specs.declared.message.Answer.{Answer}

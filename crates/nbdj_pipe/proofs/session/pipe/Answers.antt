@@ -1,7 +1,7 @@
 use Rattle.std.proofs.Common.{inl, Err, refl, sym, ap, subst, ◌∙◌}
 use Rattle.checkpoint.specs.Opening.{IsOpening}
 use Rattle.checkpoint.specs.declared.fault.KeeperFault.TheVariants as fault
-use Rattle.byte_streams.specs.laws.Bytes.{keeps_same}
+use Rattle.nbd_wire.specs.laws.Bytes.{keeps_same}
 use Rattle.nbdj_pipe.proofs.Lives.{starved_opening}
 use Rattle.nbdj_pipe.proofs.session.pipe.Goals as goal
 

@@ -13,7 +13,7 @@ use Rattle.nbdj_pipe.specs.Life.{IsLived}
 use Rattle.nbdj_pipe.specs.Pipe.{IsPiped}
 use Rattle.nbdj_pipe.specs.inner.Session.{Runs}
 use Rattle.nbdj_pipe.specs.Talk.{Exchange}
-use Rattle.byte_streams.specs.laws.Bytes.{keeps_same}
+use Rattle.nbd_wire.specs.laws.Bytes.{keeps_same}
 use Rattle.nbdj_pipe.proofs.Lives.{lived, starved_opening, told_fault}
 use Rattle.nbdj_pipe.proofs.Sessions.{piped_or}
 use Rattle.nbdj_pipe.proofs.session.pipe_over.Goals as goal

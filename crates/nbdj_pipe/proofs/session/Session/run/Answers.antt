@@ -9,7 +9,7 @@ use Rattle.nbdj_pipe.specs.inner.Session.{Runs, Takes}
 use Rattle.front_end.specs.declared.refusal.Refusal.{Refusal}
 use Rattle.front_end.specs.declared.refusal.Refusal.TheVariants.{DeviceFault, NoMemory, PeerClosed, StreamFault}
 use Rattle.nbdj_pipe.specs.declared.session.Flow.{Flow}
-use Rattle.byte_streams.specs.laws.Bytes.{keeps_same}
+use Rattle.nbd_wire.specs.laws.Bytes.{keeps_same}
 use Rattle.nbdj_pipe.proofs.Runs.{runs_bare, runs_none, runs_on}
 use Rattle.nbdj_pipe.proofs.Sessions.{IsGoing, going_first, goes_on, stopped, closed, cut, ended, refused, err_no_end, not_device, IsUnshown, unshown_memory, unshown_stream}
 use Rattle.nbdj_pipe.proofs.session.Session.run.Goals as goal

@@ -1,4 +1,0 @@
-mod After
-mod Counts
-mod Next
-mod Told

@@ -1,5 +1,0 @@
-mod Appends
-mod Chunks
-mod Decoding
-mod Parts
-mod Spelling

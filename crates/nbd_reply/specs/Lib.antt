@@ -1,4 +1,0 @@
-pub mod Chunk
-pub mod Reply
-pub mod Decoded
-pub mod inner

@@ -1,6 +1,0 @@
-mod Answering
-mod Hearing
-mod OneDialog
-mod Serving
-mod Transmitting
-mod Filling
