@@ -1,4 +1,5 @@
 mod Answering
+mod Backing
 mod CleanBlocks
 mod Keeping
 mod Noting
