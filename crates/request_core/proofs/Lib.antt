@@ -10,4 +10,5 @@ mod Owned
 mod Parts
 mod Passes
 mod Stretches
+mod Touched
 mod Writes
