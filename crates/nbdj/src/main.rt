@@ -19,6 +19,7 @@ use image_files::{
     ClosedStreams, FileFault, Opened, ToldFile, fill, open, open_for_reading, open_fresh, try_fresh,
 };
 use image_model::Geometry;
+use nbdj_pipe::{exit_status, perform};
 use nbdj_sweep::{faults, sweep};
 use script_runner::script;
 use std::fs::File;
@@ -27,7 +28,6 @@ use std::rt::Clock;
 use std::sync::Wait;
 use std::thread::Threads;
 use std::{env, io};
-use nbdj_pipe::{exit_status, perform};
 
 fn main(rt: HostRuntime) -> ExitCode {
     // Before anything else is opened, and kept to the end.

@@ -7,6 +7,7 @@ use export::OpenDevice;
 use front_end::{Address, Refusal, ServeOptions};
 use header_slots::read_current;
 use image_files::ToldFile;
+use nbdj_pipe::exit_status;
 use server::{Listener, serve};
 use std::fmt::Display;
 use std::fs::{self, File};
@@ -18,7 +19,6 @@ use std::rt::Clock;
 use std::sync::Wait;
 use std::thread::Threads;
 use std::time::{Duration, Instant};
-use nbdj_pipe::exit_status;
 
 // Opens a device, serves it at an address, and gives the exit status.
 pub fn serve_at<R: Threads + Wait + Clock + Copy + Send + Sync + Drop + 'static>(

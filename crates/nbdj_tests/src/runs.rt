@@ -6,11 +6,11 @@ use export_model::Mode;
 use front_end::{PipeOptions, Plan};
 use image_model::Geometry;
 use nbd_wire::{RequestHead, encode_request};
+use nbdj_pipe::perform;
 use std::alloc::{AllocError, Global};
 use std::io::Read;
 use std::process::Abort;
 use std::test::Fail;
-use nbdj_pipe::perform;
 
 // What a run of a plan left.
 pub struct Ran {
