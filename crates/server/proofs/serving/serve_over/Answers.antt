@@ -1,4 +1,4 @@
-use Rattle.std.proofs.Common.{arith, length, subst, sym, ◌+◌, ◌∙◌, []}
+use Rattle.std.proofs.Common.{rules, arith, length, subst, sym, ◌+◌, ◌∙◌, []}
 use Rattle.export.specs.Left.{LeavesHistory}
 use Rattle.server.proofs.Served.{from_start, on_ok, reaching, same_count}
 use Rattle.server.proofs.serving.serve_over.Goals as goal
@@ -38,5 +38,5 @@ returns-in-Ok g c = record {
             (λ content is. let reaches = is.reaches in omega (arith, reaches, all)) (c.close-disk.ensures.left sure),
       ));
   honest = c.close-disk.ensures.honest;
-  faults = on_ok c.end_of.result c.end_of.ensures.works (λ works. sym c.failures.ensures ∙ same_count c.failures.result c.args.device.failures works ∙ c.args.device.counted);
+  faults = on_ok c.end_of.result c.end_of.ensures.works (λ works. sym c.failures.ensures ∙ same_count c.failures.result c.args.device.failures (search (rules, works)) ∙ c.args.device.counted);
 }
