@@ -7,8 +7,7 @@ use Rattle.checkpoint.specs.declared.fault.KeeperFault.TheVariants as fault
 use Rattle.device_image.specs.Keeper.{KeeperState}
 use Rattle.journal_format.specs.Group.{Numbered}
 use Rattle.order_book.specs.Order.{IsInHand, OrderState}
-use Rattle.export_model.specs.declared.event.Event.TheVariants.{Took}
-use Rattle.export_steps.specs.inner.Storing.{hand_after, hand_refused, order_after, order_refused, step_event}
+use Rattle.export_steps.specs.inner.Storing.{hand_refused, order_refused}
 
 -- only a fault of the device takes the group out of the hand
 pub hand_left : (refusal : KeeperFault) (hand after : Option Numbered) (order new : OrderState) → IfSome hand (IsInHand order) → new ≡ order_refused refusal hand order → after ≡ hand_refused refusal hand
@@ -48,41 +47,3 @@ keeper_left {D} refusal old new is = (ap (λ (k : KeeperState D). k.geometry) is
     same fault.NotNow = (refl, refl)
     same fault.AreaSmall = (refl, refl)
     same fault.Failed = (refl, refl)
-
--- a group that is given back is in hand where memory was refused, and what the order knows of the image stays
-pub back_left : (refusal : KeeperFault) (group : Numbered) (after : Option Numbered) (order new : OrderState) → IsInHand order group → new ≡ order_after refusal order group → after ≡ hand_after refusal group
-    → IfSome after (IsInHand new) × (new.cache ≡ order.cache)
-back_left refusal group after order new is order_is hand_is =
-    let left = back refusal in (
-      subst (λ (h : Option Numbered). IfSome h (IsInHand new)) (sym hand_is) (subst (λ (o : OrderState). IfSome (hand_after refusal group) (IsInHand o)) (sym order_is) left.0),
-      ap (λ (o : OrderState). o.cache) order_is ∙ left.1,
-    )
-  where
-    back : (f : KeeperFault) → IfSome (hand_after f group) (IsInHand (order_after f order group)) × ((order_after f order group).cache ≡ order.cache)
-    back fault.NoMemory = (is, refl)
-    back fault.DeviceFault = (tt, refl)
-    back fault.BadMap = (tt, refl)
-    back fault.NoHeader = (tt, refl)
-    back fault.BadHeader = (tt, refl)
-    back fault.NumbersFull = (tt, refl)
-    back fault.AreaFull = (tt, refl)
-    back fault.OutOfOrder = (tt, refl)
-    back fault.DamagedGroup = (tt, refl)
-    back fault.NotNow = (tt, refl)
-    back fault.AreaSmall = (tt, refl)
-    back fault.Failed = (tt, refl)
-
--- a step that is refused isn't done
-pub never_took : (refusal : KeeperFault) → step_event refusal ≡ Took → ⊥
-never_took fault.NoMemory took = cc
-never_took fault.DeviceFault took = cc
-never_took fault.BadMap took = cc
-never_took fault.NoHeader took = cc
-never_took fault.BadHeader took = cc
-never_took fault.NumbersFull took = cc
-never_took fault.AreaFull took = cc
-never_took fault.OutOfOrder took = cc
-never_took fault.DamagedGroup took = cc
-never_took fault.NotNow took = cc
-never_took fault.AreaSmall took = cc
-never_took fault.Failed took = cc

@@ -67,13 +67,6 @@ fn turned(event: &Event) -> Result<(), Refusal>
     }
 }
 
-// Whether a step's condition didn't hold.
-fn is_held(event: &Event) -> bool
-    ensures { MatchBool result (event.now ≡ Event.Held) (event.now ≡ Event.Held → ⊥) }
-{
-    matches!(event, Event::Held)
-}
-
 // A function of its own, it is proved once, and not variant by variant wherever an event is let go.
 fn let_go(_event: Event) {}
 
@@ -368,10 +361,10 @@ impl<B: BoardName, D: Disk> Export<B, D> {
             × Follows world next [] self.new.order self.new.keeper (D.faults self.new.keeper.disk) self.new.connections
             (Trusts trusted (D.honest self.new.keeper.disk)) (D.state self.old.keeper.disk) (D.state self.new.keeper.disk) }
     {
-        let event = self.step(Step::Serve(0));
-        let held = is_held(&event);
-        let_go(event);
-        !held
+        if let Event::Held = self.step(Step::Serve(0)) {
+            return false;
+        }
+        true
     }
 
     // Serves the request that was sent where all is stored. Where there is no room for its command it is served once more after
@@ -439,10 +432,7 @@ impl<B: BoardName, D: Disk> Export<B, D> {
     {
         match self.step(Step::Answer(0)) {
             Event::Answered(_, answer) => Some(answer),
-            other => {
-                let_go(other);
-                None
-            }
+            _ => None,
         }
     }
 

@@ -6,7 +6,7 @@ use Rattle.std.proofs.lemmas.List.Elements.{All-drop, All-take}
 use Rattle.image_model.specs.Bodies.{body_limit}
 use Rattle.image_model.specs.Command.{bodies_of}
 use Rattle.image_model.specs.declared.command.Command.{Command}
-use Rattle.journal_format.specs.Group.{IsGroup, Numbered}
+use Rattle.journal_format.specs.Group.{Numbered}
 use Rattle.order_book.specs.Order.{IsInHand, IsOrder, OrderState, Seals}
 use Rattle.order_book.specs.Pending.{HasSmallBody}
 use Rattle.order_book.specs.inner.Pending.{IsLongest}
@@ -57,16 +57,6 @@ module _ (order : OrderState) (count spare left opening accepted : ℕ) (rest : 
       small = small;
       rest = ap (λ (n : ℕ). let o : OrderState = record order { sealed = order.sealed + n; in_hand = n; pending = rest } in o) (sym whole);
     }
-
-    -- they are a group
-    pub is_group : 0 < count → IsGroup (order.sealed + 1) items
-    is_group some =
-        let fits = longest.fits in
-        record {
-          some = omega (arith, whole, some);
-          bodies = subst (λ (l : List Command). bodies_of l ≤ 8388608) (sym items_are) (omega (arith, fits));
-          numbers = omega (arith, whole, longest.within, is.numbers.pending, is.numbers.mark);
-        }
 
 -- where none is sealed
 pub due_empty : (order : OrderState) → (order.pending ≡ [] → ⊥) → order.sealed ≤ order.durable → (order.pending ≡ []) ⊎ (order.durable < order.sealed) → ⊥

@@ -1,10 +1,7 @@
 -- what is served with no keeper at hand is served as with one, and what a pass knows once a READ was answered
 use Rattle.std.specs.Prelude.{MatchBool}
-use Rattle.std.proofs.Common.{◌≡◌, inl, inr, ℕ, Bool, false, nat_lt, Result, Ok, Err, length, ap, refl, sym, subst, arith}
+use Rattle.std.proofs.Common.{◌≡◌, inl, inr, ℕ, Bool, false, nat_lt, Result, Ok, Err, ap, refl, sym, subst, arith}
 use Rattle.std.proofs.lemmas.Bool.Decides.{nat_tests}
-use Rattle.checkpoint.specs.Keeper.{refused_by}
-use Rattle.checkpoint.specs.declared.fault.KeeperFault.{KeeperFault}
-use Rattle.checkpoint.specs.declared.fault.KeeperFault.TheVariants as fault
 use Rattle.device_image.specs.Keeper.{KeeperState}
 use Rattle.disk_model.specs.Disk.{State}
 use Rattle.image_model.specs.declared.geometry.Geometry.{Geometry}
@@ -33,35 +30,6 @@ read_leaves (Ok Serve) request geometry kept old new result kind (inl (inr (inr 
 read_leaves (Ok Serve) request geometry kept old new result kind (inl (inr (inr (inr write)))) = absurd (write.2 kind)
 read_leaves (Ok Serve) request geometry kept old new result kind (inr read) = read.2
 read_leaves (Err errno) request geometry kept old new result kind served = served.0
-
--- a refusal changes none of a device's sizes
-same_geometry : {D : Type 0} (old next : KeeperState D) (refusal : KeeperFault) → next ≡ refused_by refusal old next.disk → next.geometry ≡ old.geometry
-same_geometry old next fault.NoMemory is = ap (λ (k : KeeperState _). k.geometry) is
-same_geometry old next fault.DeviceFault is = ap (λ (k : KeeperState _). k.geometry) is
-same_geometry old next fault.BadMap is = ap (λ (k : KeeperState _). k.geometry) is
-same_geometry old next fault.NoHeader is = ap (λ (k : KeeperState _). k.geometry) is
-same_geometry old next fault.BadHeader is = ap (λ (k : KeeperState _). k.geometry) is
-same_geometry old next fault.NumbersFull is = ap (λ (k : KeeperState _). k.geometry) is
-same_geometry old next fault.AreaFull is = ap (λ (k : KeeperState _). k.geometry) is
-same_geometry old next fault.OutOfOrder is = ap (λ (k : KeeperState _). k.geometry) is
-same_geometry old next fault.DamagedGroup is = ap (λ (k : KeeperState _). k.geometry) is
-same_geometry old next fault.NotNow is = ap (λ (k : KeeperState _). k.geometry) is
-same_geometry old next fault.Failed is = ap (λ (k : KeeperState _). k.geometry) is
-same_geometry old next fault.AreaSmall is = ap (λ (k : KeeperState _). k.geometry) is
-
-pub same_count : {D : Type 0} (old next : KeeperState D) (refusal : KeeperFault) → next ≡ refused_by refusal old next.disk → next.count ≡ old.count
-same_count old next fault.NoMemory is = ap (λ (k : KeeperState _). k.count) is
-same_count old next fault.DeviceFault is = ap (λ (k : KeeperState _). k.count) is
-same_count old next fault.BadMap is = ap (λ (k : KeeperState _). k.count) is
-same_count old next fault.NoHeader is = ap (λ (k : KeeperState _). k.count) is
-same_count old next fault.BadHeader is = ap (λ (k : KeeperState _). k.count) is
-same_count old next fault.NumbersFull is = ap (λ (k : KeeperState _). k.count) is
-same_count old next fault.AreaFull is = ap (λ (k : KeeperState _). k.count) is
-same_count old next fault.OutOfOrder is = ap (λ (k : KeeperState _). k.count) is
-same_count old next fault.DamagedGroup is = ap (λ (k : KeeperState _). k.count) is
-same_count old next fault.NotNow is = ap (λ (k : KeeperState _). k.count) is
-same_count old next fault.Failed is = ap (λ (k : KeeperState _). k.count) is
-same_count old next fault.AreaSmall is = ap (λ (k : KeeperState _). k.count) is
 
 module _ {D : Type 0} (state : D → State) (faults : D → ℕ) (honest : D → Type 0) (keeper : KeeperState D) (still : honest keeper.disk → IsOnlyRead (state keeper.disk) (state keeper.disk)) where
   held_read : (head : RequestHead) (order : OrderState) (result : Served) → IsHeldRead head order result → IsRead state faults honest head order order keeper keeper result
@@ -100,17 +68,6 @@ module _ {D : Type 0} (state : D → State) (faults : D → ℕ) (honest : D →
   read_mark head old new next result (inl none) = ap (λ (o : OrderState). o.mark) none.0
   read_mark head old new next result (inr (inl read)) = ap (λ (o : OrderState). o.mark) read.order
   read_mark head old new next result (inr (inr unread)) = ap (λ (o : OrderState). o.mark) unread.order
-
-  -- no block, and nothing of the device's sizes
-  pub read_blocks : (head : RequestHead) (old new : OrderState) (next : KeeperState D) (result : Served) → IsReadServed state faults honest head old new keeper next result → length new.cache.states ≡ length old.cache.states
-  read_blocks head old new next result (inl none) = ap (λ (o : OrderState). length o.cache.states) none.0
-  read_blocks head old new next result (inr (inl read)) = ap length read.states
-  read_blocks head old new next result (inr (inr unread)) = ap (λ (o : OrderState). length o.cache.states) unread.order
-
-  pub read_geometry : (head : RequestHead) (old new : OrderState) (next : KeeperState D) (result : Served) → IsReadServed state faults honest head old new keeper next result → next.geometry ≡ keeper.geometry
-  read_geometry head old new next result (inl none) = ap (λ (k : KeeperState D). k.geometry) none.1
-  read_geometry head old new next result (inr (inl read)) = ap (λ (k : KeeperState D). k.geometry) read.keeper_is
-  read_geometry head old new next result (inr (inr unread)) = same_geometry keeper next unread.refusal unread.keeper_is
 
   -- and its pass knows what it knew
   module _ (opening : ℕ) (request : Message) (result : Served) (pass : PassState) where

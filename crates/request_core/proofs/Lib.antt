@@ -10,5 +10,4 @@ mod Owned
 mod Parts
 mod Passes
 mod Stretches
-mod Touched
 mod Writes

@@ -1,5 +1,5 @@
 -- which request needs the device
-use Rattle.std.proofs.Common.{◌≡◌, ◌⊎◌, Ok, inl, inr, ◌/◌, ℕ, nat_eq, true, ap, subst, sym, ◌∙◌, rules}
+use Rattle.std.proofs.Common.{◌≡◌, ◌⊎◌, inl, inr, ◌/◌, ℕ, nat_eq, true, ap, subst, sym, ◌∙◌}
 use Rattle.nbd_wire.specs.declared.head.RequestHead.{RequestHead}
 use Rattle.std.proofs.lemmas.Bool.{both_ways, eq-eqb}
 use Rattle.image_model.specs.Edit.{blocks_met}
@@ -7,19 +7,8 @@ use Rattle.nbd_wire.specs.Request.{Message}
 use Rattle.order_book.specs.Edits.{NeedsDevice}
 use Rattle.order_book.specs.Order.{OrderState}
 use Rattle.shared_cache.specs.Cache.{LacksBytes}
-use Rattle.export_model.specs.Log.{edit_asked, is_write, is_write_type}
-use Rattle.export_model.specs.Verdict.{verdict}
-use Rattle.export_model.specs.declared.action.Action.TheVariants.{Serve}
-use Rattle.image_model.specs.declared.geometry.Geometry.{Geometry}
-use Rattle.nbd_wire.specs.declared.message.SessionFlags.{SessionFlags}
+use Rattle.export_model.specs.Log.{edit_asked, is_write}
 use Rattle.request_core.specs.laws.Requests.{write_others}
-
-pub zero_7 : ◌≡◌ {A = ℕ} 0 7 → ⊥
-zero_7 is = cc
-
--- what passes judgement and is none of the others is a write request
-pub other_writes : (head : RequestHead) (geometry : Geometry) (flags : SessionFlags) → verdict head geometry flags ≡ Ok Serve → (head.kind ≡ 3 → ⊥) → (head.kind ≡ 0 → ⊥) → (head.kind ≡ 7 → ⊥) → is_write_type head.kind ≡ true
-other_writes head geometry flags passes other reads states = search rules
 
 module _ (request : Message) (order : OrderState) where
   abbrev lacks : Type 0
@@ -36,10 +25,6 @@ module _ (request : Message) (order : OrderState) where
   is_edit other (inl read) = absurd (other read.0)
   is_edit other (inr edit) = edit.0
 
-  pub edit_needs : (request.head.kind ≡ 0 → ⊥) → needs → NeedsDevice order (edit_asked request)
-  edit_needs other (inl read) = absurd (other read.0)
-  edit_needs other (inr edit) = edit.1
-
   pub neither_3 : request.head.kind ≡ 3 → needs → ⊥
   neither_3 kind (inl read) = apart (sym read.0 ∙ kind)
     where
@@ -48,7 +33,10 @@ module _ (request : Message) (order : OrderState) where
   neither_3 kind (inr edit) = both_ways (nat_eq request.head.kind 3) (write_others request.head.kind edit.0).0 (eq-eqb request.head.kind 3 kind)
 
   pub neither_7 : request.head.kind ≡ 7 → needs → ⊥
-  neither_7 kind (inl read) = zero_7 (sym read.0 ∙ kind)
+  neither_7 kind (inl read) = apart (sym read.0 ∙ kind)
+    where
+      apart : ◌≡◌ {A = ℕ} 0 7 → ⊥
+      apart is = cc
   neither_7 kind (inr edit) = both_ways (nat_eq request.head.kind 7) (write_others request.head.kind edit.0).2 (eq-eqb request.head.kind 7 kind)
 
   -- of the blocks that its bytes touch

@@ -144,12 +144,3 @@ module _ (opening : ℕ) (request : Message) (kept : Mode) (old new : OrderState
 -- want of memory is no other refusal
 pub faults_apart : (fault.NoMemory ≡ fault.NumbersFull → ⊥) × (fault.NoMemory ≡ fault.NoRoom → ⊥) × (fault.NoMemory ≡ fault.DeviceFault → ⊥)
 faults_apart = (λ is. cc, λ is. cc, λ is. cc)
-
--- and a refusal is one of six
-pub never_other : (refusal : OrderFault) → (refusal ≡ fault.NoMemory → ⊥) → (refusal ≡ fault.NoRoom → ⊥) → (refusal ≡ fault.NumbersFull → ⊥) → (refusal ≡ fault.DeviceFault → ⊥) × (refusal ≡ fault.Failed → ⊥) → (refusal ≡ fault.Stopped → ⊥) → ⊥
-never_other fault.NoMemory memory room full device stopped = memory refl
-never_other fault.NoRoom memory room full device stopped = room refl
-never_other fault.NumbersFull memory room full device stopped = full refl
-never_other fault.DeviceFault memory room full device stopped = device.0 refl
-never_other fault.Failed memory room full device stopped = device.1 refl
-never_other fault.Stopped memory room full device stopped = stopped refl

@@ -1,9 +1,6 @@
 -- What is left of a device that was served.
 use Rattle.std.specs.Prelude.{OnOk}
-use Rattle.std.proofs.Common.{◌≡◌, ◌∙◌, ⊎_elim, false, not, ℕ, ◌+◌, ◌≤◌, List, [], Result, Ok, Err, ap, length, refl, subst, sym, arith}
-use Rattle.std.proofs.Math.Dec.{eqb}
-use Rattle.std.proofs.lemmas.Bool.{false≢true}
-use Rattle.std.proofs.lemmas.Bool.Decides.{eqb_tells}
+use Rattle.std.proofs.Common.{◌≡◌, ℕ, ◌+◌, ◌≤◌, List, [], Result, Ok, Err, length, refl, subst, sym, arith}
 use Rattle.device_image.specs.Stands.{StandsFor}
 use Rattle.disk_model.specs.Disk.{LeavesOnly, State}
 use Rattle.disk_model.specs.laws.Moments.{weakens}
@@ -33,7 +30,3 @@ reaching start now opening image history least other reaches is = record {
 pub on_ok : {T E : Type 0} {A B : Type 0} (result : Result T E) → OnOk result A → (A → B) → OnOk result B
 on_ok (Ok value) is then = then is
 on_ok (Err error) is then = tt
-
--- counts that a test finds not to differ
-pub same_count : (a b : ℕ) → not (eqb a b) ≡ false → a ≡ b
-same_count a b is = ⊎_elim (λ same. same.1) (λ other. absurd (false≢true (sym is ∙ ap not other.0))) (eqb_tells a b)

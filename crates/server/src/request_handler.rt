@@ -67,7 +67,7 @@ impl<'a, B: ExportName, D: Disk, H: ReadBeside, R: Wait + Clock, L: Log> Serve<P
 
     fn serve(&self, pass: &mut Pass<B>, request: Request, flags: &SessionFlags) -> Reply {
         let head = request.head();
-        count(&self.log, self.number, self.traffic, &request, flags);
+        self.count(&request, flags);
         let reply = self.export.submit(self.rt, pass, request, flags);
         if head.kind == WRITE && !self.may_wait(&head) {
             self.export.throttle(self.rt, head.length);
@@ -80,31 +80,36 @@ impl<'a, B: ExportName, D: Disk, H: ReadBeside, R: Wait + Clock, L: Log> Serve<P
     }
 }
 
-// Counts a request of a client, and tells of the first one.
-fn count<L: Log>(
-    log: &L,
-    client: u64,
-    counted: &Cell<Traffic>,
-    request: &Request,
-    flags: &SessionFlags,
-) {
-    let mut traffic = counted.get();
-    if traffic.requests == 0 {
-        log.note(Event::Agreed {
-            client,
-            flags: *flags,
-        });
-    }
-    let head = request.head();
-    traffic.requests = traffic.requests.saturating_add(1);
-    match head.kind {
-        READ => {
-            traffic.bytes_read = traffic.bytes_read.saturating_add(u64::from(head.length));
+impl<'a, B: ExportName, D: Disk, H: ReadBeside, R: Wait + Clock, L: Log> RequestHandler<
+    'a,
+    B,
+    D,
+    H,
+    R,
+    L,
+> {
+    // Counts a request, and tells of the first one.
+    fn count(&self, request: &Request, flags: &SessionFlags) {
+        let mut traffic = self.traffic.get();
+        if traffic.requests == 0 {
+            self.log.note(Event::Agreed {
+                client: self.number,
+                flags: *flags,
+            });
         }
-        WRITE => {
-            traffic.bytes_written = traffic.bytes_written.saturating_add(u64::from(head.length));
+        let head = request.head();
+        traffic.requests = traffic.requests.saturating_add(1);
+        match head.kind {
+            READ => {
+                traffic.bytes_read = traffic.bytes_read.saturating_add(u64::from(head.length));
+            }
+            WRITE => {
+                traffic.bytes_written = traffic
+                    .bytes_written
+                    .saturating_add(u64::from(head.length));
+            }
+            _ => {}
         }
-        _ => {}
+        self.traffic.set(traffic);
     }
-    counted.set(traffic);
 }

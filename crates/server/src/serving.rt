@@ -105,12 +105,11 @@ fn close_behind<R: Wait + Clock, I: Read + Drop>(rt: &R, registry: &ClientRegist
     let mut input = input;
     let mut passed = [0; 512];
     for _ in rt.forever() {
-        let has_ended = match input.read(&mut passed) {
-            Ok(count) => count == 0,
-            Err(error) => error.kind() != ErrorKind::Interrupted,
-        };
-        if has_ended {
-            break;
+        match input.read(&mut passed) {
+            Ok(0) => break,
+            Ok(_) => {}
+            Err(error) if error.kind() == ErrorKind::Interrupted => {}
+            Err(_) => break,
         }
     }
     registry.close(rt);
@@ -262,18 +261,22 @@ where
     if !start(scope, server, Task::Flush) {
         return false;
     }
-    let mut starts = start(scope, server, Task::Checkpoint);
-    let mut has_worker = false;
-    for _ in 0..server.options.workers {
-        starts = starts && start(scope, server, Task::Work);
-        if starts {
-            has_worker = true;
-        } else if let Some((_slot, pass)) = server.pool.take_pass(server.rt) {
-            // The flusher ends once all passes have left.
+    let mut started = 0;
+    if start(scope, server, Task::Checkpoint) {
+        for at in 0..server.options.workers {
+            if !start(scope, server, Task::Work) {
+                break;
+            }
+            started = at + 1;
+        }
+    }
+    // The flusher ends once all passes have left.
+    for _ in started..server.options.workers {
+        if let Some((_slot, pass)) = server.pool.take_pass(server.rt) {
             server.pool.retire(server.rt, server.export, pass);
         }
     }
-    has_worker
+    started > 0
 }
 
 // Starts a thread for a task; whether there is one.

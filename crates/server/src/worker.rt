@@ -100,9 +100,9 @@ impl<'a, B: ExportName> WorkerPool<'a, B> {
         self.last.into_inner()
     }
 
-    // Whether another session may begin, which does; none once the registry is closed.
+    // Whether another session may begin, which does.
     fn begin<R: Wait>(&self, rt: &R) -> bool {
-        !self.registry.is_closed() && self.sessions.lock(rt).begin()
+        self.sessions.lock(rt).begin()
     }
 }
 
@@ -161,11 +161,12 @@ impl<'a, B: ExportName, D: Disk, H: ReadBeside, R: Wait + Clock, G: SyncPoints +
         let Some((slot, mut pass)) = self.pool.take_pass(self.rt) else {
             return;
         };
+        let registry = self.pool.registry;
         for _ in self.rt.forever() {
-            if !self.pool.begin(self.rt) {
+            if registry.is_closed() || !self.pool.begin(self.rt) {
                 break;
             }
-            if let Some(client) = self.pool.registry.accept(self.rt) {
+            if let Some(client) = registry.accept(self.rt) {
                 self.receive(slot, &mut pass, client);
             }
         }

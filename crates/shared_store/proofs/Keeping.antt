@@ -81,7 +81,7 @@ order_is_other is = cc
 failed_is_other : fault.DeviceFault ≡ fault.Failed → ⊥
 failed_is_other is = cc
 
-pub not_true_is : (b : Bool) → (IsTrue b → ⊥) → b ≡ false
+not_true_is : (b : Bool) → (IsTrue b → ⊥) → b ≡ false
 not_true_is true none = absurd (none refl)
 not_true_is false none = refl
 

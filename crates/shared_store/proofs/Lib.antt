@@ -1,5 +1,4 @@
 mod Answering
-mod Backing
 mod CleanBlocks
 mod Keeping
 mod Noting

@@ -1,7 +1,6 @@
 use Rattle.std.proofs.Common.{ℕ, Option, refl, sym, ◌∙◌, ap, subst, arith, rules}
 use Rattle.std.specs.Prelude.{◌≤◌, IfSome}
 use Rattle.order_book.specs.Order.{IsInHand}
-use Rattle.image_model.specs.declared.geometry.Geometry.{Geometry}
 use Rattle.journal_format.specs.Group.{Numbered}
 use Rattle.export_steps.specs.Bench.{ConnectionsState}
 use Rattle.export_steps.specs.Parts.{AreConnectionsOf, IsOrderOf}
@@ -322,56 +321,3 @@ returns-in-Clean g c = record {
             (shows_after world.stage _ order c.clean.new.order (steady_clean world) c.clean.ensures.image) cleaned),
       );
 }
-
-pub serve-requires : goal.serve-requires
-serve-requires g c = record {
-  passes = c.connections.invariant;
-  hand = subst (λ (b : ConnectionsState). IfSome b.group (IsInHand c.args.order.now)) (sym c.connections.view_is) c.requires.group;
-  blocks = c.requires.blocks ∙ ap (λ (size : Geometry). size.blocks) (sym c.geometry.ensures);
-  device = c.geometry.ensures;
-}
-
-pub seal-requires : goal.seal-requires
-seal-requires g c = subst (λ (b : ConnectionsState). IfSome b.group (IsInHand c.args.order.now)) (sym c.connections.view_is) c.requires.group
-
-pub append-requires : goal.append-requires
-append-requires g c = subst (λ (b : ConnectionsState). IfSome b.group (IsInHand c.args.order.now)) (sym c.connections.view_is) c.requires.group
-
-pub rotate-requires : goal.rotate-requires
-rotate-requires g c = subst (λ (b : ConnectionsState). IfSome b.group (IsInHand c.args.order.now)) (sym c.connections.view_is) c.requires.group
-
-pub copy-requires : goal.copy-requires
-copy-requires g c = subst (λ (b : ConnectionsState). IfSome b.group (IsInHand c.args.order.now)) (sym c.connections.view_is) c.requires.group
-
-pub write_map-requires : goal.write_map-requires
-write_map-requires g c = subst (λ (b : ConnectionsState). IfSome b.group (IsInHand c.args.order.now)) (sym c.connections.view_is) c.requires.group
-
-pub finish-requires : goal.finish-requires
-finish-requires g c = subst (λ (b : ConnectionsState). IfSome b.group (IsInHand c.args.order.now)) (sym c.connections.view_is) c.requires.group
-
-pub invariant_of-connections : goal.invariant_of-connections
-invariant_of-connections g c = c.connections.invariant ∙ sym c.send.ensures.size
-
-pub invariant_of-connections-in-Serve : goal.invariant_of-connections-in-Serve
-invariant_of-connections-in-Serve g c = c.serve.ensures.passes ∙ c.connections.invariant ∙ sym c.serve.ensures.size
-
-pub invariant_of-connections-in-Answer : goal.invariant_of-connections-in-Answer
-invariant_of-connections-in-Answer g c = c.connections.invariant ∙ sym c.answer.ensures.size
-
-pub invariant_of-connections-in-Seal : goal.invariant_of-connections-in-Seal
-invariant_of-connections-in-Seal g c = c.connections.invariant
-
-pub invariant_of-connections-in-Append : goal.invariant_of-connections-in-Append
-invariant_of-connections-in-Append g c = c.connections.invariant
-
-pub invariant_of-connections-in-Rotate : goal.invariant_of-connections-in-Rotate
-invariant_of-connections-in-Rotate g c = c.connections.invariant
-
-pub invariant_of-connections-in-Copy : goal.invariant_of-connections-in-Copy
-invariant_of-connections-in-Copy g c = c.connections.invariant
-
-pub invariant_of-connections-in-Map : goal.invariant_of-connections-in-Map
-invariant_of-connections-in-Map g c = c.connections.invariant
-
-pub invariant_of-connections-in-Finish : goal.invariant_of-connections-in-Finish
-invariant_of-connections-in-Finish g c = c.connections.invariant

@@ -11,59 +11,32 @@ use Rattle.export_model.specs.declared.connection.Connection.TheVariants.{Closed
 use Rattle.export_model.specs.declared.event.Event.TheVariants.{Held}
 use Rattle.export_steps.proofs.requests.serve.Goals as goal
 
-pub returns-in_default : goal.returns-in_default
-returns-in_default g c = record {
-  size = c.take_request.ensures.size;
-  passes = refl;
-  hand = c.requires.hand;
-  blocks = refl;
-  geometry = refl;
-  count = refl;
-  extent = refl;
-  honest = (λ is. is, λ is. is);
-  world = λ world within of kept terms same sure.
-      let items = c.args.states.now.items in
-      let place = c.args.connection in
-      let none : request_in (world.connections place) ≡ None = ap request_in (sym (same place)) ∙ (sym c.take_request.ensures.request ∙ c.in_default.is) in (
-        Nothing,
-        subst (λ (after : World). IsAnyTalked world after c.take_request.new.states.items Held c.args.order.now c.args.order.now c.args.hand.now c.args.hand.now c.args.keeper.now c.args.keeper.now
-            (g.D.Disk.faults c.args.keeper.now.disk) (g.D.Disk.honest c.args.keeper.now.disk) (g.D.Disk.state c.args.keeper.now.disk) (g.D.Disk.state c.args.keeper.now.disk))
-            (sym (serve_none world place (world.connections place) none))
-            (inl (refl, refl, talked_held world items c.take_request.new.states.items place Held c.args.order.now c.args.hand.now of same c.in_default.ensures.none refl, λ shown. shown)),
-      );
-}
+pub returns-in_default-clause-world : goal.returns-in_default-clause-world
+returns-in_default-clause-world g c = λ world within of kept terms same sure.
+    let items = c.args.states.now.items in
+    let place = c.args.connection in
+    let none : request_in (world.connections place) ≡ None = ap request_in (sym (same place)) ∙ (sym c.take_request.ensures.request ∙ c.in_default.is) in (
+      Nothing,
+      subst (λ (after : World). IsAnyTalked world after c.take_request.new.states.items Held c.args.order.now c.args.order.now c.args.hand.now c.args.hand.now c.args.keeper.now c.args.keeper.now
+          (g.D.Disk.faults c.args.keeper.now.disk) (g.D.Disk.honest c.args.keeper.now.disk) (g.D.Disk.state c.args.keeper.now.disk) (g.D.Disk.state c.args.keeper.now.disk))
+          (sym (serve_none world place (world.connections place) none))
+          (inl (refl, refl, talked_held world items c.take_request.new.states.items place Held c.args.order.now c.args.hand.now of same c.in_default.ensures.none refl, λ shown. shown)),
+    )
 
-pub returns : goal.returns
-returns g c = record {
-  size = c.take_request.ensures.size;
-  passes = refl;
-  hand = c.serve_request-state.ensures.hand;
-  blocks = c.serve_request-state.ensures.blocks;
-  geometry = c.serve_request-state.ensures.geometry;
-  count = c.serve_request-state.ensures.count;
-  extent = c.serve_request-state.ensures.extent;
-  honest = c.serve_request-state.ensures.honest;
-  world = λ world within of kept terms same sure.
-      let items = c.args.states.now.items in
-      let place = c.args.connection in
-      let request = c.in-Some.request in
-      let found = request_found (get_or items place Closed) request c.in-Some.ensures.request in
-      let here : world.connections place ≡ Requested request = sym (same place) ∙ found in
-      let served = c.serve_request-state.ensures.world world within of kept terms here sure in
-      let below = within_list items place (λ closed. open_unlike request (sym found ∙ closed)) in (
-        served.0,
-        subst (λ (l : List Connection). IsAnyTalked world (serve served.0 world place (world.connections place)) (set l place c.serve_request-state.result.0) c.serve_request-state.result.1
-            c.args.order.now c.serve_request-state.new.order c.args.hand.now c.serve_request-state.new.hand c.args.keeper.now c.serve_request-state.new.keeper (g.D.Disk.faults c.serve_request-state.new.keeper.disk)
-            (g.D.Disk.honest c.args.keeper.now.disk) (g.D.Disk.state c.args.keeper.now.disk) (g.D.Disk.state c.serve_request-state.new.keeper.disk)) (sym c.in-Some.ensures.taken)
-            (any_talked world served.0 items place request c.serve_request-state.result.0 Idle c.serve_request-state.result.1 c.args.order.now c.serve_request-state.new.order c.args.hand.now c.serve_request-state.new.hand
-            c.args.keeper.now c.serve_request-state.new.keeper (g.D.Disk.faults c.serve_request-state.new.keeper.disk) (g.D.Disk.honest c.args.keeper.now.disk) (g.D.Disk.state c.args.keeper.now.disk)
-            (g.D.Disk.state c.serve_request-state.new.keeper.disk) same below here served.1),
-      );
-}
-
-pub serve_request-state-requires : goal.serve_request-state-requires
-serve_request-state-requires g c = record {
-  hand = c.requires.hand;
-  blocks = c.requires.blocks;
-  device = c.requires.device;
-}
+pub returns-clause-world : goal.returns-clause-world
+returns-clause-world g c = λ world within of kept terms same sure.
+    let items = c.args.states.now.items in
+    let place = c.args.connection in
+    let request = c.in-Some.request in
+    let found = request_found (get_or items place Closed) request c.in-Some.ensures.request in
+    let here : world.connections place ≡ Requested request = sym (same place) ∙ found in
+    let served = c.serve_request-state.ensures.world world within of kept terms here sure in
+    let below = within_list items place (λ closed. open_unlike request (sym found ∙ closed)) in (
+      served.0,
+      subst (λ (l : List Connection). IsAnyTalked world (serve served.0 world place (world.connections place)) (set l place c.serve_request-state.result.0) c.serve_request-state.result.1
+          c.args.order.now c.serve_request-state.new.order c.args.hand.now c.serve_request-state.new.hand c.args.keeper.now c.serve_request-state.new.keeper (g.D.Disk.faults c.serve_request-state.new.keeper.disk)
+          (g.D.Disk.honest c.args.keeper.now.disk) (g.D.Disk.state c.args.keeper.now.disk) (g.D.Disk.state c.serve_request-state.new.keeper.disk)) (sym c.in-Some.ensures.taken)
+          (any_talked world served.0 items place request c.serve_request-state.result.0 Idle c.serve_request-state.result.1 c.args.order.now c.serve_request-state.new.order c.args.hand.now c.serve_request-state.new.hand
+          c.args.keeper.now c.serve_request-state.new.keeper (g.D.Disk.faults c.serve_request-state.new.keeper.disk) (g.D.Disk.honest c.args.keeper.now.disk) (g.D.Disk.state c.args.keeper.now.disk)
+          (g.D.Disk.state c.serve_request-state.new.keeper.disk) same below here served.1),
+    )

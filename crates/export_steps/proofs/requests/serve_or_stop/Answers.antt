@@ -1,5 +1,4 @@
-use Rattle.std.proofs.Common.{length, refl, subst, ◌≡◌, ℕ, false, inl, inr, Option, Some, None, IfSome, Result, Ok, Err, ap, sym, true, ◌+◌, ◌∙◌}
-use Rattle.std.proofs.lemmas.Bool.{false≢true}
+use Rattle.std.proofs.Common.{◌≡◌, ℕ, false, inl, inr, Option, Some, None, IfSome, Result, Ok, Err, ap, sym, true, ◌+◌, ◌∙◌}
 use Rattle.device_image.specs.Keeper.{KeeperState}
 use Rattle.disk_model.specs.Disk.{State}
 use Rattle.image_model.specs.declared.geometry.Geometry.{Geometry}
@@ -7,10 +6,8 @@ use Rattle.journal_format.specs.Group.{Numbered}
 use Rattle.nbd_wire.specs.Request.{Message}
 use Rattle.nbd_wire.specs.declared.error.Errno.{Errno}
 use Rattle.order_book.specs.Order.{IsInHand, OrderState}
-use Rattle.shared_cache.specs.Cache.{CacheState}
 use Rattle.export_steps.proofs.Asked.{now_stopped}
 use Rattle.export_steps.proofs.requests.serve_or_stop.Goals as goal
-use Rattle.export_steps.proofs.requests.serve_or_stop.Goals.{else-works-via-then-works+else-stopped, else-works-via-else-works}
 use Rattle.image_model.specs.Image.{Image}
 use Rattle.order_book.specs.Shown.{ShowsImage}
 use Rattle.request_core.specs.Outcomes.{IsPassed, IsServedBy}
@@ -63,49 +60,24 @@ module _ {D : Type 0} (state : D → State) (faults : D → ℕ) (honest : D →
   served_in_hand (Ok Serve) (inr (inr (works, write, inr refused))) = unread_in_hand refused.unread
   served_in_hand (Err errno) by = same_order by.1
 
-pub serve_with_keeper-served-requires : goal.serve_with_keeper-served-requires
-serve_with_keeper-served-requires g c = record { kind = c.requires.kind; blocks = c.requires.blocks; device = c.requires.device }
-
 pub stop-requires : goal.stop-requires
 stop-requires g c =
     let (given, given_is, by) = c.serve_with_keeper-served.ensures.serves in
     served_in_hand g.D.Disk.state g.D.Disk.faults g.D.Disk.honest c.args.request c.args.terms.geometry c.args.terms.mode c.args.order.now c.serve_with_keeper-served.new.order
     c.args.keeper.now c.serve_with_keeper-served.new.keeper c.serve_with_keeper-served.result c.args.hand.now c.requires.hand given by
 
-pub returns-else-works : goal.returns-else-works
-returns-else-works g c = record {
-  hand =
-      let (given, given_is, by) = c.serve_with_keeper-served.ensures.serves in
-      served_in_hand g.D.Disk.state g.D.Disk.faults g.D.Disk.honest c.args.request c.args.terms.geometry c.args.terms.mode c.args.order.now c.serve_with_keeper-served.new.order
-      c.args.keeper.now c.serve_with_keeper-served.new.keeper c.serve_with_keeper-served.result c.args.hand.now c.requires.hand given by;
-  blocks = c.serve_with_keeper-served.ensures.blocks;
-  geometry = c.serve_with_keeper-served.ensures.geometry;
-  count = c.serve_with_keeper-served.ensures.count;
-  extent = c.serve_with_keeper-served.ensures.extent;
-  honest = c.serve_with_keeper-served.ensures.honest;
-  serves =
-      let (given, given_is, by) = c.serve_with_keeper-served.ensures.serves in
-      let still : c.args.order.now.stopped ≡ false → c.serve_with_keeper-served.new.order.stopped ≡ false = elim c.else-works.branch [
-        | else-works-via-then-works+else-stopped w ↦ λ works. sym w.if-stopped.ensures
-        | else-works-via-else-works w ↦ λ works. absurd (false≢true (sym works ∙ sym w.if-works.ensures))
-      ] in
-      (given, given_is, inl (refl, still, by));
-}
+pub returns-else-works-clause-hand : goal.returns-else-works-clause-hand
+returns-else-works-clause-hand g c =
+    let (given, given_is, by) = c.serve_with_keeper-served.ensures.serves in
+    served_in_hand g.D.Disk.state g.D.Disk.faults g.D.Disk.honest c.args.request c.args.terms.geometry c.args.terms.mode c.args.order.now c.serve_with_keeper-served.new.order
+    c.args.keeper.now c.serve_with_keeper-served.new.keeper c.serve_with_keeper-served.result c.args.hand.now c.requires.hand given by
 
-pub returns-then-stopped : goal.returns-then-stopped
-returns-then-stopped g c = record {
-  hand = subst (λ (hand : Option Numbered). IfSome hand (IsInHand c.stop.new.order)) (sym c.stop.ensures.hand) tt;
-  blocks = ap (λ (cache : CacheState). length cache.states) c.stop.ensures.cache ∙ c.serve_with_keeper-served.ensures.blocks;
-  geometry = c.serve_with_keeper-served.ensures.geometry;
-  count = c.serve_with_keeper-served.ensures.count;
-  extent = c.serve_with_keeper-served.ensures.extent;
-  honest = c.serve_with_keeper-served.ensures.honest;
-  serves =
-      let (given, given_is, by) = c.serve_with_keeper-served.ensures.serves in
-      let middle = c.serve_with_keeper-served.new.order in
-      let works : c.args.order.now.stopped ≡ false = sym c.if-works.ensures in
-      let stopped : middle.stopped ≡ true = sym c.if-stopped.ensures in
-      let unread = now_stopped g.D.Disk.state g.D.Disk.faults g.D.Disk.honest c.args.request c.args.terms.geometry c.args.terms.mode c.args.order.now middle c.args.keeper.now c.serve_with_keeper-served.new.keeper
-      c.serve_with_keeper-served.result works stopped given by in
-      (given, given_is, inr (unread.0, works, c.stop.ensures.hand, middle, unread.1, c.stop.ensures.order));
-}
+pub returns-then-stopped-clause-serves : goal.returns-then-stopped-clause-serves
+returns-then-stopped-clause-serves g c =
+    let (given, given_is, by) = c.serve_with_keeper-served.ensures.serves in
+    let middle = c.serve_with_keeper-served.new.order in
+    let works : c.args.order.now.stopped ≡ false = sym c.if-works.ensures in
+    let stopped : middle.stopped ≡ true = sym c.if-stopped.ensures in
+    let unread = now_stopped g.D.Disk.state g.D.Disk.faults g.D.Disk.honest c.args.request c.args.terms.geometry c.args.terms.mode c.args.order.now middle c.args.keeper.now c.serve_with_keeper-served.new.keeper
+    c.serve_with_keeper-served.result works stopped given by in
+    (given, given_is, inr (unread.0, works, c.stop.ensures.hand, middle, unread.1, c.stop.ensures.order))

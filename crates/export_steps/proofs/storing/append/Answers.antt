@@ -1,18 +1,12 @@
-use Rattle.std.proofs.Common.{◌≡◌, ◌≤◌, ◌<◌, ◌⊎◌, inl, inr, ℕ, Option, Some, None, sym, ◌∙◌, ap, subst, refl, arith, length}
-use Rattle.std.proofs.Math.Nat.{le_refl}
+use Rattle.std.proofs.Common.{◌≡◌, ◌≤◌, ◌<◌, ◌⊎◌, inl, inr, ℕ, Option, Some, None, sym, ◌∙◌, ap, subst, refl}
 use Rattle.std.proofs.lemmas.Bool.{cases_lt}
-use Rattle.std.specs.Prelude.{IfSome}
 use Rattle.checkpoint.specs.Keeper.{end_after}
-use Rattle.checkpoint.specs.declared.fault.KeeperFault.{KeeperFault}
-use Rattle.device_image.specs.Keeper.{KeeperState}
 use Rattle.journal_format.specs.Group.{Numbered}
-use Rattle.order_book.specs.Order.{IsInHand, OrderState}
-use Rattle.shared_cache.specs.Cache.{CacheState}
+use Rattle.order_book.specs.Order.{OrderState}
 use Rattle.regions.specs.Layout.{area_size}
 use Rattle.export_steps.specs.inner.Steps.{IsAppended}
 use Rattle.export_steps.specs.Parts.{IsOrderOf}
 use Rattle.export_steps.specs.inner.Storing.{event_of, hand_after, order_after}
-use Rattle.export_steps.proofs.Refusals.{back_left, keeper_left}
 use Rattle.export_steps.proofs.Appended.{appended, appended_none, appended_refused}
 use Rattle.export_steps.proofs.Stored.{not_true_is}
 use Rattle.export_model.specs.Serve.{Nothing}
@@ -25,40 +19,17 @@ none_is : {X : Type 0} (o : Option X) → ((x : X) → o ≡ Some x → ⊥) →
 none_is None none = refl
 none_is (Some x) none = absurd (none x refl)
 
--- what the keeper gives back is the group that was in hand
-in_hand : (hand : Option Numbered) (group back : Numbered) (order : OrderState) → hand ≡ Some group → back ≡ group → IfSome hand (IsInHand order) → IsInHand order back
-in_hand hand group back order has same was = subst (IsInHand order) (sym same) (subst (λ (h : Option Numbered). IfSome h (IsInHand order)) has was)
-
-given_back : (refusal : KeeperFault) (hand : Option Numbered) (group back : Numbered) (after : Option Numbered) (order new : OrderState) → hand ≡ Some group → back ≡ group → IfSome hand (IsInHand order)
-    → new ≡ order_after refusal order back → after ≡ hand_after refusal back → IfSome after (IsInHand new) × (new.cache ≡ order.cache)
-given_back refusal hand group back after order new has same was = back_left refusal back after order new (in_hand hand group back order has same was)
-
-pub give_back-requires : goal.give_back-requires
-give_back-requires g c = record {
-  empty = c.take.ensures.after;
-  group = in_hand c.args.hand.now c.in-Some.group c.in-Err.group c.args.order.now (sym c.take.ensures.value ∙ c.in-Some.is) c.in-Err.ensures.group_back c.requires;
-}
-
-pub returns-in_default : goal.returns-in_default
-returns-in_default g c = record {
-  hand = subst (λ (hand : Option Numbered). IfSome hand (IsInHand c.args.order.now)) (sym c.take.ensures.after) tt;
-  blocks = refl;
-  cache = refl;
-  geometry = refl;
-  count = le_refl c.args.keeper.now.count;
-  extent = refl;
-  honest = (λ is. is, λ is. is);
-  world = λ world within of kept.
-      let order = c.args.order.now in
-      let old = c.args.keeper.now in
-      let empty : c.args.hand.now ≡ None = none_is c.args.hand.now (λ group is. c.in_default.not-Some group (c.take.ensures.value ∙ is)) in (
-        Nothing,
-        subst (λ (hand : Option Numbered). IsAppended world (append Nothing world) Held order hand old old (g.D.Disk.faults old.disk) (g.D.Disk.honest old.disk) (g.D.Disk.state old.disk) (g.D.Disk.state old.disk))
-            (sym c.take.ensures.after)
-            (appended_none g.D.Disk.state g.D.Disk.faults g.D.Disk.extent g.D.Disk.honest g.met.D.Disk.sound world order old
-            (subst (λ (hand : Option Numbered). IsOrderOf world.stage order hand) empty of) kept),
-      );
-}
+pub returns-in_default-clause-world : goal.returns-in_default-clause-world
+returns-in_default-clause-world g c = λ world within of kept.
+    let order = c.args.order.now in
+    let old = c.args.keeper.now in
+    let empty : c.args.hand.now ≡ None = none_is c.args.hand.now (λ group is. c.in_default.not-Some group (c.take.ensures.value ∙ is)) in (
+      Nothing,
+      subst (λ (hand : Option Numbered). IsAppended world (append Nothing world) Held order hand old old (g.D.Disk.faults old.disk) (g.D.Disk.honest old.disk) (g.D.Disk.state old.disk) (g.D.Disk.state old.disk))
+          (sym c.take.ensures.after)
+          (appended_none g.D.Disk.state g.D.Disk.faults g.D.Disk.extent g.D.Disk.honest g.met.D.Disk.sound world order old
+          (subst (λ (hand : Option Numbered). IsOrderOf world.stage order hand) empty of) kept),
+    )
 
 -- what isn't refused for its size fits
 fits : (area end : ℕ) → (area < end → ⊥) → end ≤ area
@@ -68,60 +39,40 @@ fits area end not_over = by_case (cases_lt area end)
     by_case (inl over) = absurd (not_over over)
     by_case (inr within) = within
 
-pub returns-in-Ok : goal.returns-in-Ok
-returns-in-Ok g c = record {
-  hand = subst (λ (hand : Option Numbered). IfSome hand (IsInHand c.args.order.now)) (sym c.take.ensures.after) tt;
-  blocks = refl;
-  cache = refl;
-  geometry = ap (λ (k : KeeperState g.row.D.Denot). k.geometry) c.in-Ok.ensures.ok;
-  count = let more = ap (λ (k : KeeperState g.row.D.Denot). k.count) c.in-Ok.ensures.ok in omega (arith, more);
-  extent = c.append.ensures.extent;
-  honest = c.append.ensures.honest;
-  world = λ world within of kept.
-      let order = c.args.order.now in
-      let old = c.args.keeper.now in
-      let new = c.append.new.self in
-      let group = c.in-Some.group in
-      let has : c.args.hand.now ≡ Some group = sym c.take.ensures.value ∙ c.in-Some.is in
-      let works = not_true_is old.failed (λ is. c.in-Ok.ensures.failed.1 is) in
-      let fit = fits (area_size old.geometry) (end_after old group) (λ over. c.in-Ok.ensures.full.1 (works, over)) in (
-        Nothing,
-        subst (λ (hand : Option Numbered). IsAppended world (append Nothing world) Took order hand old new (g.D.Disk.faults new.disk) (g.D.Disk.honest old.disk) (g.D.Disk.state old.disk) (g.D.Disk.state new.disk))
-            (sym c.take.ensures.after)
-            (appended g.D.Disk.state g.D.Disk.faults g.D.Disk.extent g.D.Disk.honest g.met.D.Disk.sound world order group old within
-            (subst (λ (hand : Option Numbered). IsOrderOf world.stage order hand) has of) kept new c.keeper_laws.ensures.left works fit c.in-Ok.ensures.ok c.in-Ok.ensures.faults_ok c.append.ensures.honest.1
-            c.in-Ok.ensures.remembered c.in-Ok.ensures.held c.in-Ok.ensures.any_moment),
-      );
-}
+pub returns-in-Ok-clause-world : goal.returns-in-Ok-clause-world
+returns-in-Ok-clause-world g c = λ world within of kept.
+    let order = c.args.order.now in
+    let old = c.args.keeper.now in
+    let new = c.append.new.self in
+    let group = c.in-Some.group in
+    let has : c.args.hand.now ≡ Some group = sym c.take.ensures.value ∙ c.in-Some.is in
+    let works = not_true_is old.failed (λ is. c.in-Ok.ensures.failed.1 is) in
+    let fit = fits (area_size old.geometry) (end_after old group) (λ over. c.in-Ok.ensures.full.1 (works, over)) in (
+      Nothing,
+      subst (λ (hand : Option Numbered). IsAppended world (append Nothing world) Took order hand old new (g.D.Disk.faults new.disk) (g.D.Disk.honest old.disk) (g.D.Disk.state old.disk) (g.D.Disk.state new.disk))
+          (sym c.take.ensures.after)
+          (appended g.D.Disk.state g.D.Disk.faults g.D.Disk.extent g.D.Disk.honest g.met.D.Disk.sound world order group old within
+          (subst (λ (hand : Option Numbered). IsOrderOf world.stage order hand) has of) kept new c.keeper_laws.ensures.left works fit c.in-Ok.ensures.ok c.in-Ok.ensures.faults_ok c.append.ensures.honest.1
+          c.in-Ok.ensures.remembered c.in-Ok.ensures.held c.in-Ok.ensures.any_moment),
+    )
 
-pub returns-in-Err : goal.returns-in-Err
-returns-in-Err g c =
-    let back = given_back c.in-Err.fault c.args.hand.now c.in-Some.group c.in-Err.group c.give_back.new.hand c.args.order.now c.give_back.new.order (sym c.take.ensures.value ∙ c.in-Some.is) c.in-Err.ensures.group_back c.requires c.give_back.ensures.order c.give_back.ensures.hand in
-    let left = keeper_left c.in-Err.fault c.args.keeper.now c.append.new.self c.in-Err.ensures.err in record {
-      hand = back.0;
-      blocks = ap (λ (cache : CacheState). length cache.states) back.1;
-      cache = back.1;
-      geometry = left.0;
-      count = subst (λ (count : ℕ). c.args.keeper.now.count ≤ count) (sym left.1) (le_refl c.args.keeper.now.count);
-      extent = c.append.ensures.extent;
-      honest = c.append.ensures.honest;
-      world = λ world within of kept.
-          let order = c.args.order.now in
-          let old = c.args.keeper.now in
-          let new = c.append.new.self in
-          let group = c.in-Some.group in
-          let refusal = c.in-Err.fault in
-          let has : c.args.hand.now ≡ Some group = sym c.take.ensures.value ∙ c.in-Some.is in
-          let step = appended_refused g.D.Disk.state g.D.Disk.faults g.D.Disk.extent g.D.Disk.honest g.met.D.Disk.sound world order group old within
-          (subst (λ (hand : Option Numbered). IsOrderOf world.stage order hand) has of) kept refusal new c.in-Err.ensures.only c.in-Err.ensures.failed c.in-Err.ensures.full c.in-Err.ensures.out_of_order
-          c.in-Err.ensures.err c.in-Err.ensures.faults_err c.append.ensures.honest.1 c.in-Err.ensures.any_moment in
-          let same = c.in-Err.ensures.group_back in (
-            step.0,
-            subst (λ (event : Event). IsAppended world (append step.0 world) event c.give_back.new.order c.give_back.new.hand old new (g.D.Disk.faults new.disk) (g.D.Disk.honest old.disk) (g.D.Disk.state old.disk) (g.D.Disk.state new.disk))
-                (sym c.give_back.ensures.event)
-                (subst (λ (o : OrderState). IsAppended world (append step.0 world) (event_of refusal) o c.give_back.new.hand old new (g.D.Disk.faults new.disk) (g.D.Disk.honest old.disk) (g.D.Disk.state old.disk) (g.D.Disk.state new.disk))
-                (sym (c.give_back.ensures.order ∙ ap (order_after refusal order) same))
-                (subst (λ (hand : Option Numbered). IsAppended world (append step.0 world) (event_of refusal) (order_after refusal order group) hand old new (g.D.Disk.faults new.disk) (g.D.Disk.honest old.disk) (g.D.Disk.state old.disk) (g.D.Disk.state new.disk))
-                (sym (c.give_back.ensures.hand ∙ ap (hand_after refusal) same)) step.1)),
-          );
-    }
+pub returns-in-Err-clause-world : goal.returns-in-Err-clause-world
+returns-in-Err-clause-world g c = λ world within of kept.
+    let order = c.args.order.now in
+    let old = c.args.keeper.now in
+    let new = c.append.new.self in
+    let group = c.in-Some.group in
+    let refusal = c.in-Err.fault in
+    let has : c.args.hand.now ≡ Some group = sym c.take.ensures.value ∙ c.in-Some.is in
+    let step = appended_refused g.D.Disk.state g.D.Disk.faults g.D.Disk.extent g.D.Disk.honest g.met.D.Disk.sound world order group old within
+    (subst (λ (hand : Option Numbered). IsOrderOf world.stage order hand) has of) kept refusal new c.in-Err.ensures.only c.in-Err.ensures.failed c.in-Err.ensures.full c.in-Err.ensures.out_of_order
+    c.in-Err.ensures.err c.in-Err.ensures.faults_err c.append.ensures.honest.1 c.in-Err.ensures.any_moment in
+    let same = c.in-Err.ensures.group_back in (
+      step.0,
+      subst (λ (event : Event). IsAppended world (append step.0 world) event c.give_back.new.order c.give_back.new.hand old new (g.D.Disk.faults new.disk) (g.D.Disk.honest old.disk) (g.D.Disk.state old.disk) (g.D.Disk.state new.disk))
+          (sym c.give_back.ensures.event)
+          (subst (λ (o : OrderState). IsAppended world (append step.0 world) (event_of refusal) o c.give_back.new.hand old new (g.D.Disk.faults new.disk) (g.D.Disk.honest old.disk) (g.D.Disk.state old.disk) (g.D.Disk.state new.disk))
+          (sym (c.give_back.ensures.order ∙ ap (order_after refusal order) same))
+          (subst (λ (hand : Option Numbered). IsAppended world (append step.0 world) (event_of refusal) (order_after refusal order group) hand old new (g.D.Disk.faults new.disk) (g.D.Disk.honest old.disk) (g.D.Disk.state old.disk) (g.D.Disk.state new.disk))
+          (sym (c.give_back.ensures.hand ∙ ap (hand_after refusal) same)) step.1)),
+    )

@@ -36,6 +36,15 @@ returns-in_err-connections g c =
       few = IfOk-from_err c.from_residual-in_err-connections.result _ none;
     }
 
+pub returns-clause-order : goal.returns-clause-order
+returns-clause-order g c = c.in_ok-order.ensures.order
+
+pub returns-clause-image : goal.returns-clause-image
+returns-clause-image g c = c.in_ok-order.ensures.image
+
+pub returns-clause-few : goal.returns-clause-few
+returns-clause-few g c = c.in_ok-order.ensures.few
+
 pub open-requires-clause-board : goal.open-requires-clause-board
 open-requires-clause-board g c = c.requires.board
 
@@ -51,14 +60,9 @@ fresh_order-requires-clause-named g c = sym c.requires.opening ∙ c.requires.na
 pub fresh_order-requires-clause-seat : goal.fresh_order-requires-clause-seat
 fresh_order-requires-clause-seat g c = c.in_ok-board.ensures.order ∙ ap (λ (n : ℕ). record { history = []; accepted = n; base = n }) c.requires.opening
 
-pub returns : goal.returns
-returns g c = record {
-  order = c.in_ok-order.ensures.order;
-  image = c.in_ok-order.ensures.image;
-  connections =
-      let made = c.in_ok-board.field-0.passes in
-      let size = ap length c.in_ok-board.ensures.passes in
-      let one : vec_len made ≡ 1 = omega (arith, made.ok.0, size, length-replicate 1 (new_pass c.args.blank.opening)) in
-      c.in_ok-connections.ensures ∙ ap (λ (n : ℕ). new_connections n plain c.args.options.mode) one;
-  few = c.in_ok-order.ensures.few;
-}
+pub returns-clause-connections : goal.returns-clause-connections
+returns-clause-connections g c =
+    let made = c.in_ok-board.field-0.passes in
+    let size = ap length c.in_ok-board.ensures.passes in
+    let one : vec_len made ≡ 1 = omega (arith, made.ok.0, size, length-replicate 1 (new_pass c.args.blank.opening)) in
+    c.in_ok-connections.ensures ∙ ap (λ (n : ℕ). new_connections n plain c.args.options.mode) one

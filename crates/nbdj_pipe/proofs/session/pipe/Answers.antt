@@ -5,6 +5,16 @@ use Rattle.nbd_wire.specs.laws.Bytes.{keeps_same}
 use Rattle.nbdj_pipe.proofs.Lives.{starved_opening}
 use Rattle.nbdj_pipe.proofs.session.pipe.Goals as goal
 
+pub returns-in-Ok-new-clause-dialog : goal.returns-in-Ok-new-clause-dialog
+returns-in-Ok-new-clause-dialog g c =
+    let opened = c.in-Ok.ensures in
+    c.pipe_over.ensures.dialog c.args.disk (record { recovered = opened.recovered; counted = opened.faults; stays = opened.honest.1; found = opened.found })
+
+pub returns-in-Ok-new-clause-device : goal.returns-in-Ok-new-clause-device
+returns-in-Ok-new-clause-device g c =
+    let opened = c.in-Ok.ensures in
+    c.pipe_over.ensures.device c.args.disk (record { recovered = opened.recovered; counted = opened.faults; stays = opened.honest.1; found = opened.found })
+
 pub returns-in-Err-new-clause-dialog : goal.returns-in-Err-new-clause-dialog
 returns-in-Err-new-clause-dialog g c = inl (record {
   unread = keeps_same (g.R.Read.remaining c.args.input.now);
@@ -20,17 +30,11 @@ returns-in-Err-new-clause-dialog g c = inl (record {
       );
 })
 
-pub returns-in-Ok-new : goal.returns-in-Ok-new
-returns-in-Ok-new g c = record {
-  extent = c.pipe_over.ensures.extent ∙ c.in-Ok.ensures.extent;
-  honest = (λ is. c.in-Ok.ensures.honest.0 (c.pipe_over.ensures.honest.0 is), λ is. c.pipe_over.ensures.honest.1 (c.in-Ok.ensures.honest.1 is));
-  dialog =
-      let opened = c.in-Ok.ensures in
-      c.pipe_over.ensures.dialog c.args.disk (record { recovered = opened.recovered; counted = opened.faults; stays = opened.honest.1; found = opened.found });
-  device =
-      let opened = c.in-Ok.ensures in
-      c.pipe_over.ensures.device c.args.disk (record { recovered = opened.recovered; counted = opened.faults; stays = opened.honest.1; found = opened.found });
-}
+pub returns-in-Ok-new-clause-extent : goal.returns-in-Ok-new-clause-extent
+returns-in-Ok-new-clause-extent g c = c.pipe_over.ensures.extent ∙ c.in-Ok.ensures.extent
+
+pub returns-in-Ok-new-clause-honest : goal.returns-in-Ok-new-clause-honest
+returns-in-Ok-new-clause-honest g c = (λ is. c.in-Ok.ensures.honest.0 (c.pipe_over.ensures.honest.0 is), λ is. c.pipe_over.ensures.honest.1 (c.in-Ok.ensures.honest.1 is))
 
 pub returns-in-Err-new-clause-extent : goal.returns-in-Err-new-clause-extent
 returns-in-Err-new-clause-extent g c = ap g.D.Disk.extent c.into_disk.ensures ∙ c.in-Ok.ensures.extent

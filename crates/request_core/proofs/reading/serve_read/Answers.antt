@@ -1,6 +1,5 @@
-use Rattle.std.proofs.Common.{◌≡◌, ◌≢◌, ◌+◌, ◌-◌, ◌*◌, ◌<◌, ◌/◌, ◌%◌, ℕ, false, true, Err, inl, inr, ⊎_elim, List, drop, take, get_or, length, None, Some, sym, ◌∙◌, ◌≤◌, ap, refl, subst}
-use Rattle.checkpoint.specs.declared.fault.KeeperFault.{KeeperFault}
 use Rattle.device_image.specs.Keeper.{KeeperState}
+use Rattle.std.proofs.Common.{◌≡◌, ◌≢◌, ◌+◌, ◌-◌, ◌*◌, ◌/◌, ◌%◌, ℕ, false, inl, inr, List, drop, take, get_or, length, None, Some, sym, ◌∙◌, ◌≤◌, ap, refl, arith, rules, subst}
 use Rattle.alloc_map.specs.Codes.{state_at}
 use Rattle.device_image.specs.Holds.{is_written, joined}
 use Rattle.image_model.specs.Edit.{blocks_met}
@@ -9,13 +8,27 @@ use Rattle.image_model.specs.declared.command.Kind.{Kind}
 use Rattle.image_model.specs.declared.command.Kind.TheVariants.{Data}
 use Rattle.export_model.specs.Shown.{cut_to, read_status_of, runs_met}
 use Rattle.nbd_wire.specs.declared.message.Answer.{Answer}
-use Rattle.order_book.specs.Order.{OrderState}
 use Rattle.request_core.specs.Serving.{ready_for}
-use Rattle.request_core.proofs.Here.{same_count}
 use Rattle.request_core.proofs.InMemory.{lacks_at, part_holds, part_size, part_zero, whole}
-use Rattle.request_core.proofs.Touched.{counted, off_again, ok_apart, range_fits, split_place, touched_few, touched_range, under_count, whole_blocks}
 use Rattle.request_core.proofs.reading.serve_read.Goals as goal
-use Rattle.shared_cache.specs.Cache.{LacksBytes, bytes_seen}
+use Rattle.shared_cache.specs.Cache.{bytes_seen}
+
+pub bytes_answer-requires-clause-zero : goal.bytes_answer-requires-clause-zero
+bytes_answer-requires-clause-zero g c =
+    let head = c.args.head.now in
+    let old = c.args.order.now in
+    let into = c.read_with.new.into in
+    let items = c.cut.new.bytes.items in
+    let read = c.in-Ok-read_with.ensures in
+    let size : length into ≡ c.in-Ok-vec.bytes.len = read.size ∙ ap length c.deref_mut.ensures.value ∙ sym c.in-Ok-vec.bytes.ok.0 in
+    let long : length into ≡ 4096 * blocks_met head.offset head.length = size ∙ c.in-Ok-vec.ensures.len ∙ c.bytes.ensures ∙ ap (λ (n : ℕ). 4096 * n) c.of-blocks.ensures.count in
+    let part : items ≡ take head.length (drop (head.offset % 4096) into) = c.cut.ensures ∙ ap (λ (l : List ℕ). take head.length (drop (head.offset % 4096) l)) (whole c.in-Ok-vec.bytes.len into c.in-Ok-vec.bytes.items size) in
+    let count = part_size head.offset head.length into items part long in
+    let states = read.view.states in
+    λ k below other. part_zero head.offset head.length into items part long old.cache
+    (λ j k bytes under inside seen. read.in_memory j k bytes under inside (ap (λ (n : ℕ). bytes_seen old.cache (n + j)) c.of-blocks.ensures.first ∙ seen))
+    k (let held = c.cut.new.bytes.ok.0 in omega (arith, below, held, count))
+    (λ is. other (ap (λ (s : List Kind). state_at s ((head.offset + k) / 4096)) states ∙ is))
 
 pub returns : goal.returns
 returns g c = record {
@@ -32,8 +45,8 @@ returns g c = record {
       let seen : (j : ℕ) → bytes_seen old.cache (c.of-blocks.result.first + j) ≡ bytes_seen old.cache (head.offset / 4096 + j) = λ j. ap (λ (n : ℕ). bytes_seen old.cache (n + j)) first in
       let states = read.view.states in
       let given : Image = record { blocks = 0; byte = λ place. get_or items (place - head.offset) 0; kind = λ block. state_at old.cache.states block } in
-      let at : (n : ℕ) → get_or items (head.offset + n - head.offset) 0 ≡ get_or items n 0 = λ n. ap (λ (m : ℕ). get_or items m 0) (off_again head.offset n) in
-      let place : (k : ℕ) → 4096 * ((head.offset + k) / 4096) + (head.offset + k) % 4096 ≡ head.offset + k = λ k. split_place (head.offset + k) in
+      let at : (n : ℕ) → get_or items (head.offset + n - head.offset) 0 ≡ get_or items n 0 = λ n. ap (λ (m : ℕ). get_or items m 0) (let same : head.offset + n - head.offset ≡ n = omega arith in same) in
+      let place : (k : ℕ) → 4096 * ((head.offset + k) / 4096) + (head.offset + k) % 4096 ≡ head.offset + k = λ k. omega arith in
       let answer_is = c.bytes_answer.ensures given (λ block. ap (λ (s : List Kind). state_at s block) (sym states)) (λ k below. sym (at k)) in
       inr (inl (record {
         image = given;
@@ -56,15 +69,11 @@ returns g c = record {
         level = read.faults_ok;
         only_read = read.only_read;
         holds = λ honest base fronts last holds. read.holds honest base fronts last holds;
-        in_frames = λ failed. (read.hit (λ lacks. ok_apart _ _ (read.failed.1 (failed, lacks)))).0;
+        in_frames = λ failed. (read.hit (λ lacks. let wrong = read.failed.1 (failed, lacks) in cc)).0;
         there = λ failed. part_holds head.offset head.length into items part long (λ block r byte. bytes_seen old.cache block ≢ None)
-            (λ j r under inside none. ok_apart _ _ (read.failed.1 (failed, lacks_at old.cache c.of-blocks.result.first (length c.deref_mut.result.now / 4096) j (under_count _ _ _ _ read.size long under) (seen j ∙ none))));
+            (λ j r under inside none. let wrong = read.failed.1 (failed, lacks_at old.cache c.of-blocks.result.first (length c.deref_mut.result.now / 4096) j (let size = read.size in omega (arith, under, size)) (seen j ∙ none)) in cc);
       }));
-  hit = λ held.
-      c.in-Ok-read_with.ensures.hit (λ lacks. held
-      (subst (λ (n : ℕ). LacksBytes c.args.order.now.cache n (blocks_met c.args.head.now.offset c.args.head.now.length)) c.of-blocks.ensures.first
-      (subst (λ (n : ℕ). LacksBytes c.args.order.now.cache c.of-blocks.result.first n)
-      (counted _ _ (ap length c.deref_mut.ensures.value ∙ sym c.in-Ok-vec.bytes.ok.0 ∙ c.in-Ok-vec.ensures.len ∙ c.bytes.ensures) ∙ c.of-blocks.ensures.count) lacks)));
+  hit = search rules;
   count = ap (λ (k : KeeperState g.row.D.Denot). k.count) c.in-Ok-read_with.ensures.keeper_ok;
   extent = c.in-Ok-read_with.ensures.extent;
   honest = c.in-Ok-read_with.ensures.honest;
@@ -88,76 +97,78 @@ returns-in_default-vec g c = record {
   honest = (λ honest. honest, λ honest. honest);
 }
 
+pub read_runs-requires-clause-some : goal.read_runs-requires-clause-some
+read_runs-requires-clause-some g c = c.requires.some
+
+pub read_runs-requires-clause-most : goal.read_runs-requires-clause-most
+read_runs-requires-clause-most g c = c.requires.most
+
+pub read_runs-requires-clause-few : goal.read_runs-requires-clause-few
+read_runs-requires-clause-few g c = c.requires.few
+
+pub read_runs-requires-clause-inside : goal.read_runs-requires-clause-inside
+read_runs-requires-clause-inside g c = c.requires.inside
+
 pub of-blocks-requires : goal.of-blocks-requires
-of-blocks-requires g c = range_fits c.args.head.now.offset c.args.head.now.length _ c.requires.few c.requires.inside
-
-pub returns-in_default-read_with : goal.returns-in_default-read_with
-returns-in_default-read_with g c = let read = c.in_default-read_with.ensures in record {
-  read = inr (inr (record {
-    refusal = c.in_default-read_with.field-0;
-    cause = ⊎_elim (λ is. inl is) (λ is. inr (is, (read.failed.0 (ap (λ (f : KeeperFault). Err f) is)).0)) read.only;
-    answer = c.refused-in_default-read_with.ensures;
-    order = c.stop.ensures ∙ ap (λ (o : OrderState). record o { stopped = true }) read.err;
-    keeper_is = read.keeper_err;
-    level = read.faults_err;
-    only_read = read.only_read;
-  }));
-  hit = λ held.
-      absurd (held
-      (subst (λ (n : ℕ). LacksBytes c.args.order.now.cache n (blocks_met c.args.head.now.offset c.args.head.now.length)) c.of-blocks.ensures.first
-      (subst (λ (n : ℕ). LacksBytes c.args.order.now.cache c.of-blocks.result.first n)
-      (counted _ _ (ap length c.deref_mut.ensures.value ∙ sym c.in-Ok-vec.bytes.ok.0 ∙ c.in-Ok-vec.ensures.len ∙ c.bytes.ensures) ∙ c.of-blocks.ensures.count) read.lacks)));
-  count = same_count c.args.keeper.now c.read_with.new.keeper c.in_default-read_with.field-0 read.keeper_err;
-  extent = read.extent;
-  honest = read.honest;
-}
-
-pub read_runs-requires : goal.read_runs-requires
-read_runs-requires g c = record {
-  some = c.requires.some;
-  most = c.requires.most;
-  few = c.requires.few;
-  inside = c.requires.inside;
-}
+of-blocks-requires g c = omega arith
 
 pub bytes-requires : goal.bytes-requires
-bytes-requires g c = subst (λ (n : ℕ). n ≤ 1048577) (sym c.of-blocks.ensures.count) (touched_few c.args.head.now.offset c.args.head.now.length c.requires.most)
+bytes-requires g c = search rules
 
-pub read_with-requires : goal.read_with-requires
-read_with-requires g c =
-    let long : length c.deref_mut.result.now ≡ 4096 * c.of-blocks.result.count = ap length c.deref_mut.ensures.value ∙ sym c.in-Ok-vec.bytes.ok.0 ∙ c.in-Ok-vec.ensures.len ∙ c.bytes.ensures in
-    let range = touched_range c.args.head.now.offset c.args.head.now.length (length c.args.order.now.cache.states) c.of-blocks.result.first c.of-blocks.result.count (length c.deref_mut.result.now)
-    c.of-blocks.ensures.first c.of-blocks.ensures.count long c.requires.inside in record {
-      whole = whole_blocks _ _ long;
-      range = range;
-      device = subst (λ (n : ℕ). c.of-blocks.result.first + length c.deref_mut.result.now / 4096 ≤ n) c.requires.device range;
-    }
+pub read_with-requires-clause-whole : goal.read_with-requires-clause-whole
+read_with-requires-clause-whole g c = search rules
+
+pub read_with-requires-clause-range : goal.read_with-requires-clause-range
+read_with-requires-clause-range g c = search rules
+
+pub read_with-requires-clause-device : goal.read_with-requires-clause-device
+read_with-requires-clause-device g c = search rules
+
+pub returns-in_default-read_with-clause-read : goal.returns-in_default-read_with-clause-read
+returns-in_default-read_with-clause-read g c = search rules
+
+pub returns-in_default-read_with-clause-hit : goal.returns-in_default-read_with-clause-hit
+returns-in_default-read_with-clause-hit g c = search rules
+
+pub returns-in_default-read_with-clause-count : goal.returns-in_default-read_with-clause-count
+returns-in_default-read_with-clause-count g c = search rules
+
+pub returns-in_default-read_with-clause-extent : goal.returns-in_default-read_with-clause-extent
+returns-in_default-read_with-clause-extent g c = c.in_default-read_with.ensures.extent
+
+pub returns-in_default-read_with-clause-honest : goal.returns-in_default-read_with-clause-honest
+returns-in_default-read_with-clause-honest g c = c.in_default-read_with.ensures.honest
 
 pub cut-requires : goal.cut-requires
-cut-requires g c = c.in-Ok-vec.ensures.len ∙ c.bytes.ensures ∙ ap (λ (n : ℕ). 4096 * n) c.of-blocks.ensures.count
+cut-requires g c = search rules
 
-pub bytes_answer-requires : goal.bytes_answer-requires
-bytes_answer-requires g c =
+pub bytes_answer-requires-clause-kind : goal.bytes_answer-requires-clause-kind
+bytes_answer-requires-clause-kind g c = c.requires.kind
+
+pub bytes_answer-requires-clause-some : goal.bytes_answer-requires-clause-some
+bytes_answer-requires-clause-some g c = c.requires.some
+
+pub bytes_answer-requires-clause-most : goal.bytes_answer-requires-clause-most
+bytes_answer-requires-clause-most g c = c.requires.most
+
+pub bytes_answer-requires-clause-few : goal.bytes_answer-requires-clause-few
+bytes_answer-requires-clause-few g c = subst (λ (states : List Kind). length states ≤ 16777216) (sym c.in-Ok-read_with.ensures.view.states) c.requires.few
+
+pub bytes_answer-requires-clause-inside : goal.bytes_answer-requires-clause-inside
+bytes_answer-requires-clause-inside g c = subst (λ (states : List Kind). c.args.head.now.offset + c.args.head.now.length ≤ 4096 * length states) (sym c.in-Ok-read_with.ensures.view.states) c.requires.inside
+
+pub bytes_answer-requires-clause-size : goal.bytes_answer-requires-clause-size
+bytes_answer-requires-clause-size g c =
     let head = c.args.head.now in
-    let old = c.args.order.now in
     let into = c.read_with.new.into in
     let items = c.cut.new.bytes.items in
     let read = c.in-Ok-read_with.ensures in
     let size : length into ≡ c.in-Ok-vec.bytes.len = read.size ∙ ap length c.deref_mut.ensures.value ∙ sym c.in-Ok-vec.bytes.ok.0 in
     let long : length into ≡ 4096 * blocks_met head.offset head.length = size ∙ c.in-Ok-vec.ensures.len ∙ c.bytes.ensures ∙ ap (λ (n : ℕ). 4096 * n) c.of-blocks.ensures.count in
     let part : items ≡ take head.length (drop (head.offset % 4096) into) = c.cut.ensures ∙ ap (λ (l : List ℕ). take head.length (drop (head.offset % 4096) l)) (whole c.in-Ok-vec.bytes.len into c.in-Ok-vec.bytes.items size) in
-    let count = part_size head.offset head.length into items part long in
-    let states = read.view.states in record {
-      kind = c.requires.kind;
-      some = c.requires.some;
-      most = c.requires.most;
-      few = subst (λ (states : List Kind). length states ≤ 16777216) (sym states) c.requires.few;
-      inside = subst (λ (states : List Kind). head.offset + head.length ≤ 4096 * length states) (sym states) c.requires.inside;
-      size = c.cut.new.bytes.ok.0 ∙ count;
-      runs =
-          c.in-Ok.ensures ∙ ap (λ (states : List Kind). cut_to head.offset head.length (runs_met (λ block. read_status_of (state_at states block)) head.offset head.length)) (sym states);
-      zero = λ k below other. part_zero head.offset head.length into items part long old.cache
-          (λ j k bytes under inside seen. read.in_memory j k bytes under inside (ap (λ (n : ℕ). bytes_seen old.cache (n + j)) c.of-blocks.ensures.first ∙ seen))
-          k (subst (λ (n : ℕ). k < n) (c.cut.new.bytes.ok.0 ∙ count) below)
-          (λ is. other (ap (λ (s : List Kind). state_at s ((head.offset + k) / 4096)) states ∙ is));
-    }
+    c.cut.new.bytes.ok.0 ∙ part_size head.offset head.length into items part long
+
+pub bytes_answer-requires-clause-runs : goal.bytes_answer-requires-clause-runs
+bytes_answer-requires-clause-runs g c =
+    let head = c.args.head.now in
+    c.in-Ok.ensures ∙ ap (λ (states : List Kind). cut_to head.offset head.length (runs_met (λ block. read_status_of (state_at states block)) head.offset head.length)) (sym c.in-Ok-read_with.ensures.view.states)

@@ -3,12 +3,10 @@ use Rattle.std.proofs.lemmas.Bool.{true≢false}
 use Rattle.device_image.specs.Keeper.{KeeperState}
 use Rattle.order_book.specs.Order.{has_room_for}
 use Rattle.request_core.proofs.Passes.{not_grown, refused_passes}
-use Rattle.std.proofs.Common.{◌≡◌, ◌∙◌, ◌+◌, ◌*◌, ◌<◌, ◌≤◌, inl, inr, ap, refl, subst, sym, true, ℕ, Bool, arith}
-use Rattle.image_model.specs.Edit.{ByteEdit, IsEdit, becomes, count_of, edit_of, offset_of}
+use Rattle.std.proofs.Common.{◌∙◌, inl, inr, ap, refl, subst, sym, true, ℕ, Bool, arith, rules}
+use Rattle.image_model.specs.Edit.{ByteEdit, IsEdit, becomes, edit_of}
 use Rattle.image_model.specs.Image.{Image}
-use Rattle.image_model.specs.declared.edit.Edit.{Edit}
-use Rattle.image_model.specs.declared.geometry.Geometry.{Geometry}
-use Rattle.marks.specs.Known.{PassState, known}
+use Rattle.marks.specs.Known.{PassState}
 use Rattle.nbd_wire.specs.declared.error.Errno.TheVariants.{Io, NoMemory}
 use Rattle.nbd_wire.specs.declared.head.RequestHead.{RequestHead}
 use Rattle.nbd_wire.specs.declared.message.Answer.TheVariants.{Refused}
@@ -21,13 +19,9 @@ use Rattle.request_core.specs.Reading.{IsKnownBy}
 use Rattle.request_core.specs.Serving.{ready_for, served_after}
 use Rattle.request_core.proofs.Owned.{edit_refused, faults_apart, not_refused, room_over, taken_over, taken_passes}
 use Rattle.request_core.proofs.Writes.{edit_takes, waits_same}
-use Rattle.request_core.specs.inner.Edits.{IsHandedBack}
 use Rattle.request_core.specs.laws.Requests.{write_others}
 use Rattle.request_core.proofs.serving.serve_edit.Goals as goal
 use Rattle.export_model.specs.Log.{edit_asked, waits_for_store}
-
-none_left : (number : ℕ) → number < 18446744073709551615 → number ≡ 18446744073709551615 → ⊥
-none_left number left full = omega arith
 
 pub returns-in-Ok : goal.returns-in-Ok
 returns-in-Ok g c = record {
@@ -83,7 +77,7 @@ returns-in-Ok g c = record {
       let waits = waits_for_store c.args.terms.mode request in
       let others = write_others request.head.kind c.requires.write in
       let known_is = c.in-Ok.ensures.known in
-      taken_passes g.B.BoardName.opening request c.args.terms.mode old new image c.args.pass.now c.accept_edit.new.pass others.0 (subst (λ (n : ℕ). known c.args.pass.now < n) c.in-Ok.ensures.number known_is) c.in-Ok.ensures.knew c.in-Ok.ensures.place taken c.accepted.result
+      taken_passes g.B.BoardName.opening request c.args.terms.mode old new image c.args.pass.now c.accept_edit.new.pass others.0 (omega (arith, known_is, c.in-Ok.ensures.number)) c.in-Ok.ensures.knew c.in-Ok.ensures.place taken c.accepted.result
       (c.accepted.ensures ∙ ap (λ (b : Bool). served_after b head.cookie c.in-Ok.number) (waits_same c.args.terms.mode head request head_is)
       ∙ ap (λ (h : RequestHead). served_after waits h.cookie c.in-Ok.number) head_is ∙ ap (λ (n : ℕ). served_after waits request.head.cookie n) c.in-Ok.ensures.number);
   grown =
@@ -206,7 +200,7 @@ returns-in-Err-NumbersFull-default g c = record {
   asked =
       let left = not_refused c.args.order.now (becomes (edit_asked c.args.request) (image_in c.args.order.now.cache)) c.requires.needs.accepted c.in-Err-NumbersFull-default.ensures.numbers.mark in
       let full = c.in-Err-NumbersFull-default.ensures.numbers_full.0 c.in-Err-NumbersFull-default.field-0-0-is in
-      absurd (none_left _ left.0 full.1);
+      absurd (omega (arith, left.0, full.1));
   pass = refused_passes g.B.BoardName.opening c.args.request c.args.order.now.mark c.refused-in-Err-NumbersFull-default.result c.args.pass.now _ _ _ _ c.refused-in-Err-NumbersFull-default.ensures (ap (λ (o : OrderState). o.mark) c.in-Err-NumbersFull-default.ensures.unchanged) c.in-Err-NumbersFull-default.ensures.pass_unchanged;
   grown = not_grown _ _ (ap (λ (o : OrderState). o.mark) c.in-Err-NumbersFull-default.ensures.unchanged);
 }
@@ -226,18 +220,18 @@ returns-in-Err-Stopped-default g c = record {
 pub split-edit-requires : goal.split-edit-requires
 split-edit-requires g c = record { write = c.requires.write }
 
-pub accept_edit-requires : goal.accept_edit-requires
-accept_edit-requires g c =
-    let request = c.args.request in
-    let takes = edit_takes request c.args.terms.geometry c.requires.range c.split-edit.ensures.whole c.split-edit.ensures.few in record {
-      edit = subst (λ (e : ByteEdit). IsEdit (length c.args.order.now.cache.states) e) (sym c.split-edit.ensures.edit)
-          (subst (λ (n : ℕ). IsEdit n (edit_asked request)) (sym c.requires.blocks) takes);
-      few = omega (arith, c.requires.blocks);
-      device = subst (λ (e : ByteEdit). offset_of e + count_of e ≤ 4096 * c.args.keeper.now.geometry.blocks) (sym c.split-edit.ensures.edit)
-          (subst (λ (g : Geometry). offset_of (edit_asked request) + count_of (edit_asked request) ≤ 4096 * g.blocks) c.requires.device takes.inside);
-    }
+pub accept_edit-requires-clause-few : goal.accept_edit-requires-clause-few
+accept_edit-requires-clause-few g c = search rules
+
+pub accept_edit-requires-clause-device : goal.accept_edit-requires-clause-device
+accept_edit-requires-clause-device g c = search rules
 
 pub joined-requires : goal.joined-requires
-joined-requires g c = record {
-  back = subst (λ (e : Edit). IsHandedBack c.split-edit.result.0 e) (sym c.in-Err-NoRoom-default.ensures.handed_back) c.split-edit.ensures.back;
-}
+joined-requires g c = search rules
+
+pub accept_edit-requires-clause-edit : goal.accept_edit-requires-clause-edit
+accept_edit-requires-clause-edit g c =
+    let request = c.args.request in
+    let takes = edit_takes request c.args.terms.geometry c.requires.range c.split-edit.ensures.whole c.split-edit.ensures.few in
+    subst (λ (e : ByteEdit). IsEdit (length c.args.order.now.cache.states) e) (sym c.split-edit.ensures.edit)
+    (subst (λ (n : ℕ). IsEdit n (edit_asked request)) (sym c.requires.blocks) takes)

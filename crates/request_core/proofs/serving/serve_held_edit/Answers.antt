@@ -4,11 +4,10 @@ use Rattle.order_book.specs.Edits.{NeedsDevice as NeedsOld}
 use Rattle.order_book.specs.Order.{OrderState}
 use Rattle.nbd_wire.specs.declared.error.Errno.TheVariants.{NoSpace}
 use Rattle.request_core.proofs.Passes.{not_grown, refused_passes}
-use Rattle.std.proofs.Common.{◌≡◌, ◌∙◌, ◌<◌, inl, inr, ap, subst, sym, true, false, ℕ, Bool, arith, rules}
+use Rattle.std.proofs.Common.{◌≡◌, ◌∙◌, inl, inr, ap, subst, sym, true, false, ℕ, Bool, arith, rules}
 use Rattle.image_model.specs.Edit.{ByteEdit, IsEdit, becomes, edit_of}
 use Rattle.image_model.specs.Image.{Image}
-use Rattle.image_model.specs.declared.edit.Edit.{Edit}
-use Rattle.marks.specs.Known.{PassState, known}
+use Rattle.marks.specs.Known.{PassState}
 use Rattle.nbd_wire.specs.declared.error.Errno.TheVariants.{NoMemory}
 use Rattle.nbd_wire.specs.declared.head.RequestHead.{RequestHead}
 use Rattle.nbd_wire.specs.declared.message.Answer.TheVariants.{Refused}
@@ -19,9 +18,8 @@ use Rattle.order_book.specs.Shown.{ShowsImage}
 use Rattle.order_book.specs.laws.Edited.{shows_in}
 use Rattle.request_core.specs.Serving.{ready_for, served_after}
 use Rattle.request_core.specs.declared.serving.Served.TheVariants.{NoRoom}
-use Rattle.request_core.proofs.Owned.{faults_apart, never_other, room_over, taken_over, taken_passes}
+use Rattle.request_core.proofs.Owned.{faults_apart, room_over, taken_over, taken_passes}
 use Rattle.request_core.proofs.Writes.{edit_takes, some_left, waits_same}
-use Rattle.request_core.specs.inner.Edits.{IsHandedBack}
 use Rattle.request_core.specs.laws.Requests.{write_others}
 use Rattle.request_core.proofs.serving.serve_held_edit.Goals as goal
 use Rattle.export_model.specs.Log.{edit_asked, waits_for_store}
@@ -68,7 +66,7 @@ returns-in-Ok g c = record {
       let waits = waits_for_store c.args.terms.mode request in
       let others = write_others request.head.kind c.requires.write in
       let known_is = c.in-Ok.ensures.known in
-      taken_passes g.B.BoardName.opening request c.args.terms.mode old new image c.args.pass.now c.accept_held.new.pass others.0 (subst (λ (n : ℕ). known c.args.pass.now < n) c.in-Ok.ensures.number known_is) c.in-Ok.ensures.knew c.in-Ok.ensures.place taken c.accepted.result
+      taken_passes g.B.BoardName.opening request c.args.terms.mode old new image c.args.pass.now c.accept_held.new.pass others.0 (omega (arith, known_is, c.in-Ok.ensures.number)) c.in-Ok.ensures.knew c.in-Ok.ensures.place taken c.accepted.result
       (c.accepted.ensures ∙ ap (λ (b : Bool). served_after b head.cookie c.in-Ok.number) (waits_same c.args.terms.mode head request head_is)
       ∙ ap (λ (h : RequestHead). served_after waits h.cookie c.in-Ok.number) head_is ∙ ap (λ (n : ℕ). served_after waits request.head.cookie n) c.in-Ok.ensures.number);
   grown =
@@ -161,41 +159,43 @@ returns-in-Err-NumbersFull-default g c = record {
 
 pub returns-in-Err : goal.returns-in-Err
 returns-in-Err g c = record {
-  blocks = c.in-Err.ensures.blocks;
-  served = absurd (never_other c.in-Err.field-0.0 (search rules) (search rules) (search rules) c.in-Err.ensures.no_device (λ is. true≢false (sym (c.in-Err.ensures.stopped.0 is) ∙ c.requires.works)));
+  blocks = search rules;
+  served = search rules;
   needs = (λ e. absurd (true≢false (sym e)), λ needs. absurd (true≢false (sym (c.needs_device.ensures.1 (subst (NeedsOld c.args.order.now) (sym c.split-edit.ensures.edit) needs)) ∙ c.if-needs_device.false)));
   handed_back = tt;
   unchanged = tt;
-  pass = refused_passes g.B.BoardName.opening c.args.request c.args.order.now.mark c.refused-in-Err.result c.args.pass.now _ _ _ _ c.refused-in-Err.ensures (ap (λ (o : OrderState). o.mark) c.in-Err.ensures.unchanged) c.in-Err.ensures.pass_unchanged;
-  grown = not_grown _ _ (ap (λ (o : OrderState). o.mark) c.in-Err.ensures.unchanged);
+  pass = search rules;
+  grown = search rules;
 }
 
 pub split-edit-requires : goal.split-edit-requires
 split-edit-requires g c = record { write = c.requires.write }
 
-pub needs_device-requires : goal.needs_device-requires
-needs_device-requires g c =
-    let request = c.args.request in
-    let takes = edit_takes request c.args.terms.geometry c.requires.range c.split-edit.ensures.whole c.split-edit.ensures.few in record {
-      edit = subst (λ (e : ByteEdit). IsEdit (length c.args.order.now.cache.states) e) (sym c.split-edit.ensures.edit)
-          (subst (λ (n : ℕ). IsEdit n (edit_asked request)) (sym c.requires.blocks) takes);
-      few = omega (arith, c.requires.blocks);
-    }
-
-pub accept_held-requires : goal.accept_held-requires
-accept_held-requires g c =
-    let request = c.args.request in
-    let takes = edit_takes request c.args.terms.geometry c.requires.range c.split-edit.ensures.whole c.split-edit.ensures.few in record {
-      edit = subst (λ (e : ByteEdit). IsEdit (length c.args.order.now.cache.states) e) (sym c.split-edit.ensures.edit)
-          (subst (λ (n : ℕ). IsEdit n (edit_asked request)) (sym c.requires.blocks) takes);
-      few = omega (arith, c.requires.blocks);
-      held = λ needs. true≢false (sym (c.needs_device.ensures.1 needs) ∙ c.if-needs_device.false);
-    }
+pub needs_device-requires-clause-few : goal.needs_device-requires-clause-few
+needs_device-requires-clause-few g c = search rules
 
 pub joined-requires : goal.joined-requires
-joined-requires g c = record { back = c.split-edit.ensures.back }
+joined-requires g c = search rules
+
+pub accept_held-requires-clause-few : goal.accept_held-requires-clause-few
+accept_held-requires-clause-few g c = search rules
+
+pub accept_held-requires-clause-held : goal.accept_held-requires-clause-held
+accept_held-requires-clause-held g c = search rules
 
 pub joined-requires-in-Err-NoRoom-default : goal.joined-requires-in-Err-NoRoom-default
-joined-requires-in-Err-NoRoom-default g c = record {
-  back = subst (λ (e : Edit). IsHandedBack c.split-edit.result.0 e) (sym c.in-Err-NoRoom-default.ensures.handed_back) c.split-edit.ensures.back;
-}
+joined-requires-in-Err-NoRoom-default g c = search rules
+
+pub accept_held-requires-clause-edit : goal.accept_held-requires-clause-edit
+accept_held-requires-clause-edit g c =
+    let request = c.args.request in
+    let takes = edit_takes request c.args.terms.geometry c.requires.range c.split-edit.ensures.whole c.split-edit.ensures.few in
+    subst (λ (e : ByteEdit). IsEdit (length c.args.order.now.cache.states) e) (sym c.split-edit.ensures.edit)
+    (subst (λ (n : ℕ). IsEdit n (edit_asked request)) (sym c.requires.blocks) takes)
+
+pub needs_device-requires-clause-edit : goal.needs_device-requires-clause-edit
+needs_device-requires-clause-edit g c =
+    let request = c.args.request in
+    let takes = edit_takes request c.args.terms.geometry c.requires.range c.split-edit.ensures.whole c.split-edit.ensures.few in
+    subst (λ (e : ByteEdit). IsEdit (length c.args.order.now.cache.states) e) (sym c.split-edit.ensures.edit)
+    (subst (λ (n : ℕ). IsEdit n (edit_asked request)) (sym c.requires.blocks) takes)

@@ -1,23 +1,11 @@
-use Rattle.std.specs.Prelude.{MatchBool}
-use Rattle.std.proofs.Common.{◌≡◌, ◌≢◌, ◌*◌, ◌/◌, ◌+◌, ◌≤◌, ◌∙◌, ℕ, Bool, true, List, length, ap, arith, inl, inr, refl, subst, sym}
-use mathlib.Core.List.{IsPrefix}
-use Rattle.std.proofs.lemmas.Bool.{eq-eqb, false≢true}
-use Rattle.std.proofs.lemmas.Result.{IfOk-weaker}
-use Rattle.export_model.specs.Log.{is_flush, is_write}
+use Rattle.std.proofs.Common.{◌≡◌, ◌≢◌, ◌*◌, ◌+◌, ◌≤◌, ◌∙◌, ℕ, ap, arith, inl, inr, refl, subst, sym, rules}
+use Rattle.std.proofs.lemmas.Bool.{false≢true}
 use Rattle.export_model.specs.Verdict.{IsServedRange}
-use Rattle.image_model.specs.Change.{Change}
 use Rattle.image_model.specs.declared.geometry.Geometry.{Geometry}
-use Rattle.marks.specs.Known.{PassState}
 use Rattle.nbd_wire.specs.declared.head.RequestHead.{RequestHead}
-use Rattle.order_book.specs.Order.{OrderState}
 use Rattle.request_core.specs.Reading.{IsHeldReadServed, IsStatusServed}
-use Rattle.request_core.specs.Serving.{IsAcceptedFor, IsShownTo}
-use Rattle.request_core.specs.declared.serving.Served.TheVariants as served
-use Rattle.request_core.specs.laws.Requests.{write_others}
-use Rattle.shared_cache.specs.Cache.{LacksBytes}
-use Rattle.request_core.proofs.Needing.{edit_needs, lacks_blocks, lacks_given, neither_3, neither_7, not_read, other_writes, zero_7}
+use Rattle.request_core.proofs.Needing.{lacks_blocks, lacks_given, neither_3, neither_7, not_read}
 use Rattle.request_core.proofs.Passes.{held_passes, not_grown, status_passes}
-use Rattle.request_core.proofs.Touched.{touched_inside}
 use Rattle.request_core.proofs.serving.serve_passed.Goals as goal
 
 -- the range of a head whose type isn't that of a FLUSH
@@ -35,6 +23,10 @@ returns-in-7 g c = record {
   pass = status_passes g.B.BoardName.opening c.args.request c.args.order.now.mark c.serve_status.result c.args.pass.now c.head-head.result c.args.order.now c.serve_status.ensures;
   grown = not_grown _ _ refl;
 }
+
+pub returns-in-3-clause-needs : goal.returns-in-3-clause-needs
+returns-in-3-clause-needs g c =
+    (λ e. absurd (false≢true e), λ needs. absurd (neither_3 c.args.request c.args.order.now (sym (ap (λ (h : RequestHead). h.kind) c.head-head.ensures) ∙ c.in-3.is) needs.2))
 
 pub returns-then-holds : goal.returns-then-holds
 returns-then-holds g c = record {
@@ -65,79 +57,85 @@ pub of-blocks-requires : goal.of-blocks-requires
 of-blocks-requires g c = let range = in_range _ _ _ 0 c.head-head.ensures c.in-0.is (λ e. cc) c.requires.range in omega (arith, range.inside)
 
 pub holds-requires : goal.holds-requires
-holds-requires g c =
-    let range = in_range _ _ _ 0 c.head-head.ensures c.in-0.is (λ e. cc) c.requires.range in record {
-      range = omega (arith, touched_inside c.head-head.result.offset c.head-head.result.length c.args.terms.geometry.blocks range.inside, c.of-blocks.ensures.first, c.of-blocks.ensures.count, c.requires.blocks);
-    }
+holds-requires g c = search rules
 
-pub serve_held_read-requires : goal.serve_held_read-requires
-serve_held_read-requires g c =
-    let range = in_range _ _ _ 0 c.head-head.ensures c.in-0.is (λ e. cc) c.requires.range in record {
-      kind = c.in-0.is;
-      some = range.some;
-      most = range.most_read c.in-0.is;
-      few = omega (arith, c.requires.blocks);
-      inside = subst (λ (n : ℕ). c.head-head.result.offset + c.head-head.result.length ≤ 4096 * n) (sym c.requires.blocks) range.inside;
-      held = λ lacks.
-          false≢true (sym (c.holds.ensures.1
-          (subst (λ (n : ℕ). LacksBytes c.args.order.now.cache n c.of-blocks.result.count) (sym c.of-blocks.ensures.first)
-          (subst (λ (n : ℕ). LacksBytes c.args.order.now.cache (c.head-head.result.offset / 4096) n) (sym c.of-blocks.ensures.count) lacks))) ∙ c.if-holds.true);
-    }
+pub serve_held_read-requires-clause-kind : goal.serve_held_read-requires-clause-kind
+serve_held_read-requires-clause-kind g c = c.in-0.is
 
-pub serve_status-requires : goal.serve_status-requires
-serve_status-requires g c =
-    let range = in_range _ _ _ 7 c.head-head.ensures c.in-7.is (λ e. cc) c.requires.range in record {
-      kind = λ zero. zero_7 (sym zero ∙ c.in-7.is);
-      some = range.some;
-      few = omega (arith, c.requires.blocks);
-      inside = subst (λ (n : ℕ). c.head-head.result.offset + c.head-head.result.length ≤ 4096 * n) (sym c.requires.blocks) range.inside;
-    }
+pub serve_held_read-requires-clause-some : goal.serve_held_read-requires-clause-some
+serve_held_read-requires-clause-some g c = (in_range _ _ _ 0 c.head-head.ensures c.in-0.is (λ e. cc) c.requires.range).some
 
-pub serve_held_edit-requires : goal.serve_held_edit-requires
-serve_held_edit-requires g c =
-    let kind = ap (λ (h : RequestHead). h.kind) c.head-head.ensures in
-    let other : c.args.request.head.kind ≡ 3 → ⊥ = λ is. omega (arith, kind, is) in record {
-      write = other_writes c.args.request.head c.args.terms.geometry c.args.terms.flags c.requires.passes other (λ is. omega (arith, kind, is)) (λ is. omega (arith, kind, is));
-      range = c.requires.range other;
-      works = c.requires.works;
-      blocks = c.requires.blocks;
-    }
+pub serve_held_read-requires-clause-most : goal.serve_held_read-requires-clause-most
+serve_held_read-requires-clause-most g c = (in_range _ _ _ 0 c.head-head.ensures c.in-0.is (λ e. cc) c.requires.range).most_read c.in-0.is
 
-pub returns-in-3 : goal.returns-in-3
-returns-in-3 g c =
-    let shown = c.show_mark.ensures in
-    let kind : c.args.request.head.kind ≡ 3 = sym (ap (λ (h : RequestHead). h.kind) c.head-head.ensures) ∙ c.in-3.is in
-    let flush : is_flush c.args.request ≡ true = eq-eqb c.args.request.head.kind 3 kind in record {
-      blocks = ap (λ (o : OrderState). length o.cache.states) shown.same;
-      serves = inl (inr (inl (c.requires.works, flush, shown.same, ap (λ (n : ℕ). served.Wait n) shown.mark)));
-      needs = (λ e. absurd (false≢true e), λ needs. absurd (neither_3 c.args.request c.args.order.now kind needs.2));
-      handed_back = tt;
-      unchanged = tt;
-      pass =
-          subst (λ (b : Bool). MatchBool b (IsShownTo g.B.BoardName.opening c.show_mark.result c.args.pass.now c.show_mark.new.pass) (IsAcceptedFor g.B.BoardName.opening c.args.request c.show_mark.result c.args.pass.now c.show_mark.new.pass)) (sym flush)
-          (record {
-            known_is = shown.known;
-            knew = subst (λ (p : PassState). IsPrefix c.args.pass.now.history p.history) (sym shown.pass) shown.knew;
-            place = shown.place ∙ sym (ap (λ (p : PassState). g.B.BoardName.opening + length p.history) shown.pass);
-            pass = shown.pass ∙ ap (λ (h : List Change). record c.args.pass.now { history = h; accepted = c.show_mark.result }) (sym (ap (λ (p : PassState). p.history) shown.pass));
-          });
-      grown = not_grown _ _ (ap (λ (o : OrderState). o.mark) shown.same);
-    }
+pub serve_held_read-requires-clause-few : goal.serve_held_read-requires-clause-few
+serve_held_read-requires-clause-few g c = omega (arith, c.requires.blocks)
 
-pub returns-in_default : goal.returns-in_default
-returns-in_default g c =
-    let call = c.serve_held_edit.ensures in
-    let kind = ap (λ (h : RequestHead). h.kind) c.head-head.ensures in
-    let none : c.args.request.head.kind ≡ 0 → ⊥ = λ is. omega (arith, kind, is) in
-    let other : c.args.request.head.kind ≡ 7 → ⊥ = λ is. omega (arith, kind, is) in
-    let write : is_write c.args.request ≡ true =
-    other_writes c.args.request.head c.args.terms.geometry c.args.terms.flags c.requires.passes (λ is. omega (arith, kind, is)) none other in record {
-      blocks = call.blocks;
-      serves =
-          IfOk-weaker c.serve_held_edit.result _ _ (λ served is. inl (inr (inr (inr (c.requires.works, (write_others c.args.request.head.kind write).0, none, other, is))))) call.served;
-      needs = (λ e. (refl, c.requires.works, inr (write, call.needs.0 e)), λ needs. call.needs.1 (edit_needs c.args.request c.args.order.now none needs.2));
-      handed_back = call.handed_back;
-      unchanged = call.unchanged;
-      pass = call.pass;
-      grown = call.grown;
-    }
+pub serve_held_read-requires-clause-inside : goal.serve_held_read-requires-clause-inside
+serve_held_read-requires-clause-inside g c = subst (λ (n : ℕ). c.head-head.result.offset + c.head-head.result.length ≤ 4096 * n) (sym c.requires.blocks) (in_range _ _ _ 0 c.head-head.ensures c.in-0.is (λ e. cc) c.requires.range).inside
+
+pub serve_held_read-requires-clause-held : goal.serve_held_read-requires-clause-held
+serve_held_read-requires-clause-held g c = search rules
+
+pub serve_status-requires-clause-kind : goal.serve_status-requires-clause-kind
+serve_status-requires-clause-kind g c = search rules
+
+pub serve_status-requires-clause-some : goal.serve_status-requires-clause-some
+serve_status-requires-clause-some g c = (in_range _ _ _ 7 c.head-head.ensures c.in-7.is (λ e. cc) c.requires.range).some
+
+pub serve_status-requires-clause-few : goal.serve_status-requires-clause-few
+serve_status-requires-clause-few g c = omega (arith, c.requires.blocks)
+
+pub serve_status-requires-clause-inside : goal.serve_status-requires-clause-inside
+serve_status-requires-clause-inside g c = subst (λ (n : ℕ). c.head-head.result.offset + c.head-head.result.length ≤ 4096 * n) (sym c.requires.blocks) (in_range _ _ _ 7 c.head-head.ensures c.in-7.is (λ e. cc) c.requires.range).inside
+
+pub serve_held_edit-requires-clause-write : goal.serve_held_edit-requires-clause-write
+serve_held_edit-requires-clause-write g c = search rules
+
+pub serve_held_edit-requires-clause-range : goal.serve_held_edit-requires-clause-range
+serve_held_edit-requires-clause-range g c = search rules
+
+pub returns-in-3-clause-blocks : goal.returns-in-3-clause-blocks
+returns-in-3-clause-blocks g c = search rules
+
+pub returns-in-3-clause-serves : goal.returns-in-3-clause-serves
+returns-in-3-clause-serves g c = search rules
+
+pub returns-in-3-clause-pass : goal.returns-in-3-clause-pass
+returns-in-3-clause-pass g c = search rules
+
+pub returns-in-3-clause-grown : goal.returns-in-3-clause-grown
+returns-in-3-clause-grown g c = search rules
+
+pub returns-in_default-clause-serves : goal.returns-in_default-clause-serves
+returns-in_default-clause-serves g c = search rules
+
+pub returns-in_default-clause-needs : goal.returns-in_default-clause-needs
+returns-in_default-clause-needs g c = search rules
+
+pub returns-in-3-clause-handed_back : goal.returns-in-3-clause-handed_back
+returns-in-3-clause-handed_back g c = tt
+
+pub returns-in-3-clause-unchanged : goal.returns-in-3-clause-unchanged
+returns-in-3-clause-unchanged g c = tt
+
+pub serve_held_edit-requires-clause-works : goal.serve_held_edit-requires-clause-works
+serve_held_edit-requires-clause-works g c = c.requires.works
+
+pub serve_held_edit-requires-clause-blocks : goal.serve_held_edit-requires-clause-blocks
+serve_held_edit-requires-clause-blocks g c = c.requires.blocks
+
+pub returns-in_default-clause-blocks : goal.returns-in_default-clause-blocks
+returns-in_default-clause-blocks g c = c.serve_held_edit.ensures.blocks
+
+pub returns-in_default-clause-handed_back : goal.returns-in_default-clause-handed_back
+returns-in_default-clause-handed_back g c = c.serve_held_edit.ensures.handed_back
+
+pub returns-in_default-clause-unchanged : goal.returns-in_default-clause-unchanged
+returns-in_default-clause-unchanged g c = c.serve_held_edit.ensures.unchanged
+
+pub returns-in_default-clause-pass : goal.returns-in_default-clause-pass
+returns-in_default-clause-pass g c = c.serve_held_edit.ensures.pass
+
+pub returns-in_default-clause-grown : goal.returns-in_default-clause-grown
+returns-in_default-clause-grown g c = c.serve_held_edit.ensures.grown

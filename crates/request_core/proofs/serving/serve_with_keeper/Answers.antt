@@ -1,5 +1,4 @@
-use Rattle.std.proofs.Common.{◌≡◌, ◌∙◌, ℕ, ◌+◌, ◌*◌, ◌≤◌, Ok, inl, inr, ap, refl, sym, subst, ◌<◌, length, true, arith}
-use Rattle.image_model.specs.declared.geometry.Geometry.{Geometry}
+use Rattle.std.proofs.Common.{◌≡◌, ◌⊎◌, ◌∙◌, Ok, inl, inr, ap, refl, sym, subst, ◌<◌, length, true, arith, rules}
 use Rattle.journal_format.specs.laws.Chained.{none_read}
 use Rattle.marks.specs.Known.{PassState}
 use Rattle.nbd_wire.specs.Request.{Message}
@@ -9,9 +8,8 @@ use Rattle.order_book.specs.Order.{OrderState}
 use Rattle.request_core.specs.Reading.{IsReadServed}
 use Rattle.request_core.specs.Serving.{IsPassServed}
 use Rattle.request_core.specs.Outcomes.{IsWriteAsked}
-use Rattle.request_core.proofs.Here.{read_blocks, read_geometry, read_leaves, read_mark, read_passes, served_here}
-use Rattle.request_core.proofs.Needing.{edit_needs, is_edit, neither_3, not_read}
-use Rattle.request_core.proofs.Passes.{not_grown}
+use Rattle.request_core.proofs.Here.{read_leaves, read_mark, read_passes, served_here}
+use Rattle.request_core.proofs.Needing.{is_edit, neither_3, not_read}
 use Rattle.request_core.proofs.serving.serve_with_keeper.Goals as goal
 use Rattle.export_model.specs.Log.{edit_asked, is_write}
 use Rattle.export_model.specs.Verdict.{IsServedRange, verdict}
@@ -39,6 +37,54 @@ returns-in-Ok g c = record {
   pass = c.in-Ok.ensures.pass;
   grown = c.in-Ok.ensures.grown;
 }
+
+pub returns-in-Err-clause-serves : goal.returns-in-Err-clause-serves
+returns-in-Err-clause-serves g c =
+    let needs = c.in-Err.ensures.needs.0 refl in
+    let back = c.in-Err.ensures.handed_back in
+    let asked : c.head.result ≡ c.args.request.head = c.head.ensures ∙ ap (λ (r : Message). r.head) back in
+    let read_for : c.head-in-Err.result ≡ c.args.request.head = c.head-in-Err.ensures ∙ ap (λ (r : Message). r.head) back in (
+      Ok Serve,
+      sym needs.0,
+      inr (inl (
+        needs.1,
+        sym (ap (λ (h : RequestHead). h.kind) asked) ∙ c.if-head-eq-READ.true,
+        subst (λ (h : RequestHead). IsReadServed g.D.Disk.state g.D.Disk.faults g.D.Disk.honest h c.args.order.now c.serve_read.new.order c.args.keeper.now c.serve_read.new.keeper c.serve_read.result) read_for
+            (subst (λ (o : OrderState). IsReadServed g.D.Disk.state g.D.Disk.faults g.D.Disk.honest c.head-in-Err.result o c.serve_read.new.order c.args.keeper.now c.serve_read.new.keeper c.serve_read.result)
+            c.in-Err.ensures.unchanged.0 c.serve_read.ensures.read),
+      )),
+    )
+
+pub returns-in-Err-clause-pass : goal.returns-in-Err-clause-pass
+returns-in-Err-clause-pass g c =
+    let same = c.in-Err.ensures.unchanged in
+    subst (λ (pass : PassState). IsPassServed g.B.BoardName.opening c.args.request c.args.order.now.mark c.serve_read.new.order.mark c.serve_read.result c.args.pass.now pass) (sym same.1)
+    (subst (λ (order : OrderState). IsPassServed g.B.BoardName.opening c.args.request order.mark c.serve_read.new.order.mark c.serve_read.result c.args.pass.now c.args.pass.now) same.0
+    (read_passes g.D.Disk.state g.D.Disk.faults g.D.Disk.honest c.args.keeper.now (λ sure. none_read (g.met.D.Disk.sound c.args.keeper.now.disk sure)) g.B.BoardName.opening c.args.request c.serve_read.result c.args.pass.now
+    _ c.serve_held.new.order c.serve_read.new.order c.serve_read.new.keeper c.serve_read.ensures.read))
+
+pub returns-in-Err-clause-grown : goal.returns-in-Err-clause-grown
+returns-in-Err-clause-grown g c = λ more.
+    let left = ap (λ (o : OrderState). o.mark) c.in-Err.ensures.unchanged.0 in
+    let same = read_mark g.D.Disk.state g.D.Disk.faults g.D.Disk.honest c.args.keeper.now (λ sure. none_read (g.met.D.Disk.sound c.args.keeper.now.disk sure)) _ c.serve_held.new.order c.serve_read.new.order c.serve_read.new.keeper c.serve_read.result c.serve_read.ensures.read in
+    absurd (omega (arith, more, left, same))
+
+pub serve_edit-requires-clause-needs : goal.serve_edit-requires-clause-needs
+serve_edit-requires-clause-needs g c =
+    let request = c.args.request in
+    let back = c.in-Err.ensures.handed_back in
+    let same = c.in-Err-2.ensures.unchanged.0 in
+    let needs = c.in-Err-2.ensures.needs.0 refl in
+    subst (λ (r : Message). NeedsOld c.serve_held.new.order (edit_asked r)) (sym back)
+    (subst (λ (o : OrderState). NeedsOld o (edit_asked request)) (sym same)
+    (by_kind needs.2 (λ kind. c.if-head-eq-READ.false (ap (λ (h : RequestHead). h.kind) c.head.ensures ∙ ap (λ (r : Message). r.head.kind) c.in-Err.ensures.handed_back ∙ kind))))
+  where
+    by_kind : {A B : Type 0} → (((c.args.request.head.kind ≡ 0) × A) ⊎ (B × NeedsOld c.args.order.now (edit_asked c.args.request))) → (c.args.request.head.kind ≡ 0 → ⊥) → NeedsOld c.args.order.now (edit_asked c.args.request)
+    by_kind (inl read) other = absurd (other read.0)
+    by_kind (inr edit) other = edit.1
+
+pub returns-in-Err-clause-kept : goal.returns-in-Err-clause-kept
+returns-in-Err-clause-kept g c none = absurd (none (c.in-Err.ensures.needs.0 refl))
 
 pub returns-in-Err-2 : goal.returns-in-Err-2
 returns-in-Err-2 g c = record {
@@ -70,81 +116,66 @@ returns-in-Err-2 g c = record {
   grown = λ more. c.serve_edit.ensures.grown (subst (λ (o : OrderState). o.mark < c.serve_edit.new.order.mark) (sym c.in-Err-2.ensures.unchanged.0) more);
 }
 
-pub serve_held-requires : goal.serve_held-requires
-serve_held-requires g c = record {
-  kind = c.requires.kind;
-  blocks = c.requires.blocks;
-}
+pub returns-in-Err-clause-hit : goal.returns-in-Err-clause-hit
+returns-in-Err-clause-hit g c kind held =
+    let needs = c.in-Err.ensures.needs.0 refl in
+    absurd (not_read c.args.request c.args.order.now kind held needs.2)
 
-pub serve_read-requires : goal.serve_read-requires
-serve_read-requires g c =
-    let held = c.in-Err.ensures in
-    let head_is : c.head-in-Err.result ≡ c.args.request.head = c.head-in-Err.ensures ∙ ap (λ (r : Message). r.head) held.handed_back in
-    let reads : c.head-in-Err.result.kind ≡ 0 = ap (λ (h : RequestHead). h.kind) (c.head-in-Err.ensures ∙ sym c.head.ensures) ∙ c.if-head-eq-READ.true in
-    let range : IsServedRange c.head-in-Err.result c.args.terms.geometry =
-    subst (λ (h : RequestHead). IsServedRange h c.args.terms.geometry) (sym head_is) (held.range (λ three. neither_3 c.args.request c.args.order.now three (held.needs.0 refl).2)) in
-    let blocks : length c.serve_held.new.order.cache.states ≡ c.args.terms.geometry.blocks = held.blocks ∙ c.requires.blocks in record {
-      kind = reads;
-      some = range.some;
-      most = range.most_read reads;
-      few = omega (arith, blocks);
-      inside = subst (λ (n : ℕ). c.head-in-Err.result.offset + c.head-in-Err.result.length ≤ 4096 * n) (sym blocks) range.inside;
-      device = blocks ∙ ap (λ (g : Geometry). g.blocks) c.requires.device;
-    }
+pub returns-in-Err-clause-count : goal.returns-in-Err-clause-count
+returns-in-Err-clause-count g c = c.serve_read.ensures.count
 
-pub serve_edit-requires : goal.serve_edit-requires
-serve_edit-requires g c =
-    let held = c.in-Err-2.ensures in
-    let needs = held.needs.0 refl in
-    let back = sym c.in-Err.ensures.handed_back in
-    let other : c.args.request.head.kind ≡ 0 → ⊥ =
-    λ kind. c.if-head-eq-READ.false (ap (λ (h : RequestHead). h.kind) c.head.ensures ∙ ap (λ (r : Message). r.head.kind) c.in-Err.ensures.handed_back ∙ kind) in record {
-      write = subst (λ (r : Message). is_write r ≡ true) back (is_edit c.args.request c.args.order.now other needs.2);
-      range =
-          subst (λ (r : Message). IsServedRange r.head c.args.terms.geometry) back (held.range (λ kind. neither_3 c.args.request c.args.order.now kind needs.2));
-      works = ap (λ (o : OrderState). o.stopped) held.unchanged.0 ∙ needs.1;
-      blocks = ap (λ (o : OrderState). length o.cache.states) held.unchanged.0 ∙ c.requires.blocks;
-      device = c.requires.device;
-      needs =
-          subst (λ (r : Message). NeedsOld c.serve_held.new.order (edit_asked r)) back
-          (subst (λ (o : OrderState). NeedsOld o (edit_asked c.args.request)) (sym held.unchanged.0) (edit_needs c.args.request c.args.order.now other needs.2));
-    }
+pub returns-in-Err-clause-extent : goal.returns-in-Err-clause-extent
+returns-in-Err-clause-extent g c = c.serve_read.ensures.extent
 
-pub returns-in-Err : goal.returns-in-Err
-returns-in-Err g c =
-    let held = c.in-Err.ensures in
-    let needs = held.needs.0 refl in
-    let still = λ (sure : g.D.Disk.honest c.args.keeper.now.disk). none_read (g.met.D.Disk.sound c.args.keeper.now.disk sure) in
-    let read = c.serve_read.ensures in
-    let asked : c.head.result ≡ c.args.request.head = c.head.ensures ∙ ap (λ (r : Message). r.head) held.handed_back in
-    let read_for : c.head-in-Err.result ≡ c.args.request.head = c.head-in-Err.ensures ∙ ap (λ (r : Message). r.head) held.handed_back in record {
-      blocks =
-          read_blocks g.D.Disk.state g.D.Disk.faults g.D.Disk.honest c.args.keeper.now still _ c.serve_held.new.order c.serve_read.new.order c.serve_read.new.keeper c.serve_read.result read.read
-          ∙ held.blocks;
-      geometry =
-          read_geometry g.D.Disk.state g.D.Disk.faults g.D.Disk.honest c.args.keeper.now still _ c.serve_held.new.order c.serve_read.new.order c.serve_read.new.keeper c.serve_read.result read.read;
-      count = read.count;
-      extent = read.extent;
-      honest = read.honest;
-      serves = (
-        Ok Serve,
-        sym needs.0,
-        inr (inl (
-          needs.1,
-          sym (ap (λ (h : RequestHead). h.kind) asked) ∙ c.if-head-eq-READ.true,
-          subst (λ (h : RequestHead). IsReadServed g.D.Disk.state g.D.Disk.faults g.D.Disk.honest h c.args.order.now c.serve_read.new.order c.args.keeper.now c.serve_read.new.keeper c.serve_read.result) read_for
-              (subst (λ (o : OrderState). IsReadServed g.D.Disk.state g.D.Disk.faults g.D.Disk.honest c.head-in-Err.result o c.serve_read.new.order c.args.keeper.now c.serve_read.new.keeper c.serve_read.result)
-              held.unchanged.0 read.read),
-        )),
-      );
-      kept = λ none. absurd (none needs);
-      hit = λ kind held. absurd (not_read c.args.request c.args.order.now kind held needs.2);
-      pass =
-          subst (λ (pass : PassState). IsPassServed g.B.BoardName.opening c.args.request c.args.order.now.mark c.serve_read.new.order.mark c.serve_read.result c.args.pass.now pass) (sym held.unchanged.1)
-          (subst (λ (order : OrderState). IsPassServed g.B.BoardName.opening c.args.request order.mark c.serve_read.new.order.mark c.serve_read.result c.args.pass.now c.args.pass.now) held.unchanged.0
-          (read_passes g.D.Disk.state g.D.Disk.faults g.D.Disk.honest c.args.keeper.now still g.B.BoardName.opening c.args.request c.serve_read.result c.args.pass.now
-          _ c.serve_held.new.order c.serve_read.new.order c.serve_read.new.keeper read.read));
-      grown = not_grown _ _
-          (read_mark g.D.Disk.state g.D.Disk.faults g.D.Disk.honest c.args.keeper.now still _ c.serve_held.new.order c.serve_read.new.order c.serve_read.new.keeper c.serve_read.result read.read
-          ∙ ap (λ (o : OrderState). o.mark) held.unchanged.0);
-    }
+pub returns-in-Err-clause-honest : goal.returns-in-Err-clause-honest
+returns-in-Err-clause-honest g c = c.serve_read.ensures.honest
+
+pub serve_edit-requires-clause-write : goal.serve_edit-requires-clause-write
+serve_edit-requires-clause-write g c =
+    let needs = c.in-Err-2.ensures.needs.0 refl in
+    subst (λ (r : Message). is_write r ≡ true) (sym c.in-Err.ensures.handed_back)
+    (is_edit c.args.request c.args.order.now (λ kind. c.if-head-eq-READ.false (ap (λ (h : RequestHead). h.kind) c.head.ensures ∙ ap (λ (r : Message). r.head.kind) c.in-Err.ensures.handed_back ∙ kind)) needs.2)
+
+pub serve_edit-requires-clause-range : goal.serve_edit-requires-clause-range
+serve_edit-requires-clause-range g c =
+    let needs = c.in-Err-2.ensures.needs.0 refl in
+    subst (λ (r : Message). IsServedRange r.head c.args.terms.geometry) (sym c.in-Err.ensures.handed_back) (c.in-Err-2.ensures.range (λ kind. neither_3 c.args.request c.args.order.now kind needs.2))
+
+pub serve_edit-requires-clause-works : goal.serve_edit-requires-clause-works
+serve_edit-requires-clause-works g c = ap (λ (o : OrderState). o.stopped) c.in-Err-2.ensures.unchanged.0 ∙ (c.in-Err-2.ensures.needs.0 refl).1
+
+pub serve_held-requires-clause-kind : goal.serve_held-requires-clause-kind
+serve_held-requires-clause-kind g c = c.requires.kind
+
+pub serve_held-requires-clause-blocks : goal.serve_held-requires-clause-blocks
+serve_held-requires-clause-blocks g c = c.requires.blocks
+
+pub serve_read-requires-clause-kind : goal.serve_read-requires-clause-kind
+serve_read-requires-clause-kind g c = search rules
+
+pub serve_read-requires-clause-some : goal.serve_read-requires-clause-some
+serve_read-requires-clause-some g c = search rules
+
+pub serve_read-requires-clause-most : goal.serve_read-requires-clause-most
+serve_read-requires-clause-most g c = search rules
+
+pub serve_read-requires-clause-few : goal.serve_read-requires-clause-few
+serve_read-requires-clause-few g c = search rules
+
+pub serve_read-requires-clause-inside : goal.serve_read-requires-clause-inside
+serve_read-requires-clause-inside g c = search rules
+
+pub serve_read-requires-clause-device : goal.serve_read-requires-clause-device
+serve_read-requires-clause-device g c = search rules
+
+pub serve_edit-requires-clause-blocks : goal.serve_edit-requires-clause-blocks
+serve_edit-requires-clause-blocks g c = ap (λ (o : OrderState). length o.cache.states) c.in-Err-2.ensures.unchanged.0 ∙ c.requires.blocks
+
+pub serve_edit-requires-clause-device : goal.serve_edit-requires-clause-device
+serve_edit-requires-clause-device g c = c.requires.device
+
+pub returns-in-Err-clause-blocks : goal.returns-in-Err-clause-blocks
+returns-in-Err-clause-blocks g c = search rules
+
+pub returns-in-Err-clause-geometry : goal.returns-in-Err-clause-geometry
+returns-in-Err-clause-geometry g c = search rules

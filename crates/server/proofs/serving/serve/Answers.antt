@@ -1,5 +1,5 @@
 use Rattle.std.specs.Prelude.{OnOk}
-use Rattle.std.proofs.Common.{ℕ, List, [], ◌+◌, length, refl, subst, sym}
+use Rattle.std.proofs.Common.{ℕ, List, [], ◌+◌, length, subst, sym}
 use Rattle.device_image.specs.Stands.{StandsFor}
 use Rattle.disk_model.specs.Disk.{LeavesOnly}
 use Rattle.export.specs.Left.{LeavesHistory}
@@ -26,32 +26,23 @@ serve_over-requires-clause-start g c = λ lifetimes bounds sure.
     subst (λ (n : ℕ). LeavesOnly (g.D.Disk.state keeper.disk) (g.D.Disk.state keeper.disk) (λ content. StandsFor content image n)) (sym c.args.device.opening)
     (c.opened_device_law.ensures.left keeper image sure c.args.device.recovered)
 
+pub returns-in-Ok-clause-stored : goal.returns-in-Ok-clause-stored
+returns-in-Ok-clause-stored g c =
+    let keeper = c.args.device.keeper in let image = image_found g.D.Disk.state keeper in
+    subst (λ (n : ℕ). OnOk c.serve_over.result.0 (IsTrusted g.D.Disk.state g.D.Disk.honest keeper image → (history : List Change)
+    × LeavesHistory (g.D.Disk.state keeper.disk) (g.D.Disk.state c.serve_over.result.1) n image history (n + length history))) c.args.device.opening c.serve_over.ensures.stored
+
 pub serve_over-requires-clause-vouches : goal.serve_over-requires-clause-vouches
 serve_over-requires-clause-vouches g c = λ lifetimes bounds handle is read vouches. (handle, is, vouches)
 
-pub serve_over-requires-clause-board : goal.serve_over-requires-clause-board
-serve_over-requires-clause-board g c = λ lifetimes bounds. refl
-
-pub serve_over-requires-clause-named : goal.serve_over-requires-clause-named
-serve_over-requires-clause-named g c = λ lifetimes bounds. refl
-
-pub serve_over-requires-clause-image : goal.serve_over-requires-clause-image
-serve_over-requires-clause-image g c = λ lifetimes bounds. refl
-
-pub serve_over-requires-clause-trusted : goal.serve_over-requires-clause-trusted
-serve_over-requires-clause-trusted g c = λ lifetimes bounds sure. sure
-
-pub serve_over-requires-clause-geometry : goal.serve_over-requires-clause-geometry
-serve_over-requires-clause-geometry g c = λ lifetimes bounds. refl
-
-pub returns-in-Ok : goal.returns-in-Ok
-returns-in-Ok g c =
+pub returns-in-Ok-clause-left : goal.returns-in-Ok-clause-left
+returns-in-Ok-clause-left g c =
     let keeper = c.args.device.keeper in let image = image_found g.D.Disk.state keeper in
-    record {
-      left = subst (λ (n : ℕ). IsTrusted g.D.Disk.state g.D.Disk.honest keeper image → (history : List Change)
-          × LeavesHistory (g.D.Disk.state keeper.disk) (g.D.Disk.state c.serve_over.result.1) n image history n) c.args.device.opening c.serve_over.ensures.left;
-      stored = subst (λ (n : ℕ). OnOk c.serve_over.result.0 (IsTrusted g.D.Disk.state g.D.Disk.honest keeper image → (history : List Change)
-          × LeavesHistory (g.D.Disk.state keeper.disk) (g.D.Disk.state c.serve_over.result.1) n image history (n + length history))) c.args.device.opening c.serve_over.ensures.stored;
-      honest = c.serve_over.ensures.honest;
-      faults = c.serve_over.ensures.faults;
-    }
+    subst (λ (n : ℕ). IsTrusted g.D.Disk.state g.D.Disk.honest keeper image → (history : List Change)
+    × LeavesHistory (g.D.Disk.state keeper.disk) (g.D.Disk.state c.serve_over.result.1) n image history n) c.args.device.opening c.serve_over.ensures.left
+
+pub returns-in-Ok-clause-honest : goal.returns-in-Ok-clause-honest
+returns-in-Ok-clause-honest g c = c.serve_over.ensures.honest
+
+pub returns-in-Ok-clause-faults : goal.returns-in-Ok-clause-faults
+returns-in-Ok-clause-faults g c = c.serve_over.ensures.faults

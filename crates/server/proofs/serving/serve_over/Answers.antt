@@ -1,7 +1,23 @@
-use Rattle.std.proofs.Common.{rules, arith, length, subst, sym, ◌+◌, ◌∙◌, []}
+use Rattle.std.proofs.Common.{arith, length, subst, sym, ◌+◌, ◌∙◌, []}
 use Rattle.export.specs.Left.{LeavesHistory}
-use Rattle.server.proofs.Served.{from_start, on_ok, reaching, same_count}
+use Rattle.server.proofs.Served.{from_start, on_ok, reaching}
 use Rattle.server.proofs.serving.serve_over.Goals as goal
+
+pub returns-in-Ok-clause-left : goal.returns-in-Ok-clause-left
+returns-in-Ok-clause-left g c = λ sure.
+    let pass = c.close-disk.new.pass in
+    (pass.history, reaching g.B.ImageName.start (g.D.Disk.state c.close-disk.result.0) g.B.BoardName.opening g.B.ImageName.image pass.history pass.durable g.B.BoardName.opening (λ content is. omega arith) (c.close-disk.ensures.left sure))
+
+pub returns-in-Ok-clause-stored : goal.returns-in-Ok-clause-stored
+returns-in-Ok-clause-stored g c = on_ok c.end_of.result c.end_of.ensures.stored (λ stored sure.
+    let pass = c.close-disk.new.pass in let all = c.close-disk.ensures.stored.0 stored in (
+      pass.history,
+      reaching g.B.ImageName.start (g.D.Disk.state c.close-disk.result.0) g.B.BoardName.opening g.B.ImageName.image pass.history pass.durable (g.B.BoardName.opening + length pass.history)
+          (λ content is. let reaches = is.reaches in omega (arith, reaches, all)) (c.close-disk.ensures.left sure),
+    ))
+
+pub returns-in-Ok-clause-honest : goal.returns-in-Ok-clause-honest
+returns-in-Ok-clause-honest g c = c.close-disk.ensures.honest
 
 pub returns-in-Err : goal.returns-in-Err
 returns-in-Err g c = record {
@@ -13,30 +29,4 @@ returns-in-Err g c = record {
   stored = tt;
   honest = λ sure. subst g.D.Disk.honest (sym c.in-Err.ensures.back) (c.requires.trusted sure).sure;
   faults = tt;
-}
-
-pub open_export-requires : goal.open_export-requires
-open_export-requires g c = record {
-  board = c.requires.board;
-  named = c.requires.named;
-  image = c.requires.image;
-  trusted = c.requires.trusted;
-  start = c.requires.start;
-  vouches = c.requires.vouches;
-  geometry = c.requires.geometry;
-}
-
-pub returns-in-Ok : goal.returns-in-Ok
-returns-in-Ok g c = record {
-  left = λ sure.
-      let pass = c.close-disk.new.pass in
-      (pass.history, reaching g.B.ImageName.start (g.D.Disk.state c.close-disk.result.0) g.B.BoardName.opening g.B.ImageName.image pass.history pass.durable g.B.BoardName.opening (λ content is. omega arith) (c.close-disk.ensures.left sure));
-  stored = on_ok c.end_of.result c.end_of.ensures.stored (λ stored sure.
-      let pass = c.close-disk.new.pass in let all = c.close-disk.ensures.stored.0 stored in (
-        pass.history,
-        reaching g.B.ImageName.start (g.D.Disk.state c.close-disk.result.0) g.B.BoardName.opening g.B.ImageName.image pass.history pass.durable (g.B.BoardName.opening + length pass.history)
-            (λ content is. let reaches = is.reaches in omega (arith, reaches, all)) (c.close-disk.ensures.left sure),
-      ));
-  honest = c.close-disk.ensures.honest;
-  faults = on_ok c.end_of.result c.end_of.ensures.works (λ works. sym c.failures.ensures ∙ same_count c.failures.result c.args.device.failures (search (rules, works)) ∙ c.args.device.counted);
 }

@@ -1,12 +1,11 @@
-use Rattle.std.proofs.Common.{◌≡◌, ℕ, ◌+◌, ◌<◌, ◌≤◌, ◌⊎◌, ⊎_elim, List, length, map, false, inl, inr, refl, sym, ◌∙◌, ap, subst, arith, rules}
-use Rattle.std.proofs.lemmas.Bool.{cases_lt, false≢true}
+use Rattle.std.proofs.Common.{◌≡◌, ℕ, ◌+◌, ◌⊎◌, ⊎_elim, List, length, map, false, inl, inr, refl, sym, ◌∙◌, ap, subst, arith, rules}
+use Rattle.std.proofs.lemmas.Bool.{false≢true}
 use Rattle.std.proofs.lemmas.List.{length-map}
 use Rattle.std.specs.Prelude.{IfSome}
 use Rattle.disk_model.specs.Disk.{State, LeavesOnly}
 use Rattle.disk_model.specs.laws.Moments.{begins, weakens}
 use Rattle.image_model.specs.Change.{AreChanges, change_of}
 use Rattle.image_model.specs.Image.{Image, apply_all}
-use Rattle.image_model.specs.Command.{bodies_of}
 use Rattle.image_model.specs.declared.geometry.Geometry.{Geometry}
 use Rattle.journal_format.specs.Area.{AreaState}
 use Rattle.regions.specs.Layout.{area_size}
@@ -15,7 +14,7 @@ use Rattle.journal_format.specs.GroupList.{IsHeld, LeavesEither}
 use Rattle.journal_format.specs.Spelling.{StoredGroup, stored_of}
 use Rattle.journal.specs.laws.Added.{size-stored}
 use Rattle.checkpoint.specs.Faults.{of_journal}
-use Rattle.checkpoint.specs.Keeper.{AreSized, IsAppendFault, IsSized, faults_by, grown_by}
+use Rattle.checkpoint.specs.Keeper.{AreSized, IsAppendFault, IsSized, faults_by}
 use Rattle.checkpoint.specs.declared.fault.KeeperFault.{KeeperFault}
 use Rattle.checkpoint.specs.declared.fault.KeeperFault.TheVariants.{AreaFull, Failed, OutOfOrder}
 use Rattle.device_image.specs.Keeper.{KeeperState}
@@ -48,29 +47,6 @@ any_moment {D} state honest inside now group after image number same clause =
     let long : length (map change_of group.commands) ≡ length group.commands = length-map group.commands change_of in
     weakens (clause is_honest (first inside (state inside.disk) image number keeps) keeps.areas.groups keeps.areas.held (taken inside (state inside.disk) image number group keeps changes))
     (λ content left. leaves_either inside (state inside.disk) image number keeps (stored_of group) (number + length group.commands) content (omega (arith, long)) left))
-
--- a group fits in the area where the keeper says so
-same_less : {a b c d : ℕ} → a ≡ c → b ≡ d → a < b → c < d
-same_less first second less = omega (arith, first, second, less)
-
-same_most : {a b c d : ℕ} → a ≡ c → b ≡ d → a ≤ b → c ≤ d
-same_most first second most = omega (arith, first, second, most)
-
-not_over : (area end : ℕ) → (area < end → ⊥) → end ≤ area
-not_over area end not = ⊎_elim (λ over. absurd (not over)) (λ fits. fits) (cases_lt area end)
-
-used_more : (gate bodies : ℕ) {now size : ℕ} → now ≡ gate + 17 + bodies → size ≡ 17 + bodies → now ≡ gate + size
-used_more gate bodies now_is size_is = omega (arith, now_is, size_is)
-
-first_small : (first many : ℕ) → 1 ≤ many → first + many ≤ 18446744073709551616 → first < 18446744073709551616
-first_small first many some numbers = omega (arith, some, numbers)
-
--- the keeper with the group, as callers see it
-grown_as : {D : Type 0} (inside old now : KeeperState D) (group : Numbered) → inside ≡ old → now ≡ record inside { disk = now.disk; count = now.count; used = now.used; memory = now.memory }
-    → now.count ≡ inside.count + length group.commands → now.used ≡ inside.used + 17 + bodies_of group.commands → now ≡ grown_by old group now.disk now.memory
-grown_as {D} inside old now group same now_is count used =
-    now_is ∙ (λ i. record inside { disk = now.disk; count = count i; used = used i; memory = now.memory })
-    ∙ ap (λ (k : KeeperState D). grown_by k group now.disk now.memory) same
 
 failed_apart : (◌≡◌ {A = KeeperFault} Failed AreaFull → ⊥) × (◌≡◌ {A = KeeperFault} Failed OutOfOrder → ⊥)
 failed_apart = (λ same. cc, λ same. cc)
@@ -121,15 +97,10 @@ returns-in-Ok g c =
     let group = c.args.group in
     let works : c.args.self.now.failed ≡ false = ap (λ (k : KeeperState g.row.D.Denot). k.failed) (sym c.self.view_is) ∙ c.if-self.false in
     let count : keeper.count ≡ c.args.self.now.count = ap (λ (k : KeeperState g.row.D.Denot). k.count) c.self.view_is in
-    let invariant = c.self.invariant in
-    let bytes : keeper.area.bytes ≡ area_size c.args.self.now.geometry = invariant.6.bytes ∙ ap (λ (k : KeeperState g.row.D.Denot). area_size k.geometry) c.self.view_is in
-    let ends : keeper.area.gate + 18 + bodies_of group.commands ≡ c.args.self.now.used + 18 + bodies_of group.commands = ap (λ (k : KeeperState g.row.D.Denot). k.used + 18 + bodies_of group.commands) c.self.view_is in
-    let small : keeper.count < 18446744073709551616 = omega arith in
-    let whole : IsGroup group.first group.commands = search rules in
-    let grown_is = c.in-Ok.ensures.ok in
-    let next = is_next keeper.area.next group.first (λ not. c.in-Ok.ensures.out_of_order.1 (not_over _ _ c.in-Ok.ensures.full.1, not)) in
-    let more = count_on keeper.area.next group.first (length group.commands) keeper.count keeper.count c.next.result invariant.7 small next whole.some whole.numbers (c.next.ensures ∙ ap (λ (area : AreaState). area.next) grown_is) refl in record {
-      ok = grown_as _ _ _ group c.self.view_is refl more (ap (λ (area : AreaState). area.gate) grown_is);
+    let used : keeper.area.gate ≡ c.args.self.now.used = ap (λ (k : KeeperState g.row.D.Denot). k.used) c.self.view_is in
+    let size : area_size keeper.header.geometry ≡ area_size c.args.self.now.geometry = ap (λ (k : KeeperState g.row.D.Denot). area_size k.geometry) c.self.view_is in
+    let invariant = c.self.invariant in record {
+      ok = search rules;
       err = tt;
       group_back = tt;
       unchanged = tt;
@@ -141,8 +112,8 @@ returns-in-Ok g c =
           let sizes = subst (λ (k : KeeperState g.row.D.Denot). AreChanges k.geometry.blocks (map change_of group.commands)) (sym c.self.view_is) changes in
           remembers_more _ _ commands (map change_of group.commands) (c.self.inside.area.from + c.self.inside.area.gate + 17) refl (ap (λ (area : AreaState). area.touched) c.in-Ok.ensures.ok) sizes inside;
       failed = (λ is. absurd is, λ fails. absurd (false≢true (sym works ∙ fails)));
-      full = (λ is. absurd is, λ given. absurd (c.in-Ok.ensures.full.1 (same_less (sym bytes) (sym ends) given.1)));
-      out_of_order = (λ is. absurd is, λ given. absurd (c.in-Ok.ensures.out_of_order.1 (same_most (sym ends) (sym bytes) given.1, λ follows. given.2 (count_above keeper.area.next group.first keeper.count invariant.7 small follows ∙ ap (λ (n : ℕ). n + 1) count))));
+      full = (λ is. absurd is, λ given. absurd (c.in-Ok.ensures.full.1 (omega (arith, given.1, used, size, invariant.6.bytes))));
+      out_of_order = (λ is. absurd is, λ given. absurd (c.in-Ok.ensures.out_of_order.1 (omega (arith, given.1, used, size, invariant.6.bytes), λ follows. given.2 (count_above keeper.area.next group.first keeper.count invariant.7 (omega arith) follows ∙ ap (λ (n : ℕ). n + 1) count))));
       only = tt;
       faults_ok = c.in-Ok.ensures.faults_ok ∙ ap (λ (k : KeeperState g.row.D.Denot). g.D.Disk.faults k.disk) c.self.view_is;
       faults_err = tt;
@@ -153,15 +124,19 @@ returns-in-Ok g c =
           let sound = subst (λ (k : KeeperState g.row.D.Denot). g.D.Disk.honest k.disk) (sym c.self.view_is) honest in
           let sizes = subst (λ (k : KeeperState g.row.D.Denot). AreChanges k.geometry.blocks (map change_of group.commands)) (sym c.self.view_is) changes in
           let long : length (map change_of group.commands) ≡ length group.commands = length-map group.commands change_of in
+          let whole : IsGroup group.first group.commands = search rules in
+          let grown_is = c.in-Ok.ensures.ok in
+          let full = c.in-Ok.ensures.full in
+          let next = is_next keeper.area.next group.first (λ not. c.in-Ok.ensures.out_of_order.1 (omega (arith, full.1), not)) in
           let honest_after = c.in-Ok.ensures.honest.1 sound in
           more_held _ (g.D.Disk.state keeper.disk) base fronts last inside (stored_of group) (g.D.Disk.state c.append.new.disk) _ (keeper.header.base + length (joined fronts) + length last + length group.commands)
           (g.met.D.Disk.sound c.append.new.disk honest_after)
-          (ap (λ (n : ℕ). keeper.header.base + length (joined fronts) + length last + n) (sym long))
+          (omega (arith, long))
           (c.in-Ok.ensures.stored sound (first _ (g.D.Disk.state keeper.disk) _ _ inside.keeps) inside.keeps.areas.groups inside.keeps.areas.held (taken _ _ _ _ group inside.keeps sizes))
           (ap (λ (area : AreaState). area.from) grown_is) (ap (λ (area : AreaState). area.bytes) grown_is) (ap (λ (area : AreaState). area.blocks) grown_is)
           refl refl refl refl refl refl refl refl
-          (more ∙ ap (λ (n : ℕ). n + length group.commands) inside.keeps.counted)
-          (used_more _ _ (ap (λ (area : AreaState). area.gate) grown_is) (size-stored group)) refl;
+          (count_on keeper.area.next group.first (length group.commands) keeper.count (keeper.header.base + length (joined fronts) + length last) c.next.result c.self.invariant.7 (omega arith) next whole.some whole.numbers (c.next.ensures ∙ ap (λ (area : AreaState). area.next) grown_is) inside.keeps.counted)
+          (omega (arith, ap (λ (area : AreaState). area.gate) grown_is, size-stored group)) refl;
       any_moment = λ honest image number keeps changes.
           any_moment g.D.Disk.state g.D.Disk.honest _ c.args.self.now c.args.group (g.D.Disk.state c.append.new.disk) image number c.self.view_is c.append.ensures.any_moment honest keeps changes;
     }
@@ -173,10 +148,9 @@ returns-in-Err g c =
     let whole : IsGroup group.first group.commands = search rules in
     let works : c.args.self.now.failed ≡ false = ap (λ (k : KeeperState g.row.D.Denot). k.failed) (sym c.self.view_is) ∙ c.if-self.false in
     let count : keeper.count ≡ c.args.self.now.count = ap (λ (k : KeeperState g.row.D.Denot). k.count) c.self.view_is in
-    let invariant = c.self.invariant in
-    let bytes : keeper.area.bytes ≡ area_size c.args.self.now.geometry = invariant.6.bytes ∙ ap (λ (k : KeeperState g.row.D.Denot). area_size k.geometry) c.self.view_is in
-    let ends : keeper.area.gate + 18 + bodies_of group.commands ≡ c.args.self.now.used + 18 + bodies_of group.commands = ap (λ (k : KeeperState g.row.D.Denot). k.used + 18 + bodies_of group.commands) c.self.view_is in
-    let small : keeper.count < 18446744073709551616 = omega arith in record {
+    let used : keeper.area.gate ≡ c.args.self.now.used = ap (λ (k : KeeperState g.row.D.Denot). k.used) c.self.view_is in
+    let size : area_size keeper.header.geometry ≡ area_size c.args.self.now.geometry = ap (λ (k : KeeperState g.row.D.Denot). area_size k.geometry) c.self.view_is in
+    let invariant = c.self.invariant in record {
       ok = tt;
       err = search rules;
       group_back = c.in-Err.ensures.group_back;
@@ -185,12 +159,12 @@ returns-in-Err g c =
       honest = (λ trusted. subst (λ (k : KeeperState g.row.D.Denot). g.D.Disk.honest k.disk) c.self.view_is (c.in-Err.ensures.honest.0 trusted), λ trusted. c.in-Err.ensures.honest.1 (subst (λ (k : KeeperState g.row.D.Denot). g.D.Disk.honest k.disk) (sym c.self.view_is) trusted));
       remembered = λ commands remembers changes. tt;
       failed = (λ is. absurd (never_failed c.in-Err.fault (sym c.from-fault.ensures ∙ is)), λ fails. absurd (false≢true (sym works ∙ fails)));
-      full = (λ is. (works, same_less bytes ends (c.in-Err.ensures.full.0 (filled c.in-Err.fault (sym c.from-fault.ensures ∙ is)))), λ given. c.from-fault.ensures ∙ ap of_journal (c.in-Err.ensures.full.1 (same_less (sym bytes) (sym ends) given.1)));
+      full = (λ is. (works, omega (arith, c.in-Err.ensures.full.0 (filled c.in-Err.fault (sym c.from-fault.ensures ∙ is)), used, size, invariant.6.bytes)), λ given. c.from-fault.ensures ∙ ap of_journal (c.in-Err.ensures.full.1 (omega (arith, given.1, used, size, invariant.6.bytes))));
       out_of_order = (
         λ is.
             let given = c.in-Err.ensures.out_of_order.0 (ordered c.in-Err.fault (sym c.from-fault.ensures ∙ is)) in
-            (works, same_most ends bytes given.0, λ same. given.1 (count_below keeper.area.next group.first keeper.count invariant.7 (first_small _ _ whole.some whole.numbers) (same ∙ ap (λ (n : ℕ). n + 1) (sym count)))),
-        λ given. c.from-fault.ensures ∙ ap of_journal (c.in-Err.ensures.out_of_order.1 (same_most (sym ends) (sym bytes) given.1, λ follows. given.2 (count_above keeper.area.next group.first keeper.count invariant.7 small follows ∙ ap (λ (n : ℕ). n + 1) count))),
+            (works, omega (arith, given.0, used, size, invariant.6.bytes), λ same. given.1 (count_below keeper.area.next group.first keeper.count invariant.7 (omega (arith, whole.some, whole.numbers)) (same ∙ ap (λ (n : ℕ). n + 1) (sym count)))),
+        λ given. c.from-fault.ensures ∙ ap of_journal (c.in-Err.ensures.out_of_order.1 (omega (arith, given.1, used, size, invariant.6.bytes), λ follows. given.2 (count_above keeper.area.next group.first keeper.count invariant.7 (omega arith) follows ∙ ap (λ (n : ℕ). n + 1) count))),
       );
       only = subst IsAppendFault (sym c.from-fault.ensures) (allowed c.in-Err.fault c.in-Err.ensures.undamaged);
       faults_ok = tt;

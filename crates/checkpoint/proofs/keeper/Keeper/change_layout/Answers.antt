@@ -1,12 +1,9 @@
-use Rattle.std.proofs.Common.{◌≡◌, ◌<◌, ◌≤◌, ◌⊎◌, ℕ, [], inl, inr, refl, rules, sym, ◌∙◌, ap, subst, arith, Err}
-use Rattle.std.proofs.lemmas.Bool.{cases_lt, false≢true}
+use Rattle.std.proofs.Common.{◌≡◌, ℕ, [], inl, inr, refl, rules, sym, ◌∙◌, ap, subst}
 use Rattle.std.specs.Prelude.{IfSome}
 use Rattle.disk_model.specs.Disk.{IsSound, LeavesOnly}
 use Rattle.disk_model.specs.Faults.{counted}
 use Rattle.disk_model.specs.laws.Moments.{begins, weakens}
 use Rattle.image_model.specs.declared.geometry.Geometry.{Geometry}
-use Rattle.image_model.specs.declared.layout.Layout.{Layout}
-use Rattle.image_model.specs.declared.layout.Layout.TheVariants as layouts
 use Rattle.regions.specs.Layout.{area_at, area_size}
 use Rattle.device_image.specs.Keeper.{KeeperState, One}
 use Rattle.device_image.specs.Keeps.{Keeps}
@@ -15,95 +12,63 @@ use Rattle.device_image.specs.laws.Kept.{kept_content}
 use Rattle.checkpoint.specs.Keeper.{AreSized, IsSized, faults_by}
 use Rattle.checkpoint.specs.inner.Upgrade.{IsLayoutFault}
 use Rattle.checkpoint.specs.declared.fault.KeeperFault.{KeeperFault}
-use Rattle.checkpoint.specs.declared.fault.KeeperFault.TheVariants.{AreaSmall, DeviceFault, NumbersFull}
-use Rattle.checkpoint.proofs.Answered.{Given, device_apart, ok_apart, some_apart}
 use Rattle.checkpoint.proofs.Rotating.{current_held, slots_synced}
 use Rattle.checkpoint.proofs.Upgrading.{change_kept, change_left, changed_by, upgrade_next}
 use Rattle.checkpoint.proofs.keeper.Keeper.change_layout.Goals as goal
 
-layouts_apart : {layout : Layout} → layout ≡ layouts.One → layout ≡ layouts.Two → ⊥
-layouts_apart one two = cc
-
-small-full : ◌≡◌ {A = Given Unit} (Err AreaSmall) (Err NumbersFull) → ⊥
-small-full is = cc
-
-full-small : ◌≡◌ {A = Given Unit} (Err NumbersFull) (Err AreaSmall) → ⊥
-full-small is = cc
-
-device-small : (fault : KeeperFault) → fault ≡ DeviceFault → ◌≡◌ {A = Given Unit} (Err fault) (Err AreaSmall) → ⊥
-device-small fault is same = cc
-
--- what isn't at least so much is less
-less : (area least : ℕ) → (least ≤ area → ⊥) → area < least
-less area least not_least = by_case (cases_lt area least)
-  where
-    by_case : (area < least) ⊎ (least ≤ area) → area < least
-    by_case (inl below) = below
-    by_case (inr fits) = absurd (not_least fits)
-
-not_less : (area least : ℕ) → least ≤ area → area < least → ⊥
-not_less area least fits below = omega (arith, fits, below)
-
 pub returns-in-Two : goal.returns-in-Two
-returns-in-Two g c =
-    let two = ap (λ (k : KeeperState g.row.D.Denot). k.geometry.layout) (sym c.self.view_is) ∙ c.in-Two.is in record {
-      ok = c.requires;
-      layout = two;
-      idle = λ two. (refl, refl);
-      only = tt;
-      changed = λ one. absurd (layouts_apart one two);
-      small = (λ is. absurd (ok_apart _ _ is), λ given. absurd (layouts_apart given.0 two));
-      full = (λ is. absurd (ok_apart _ _ is), λ given. absurd (layouts_apart given.0 two));
-      unchanged = tt;
-      extent = refl;
-      faults_ok = refl;
-      faults_err = tt;
-      honest = (λ trusted. trusted, λ trusted. trusted);
-      kept = λ honest image number keeps. keeps;
-      any_moment = λ honest image number keeps. begins (g.met.D.Disk.sound c.args.self.now.disk honest) (λ content left. kept_content _ _ image number keeps content left);
-    }
+returns-in-Two g c = record {
+  ok = c.requires;
+  layout = ap (λ (k : KeeperState g.row.D.Denot). k.geometry.layout) (sym c.self.view_is) ∙ c.in-Two.is;
+  idle = λ two. (refl, refl);
+  only = tt;
+  changed = search rules;
+  small = search rules;
+  full = search rules;
+  unchanged = tt;
+  extent = refl;
+  faults_ok = refl;
+  faults_err = tt;
+  honest = (λ trusted. trusted, λ trusted. trusted);
+  kept = λ honest image number keeps. keeps;
+  any_moment = λ honest image number keeps. begins (g.met.D.Disk.sound c.args.self.now.disk honest) (λ content left. kept_content _ _ image number keeps content left);
+}
 
 pub returns-in_default : goal.returns-in_default
-returns-in_default g c =
-    let one = ap (λ (k : KeeperState g.row.D.Denot). k.geometry.layout) (sym c.self.view_is) ∙ c.in-One.is in
-    let area = ap (λ (k : KeeperState g.row.D.Denot). k.geometry.area) (sym c.self.view_is) in record {
-      ok = tt;
-      layout = tt;
-      idle = λ two. absurd (layouts_apart one two);
-      only = tt;
-      changed = λ one. tt;
-      small = (λ _. (one, less _ _ (λ fits. false≢true (c.in_default.ensures.within.1 (subst (λ (n : ℕ). 4194304 ≤ n) area fits)))), λ _. refl);
-      full = (λ is. absurd (small-full is), λ given. absurd (false≢true (c.in_default.ensures.within.1 (subst (λ (n : ℕ). 4194304 ≤ n) area given.1))));
-      unchanged = inr refl;
-      extent = refl;
-      faults_ok = tt;
-      faults_err = refl;
-      honest = (λ trusted. trusted, λ trusted. trusted);
-      kept = λ honest image number keeps. tt;
-      any_moment = λ honest image number keeps. begins (g.met.D.Disk.sound c.args.self.now.disk honest) (λ content left. kept_content _ _ image number keeps content left);
-    }
+returns-in_default g c = record {
+  ok = tt;
+  layout = tt;
+  idle = search rules;
+  only = tt;
+  changed = λ one. tt;
+  small = search rules;
+  full = search rules;
+  unchanged = inr refl;
+  extent = refl;
+  faults_ok = tt;
+  faults_err = refl;
+  honest = (λ trusted. trusted, λ trusted. trusted);
+  kept = λ honest image number keeps. tt;
+  any_moment = λ honest image number keeps. begins (g.met.D.Disk.sound c.args.self.now.disk honest) (λ content left. kept_content _ _ image number keeps content left);
+}
 
 pub returns-in_default-upgraded : goal.returns-in_default-upgraded
-returns-in_default-upgraded g c =
-    let one = ap (λ (k : KeeperState g.row.D.Denot). k.geometry.layout) (sym c.self.view_is) ∙ c.in-One.is in
-    let area = ap (λ (k : KeeperState g.row.D.Denot). k.geometry.area) (sym c.self.view_is) in
-    let fits = subst (λ (n : ℕ). 4194304 ≤ n) (sym area) (c.in-Some.ensures.within.0 refl) in
-    let generation = ap (λ (k : KeeperState g.row.D.Denot). k.generation) (sym c.self.view_is) in record {
-      ok = tt;
-      layout = tt;
-      idle = λ two. absurd (layouts_apart one two);
-      only = tt;
-      changed = λ one. tt;
-      small = (λ is. absurd (full-small is), λ given. absurd (not_less _ _ fits given.1));
-      full = (λ _. (one, fits, generation ∙ c.in_default-upgraded.ensures.none.0 refl), λ _. refl);
-      unchanged = inr refl;
-      extent = refl;
-      faults_ok = tt;
-      faults_err = refl;
-      honest = (λ trusted. trusted, λ trusted. trusted);
-      kept = λ honest image number keeps. tt;
-      any_moment = λ honest image number keeps. begins (g.met.D.Disk.sound c.args.self.now.disk honest) (λ content left. kept_content _ _ image number keeps content left);
-    }
+returns-in_default-upgraded g c = record {
+  ok = tt;
+  layout = tt;
+  idle = search rules;
+  only = tt;
+  changed = λ one. tt;
+  small = search rules;
+  full = search rules;
+  unchanged = inr refl;
+  extent = refl;
+  faults_ok = tt;
+  faults_err = refl;
+  honest = (λ trusted. trusted, λ trusted. trusted);
+  kept = λ honest image number keeps. tt;
+  any_moment = λ honest image number keeps. begins (g.met.D.Disk.sound c.args.self.now.disk honest) (λ content left. kept_content _ _ image number keeps content left);
+}
 
 pub invariant_of-self-in-Err : goal.invariant_of-self-in-Err
 invariant_of-self-in-Err g c =
@@ -124,95 +89,87 @@ invariant_of-self-in-Err g c =
     )
 
 pub returns-in-Ok : goal.returns-in-Ok
-returns-in-Ok g c =
-    let one = ap (λ (k : KeeperState g.row.D.Denot). k.geometry.layout) (sym c.self.view_is) ∙ c.in-One.is in
-    let area = ap (λ (k : KeeperState g.row.D.Denot). k.geometry.area) (sym c.self.view_is) in
-    let fits = subst (λ (n : ℕ). 4194304 ≤ n) (sym area) (c.in-Some.ensures.within.0 refl) in
-    let generation = ap (λ (k : KeeperState g.row.D.Denot). k.generation) (sym c.self.view_is) in record {
-      ok = search rules;
-      layout = ap (λ (size : Geometry). size.layout) c.in-Some-upgraded.ensures.some.geometry ∙ c.in-Some.ensures.given.2;
-      idle = λ two. absurd (layouts_apart one two);
-      only = tt;
-      changed = λ one.
-          let given = c.in-Some.ensures.given in
-          changed_by _ _ _ c.self.view_is c.in-Some.geometry given.2 given.0 given.1 refl c.in-Some-upgraded.header c.in-Some-upgraded.ensures.some c.other-self-inside.result c.new.result c.other-self-inside.ensures refl;
-      small = (λ is. absurd (ok_apart _ _ is), λ given. absurd (not_less _ _ fits given.1));
-      full = (λ is. absurd (ok_apart _ _ is), λ given. absurd (some_apart _ (c.in-Some-upgraded.ensures.none.1 (sym generation ∙ given.2))));
-      unchanged = tt;
-      extent = c.in-Ok.ensures.extent ∙ ap (λ (k : KeeperState g.row.D.Denot). g.D.Disk.extent k.disk) c.self.view_is;
-      faults_ok = c.in-Ok.ensures.faults ∙ ap (λ (k : KeeperState g.row.D.Denot). g.D.Disk.faults k.disk) c.self.view_is;
-      faults_err = tt;
-      honest = (λ trusted. subst (λ (k : KeeperState g.row.D.Denot). g.D.Disk.honest k.disk) c.self.view_is (c.in-Ok.ensures.honest.0 trusted), λ trusted. c.in-Ok.ensures.honest.1 (subst (λ (k : KeeperState g.row.D.Denot). g.D.Disk.honest k.disk) (sym c.self.view_is) trusted));
-      kept = λ honest image number keeps.
-          let inside = subst (λ (k : KeeperState g.row.D.Denot). Keeps k (g.D.Disk.state k.disk) image number) (sym c.self.view_is) keeps in
-          let trusted = subst (λ (k : KeeperState g.row.D.Denot). g.D.Disk.honest k.disk) (sym c.self.view_is) honest in
-          let before = g.D.Disk.state c.self.inside.disk in
-          let sound = g.met.D.Disk.sound c.self.inside.disk trusted in
-          let one = subst (λ (k : KeeperState g.row.D.Denot). k.phase ≡ One) (sym c.self.view_is) c.requires.phase in
-          let none = subst (λ (k : KeeperState g.row.D.Denot). k.used ≡ 0) (sym c.self.view_is) c.requires.used in
-          let geometry = c.in-Some.geometry in
-          let given = c.in-Some.ensures.given in
-          let header = c.in-Some-upgraded.header in
-          let header_is = c.in-Some-upgraded.ensures.some in
-          let call = c.in-Ok.ensures in
-          let placed = call.in_place trusted (slots_synced _ before image number inside sound) c.self.inside.header (current_held _ before image number inside sound)
-          (upgrade_next _ before image number inside one none sound geometry c.in-One.is given.2 given.0 given.1 header header_is) in
-          let later = g.D.Disk.state c.change_header.new.disk in
-          let later_sound = subst (λ e. IsSound e later) call.extent (g.met.D.Disk.sound c.change_header.new.disk (call.honest.1 trusted)) in
-          let from = c.area_from-from.ensures.place ∙ ap (λ (size : Geometry). area_at size header.first_area) c.of.ensures in
-          let bytes = c.area_size.ensures in
-          let next = c.next.ensures in
-          let area_is : c.new.result ≡ record { from = area_at geometry header.first_area; bytes = area_size geometry; blocks = geometry.blocks; next = c.self.inside.area.next; gate = 0; touched = [] } =
-          c.new.ensures ∙ (λ i. record { from = from i; bytes = bytes i; blocks = geometry.blocks; next = next i; gate = 0; touched = [] }) in
-          change_kept _ before image number inside one none sound geometry c.in-One.is given.2 given.0 given.1 header header_is later later_sound placed _ c.other-self-inside.result c.new.result
-          c.other-self-inside.ensures area_is refl;
-      any_moment = λ honest image number keeps.
-          subst (λ (k : KeeperState g.row.D.Denot). g.D.Disk.honest k.disk → Keeps k (g.D.Disk.state k.disk) image number → LeavesOnly (g.D.Disk.state k.disk) (g.D.Disk.state c.change_header.new.disk) (λ content. StandsFor content image number)) c.self.view_is
-          (λ trusted inside.
-          let before = g.D.Disk.state c.self.inside.disk in
-          let sound = g.met.D.Disk.sound c.self.inside.disk trusted in
-          let one = subst (λ (k : KeeperState g.row.D.Denot). k.phase ≡ One) (sym c.self.view_is) c.requires.phase in
-          let none = subst (λ (k : KeeperState g.row.D.Denot). k.used ≡ 0) (sym c.self.view_is) c.requires.used in
-          let given = c.in-Some.ensures.given in
-          let header = c.in-Some-upgraded.header in
-          let header_is = c.in-Some-upgraded.ensures.some in
-          weakens (c.change_header.ensures.any_moment trusted (slots_synced _ before image number inside sound) c.self.inside.header (current_held _ before image number inside sound)
-          (upgrade_next _ before image number inside one none sound c.in-Some.geometry c.in-One.is given.2 given.0 given.1 header header_is))
-          (change_left _ before image number inside one none sound c.in-Some.geometry c.in-One.is given.2 given.0 given.1 header header_is))
-          honest keeps;
-    }
+returns-in-Ok g c = record {
+  ok = search rules;
+  layout = search rules;
+  idle = search rules;
+  only = tt;
+  changed = λ one.
+      let given = c.in-Some.ensures.given in
+      changed_by _ _ _ c.self.view_is c.in-Some.geometry given.2 given.0 given.1 refl c.in-Some-upgraded.header c.in-Some-upgraded.ensures.some c.other-self-inside.result c.new.result c.other-self-inside.ensures refl;
+  small = search rules;
+  full = search rules;
+  unchanged = tt;
+  extent = c.in-Ok.ensures.extent ∙ ap (λ (k : KeeperState g.row.D.Denot). g.D.Disk.extent k.disk) c.self.view_is;
+  faults_ok = c.in-Ok.ensures.faults ∙ ap (λ (k : KeeperState g.row.D.Denot). g.D.Disk.faults k.disk) c.self.view_is;
+  faults_err = tt;
+  honest = (λ trusted. subst (λ (k : KeeperState g.row.D.Denot). g.D.Disk.honest k.disk) c.self.view_is (c.in-Ok.ensures.honest.0 trusted), λ trusted. c.in-Ok.ensures.honest.1 (subst (λ (k : KeeperState g.row.D.Denot). g.D.Disk.honest k.disk) (sym c.self.view_is) trusted));
+  kept = λ honest image number keeps.
+      let inside = subst (λ (k : KeeperState g.row.D.Denot). Keeps k (g.D.Disk.state k.disk) image number) (sym c.self.view_is) keeps in
+      let trusted = subst (λ (k : KeeperState g.row.D.Denot). g.D.Disk.honest k.disk) (sym c.self.view_is) honest in
+      let before = g.D.Disk.state c.self.inside.disk in
+      let sound = g.met.D.Disk.sound c.self.inside.disk trusted in
+      let one = subst (λ (k : KeeperState g.row.D.Denot). k.phase ≡ One) (sym c.self.view_is) c.requires.phase in
+      let none = subst (λ (k : KeeperState g.row.D.Denot). k.used ≡ 0) (sym c.self.view_is) c.requires.used in
+      let geometry = c.in-Some.geometry in
+      let given = c.in-Some.ensures.given in
+      let header = c.in-Some-upgraded.header in
+      let header_is = c.in-Some-upgraded.ensures.some in
+      let call = c.in-Ok.ensures in
+      let placed = call.in_place trusted (slots_synced _ before image number inside sound) c.self.inside.header (current_held _ before image number inside sound)
+      (upgrade_next _ before image number inside one none sound geometry c.in-One.is given.2 given.0 given.1 header header_is) in
+      let later = g.D.Disk.state c.change_header.new.disk in
+      let later_sound = subst (λ e. IsSound e later) call.extent (g.met.D.Disk.sound c.change_header.new.disk (call.honest.1 trusted)) in
+      let from = c.area_from-from.ensures.place ∙ ap (λ (size : Geometry). area_at size header.first_area) c.of.ensures in
+      let bytes = c.area_size.ensures in
+      let next = c.next.ensures in
+      let area_is : c.new.result ≡ record { from = area_at geometry header.first_area; bytes = area_size geometry; blocks = geometry.blocks; next = c.self.inside.area.next; gate = 0; touched = [] } =
+      c.new.ensures ∙ (λ i. record { from = from i; bytes = bytes i; blocks = geometry.blocks; next = next i; gate = 0; touched = [] }) in
+      change_kept _ before image number inside one none sound geometry c.in-One.is given.2 given.0 given.1 header header_is later later_sound placed _ c.other-self-inside.result c.new.result
+      c.other-self-inside.ensures area_is refl;
+  any_moment = λ honest image number keeps.
+      subst (λ (k : KeeperState g.row.D.Denot). g.D.Disk.honest k.disk → Keeps k (g.D.Disk.state k.disk) image number → LeavesOnly (g.D.Disk.state k.disk) (g.D.Disk.state c.change_header.new.disk) (λ content. StandsFor content image number)) c.self.view_is
+      (λ trusted inside.
+      let before = g.D.Disk.state c.self.inside.disk in
+      let sound = g.met.D.Disk.sound c.self.inside.disk trusted in
+      let one = subst (λ (k : KeeperState g.row.D.Denot). k.phase ≡ One) (sym c.self.view_is) c.requires.phase in
+      let none = subst (λ (k : KeeperState g.row.D.Denot). k.used ≡ 0) (sym c.self.view_is) c.requires.used in
+      let given = c.in-Some.ensures.given in
+      let header = c.in-Some-upgraded.header in
+      let header_is = c.in-Some-upgraded.ensures.some in
+      weakens (c.change_header.ensures.any_moment trusted (slots_synced _ before image number inside sound) c.self.inside.header (current_held _ before image number inside sound)
+      (upgrade_next _ before image number inside one none sound c.in-Some.geometry c.in-One.is given.2 given.0 given.1 header header_is))
+      (change_left _ before image number inside one none sound c.in-Some.geometry c.in-One.is given.2 given.0 given.1 header header_is))
+      honest keeps;
+}
 
 pub returns-in-Err : goal.returns-in-Err
-returns-in-Err g c =
-    let one = ap (λ (k : KeeperState g.row.D.Denot). k.geometry.layout) (sym c.self.view_is) ∙ c.in-One.is in
-    let area = ap (λ (k : KeeperState g.row.D.Denot). k.geometry.area) (sym c.self.view_is) in
-    let fits = subst (λ (n : ℕ). 4194304 ≤ n) (sym area) (c.in-Some.ensures.within.0 refl) in
-    let generation = ap (λ (k : KeeperState g.row.D.Denot). k.generation) (sym c.self.view_is) in record {
-      ok = tt;
-      layout = tt;
-      idle = λ two. absurd (layouts_apart one two);
-      only = subst IsLayoutFault (sym c.from.ensures) tt;
-      changed = λ one. tt;
-      small = (λ is. absurd (device-small _ c.from.ensures is), λ given. absurd (not_less _ _ fits given.1));
-      full = (λ is. absurd ((device_apart c.from.result c.from.ensures).full is), λ given. absurd (some_apart _ (c.in-Some-upgraded.ensures.none.1 (sym generation ∙ given.2))));
-      unchanged = inl c.from.ensures;
-      extent = c.in-Err.ensures.extent ∙ ap (λ (k : KeeperState g.row.D.Denot). g.D.Disk.extent k.disk) c.self.view_is;
-      faults_ok = tt;
-      faults_err = c.in-Err.ensures.faults ∙ ap (λ (k : KeeperState g.row.D.Denot). counted (g.D.Disk.faults k.disk)) c.self.view_is ∙ ap (λ (f : KeeperFault). faults_by f (g.D.Disk.faults c.args.self.now.disk)) (sym c.from.ensures);
-      honest = (λ trusted. subst (λ (k : KeeperState g.row.D.Denot). g.D.Disk.honest k.disk) c.self.view_is (c.in-Err.ensures.honest.0 trusted), λ trusted. c.in-Err.ensures.honest.1 (subst (λ (k : KeeperState g.row.D.Denot). g.D.Disk.honest k.disk) (sym c.self.view_is) trusted));
-      kept = λ honest image number keeps. tt;
-      any_moment = λ honest image number keeps.
-          subst (λ (k : KeeperState g.row.D.Denot). g.D.Disk.honest k.disk → Keeps k (g.D.Disk.state k.disk) image number → LeavesOnly (g.D.Disk.state k.disk) (g.D.Disk.state c.change_header.new.disk) (λ content. StandsFor content image number)) c.self.view_is
-          (λ trusted inside.
-          let before = g.D.Disk.state c.self.inside.disk in
-          let sound = g.met.D.Disk.sound c.self.inside.disk trusted in
-          let one = subst (λ (k : KeeperState g.row.D.Denot). k.phase ≡ One) (sym c.self.view_is) c.requires.phase in
-          let none = subst (λ (k : KeeperState g.row.D.Denot). k.used ≡ 0) (sym c.self.view_is) c.requires.used in
-          let given = c.in-Some.ensures.given in
-          let header = c.in-Some-upgraded.header in
-          let header_is = c.in-Some-upgraded.ensures.some in
-          weakens (c.change_header.ensures.any_moment trusted (slots_synced _ before image number inside sound) c.self.inside.header (current_held _ before image number inside sound)
-          (upgrade_next _ before image number inside one none sound c.in-Some.geometry c.in-One.is given.2 given.0 given.1 header header_is))
-          (change_left _ before image number inside one none sound c.in-Some.geometry c.in-One.is given.2 given.0 given.1 header header_is))
-          honest keeps;
-    }
+returns-in-Err g c = record {
+  ok = tt;
+  layout = tt;
+  idle = search rules;
+  only = subst IsLayoutFault (sym c.from.ensures) tt;
+  changed = λ one. tt;
+  small = search rules;
+  full = search rules;
+  unchanged = inl c.from.ensures;
+  extent = c.in-Err.ensures.extent ∙ ap (λ (k : KeeperState g.row.D.Denot). g.D.Disk.extent k.disk) c.self.view_is;
+  faults_ok = tt;
+  faults_err = c.in-Err.ensures.faults ∙ ap (λ (k : KeeperState g.row.D.Denot). counted (g.D.Disk.faults k.disk)) c.self.view_is ∙ ap (λ (f : KeeperFault). faults_by f (g.D.Disk.faults c.args.self.now.disk)) (sym c.from.ensures);
+  honest = (λ trusted. subst (λ (k : KeeperState g.row.D.Denot). g.D.Disk.honest k.disk) c.self.view_is (c.in-Err.ensures.honest.0 trusted), λ trusted. c.in-Err.ensures.honest.1 (subst (λ (k : KeeperState g.row.D.Denot). g.D.Disk.honest k.disk) (sym c.self.view_is) trusted));
+  kept = λ honest image number keeps. tt;
+  any_moment = λ honest image number keeps.
+      subst (λ (k : KeeperState g.row.D.Denot). g.D.Disk.honest k.disk → Keeps k (g.D.Disk.state k.disk) image number → LeavesOnly (g.D.Disk.state k.disk) (g.D.Disk.state c.change_header.new.disk) (λ content. StandsFor content image number)) c.self.view_is
+      (λ trusted inside.
+      let before = g.D.Disk.state c.self.inside.disk in
+      let sound = g.met.D.Disk.sound c.self.inside.disk trusted in
+      let one = subst (λ (k : KeeperState g.row.D.Denot). k.phase ≡ One) (sym c.self.view_is) c.requires.phase in
+      let none = subst (λ (k : KeeperState g.row.D.Denot). k.used ≡ 0) (sym c.self.view_is) c.requires.used in
+      let given = c.in-Some.ensures.given in
+      let header = c.in-Some-upgraded.header in
+      let header_is = c.in-Some-upgraded.ensures.some in
+      weakens (c.change_header.ensures.any_moment trusted (slots_synced _ before image number inside sound) c.self.inside.header (current_held _ before image number inside sound)
+      (upgrade_next _ before image number inside one none sound c.in-Some.geometry c.in-One.is given.2 given.0 given.1 header header_is))
+      (change_left _ before image number inside one none sound c.in-Some.geometry c.in-One.is given.2 given.0 given.1 header header_is))
+      honest keeps;
+}

@@ -49,15 +49,3 @@ loop-event-preserved g c =
             copied_on world.stage here.0.stage on.0.stage here.2 (subst (λ (w : World). HasCopied here.0.stage w.stage) (sym on.2) (copies_keep c.in-Ok.field-0 here.0)),
           );
     }
-
-pub returns-in-Err-clause-group : goal.returns-in-Err-clause-group
-returns-in-Err-clause-group g c = c.copy_some.ensures.group
-
-pub returns-in-Err-clause-extent : goal.returns-in-Err-clause-extent
-returns-in-Err-clause-extent g c = c.copy_some.ensures.extent ∙ c.loop-event.invariant.extent
-
-pub returns-in-Err-clause-honest : goal.returns-in-Err-clause-honest
-returns-in-Err-clause-honest g c = (λ is. c.loop-event.invariant.honest.0 (c.copy_some.ensures.honest.0 is), λ is. c.copy_some.ensures.honest.1 (c.loop-event.invariant.honest.1 is))
-
-pub copy_some-requires : goal.copy_some-requires
-copy_some-requires g c = record { group = c.loop-event.invariant.group }

@@ -4,32 +4,20 @@ use Rattle.nbdj_pipe.specs.Talk.{spoken}
 use Rattle.nbdj_pipe.proofs.Steps.{spoken_on}
 use Rattle.nbdj_pipe.proofs.export.Export.step.Goals as goal
 
-pub returns : goal.returns
-returns g c = record {
-  group = c.take_step.ensures.group;
-  extent = c.take_step.ensures.extent;
-  honest = c.take_step.ensures.honest;
-  world =
-      λ world trusted of.
-      let old = c.args.self.now.keeper in
-      let new = c.take_step.new.keeper in
-      let step = c.args.step in
-      let taken = c.take_step.ensures.world world trusted of in
-      let next = after_step world step taken.0 in
-      let leads = c.leads_law.ensures.one world trusted step taken.0 c.take_step.result c.take_step.new.order new c.take_step.new.connections old.disk of.reached taken.1 in (
-        taken.0,
-        taken.1.log,
-        record {
-          steps = step ∷ [];
-          leads = leads;
-          said_is = ap spoken taken.1.log ∙ spoken_on world.log (c.take_step.result ∷ []);
-          setting = (c.schedule_law.ensures.grows world next (step ∷ []) (taken.0, refl)).setting;
-        },
-      );
-}
-
-pub take_step-requires-clause-group : goal.take_step-requires-clause-group
-take_step-requires-clause-group g c = c.requires.group
-
-pub take_step-requires-clause-blocks : goal.take_step-requires-clause-blocks
-take_step-requires-clause-blocks g c = c.args.self.now.blocks
+pub returns-clause-world : goal.returns-clause-world
+returns-clause-world g c = λ world trusted of.
+    let old = c.args.self.now.keeper in
+    let new = c.take_step.new.keeper in
+    let step = c.args.step in
+    let taken = c.take_step.ensures.world world trusted of in
+    let next = after_step world step taken.0 in
+    let leads = c.leads_law.ensures.one world trusted step taken.0 c.take_step.result c.take_step.new.order new c.take_step.new.connections old.disk of.reached taken.1 in (
+      taken.0,
+      taken.1.log,
+      record {
+        steps = step ∷ [];
+        leads = leads;
+        said_is = ap spoken taken.1.log ∙ spoken_on world.log (c.take_step.result ∷ []);
+        setting = (c.schedule_law.ensures.grows world next (step ∷ []) (taken.0, refl)).setting;
+      },
+    )

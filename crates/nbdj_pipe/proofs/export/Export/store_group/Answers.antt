@@ -36,15 +36,3 @@ returns-clause-honest g c =
 
 pub returns-clause-extent : goal.returns-clause-extent
 returns-clause-extent g c = c.store_step-published.ensures.extent ∙ (c.store_step-appended.ensures.extent ∙ c.store_step-sealed.ensures.extent)
-
-pub returns-clause-group : goal.returns-clause-group
-returns-clause-group g c = c.store_step-published.ensures.group
-
-pub store_step-sealed-requires-clause-group : goal.store_step-sealed-requires-clause-group
-store_step-sealed-requires-clause-group g c = c.requires.group
-
-pub store_step-appended-requires-clause-group : goal.store_step-appended-requires-clause-group
-store_step-appended-requires-clause-group g c = c.store_step-sealed.ensures.group
-
-pub store_step-published-requires-clause-group : goal.store_step-published-requires-clause-group
-store_step-published-requires-clause-group g c = c.store_step-appended.ensures.group

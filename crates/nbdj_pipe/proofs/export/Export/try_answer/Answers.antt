@@ -40,43 +40,28 @@ gave_none world next event (inl (held, works, (number, waits, above))) log other
 gave_none world next event (inr (given, answered, fits)) log other =
     absurd (other 0 given (last_same world.log event (Answered 0 given) (sym log ∙ ap (λ (w : World). w.log) answered)))
 
-pub returns-in-Answered : goal.returns-in-Answered
-returns-in-Answered g c = record {
-  group = c.step.ensures.group;
-  extent = c.step.ensures.extent;
-  honest = c.step.ensures.honest;
-  world =
-      λ world trusted head of awaits.
-      let old = c.args.self.now.keeper in
-      let new = c.step.new.self.keeper in
-      let done = c.step.ensures.world world trusted of in
-      let next = after_step world (steps.Answer 0) done.0 in
-      let given = gave world next c.step.result c.in-Answered.answer c.in-Answered.field-0 (answered_as world head (world.connections 0) awaits) done.1 c.in-Answered.is in (
-        next,
-        (given.0, given.1),
-        subst (λ (said : List Event). Follows world next said c.step.new.self.order new (g.D.Disk.faults new.disk) c.step.new.self.connections
-            (Trusts trusted (g.D.Disk.honest new.disk)) (g.D.Disk.state old.disk) (g.D.Disk.state new.disk)) (ap (λ (e : Event). spoken (e ∷ [])) given.2) done.2,
-      );
-}
+pub returns-in-Answered-clause-world : goal.returns-in-Answered-clause-world
+returns-in-Answered-clause-world g c = λ world trusted head of awaits.
+    let old = c.args.self.now.keeper in
+    let new = c.step.new.self.keeper in
+    let done = c.step.ensures.world world trusted of in
+    let next = after_step world (steps.Answer 0) done.0 in
+    let given = gave world next c.step.result c.in-Answered.answer c.in-Answered.field-0 (answered_as world head (world.connections 0) awaits) done.1 c.in-Answered.is in (
+      next,
+      (given.0, given.1),
+      subst (λ (said : List Event). Follows world next said c.step.new.self.order new (g.D.Disk.faults new.disk) c.step.new.self.connections
+          (Trusts trusted (g.D.Disk.honest new.disk)) (g.D.Disk.state old.disk) (g.D.Disk.state new.disk)) (ap (λ (e : Event). spoken (e ∷ [])) given.2) done.2,
+    )
 
-pub returns-in_default : goal.returns-in_default
-returns-in_default g c = record {
-  group = c.step.ensures.group;
-  extent = c.step.ensures.extent;
-  honest = c.step.ensures.honest;
-  world =
-      λ world trusted head of awaits.
-      let old = c.args.self.now.keeper in
-      let new = c.step.new.self.keeper in
-      let done = c.step.ensures.world world trusted of in
-      let next = after_step world (steps.Answer 0) done.0 in
-      let none = gave_none world next c.step.result (answered_as world head (world.connections 0) awaits) done.1 (λ k answer is. c.in_default.not-Answered k answer is) in (
-        next,
-        (none.0, none.1),
-        subst (λ (said : List Event). Follows world next said c.step.new.self.order new (g.D.Disk.faults new.disk) c.step.new.self.connections
-            (Trusts trusted (g.D.Disk.honest new.disk)) (g.D.Disk.state old.disk) (g.D.Disk.state new.disk)) none.2 done.2,
-      );
-}
-
-pub step-requires : goal.step-requires
-step-requires g c = record { group = c.requires.group }
+pub returns-clause-world : goal.returns-clause-world
+returns-clause-world g c = λ world trusted head of awaits.
+    let old = c.args.self.now.keeper in
+    let new = c.step.new.self.keeper in
+    let done = c.step.ensures.world world trusted of in
+    let next = after_step world (steps.Answer 0) done.0 in
+    let none = gave_none world next c.step.result (answered_as world head (world.connections 0) awaits) done.1 (λ k answer is. c.in_default.not-Answered k answer is) in (
+      next,
+      (none.0, none.1),
+      subst (λ (said : List Event). Follows world next said c.step.new.self.order new (g.D.Disk.faults new.disk) c.step.new.self.connections
+          (Trusts trusted (g.D.Disk.honest new.disk)) (g.D.Disk.state old.disk) (g.D.Disk.state new.disk)) none.2 done.2,
+    )

@@ -1,5 +1,4 @@
-use Rattle.std.specs.Prelude.{MatchBool}
-use Rattle.std.proofs.Common.{◌≡◌, inl, inr, Bool, true, false, not, List, [], ◌∷◌, ◌++◌, Result, ap, sym, subst, ◌∙◌}
+use Rattle.std.proofs.Common.{◌≡◌, inl, inr, List, [], ◌∷◌, ◌++◌, Result, ap, sym, subst, ◌∙◌}
 use Rattle.nbd_wire.specs.Request.{Message}
 use Rattle.nbd_wire.specs.declared.error.Errno.{Errno}
 use Rattle.export_steps.specs.Life.{Trusts}
@@ -39,30 +38,28 @@ is_judged world next request given event (inl held) log other = absurd (other (l
 is_judged world next request given event (inr (judged, (own, logged, quiet, unlike))) log other =
     (judged, ap (λ (e : Event). spoken (e ∷ [])) (last_same world.log event own (sym log ∙ logged)) ∙ quiet)
 
-by_held : (world next : World) (request : Message) (event : Event) (held : Bool) → MatchBool held (event ≡ Held) (event ≡ Held → ⊥)
-    → IsServedAs world request (verdict_on request.head world.stage.setting.geometry world.stage.setting.flags) next → next.log ≡ world.log ++ event ∷ []
-    → MatchBool (not held) (IsJudged request.head (verdict_on request.head world.stage.setting.geometry world.stage.setting.flags) (next.connections 0))
-    ((next.connections ≡ world.connections) × (next.stage ≡ world.stage) × LacksRoom world request) × (spoken (event ∷ []) ≡ [])
-by_held world next request event true is served log = let it = no_room world next request event served log is in ((it.0, it.1, it.2), it.3)
-by_held world next request event false is served log = is_judged world next request (verdict_on request.head world.stage.setting.geometry world.stage.setting.flags) event served log is
+pub returns-clause-world : goal.returns-clause-world
+returns-clause-world g c = λ world trusted request of sent.
+    let old = c.args.self.now.keeper in
+    let new = c.step.new.self.keeper in
+    let done = c.step.ensures.world world trusted of in
+    let next = after_step world (steps.Serve 0) done.0 in
+    let is = is_judged world next request (verdict_on request.head world.stage.setting.geometry world.stage.setting.flags) c.step.result (as_served world done.0 request sent) done.1 (λ held. c.in_default.not-Held held) in (
+      next,
+      is.0,
+      subst (λ (said : List Event). Follows world next said c.step.new.self.order new (g.D.Disk.faults new.disk) c.step.new.self.connections
+          (Trusts trusted (g.D.Disk.honest new.disk)) (g.D.Disk.state old.disk) (g.D.Disk.state new.disk)) is.1 done.2,
+    )
 
-pub returns : goal.returns
-returns g c = record {
-  group = c.step-event.ensures.group;
-  extent = c.step-event.ensures.extent;
-  honest = c.step-event.ensures.honest;
-  world = λ world trusted request of sent.
-      let old = c.args.self.now.keeper in
-      let new = c.step-event.new.self.keeper in
-      let done = c.step-event.ensures.world world trusted of in
-      let next = after_step world (steps.Serve 0) done.0 in
-      let is = by_held world next request c.step-event.result c.is_held-held.result c.is_held-held.ensures (as_served world done.0 request sent) done.1 in (
-        next,
-        is.0,
-        subst (λ (said : List Event). Follows world next said c.step-event.new.self.order new (g.D.Disk.faults new.disk) c.step-event.new.self.connections
-            (Trusts trusted (g.D.Disk.honest new.disk)) (g.D.Disk.state old.disk) (g.D.Disk.state new.disk)) is.1 done.2,
-      );
-}
-
-pub step-event-requires : goal.step-event-requires
-step-event-requires g c = record { group = c.requires.group }
+pub returns-in-Held-clause-world : goal.returns-in-Held-clause-world
+returns-in-Held-clause-world g c = λ world trusted request of sent.
+    let old = c.args.self.now.keeper in
+    let new = c.step.new.self.keeper in
+    let done = c.step.ensures.world world trusted of in
+    let next = after_step world (steps.Serve 0) done.0 in
+    let is = no_room world next request c.step.result (as_served world done.0 request sent) done.1 c.in-Held.is in (
+      next,
+      (is.0, is.1, is.2),
+      subst (λ (said : List Event). Follows world next said c.step.new.self.order new (g.D.Disk.faults new.disk) c.step.new.self.connections
+          (Trusts trusted (g.D.Disk.honest new.disk)) (g.D.Disk.state old.disk) (g.D.Disk.state new.disk)) is.3 done.2,
+    )

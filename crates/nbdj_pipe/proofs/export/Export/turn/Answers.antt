@@ -11,15 +11,3 @@ returns-clause-world g c = λ world trusted of.
       done.1,
       turn_shown world next c.args.step c.store_step-event.result c.turned-goes_on.result (done.0, refl) c.requires.storing done.2 c.turned-goes_on.ensures,
     )
-
-pub returns-clause-group : goal.returns-clause-group
-returns-clause-group g c = c.store_step-event.ensures.group
-
-pub returns-clause-extent : goal.returns-clause-extent
-returns-clause-extent g c = c.store_step-event.ensures.extent
-
-pub returns-clause-honest : goal.returns-clause-honest
-returns-clause-honest g c = c.store_step-event.ensures.honest
-
-pub store_step-event-requires : goal.store_step-event-requires
-store_step-event-requires g c = record { storing = c.requires.storing; group = c.requires.group }

@@ -12,6 +12,16 @@ use Rattle.nbdj_pipe.proofs.Runs.{answered_run, disc_run, failed_run, runs_bare}
 use Rattle.nbdj_pipe.proofs.Sessions.{as_error}
 use Rattle.nbdj_pipe.proofs.session.Session.serve.Goals as goal
 
+pub returns-in_err-serve-clause-serves : goal.returns-in_err-serve-clause-serves
+returns-in_err-serve-clause-serves g c =
+    let disk = g.D.Disk in
+    let a = c.args.self.now.export in
+    let e = c.serve.new.self in
+    let request = c.args.request in
+    as_error (λ (r : Result Flow Refusal). Serves request c.args.self.now.replies.items c.args.self.now.replies.items r (Runs disk.state disk.faults disk.honest a.order a.keeper a.connections e.order e.keeper e.connections))
+    c.in_err-serve.field-0.0 c.from_residual.result c.from_residual.ensures.1
+    (early_of c.in_err-serve.field-0.0 c.in_err-serve.ensures.early, refl, inl (failed_run disk.state disk.faults disk.honest a.order e.order a.keeper e.keeper a.connections e.connections request c.in_err-serve.field-0.0 c.serve.result c.in_err-serve.was c.serve.ensures.world))
+
 pub returns-in_err-append_reply-in-Some-clause-serves :
     goal.returns-in_err-append_reply-in-Some-clause-serves
 returns-in_err-append_reply-in-Some-clause-serves g c =
@@ -34,6 +44,18 @@ returns-in_err-append_reply-in-Some-clause-serves g c =
       ),
     )
 
+pub returns-in-None-clause-serves : goal.returns-in-None-clause-serves
+returns-in-None-clause-serves g c =
+    let disk = g.D.Disk in
+    let a = c.args.self.now.export in
+    let e = c.serve.new.self in
+    let request = c.args.request in
+    let is = c.in_ok-serve.was ∙ ap Ok c.in-None.is in (
+      subst (λ (r : Result (Option Answer) Refusal). IfOk r (IsOfKind request)) is c.serve.ensures.kind,
+      refl,
+      disc_run disk.state disk.faults disk.honest a.order e.order a.keeper e.keeper a.connections e.connections request c.serve.result is c.serve.ensures.world,
+    )
+
 pub returns-in_ok-append_reply-in-Some-clause-serves :
     goal.returns-in_ok-append_reply-in-Some-clause-serves
 returns-in_ok-append_reply-in-Some-clause-serves g c =
@@ -47,56 +69,3 @@ returns-in_ok-append_reply-in-Some-clause-serves g c =
       c.in_ok-append_reply-in-Some.ensures.ok ∙ ap (λ (h : RequestHead). c.args.self.now.replies.items ++ reply_to h.cookie c.in-Some.answer) c.head-cookie.ensures,
       answered_run disk.state disk.faults disk.honest a.order e.order a.keeper e.keeper a.connections e.connections request c.in-Some.answer c.serve.result is c.serve.ensures.world,
     )
-
-pub returns-in_err-serve : goal.returns-in_err-serve
-returns-in_err-serve g c = record {
-  group = c.serve.ensures.group;
-  extent = c.serve.ensures.extent;
-  honest = c.serve.ensures.honest;
-  serves =
-      let disk = g.D.Disk in
-      let a = c.args.self.now.export in
-      let e = c.serve.new.self in
-      let request = c.args.request in
-      as_error (λ (r : Result Flow Refusal). Serves request c.args.self.now.replies.items c.args.self.now.replies.items r (Runs disk.state disk.faults disk.honest a.order a.keeper a.connections e.order e.keeper e.connections))
-      c.in_err-serve.field-0.0 c.from_residual.result c.from_residual.ensures.1
-      (early_of c.in_err-serve.field-0.0 c.in_err-serve.ensures.early, refl, inl (failed_run disk.state disk.faults disk.honest a.order e.order a.keeper e.keeper a.connections e.connections request c.in_err-serve.field-0.0 c.serve.result c.in_err-serve.was c.serve.ensures.world));
-}
-
-pub returns-in_err-append_reply-in-Some-clause-group : goal.returns-in_err-append_reply-in-Some-clause-group
-returns-in_err-append_reply-in-Some-clause-group g c = c.serve.ensures.group
-
-pub returns-in_err-append_reply-in-Some-clause-extent : goal.returns-in_err-append_reply-in-Some-clause-extent
-returns-in_err-append_reply-in-Some-clause-extent g c = c.serve.ensures.extent
-
-pub returns-in_err-append_reply-in-Some-clause-honest : goal.returns-in_err-append_reply-in-Some-clause-honest
-returns-in_err-append_reply-in-Some-clause-honest g c = c.serve.ensures.honest
-
-pub returns-in-None : goal.returns-in-None
-returns-in-None g c = record {
-  group = c.serve.ensures.group;
-  extent = c.serve.ensures.extent;
-  honest = c.serve.ensures.honest;
-  serves =
-      let disk = g.D.Disk in
-      let a = c.args.self.now.export in
-      let e = c.serve.new.self in
-      let request = c.args.request in
-      let is = c.in_ok-serve.was ∙ ap Ok c.in-None.is in (
-        subst (λ (r : Result (Option Answer) Refusal). IfOk r (IsOfKind request)) is c.serve.ensures.kind,
-        refl,
-        disc_run disk.state disk.faults disk.honest a.order e.order a.keeper e.keeper a.connections e.connections request c.serve.result is c.serve.ensures.world,
-      );
-}
-
-pub returns-in_ok-append_reply-in-Some-clause-group : goal.returns-in_ok-append_reply-in-Some-clause-group
-returns-in_ok-append_reply-in-Some-clause-group g c = c.serve.ensures.group
-
-pub returns-in_ok-append_reply-in-Some-clause-extent : goal.returns-in_ok-append_reply-in-Some-clause-extent
-returns-in_ok-append_reply-in-Some-clause-extent g c = c.serve.ensures.extent
-
-pub returns-in_ok-append_reply-in-Some-clause-honest : goal.returns-in_ok-append_reply-in-Some-clause-honest
-returns-in_ok-append_reply-in-Some-clause-honest g c = c.serve.ensures.honest
-
-pub serve-requires : goal.serve-requires
-serve-requires g c = record { group = c.requires.group }

@@ -1,17 +1,11 @@
-use Rattle.std.specs.Prelude.{IfErr, OnErr, OnOk}
-use Rattle.std.proofs.Common.{◌≡◌, ◌≢◌, ◌↔◌, ℕ, Result, Err, false, IsTrue, ap, refl, sym, ◌∙◌, subst, arith}
-use Rattle.std.proofs.lemmas.Result.{IfOk-from_err}
-use Rattle.checkpoint.specs.Keeper.{faults_by, refused_by}
-use Rattle.checkpoint.specs.Steps.{IsFinishTime, IsStepFault, finished_by, first_turned}
-use Rattle.checkpoint.specs.declared.fault.KeeperFault.{KeeperFault}
-use Rattle.checkpoint.specs.declared.fault.KeeperFault.TheVariants as fault
+use Rattle.std.proofs.Common.{ap, refl, sym, ◌∙◌, subst, arith}
+use Rattle.checkpoint.specs.Steps.{first_turned}
 use Rattle.device_image.specs.Keeper.{KeeperState}
 use Rattle.marks.specs.Known.{KeeperKnows}
 use Rattle.shared_store.specs.Keepers.{IsOfHistory}
 use Rattle.disk_model.specs.Disk.{LeavesOnly}
 use Rattle.shared_store.specs.Keepers.{SeatedState}
 use Rattle.shared_store.specs.Parts.{StandsWithin}
-use Rattle.shared_store.proofs.Backing.{as_given, same_answer}
 use Rattle.shared_store.proofs.Keeping.{leaves_step, passing_by}
 use Rattle.shared_store.proofs.Keeping.{ended, first_after, step_refused, worked}
 use Rattle.shared_store.proofs.keeper.SharedKeeper.finish.Goals as goal
@@ -38,44 +32,14 @@ invariant_of-self-2 g c =
     (ended g.D.Disk.state g.D.Disk.honest g.B.BoardName.opening g.B.ImageName.image g.B.ImageName.trusted i.seat i.keeper c.self.invariant.stored (g.D.Disk.extent next.disk) next (g.met.D.Disk.sound next.disk) call.honest.1 c.in_ok-finish.field-0 works call.ok call.not_now call.held))
     (ap (λ (s : KeeperKnows). s.history) c.raise_base.ensures) (leaves_step g.D.Disk.state g.D.Disk.honest g.B.BoardName.opening g.B.ImageName.image g.B.ImageName.trusted i.seat i.keeper c.self.invariant.stored (g.D.Disk.extent i.keeper.disk) next (g.met.D.Disk.sound i.keeper.disk) c.finish.result c.finish.ensures.err c.finish.ensures.failed c.finish.ensures.any_moment)
 
-pub returns-in_err-finish : goal.returns-in_err-finish
-returns-in_err-finish g c =
+pub returns-in_err-finish-clause-any_moment : goal.returns-in_err-finish-clause-any_moment
+returns-in_err-finish-clause-any_moment g c =
     let i = c.self.inside in let call = c.finish.ensures in let next = c.finish.new.self in
-    let same : i.keeper ≡ c.args.self.now.keeper = ap (λ (s : SeatedState g.row.D.Denot). s.keeper) c.self.view_is in
-    let is : c.finish.result ≡ c.from_residual.result = c.in_err-finish.was ∙ sym (same_answer c.from_residual.result c.in_err-finish.field-0.0 c.from_residual.ensures.1) in record {
-      ok = as_given (λ (x : Result (Unit {0}) KeeperFault) (k : KeeperState g.row.D.Denot). OnOk x (next ≡ finished_by k next.disk next.memory)) is same call.ok;
-      err = as_given (λ (x : Result (Unit {0}) KeeperFault) (k : KeeperState g.row.D.Denot). IfErr x (λ refusal. next ≡ refused_by refusal k next.disk)) is same call.err;
-      failed = as_given (λ (x : Result (Unit {0}) KeeperFault) (k : KeeperState g.row.D.Denot). (x ≡ Err fault.Failed) ↔ IsTrue k.failed) is same call.failed;
-      not_now = as_given (λ (x : Result (Unit {0}) KeeperFault) (k : KeeperState g.row.D.Denot). (x ≡ Err fault.NotNow) ↔ ((k.failed ≡ false) × (IsFinishTime k.phase → ⊥))) is same call.not_now;
-      full = as_given (λ (x : Result (Unit {0}) KeeperFault) (k : KeeperState g.row.D.Denot). (x ≡ Err fault.NumbersFull) ↔ ((k.failed ≡ false) × IsFinishTime k.phase × (k.generation ≡ 18446744073709551615))) is same call.full;
-      memory = as_given (λ (x : Result (Unit {0}) KeeperFault) (k : KeeperState g.row.D.Denot). x ≢ Err fault.NoMemory) is same call.memory;
-      only = as_given (λ (x : Result (Unit {0}) KeeperFault) (k : KeeperState g.row.D.Denot). IfErr x IsStepFault) is same call.only;
-      faults_ok = as_given (λ (x : Result (Unit {0}) KeeperFault) (k : KeeperState g.row.D.Denot). OnOk x (g.D.Disk.faults next.disk ≡ g.D.Disk.faults k.disk)) is same call.faults_ok;
-      faults_err = as_given (λ (x : Result (Unit {0}) KeeperFault) (k : KeeperState g.row.D.Denot). IfErr x (λ refusal. g.D.Disk.faults next.disk ≡ faults_by refusal (g.D.Disk.faults k.disk))) is same call.faults_err;
-      seat = IfOk-from_err c.from_residual.result _ c.from_residual.ensures.0;
-      same = subst (λ (x : Result (Unit {0}) KeeperFault). OnErr x (i.seat ≡ c.args.self.now.seat)) (sym (same_answer c.from_residual.result c.in_err-finish.field-0.0 c.from_residual.ensures.1)) (ap (λ (s : SeatedState g.row.D.Denot). s.seat) c.self.view_is);
-      any_moment =
-          subst (λ (s : SeatedState g.row.D.Denot). g.B.ImageName.trusted → LeavesOnly (g.D.Disk.state s.keeper.disk) (g.D.Disk.state next.disk) (StandsWithin g.B.BoardName.opening g.B.ImageName.image i.seat.history s.keeper.count)) c.self.view_is
-          (leaves_step g.D.Disk.state g.D.Disk.honest g.B.BoardName.opening g.B.ImageName.image g.B.ImageName.trusted i.seat i.keeper c.self.invariant.stored (g.D.Disk.extent i.keeper.disk) next (g.met.D.Disk.sound i.keeper.disk) c.finish.result call.err call.failed call.any_moment);
-    }
+    subst (λ (s : SeatedState g.row.D.Denot). g.B.ImageName.trusted → LeavesOnly (g.D.Disk.state s.keeper.disk) (g.D.Disk.state next.disk) (StandsWithin g.B.BoardName.opening g.B.ImageName.image i.seat.history s.keeper.count)) c.self.view_is
+    (leaves_step g.D.Disk.state g.D.Disk.honest g.B.BoardName.opening g.B.ImageName.image g.B.ImageName.trusted i.seat i.keeper c.self.invariant.stored (g.D.Disk.extent i.keeper.disk) next (g.met.D.Disk.sound i.keeper.disk) c.finish.result call.err call.failed call.any_moment)
 
-pub returns : goal.returns
-returns g c =
+pub returns-clause-any_moment : goal.returns-clause-any_moment
+returns-clause-any_moment g c =
     let i = c.self.inside in let call = c.finish.ensures in let next = c.finish.new.self in
-    let same : i.keeper ≡ c.args.self.now.keeper = ap (λ (s : SeatedState g.row.D.Denot). s.keeper) c.self.view_is in
-    let is = c.in_ok-finish.was in record {
-      ok = as_given (λ (x : Result (Unit {0}) KeeperFault) (k : KeeperState g.row.D.Denot). OnOk x (next ≡ finished_by k next.disk next.memory)) is same call.ok;
-      err = as_given (λ (x : Result (Unit {0}) KeeperFault) (k : KeeperState g.row.D.Denot). IfErr x (λ refusal. next ≡ refused_by refusal k next.disk)) is same call.err;
-      failed = as_given (λ (x : Result (Unit {0}) KeeperFault) (k : KeeperState g.row.D.Denot). (x ≡ Err fault.Failed) ↔ IsTrue k.failed) is same call.failed;
-      not_now = as_given (λ (x : Result (Unit {0}) KeeperFault) (k : KeeperState g.row.D.Denot). (x ≡ Err fault.NotNow) ↔ ((k.failed ≡ false) × (IsFinishTime k.phase → ⊥))) is same call.not_now;
-      full = as_given (λ (x : Result (Unit {0}) KeeperFault) (k : KeeperState g.row.D.Denot). (x ≡ Err fault.NumbersFull) ↔ ((k.failed ≡ false) × IsFinishTime k.phase × (k.generation ≡ 18446744073709551615))) is same call.full;
-      memory = as_given (λ (x : Result (Unit {0}) KeeperFault) (k : KeeperState g.row.D.Denot). x ≢ Err fault.NoMemory) is same call.memory;
-      only = as_given (λ (x : Result (Unit {0}) KeeperFault) (k : KeeperState g.row.D.Denot). IfErr x IsStepFault) is same call.only;
-      faults_ok = as_given (λ (x : Result (Unit {0}) KeeperFault) (k : KeeperState g.row.D.Denot). OnOk x (g.D.Disk.faults next.disk ≡ g.D.Disk.faults k.disk)) is same call.faults_ok;
-      faults_err = as_given (λ (x : Result (Unit {0}) KeeperFault) (k : KeeperState g.row.D.Denot). IfErr x (λ refusal. g.D.Disk.faults next.disk ≡ faults_by refusal (g.D.Disk.faults k.disk))) is same call.faults_err;
-      seat = c.raise_base.ensures ∙ ap (λ (b : ℕ). record i.seat { base = b }) c.base-base.ensures ∙ ap (λ (s : SeatedState g.row.D.Denot). record s.seat { base = next.base }) c.self.view_is;
-      same = tt;
-      any_moment =
-          subst (λ (s : SeatedState g.row.D.Denot). g.B.ImageName.trusted → LeavesOnly (g.D.Disk.state s.keeper.disk) (g.D.Disk.state next.disk) (StandsWithin g.B.BoardName.opening g.B.ImageName.image c.raise_base.new.keeper.history s.keeper.count)) c.self.view_is
-          (rw c.raise_base.ensures (leaves_step g.D.Disk.state g.D.Disk.honest g.B.BoardName.opening g.B.ImageName.image g.B.ImageName.trusted i.seat i.keeper c.self.invariant.stored (g.D.Disk.extent i.keeper.disk) next (g.met.D.Disk.sound i.keeper.disk) c.finish.result call.err call.failed call.any_moment));
-    }
+    subst (λ (s : SeatedState g.row.D.Denot). g.B.ImageName.trusted → LeavesOnly (g.D.Disk.state s.keeper.disk) (g.D.Disk.state next.disk) (StandsWithin g.B.BoardName.opening g.B.ImageName.image c.raise_base.new.keeper.history s.keeper.count)) c.self.view_is
+    (rw c.raise_base.ensures (leaves_step g.D.Disk.state g.D.Disk.honest g.B.BoardName.opening g.B.ImageName.image g.B.ImageName.trusted i.seat i.keeper c.self.invariant.stored (g.D.Disk.extent i.keeper.disk) next (g.met.D.Disk.sound i.keeper.disk) c.finish.result call.err call.failed call.any_moment))

@@ -1,9 +1,7 @@
 use Rattle.disk_model.specs.Disk.{LeavesOnly}
 use Rattle.shared_store.specs.Keepers.{SeatedState}
 use Rattle.shared_store.specs.Parts.{StandsWithin}
-use Rattle.std.proofs.Common.{◌≡◌, ◌∙◌, ap, refl, subst}
-use Rattle.device_image.specs.Keeper.{KeeperState}
-use Rattle.request_core.specs.Outcomes.{IsServedBy}
+use Rattle.std.proofs.Common.{refl, subst}
 use Rattle.shared_store.proofs.Keeping.{passing_by}
 use Rattle.shared_store.proofs.Serving.{with_leaves}
 use Rattle.shared_store.proofs.Serving.{with_keeper}
@@ -18,23 +16,9 @@ invariant_of-self g c =
     refl (λ sure. with_leaves g.D.Disk.state g.D.Disk.faults g.D.Disk.honest g.B.BoardName.opening g.B.ImageName.image g.B.ImageName.trusted i.seat i.keeper next c.self.invariant.stored (g.D.Disk.extent next.disk)
     (g.met.D.Disk.sound next.disk) call.honest.1 c.args.request c.args.terms.geometry c.args.terms.mode c.args.order.now c.serve_with_keeper.new.order c.serve_with_keeper.result (g.D.Disk.extent i.keeper.disk) (g.met.D.Disk.sound i.keeper.disk) sure given by)
 
-pub returns : goal.returns
-returns g c =
+pub returns-clause-any_moment : goal.returns-clause-any_moment
+returns-clause-any_moment g c =
     let i = c.self.inside in let call = c.serve_with_keeper.ensures in let next = c.serve_with_keeper.new.keeper in let (given, given_is, by) = call.serves in
-    let same : i.keeper ≡ c.args.self.now.keeper = ap (λ (s : SeatedState g.row.D.Denot). s.keeper) c.self.view_is in record {
-      geometry = call.geometry ∙ ap (λ (k : KeeperState g.row.D.Denot). k.geometry) same;
-      count = call.count ∙ ap (λ (k : KeeperState g.row.D.Denot). k.count) same;
-      blocks = call.blocks;
-      serves = (
-        given,
-        given_is,
-        subst (λ (k : KeeperState g.row.D.Denot). IsServedBy g.D.Disk.state g.D.Disk.faults g.D.Disk.honest given c.args.request c.args.terms.geometry c.args.terms.mode c.args.order.now c.serve_with_keeper.new.order k next c.serve_with_keeper.result) same by,
-      );
-      pass = call.pass;
-      grown = call.grown;
-      seat = ap (λ (s : SeatedState g.row.D.Denot). s.seat) c.self.view_is;
-      any_moment =
-          subst (λ (s : SeatedState g.row.D.Denot). g.B.ImageName.trusted → LeavesOnly (g.D.Disk.state s.keeper.disk) (g.D.Disk.state next.disk) (StandsWithin g.B.BoardName.opening g.B.ImageName.image i.seat.history s.keeper.count)) c.self.view_is
-          (λ sure. with_leaves g.D.Disk.state g.D.Disk.faults g.D.Disk.honest g.B.BoardName.opening g.B.ImageName.image g.B.ImageName.trusted i.seat i.keeper next c.self.invariant.stored (g.D.Disk.extent next.disk)
-          (g.met.D.Disk.sound next.disk) call.honest.1 c.args.request c.args.terms.geometry c.args.terms.mode c.args.order.now c.serve_with_keeper.new.order c.serve_with_keeper.result (g.D.Disk.extent i.keeper.disk) (g.met.D.Disk.sound i.keeper.disk) sure given by);
-    }
+    subst (λ (s : SeatedState g.row.D.Denot). g.B.ImageName.trusted → LeavesOnly (g.D.Disk.state s.keeper.disk) (g.D.Disk.state next.disk) (StandsWithin g.B.BoardName.opening g.B.ImageName.image i.seat.history s.keeper.count)) c.self.view_is
+    (λ sure. with_leaves g.D.Disk.state g.D.Disk.faults g.D.Disk.honest g.B.BoardName.opening g.B.ImageName.image g.B.ImageName.trusted i.seat i.keeper next c.self.invariant.stored (g.D.Disk.extent next.disk)
+    (g.met.D.Disk.sound next.disk) call.honest.1 c.args.request c.args.terms.geometry c.args.terms.mode c.args.order.now c.serve_with_keeper.new.order c.serve_with_keeper.result (g.D.Disk.extent i.keeper.disk) (g.met.D.Disk.sound i.keeper.disk) sure given by)
