@@ -12,7 +12,8 @@ use Rattle.journal_format.specs.declared.fault.JournalFault.{JournalFault}
 use Rattle.journal_format.specs.declared.fault.JournalFault.TheVariants as journals
 use Rattle.checkpoint.specs.Faults.{of_journal}
 use Rattle.device_image.specs.Keeper.{PlanState, earlier_of, last_number, last_turned, turned_of}
-use Rattle.device_image.specs.Keeps.{AreHeld, HoldsAreas, HoldsListed, IsListed, IsPlaced, behind_lists}
+use Rattle.device_image.specs.Keeps.{AreHeld, HoldsAreas, IsListed, IsPlaced, behind_lists}
+use Rattle.device_image.specs.inner.Keeps.{HoldsListed}
 use Rattle.device_image.specs.Damage.{IsAreaDamaged, IsOneDamaged}
 use Rattle.checkpoint.specs.inner.Opening.{IsGroupsRefused}
 use Rattle.device_image.specs.Stands.{HoldLists, area_of, last_area, next_number}

@@ -16,8 +16,9 @@ use Rattle.regions.specs.Layout.{area_at, areas_in}
 use Rattle.regions.specs.laws.Ring.{ring-last}
 use Rattle.device_image.specs.Keeper.{AreUncopied, KeeperState, PlanState, earlier_of, phase_in, phase_of}
 use Rattle.device_image.specs.Keeps.{AreHeld, IsInPhase, IsPlaced, Keeps, behind_lists}
-use Rattle.checkpoint.specs.Opening.{IsOpened, IsPassing, IsRefused}
-use Rattle.checkpoint.specs.Recovery.{IsBegun}
+use Rattle.checkpoint.specs.Opening.{IsPassing, IsRefused}
+use Rattle.checkpoint.specs.inner.Opening.{IsOpened}
+use Rattle.checkpoint.specs.inner.Recovery.{IsBegun}
 use Rattle.device_image.specs.Stands.{StandsFor, HoldLists, all_changes, area_of, areas_in_front, in_use, last_area, next_number, stored_image}
 use Rattle.checkpoint.specs.declared.fault.KeeperFault.{KeeperFault}
 use Rattle.checkpoint.specs.declared.fault.KeeperFault.TheVariants.{NoMemory, DeviceFault, BadMap, NoHeader, BadHeader, NumbersFull, AreaFull, OutOfOrder, DamagedGroup, NotNow, Failed, AreaSmall}

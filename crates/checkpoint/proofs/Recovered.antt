@@ -1,12 +1,12 @@
 -- A keeper while an opening recovers it.
-use Rattle.std.proofs.Common.{◌≡◌, ◌≢◌, ℕ, ◌+◌, ◌-◌, ◌≤◌, Result, Ok, Err, IfErr, OnOk, List, [], ◌∷◌, ◌++◌, ◌<◌, length, refl, sym, ◌∙◌, ap, subst, arith, false}
+use Rattle.std.proofs.Common.{◌≡◌, ◌≢◌, ℕ, ◌+◌, ◌-◌, ◌≤◌, Result, Ok, Err, IfErr, OnOk, List, [], ◌∷◌, ◌++◌, refl, sym, ◌∙◌, ap, subst, arith, false}
 use Rattle.disk_model.specs.Disk.{State}
 use Rattle.device_image.specs.Keeper.{KeeperState, Memory, Phase, Copying, Mapped, One}
 use Rattle.device_image.specs.Keeps.{Keeps}
 use Rattle.image_model.specs.Image.{Image, apply_all}
 use Rattle.image_model.specs.declared.geometry.Geometry.{Geometry}
 use Rattle.checkpoint.specs.Keeper.{refused_by}
-use Rattle.checkpoint.specs.inner.Recovery.{IsRecoveryFault}
+use Rattle.checkpoint.specs.inner.Recovery.{IsRecoveryFault, IsBegun}
 use Rattle.checkpoint.specs.Steps.{IsStepFault, behind_first, copied_by, fewer, finished_by, first_turned, left_in, mapped_by, phase_left}
 use Rattle.device_image.specs.Holds.{Holds, joined}
 use Rattle.device_image.specs.laws.AfterCall.{held_as, joined-push, keeps_again}
@@ -15,7 +15,7 @@ use Rattle.image_model.specs.Change.{Change}
 use Rattle.checkpoint.specs.declared.fault.KeeperFault.{KeeperFault}
 use Rattle.checkpoint.specs.declared.fault.KeeperFault.TheVariants.{NoMemory, DeviceFault, BadMap, NoHeader, BadHeader, NumbersFull, AreaFull, OutOfOrder, DamagedGroup, NotNow, Failed, AreaSmall}
 use Rattle.device_image.specs.Remembers.{Remembers}
-use Rattle.checkpoint.specs.Recovery.{IsBegun, IsRecovered}
+use Rattle.checkpoint.specs.Recovery.{IsRecovered}
 
 -- a step in its time, of a keeper that hasn't failed, gives the refusals of a recovery
 pub in_time : (fault : KeeperFault) → IsStepFault fault → (fault ≡ Failed → ⊥) → (fault ≡ NotNow → ⊥) → IsRecoveryFault fault
@@ -171,7 +171,3 @@ pub begun_left : (lefts : List ℕ) → IsBegun (phase_left (behind_first lefts)
 begun_left [] = tt
 begun_left (left ∷ []) = tt
 begun_left (left ∷ next ∷ lefts) = tt
-
-pub shorter_behind : (turned : List ℕ) → 0 < length turned → length (behind_first turned) < length turned
-shorter_behind [] some = some
-shorter_behind (first ∷ rest) some = omega arith

@@ -21,7 +21,7 @@ use Rattle.device_image.specs.Keeper.{AreStatesAfter, PlanState, earlier_of}
 use Rattle.device_image.specs.Keeps.{AreHeld}
 use Rattle.device_image.specs.Stands.{all_changes, stored_image}
 use Rattle.device_image.specs.laws.Frame.{all_changes-append, apply_all-append, blocks-apply_all}
-use Rattle.checkpoint.specs.Opening.{IsOpened}
+use Rattle.checkpoint.specs.inner.Opening.{IsOpened}
 use Rattle.checkpoint.specs.Report.{IsReport, blocks_of}
 use Rattle.checkpoint.specs.inner.Report.{AreOf, AreStatesBehind, AreStatesTurned}
 use Rattle.checkpoint.specs.Keeper.{AreSized}

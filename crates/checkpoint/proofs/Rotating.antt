@@ -31,7 +31,8 @@ use Rattle.device_image.specs.laws.Counted.{left_dirty}
 use Rattle.device_image.specs.laws.Headers.{begun}
 use Rattle.device_image.specs.laws.Lists.{KeepsLists}
 use Rattle.checkpoint.specs.Keeper.{AreSized, IsSized, plans_of}
-use Rattle.checkpoint.specs.Steps.{IsFinishTime, behind_first, first_turned, map_after, map_in, phase_left, phase_with, plans_behind}
+use Rattle.checkpoint.specs.Steps.{IsFinishTime, behind_first, first_turned, phase_left, phase_with}
+use Rattle.checkpoint.specs.inner.Steps.{map_after, map_in, plans_behind}
 
 -- the checkpoints once another one is behind them
 pub added : (old new : Option PlanState) (waiting more : List PlanState) (last : PlanState) → IfNone old ((new ≡ Some last) × (more ≡ []))

@@ -4,16 +4,11 @@ use Rattle.header_slots.specs.Slots.{HoldsHeader, HoldsNone, HoldsBad}
 use Rattle.header_slots.specs.declared.header.Header.{Header}
 use Rattle.image_model.specs.declared.side.Side.{Side}
 use Rattle.image_model.specs.Image.{Image}
-use Rattle.image_model.specs.declared.command.Kind.{Kind}
-use Rattle.disk_model.specs.Disk.{State, IsAllSynced, LeavesOnly, MayLeave}
-use Rattle.journal_format.specs.Area.{AreaState}
+use Rattle.disk_model.specs.Disk.{State, LeavesOnly, MayLeave}
 use Rattle.journal_format.specs.GroupList.{IsList}
-use Rattle.journal_format.specs.Spelling.{StoredGroup}
-use Rattle.regions.specs.Layout.{map_at}
-use Rattle.regions.specs.Map.{HoldsMap}
-use Rattle.device_image.specs.Keeper.{AreUncopied, KeeperState, PlanState, earlier_of}
+use Rattle.device_image.specs.Keeper.{KeeperState}
 use Rattle.checkpoint.specs.Keeper.{faults_by}
-use Rattle.device_image.specs.Keeps.{HoldsAreas, Keeps}
+use Rattle.device_image.specs.Keeps.{Keeps}
 use Rattle.device_image.specs.Damage.{HasBadMap, HasDamagedGroup}
 use Rattle.device_image.specs.Stands.{StandsFor, area_of, next_number}
 use Rattle.checkpoint.specs.declared.fault.KeeperFault.{KeeperFault}
@@ -33,16 +28,6 @@ IsRefused DamagedGroup content = HasDamagedGroup content
 IsRefused NotNow content = ⊥
 IsRefused Failed content = ⊥
 IsRefused AreaSmall content = ⊥
-
--- A device that is good was read: this is its header and the slot of it, its map, what is to be copied of each area in use
--- in front of the last, and the last one.
-pub record IsOpened (state : State) (header : Header) (slot : Side) (states : List Kind) (plans : List PlanState) (area : AreaState) : Type 0 where
-  pub lists : List (List StoredGroup)
-  pub synced : IsAllSynced state
-  pub in_force : HoldsHeader state.seen (length state.seen) header slot
-  pub map : HoldsMap state.seen (map_at header.geometry header.map_slot) header.geometry.blocks states
-  pub areas : HoldsAreas state header lists (earlier_of plans) area
-  pub uncopied : AreUncopied plans
 
 -- a refusal that comes of a content which stands for an image too
 abbrev pub IsPassing : KeeperFault → Type 0

@@ -1,13 +1,7 @@
 -- what an opening makes of a device that it has read
 use Rattle.std.specs.Prelude.{◌≡◌, [], false}
-use Rattle.device_image.specs.Keeper.{KeeperState, Phase, One, Copying, Mapped}
+use Rattle.device_image.specs.Keeper.{KeeperState, One}
 use Rattle.device_image.specs.Remembers.{Remembers}
-
--- no checkpoint is under way, or one whose map isn't written
-abbrev pub IsBegun : Phase → Type 0
-IsBegun One = Unit {0}
-IsBegun (Copying left) = Unit {0}
-IsBegun Mapped = ⊥
 
 -- the keeper works, one area is in use, and its list is empty
 pub record IsRecovered {D : Type 0} (keeper : KeeperState D) : Type 0 where

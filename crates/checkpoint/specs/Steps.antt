@@ -1,8 +1,7 @@
 -- the steps of a checkpoint: their times, and what they make of a keeper
-use Rattle.std.specs.Prelude.{ℕ, ◌≡◌, ◌-◌, ◌+◌, ◌<◌, List, [], ◌∷◌, ◌++◌, length, Option, Some, None}
-use Rattle.image_model.specs.declared.command.Kind.{Kind}
+use Rattle.std.specs.Prelude.{ℕ, ◌≡◌, ◌-◌, ◌+◌, ◌<◌, List, [], ◌∷◌, ◌++◌, length}
 use Rattle.regions.specs.Layout.{areas_in}
-use Rattle.device_image.specs.Keeper.{KeeperState, Memory, Phase, One, Copying, Mapped, PlanState, count_puts}
+use Rattle.device_image.specs.Keeper.{KeeperState, Memory, Phase, One, Copying, Mapped, count_puts}
 use Rattle.checkpoint.specs.declared.fault.KeeperFault.{KeeperFault}
 use Rattle.checkpoint.specs.declared.fault.KeeperFault.TheVariants.{NoMemory, DeviceFault, BadMap, NoHeader, BadHeader, NumbersFull, AreaFull, OutOfOrder, DamagedGroup, NotNow, Failed, AreaSmall}
 
@@ -92,20 +91,6 @@ finished_by keeper disk memory = record keeper {
   phase = phase_left (behind_first keeper.lefts);
   memory = memory;
 }
-
--- the map once the one that was written is in force
-abbrev pub map_in : Option (List Kind) → List Kind → List Kind
-map_in None map = map
-map_in (Some states) map = states
-
-abbrev pub map_after : List PlanState → List Kind → List Kind
-map_after [] map = map
-map_after (plan ∷ plans) map = map_in plan.mapped map
-
--- the checkpoints behind the first
-abbrev pub plans_behind : List PlanState → List PlanState
-plans_behind [] = []
-plans_behind (plan ∷ plans) = plans
 
 -- the refusals of a step
 abbrev pub IsStepFault : KeeperFault → Type 0

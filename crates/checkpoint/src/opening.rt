@@ -1,10 +1,11 @@
 ghost use Rattle.std.specs.Prelude.{◌≡◌, ◌≢◌, ◌<◌, ◌↔◌, List, [], length, false, IfErr, IfOk, MatchResult, OnOk};
 ghost use Rattle.checkpoint.specs.Keeper.{AreSized, faults_by};
-ghost use Rattle.device_image.specs.Keeps.{HoldsAreas, HoldsListed, IsPlaced, Keeps};
+ghost use Rattle.device_image.specs.Keeps.{HoldsAreas, IsPlaced, Keeps};
+ghost use Rattle.device_image.specs.inner.Keeps.{HoldsListed};
 ghost use Rattle.device_image.specs.Damage.{IsAreaDamaged};
-ghost use Rattle.checkpoint.specs.Opening.{IsOpened, IsRefused, disk_after, faults_after_opening};
-ghost use Rattle.checkpoint.specs.inner.Opening.{IsGroupsRefused};
-ghost use Rattle.checkpoint.specs.Recovery.{IsBegun};
+ghost use Rattle.checkpoint.specs.Opening.{IsRefused, disk_after, faults_after_opening};
+ghost use Rattle.checkpoint.specs.inner.Opening.{IsOpened, IsGroupsRefused};
+ghost use Rattle.checkpoint.specs.inner.Recovery.{IsBegun};
 ghost use Rattle.checkpoint.specs.declared.fault.KeeperFault.TheVariants as KeeperFault;
 ghost use Rattle.device_image.specs.Keeper.{AreUncopied, IsUncopied, earlier_of, last_turned, turned_of};
 ghost use Rattle.journal_format.specs.GroupList.{HoldsList, IsDamaged};

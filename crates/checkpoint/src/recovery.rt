@@ -1,8 +1,8 @@
 ghost use Rattle.std.specs.Prelude.{◌≡◌, ◌≢◌, ◌==◌, ℕ, ◌<◌, ◌↔◌, List, [], length, false, IfErr, IfOk, IsTrue, OnOk, Err, Ok};
 ghost use Rattle.checkpoint.specs.Keeper.{faults_by};
 ghost use Rattle.checkpoint.specs.Opening.{IsAtRest, IsOpening, IsPassing, disk_after, faults_after_opening};
-ghost use Rattle.checkpoint.specs.Recovery.{IsBegun, IsRecovered};
-ghost use Rattle.checkpoint.specs.inner.Recovery.{IsRecoveryFault};
+ghost use Rattle.checkpoint.specs.Recovery.{IsRecovered};
+ghost use Rattle.checkpoint.specs.inner.Recovery.{IsBegun, IsRecoveryFault};
 ghost use Rattle.checkpoint.specs.Steps.{copied_by, finished_by, left_in};
 ghost use Rattle.checkpoint.specs.declared.fault.KeeperFault.TheVariants as KeeperFault;
 ghost use Rattle.device_image.specs.Keeps.{Keeps};

@@ -1,6 +1,7 @@
 ghost use Rattle.std.specs.Prelude.{◌≡◌, ◌≢◌, ◌⊎◌, ℕ, suc, ◌+◌, ◌-◌, ◌<◌, ◌≤◌, ◌↔◌, List, [], ◌∷◌, ◌++◌, length, false, IfErr, IfNone, IfOk, IfSome, IsTrue, Err, OnOk};
 ghost use Rattle.checkpoint.specs.Keeper.{faults_by, refused_by};
-ghost use Rattle.checkpoint.specs.Steps.{IsCopyTime, IsFinishTime, IsMapTime, IsRotateTime, IsStepFault, copied_by, finished_by, first_turned, left_in, map_after, mapped_by, phase_with, plans_behind, rotated_by};
+ghost use Rattle.checkpoint.specs.Steps.{IsCopyTime, IsFinishTime, IsMapTime, IsRotateTime, IsStepFault, copied_by, finished_by, first_turned, left_in, mapped_by, phase_with, rotated_by};
+ghost use Rattle.checkpoint.specs.inner.Steps.{map_after, plans_behind};
 ghost use Rattle.checkpoint.specs.declared.fault.KeeperFault.TheVariants as KeeperFault;
 ghost use Rattle.device_image.specs.Holds.{Holds};
 ghost use Rattle.device_image.specs.Keeps.{Keeps};

@@ -1,14 +1,9 @@
 -- What the getters of a subcommand's values say of them.
 use Rattle.std.proofs.Common.{◌≡◌, ℕ, List, Option, Some, None, option_map, refl, sym}
-use Rattle.std.specs.Prelude.{IfSome, ◌<◌, ◌^◌}
-use Rattle.std.specs.Borrow.{Bor}
+use Rattle.std.specs.Prelude.{◌<◌, ◌^◌}
 use Rattle.std.specs.Str.Parse.{IsNumeral, digits_value, without_leading_plus}
 use Rattle.clap.specs.Words.{Row, Text, one_of}
 use Rattle.command_line.specs.Line.{IsGiven}
-
-pub text_given : (result : Option (Bor Text)) (found : Option Text) → option_map (λ text. text.now) result ≡ found → IfSome result (λ text. found ≡ Some text.now)
-text_given None found same = tt
-text_given (Some text) found same = sym same
 
 pub number_given : (rows : List Row) (name : Text) (number : ℕ) (found : Option Text) → found ≡ one_of name rows → (found ≡ None → Some number ≡ None)
     → ((text : Text) → found ≡ Some text → (IsNumeral 10 (without_leading_plus text) × (digits_value 10 (without_leading_plus text) < 2 ^ 64)) × (number ≡ digits_value 10 (without_leading_plus text)))

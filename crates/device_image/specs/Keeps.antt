@@ -30,11 +30,6 @@ pub record IsListed (area : AreaState) (first : ℕ) (groups : List StoredGroup)
   pub touched : TellSame area.blocks area.touched (touched_by_groups area.from groups)
   pub synced : IsSyncedIn state area.from area.bytes
 
--- the same of some list
-pub record HoldsListed (area : AreaState) (first : ℕ) (state : State) : Type 0 where
-  pub groups : List StoredGroup
-  pub listed : IsListed area first groups state
-
 -- These areas hold these lists, the first with the number `next` on.
 abbrev pub AreHeld : List ℕ → Geometry → ℕ → List (List StoredGroup) → List AreaState → State → Type 0
 AreHeld [] geometry next [] [] state = Unit {0}

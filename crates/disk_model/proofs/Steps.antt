@@ -4,7 +4,8 @@ use Rattle.std.proofs.lemmas.List.{places}
 use Rattle.disk_model.specs.declared.history.Entry.{Entry}
 use Rattle.disk_model.specs.declared.history.Entry.TheVariants.{Written, Synced}
 use Rattle.disk_model.specs.Disk.{InRange, MayLeave, MayLeaveTorn, IsWritten, IsWriteFailed, LeavesOnly}
-use Rattle.disk_model.specs.History.{patched, IsPut, content_before, unsynced_by, synced_content, DiffersAt, left_by, state_of}
+use Rattle.disk_model.specs.History.{patched, content_before, unsynced_by, synced_content, DiffersAt, left_by, state_of}
+use Rattle.disk_model.specs.inner.History.{IsPut}
 use Rattle.disk_model.specs.HistoryLaws.{left_only_now}
 use Rattle.disk_model.proofs.Entries.{reverse-push}
 use Rattle.disk_model.proofs.Patched.{patched_within, patched_others, patched_back, length-patched}

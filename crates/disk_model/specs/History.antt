@@ -4,7 +4,6 @@
 use Rattle.std.specs.Prelude.{◌≡◌, ℕ, ◌+◌, ◌≤◌, ◌<◌, ◌⊎◌, List, [], ◌∷◌, ◌++◌, length, take, drop, slice_index, slice_index_or}
 use Rattle.disk_model.specs.declared.history.Entry.{Entry}
 use Rattle.disk_model.specs.declared.history.Entry.TheVariants.{Written, Synced}
-use Rattle.disk_model.specs.declared.history.Write.{Write}
 use Rattle.disk_model.specs.declared.history.CrashChoice.{CrashChoice}
 use Rattle.disk_model.specs.declared.history.CrashChoice.TheVariants.{Fill, Old, New}
 use Rattle.disk_model.specs.Disk.{State, InRange}
@@ -21,14 +20,6 @@ entry_end Synced = 0
 -- each write lies inside a device of this many bytes
 abbrev pub IsInside : List Entry → ℕ → Type 0
 IsInside entries size = (k : ℕ) → entry_end (slice_index_or entries k Synced) ≤ size
-
--- the bytes are put at `offset`, and what stood there is noted
-pub record IsPut (entries : List Entry) (content : List ℕ) (offset : ℕ) (bytes : List ℕ) (entries_after : List Entry) (content_after : List ℕ) : Type 0 where
-  pub write : Write
-  pub offset_is : write.offset ≡ offset
-  pub before_is : write.before.items ≡ take (length bytes) (drop offset content)
-  pub entries_are : entries_after ≡ entries ++ Written write ∷ []
-  pub content_is : content_after ≡ patched content offset bytes
 
 -- the content before this, given the content after it
 abbrev pub content_before : Entry → List ℕ → List ℕ

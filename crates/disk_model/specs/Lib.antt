@@ -5,4 +5,5 @@ pub mod FileDisk
 pub mod History
 pub mod HistoryLaws
 pub mod SimDisk
+pub mod inner
 pub mod laws

@@ -1,6 +1,7 @@
 ghost use Rattle.std.specs.Prelude.{◌≡◌, ◌+◌, ◌≤◌, ◌<◌, ◌-◌, ◌⊎◌, ℕ, [], ◌∷◌, ◌++◌, length, reverse, slice_index, replicate, OnOk, OnErr, IfSome, IfNone, IsTrue, false, vec_capacity, vec_len};
 ghost use Rattle.disk_model.specs.declared.history.Entry.TheVariants.{Written, Synced};
-ghost use Rattle.disk_model.specs.History.{patched, IsInside, IsPut, unsynced_by, synced_content, IsLeftBy};
+ghost use Rattle.disk_model.specs.History.{patched, IsInside, unsynced_by, synced_content, IsLeftBy};
+ghost use Rattle.disk_model.specs.inner.History.{IsPut};
 
 use crate::disk::DeviceFault;
 use std::alloc::{AllocError, Global};

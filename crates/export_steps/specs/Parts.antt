@@ -60,10 +60,6 @@ abbrev pub numbers_of : ℕ → List ℕ → List ℕ
 numbers_of opening [] = []
 numbers_of opening (count ∷ counts) = (opening + count) ∷ numbers_of opening counts
 
--- all the commands in the areas in front of the last, and those in the last
-abbrev pub first_commands : Stage → List Change
-first_commands stage = part stage.order stage.base (turned_at stage)
-
 abbrev pub last_commands : Stage → List Change
 last_commands stage = part stage.order (turned_at stage) stage.stored
 

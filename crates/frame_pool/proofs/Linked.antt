@@ -5,7 +5,8 @@ use Rattle.std.proofs.lemmas.List.Elements.{All-set, filter-append}
 use Rattle.std.proofs.lemmas.Bool.{ne_eqb, eq-eqb}
 use Rattle.frame_pool.specs.declared.place.Place.{Place}
 use Rattle.frame_pool.specs.declared.place.Place.TheVariants.{Free, Clean, Dirty}
-use Rattle.frame_pool.specs.Lists.{ListsState, total, times, without, moved, list_at}
+use Rattle.frame_pool.specs.Lists.{ListsState, total, times, without, moved}
+use Rattle.frame_pool.specs.inner.Lists.{list_at}
 use Rattle.frame_pool.specs.Ring.{IsPath, AreLinks, AreLinked, start_of, end_of, ring_of, linked as linked_list, lists_of}
 use Rattle.frame_pool.specs.laws.Times.{times-append, times-without_same, times-without_other, times_other, head_other}
 use Rattle.frame_pool.proofs.Moved.{times_in, times_once, times_none, total-moved, HoldEach-moved}
@@ -212,11 +213,6 @@ pub front_linked : (frames : ℕ) (place : Place) (next previous : List ℕ) (li
     × (get_or next (start_of frames place) 0 ≢ end_of frames place → Some (get_or next (start_of frames place) 0) ≡ slice_get (list_at lists place) 0)
 front_linked frames place next previous lists linked =
     first_linked next previous (start_of frames place) (end_of frames place) (list_at lists place) _ (path_along frames place next previous lists linked) (end_absent frames place next previous lists linked)
-
-pub start_inside : (frames : ℕ) (place : Place) → start_of frames place < frames + 3
-start_inside frames Free = omega arith
-start_inside frames Clean = omega arith
-start_inside frames Dirty = omega arith
 
 -- the links of the lists, once the code moved a frame before the end that it computed
 pub moved_links : (frames frame end : ℕ) (place : Place) (next previous next' previous' next'' previous'' : List ℕ) (lists : ListsState)

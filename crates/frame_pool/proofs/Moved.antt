@@ -3,7 +3,8 @@ use Rattle.std.proofs.Common.{◌≡◌, ◌≢◌, ◌<◌, ◌≤◌, ◌+◌,
 use Rattle.std.proofs.lemmas.Bool.{cases_eq, cases_lt, eq-eqb, lt-ltb, le-ltb}
 use Rattle.frame_pool.specs.declared.place.Place.{Place}
 use Rattle.frame_pool.specs.declared.place.Place.TheVariants.{Free, Clean, Dirty}
-use Rattle.frame_pool.specs.Lists.{ListsState, HoldEach, total, times, without, moved, list_at}
+use Rattle.frame_pool.specs.Lists.{ListsState, HoldEach, total, times, without, moved}
+use Rattle.frame_pool.specs.inner.Lists.{list_at}
 use Rattle.frame_pool.specs.laws.Times.{times-append, times-without_same, times-without_other, length-without, times_head, times_other}
 
 -- how often a frame stands in all of them

@@ -177,11 +177,6 @@ pub IsPool_seen : (lists : ListsState) (numbers : List (Option ℕ)) (frames : L
     → AreNumbered (length frames) lists numbers dirty → pool_of lists numbers (map shown frames) ≡ pool → IsPool pool
 IsPool_seen lists numbers frames dirty pool are is = let P : PoolState → Type 0 = IsPool in subst P is (IsPool_numbered lists numbers frames dirty are)
 
--- the front of the dirty frames by the kept numbers
-pub front_through-none : (numbers : List (Option ℕ)) (number : ℕ) (dirty : List ℕ) → slice_get dirty 0 ≡ None → front_through number (numbered numbers dirty) ≡ None
-front_through-none numbers number [] is = refl
-front_through-none numbers number (frame ∷ dirty) is = cc
-
 pub front_through-some : (numbers : List (Option ℕ)) (number frame : ℕ) (dirty : List ℕ) → slice_get dirty 0 ≡ Some frame
     → front_through number (numbered numbers dirty) ≡ (if leb (number_at numbers frame) number then Some frame else None)
 front_through-some numbers number frame [] is = cc

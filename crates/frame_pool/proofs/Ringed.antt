@@ -7,7 +7,8 @@ use Rattle.std.proofs.lemmas.List.FromFn.{length-map-range_with_len, get_or-map-
 use Rattle.std.proofs.Math.Seq.{map-set_same}
 use Rattle.frame_pool.specs.declared.nodes.Node.{Node}
 use Rattle.frame_pool.specs.Numbers.{option_of}
-use Rattle.frame_pool.specs.Nodes.{AreWritten, NodesState, next_in, previous_in, number_in, nodes_of, with_next, with_previous, with_number}
+use Rattle.frame_pool.specs.Nodes.{AreWritten, NodesState, next_in, previous_in, number_in, nodes_of}
+use Rattle.frame_pool.specs.inner.Nodes.{with_next, with_previous, with_number}
 
 pub AreWritten-set : (cells cells' : List (Option Node)) (at : ℕ) (node : Node) → cells' ≡ set cells at (Some node) → AreWritten cells → AreWritten cells'
 AreWritten-set cells cells' at node is written other below =
@@ -59,14 +60,6 @@ fresh_node count node = record { next = (node + 1) % count; previous = (node + (
 
 abbrev pub AreFresh : ℕ → ℕ → List (Option Node) → Type 0
 AreFresh count made cells = (node : ℕ) → node < made → get_or cells node None ≡ Some (fresh_node count node)
-
-pub AreFresh-more : (count made : ℕ) (cells cells' : List (Option Node)) → made < length cells → cells' ≡ set cells made (Some (fresh_node count made))
-    → AreFresh count made cells → AreFresh count (made + 1) cells'
-AreFresh-more count made cells cells' inside is fresh node below =
-    elim (cases_eq node made) [
-      | inl e ↦ rw (is, e) (get_or-set_same cells made (Some (fresh_node count made)) None inside)
-      | inr ne ↦ rw is (get_or-set_other cells made node (Some (fresh_node count made)) None ne ∙ fresh node (omega arith))
-    ]
 
 module _ (count : ℕ) (cells : List (Option Node)) (size : length cells ≡ count) (fresh : AreFresh count count cells) where
   pub AreWritten-fresh : AreWritten cells

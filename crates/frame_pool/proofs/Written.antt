@@ -5,7 +5,8 @@ use Rattle.std.proofs.lemmas.List.{get_or-set_same, get_or-set_other, length-set
 use Rattle.frame_pool.specs.declared.place.Place.{Place}
 use Rattle.frame_pool.specs.declared.place.Place.TheVariants.{Free, Clean, Dirty}
 use Rattle.frame_pool.specs.Cells.{IsWritten}
-use Rattle.frame_pool.specs.Frames.{HaveBytes, shown, shown_at}
+use Rattle.frame_pool.specs.Frames.{HaveBytes, shown}
+use Rattle.frame_pool.specs.inner.Frames.{shown_at}
 use Rattle.frame_pool.specs.Linked.{LinkedState}
 use Rattle.frame_pool.specs.Lists.{ListsState, times, without, moved}
 use Rattle.frame_pool.specs.laws.Times.{times-append, times-without_same, times-without_other, times_other}

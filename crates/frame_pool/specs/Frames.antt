@@ -1,14 +1,11 @@
 -- the bytes that frames have
-use Rattle.std.specs.Prelude.{ℕ, ◌+◌, ◌≤◌, List, replicate, slice_index_or, Option, None, unwrap_or}
+use Rattle.std.specs.Prelude.{ℕ, ◌+◌, ◌≤◌, List, replicate, Option, unwrap_or}
 use Rattle.frame_pool.specs.Cells.{IsWritten}
 use Rattle.frame_pool.specs.Lists.{ListsState, times}
 
 -- the bytes of a frame, or zeros where it has none
 abbrev pub shown : Option (List ℕ) → List ℕ
 shown bytes = unwrap_or bytes (replicate 4096 0)
-
-abbrev pub shown_at : List (Option (List ℕ)) → ℕ → List ℕ
-shown_at frames frame = shown (slice_index_or frames frame None)
 
 -- Each frame on the clean and dirty lists has bytes, so that one which was never written is free.
 abbrev pub HaveBytes : ListsState → List (Option (List ℕ)) → Type 0

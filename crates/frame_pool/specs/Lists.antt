@@ -9,11 +9,6 @@ pub record ListsState : Type 0 where
   pub clean : List ℕ
   pub dirty : List ℕ
 
-abbrev pub list_at : ListsState → Place → List ℕ
-list_at lists Free = lists.free
-list_at lists Clean = lists.clean
-list_at lists Dirty = lists.dirty
-
 -- how many frames the lists hold
 abbrev pub total : ListsState → ℕ
 total lists = length lists.free + length lists.clean + length lists.dirty

@@ -1,5 +1,5 @@
 -- what is kept for the nodes of a ring
-use Rattle.std.specs.Prelude.{ℕ, ◌<◌, List, length, map, slice_set, Option, None, Some}
+use Rattle.std.specs.Prelude.{ℕ, ◌<◌, List, length, map, Option, None, Some}
 use Rattle.frame_pool.specs.declared.nodes.Node.{Node}
 use Rattle.frame_pool.specs.Cells.{IsWritten}
 use Rattle.frame_pool.specs.Numbers.{option_of}
@@ -27,13 +27,3 @@ nodes_of cells = record { next = map next_in cells; previous = map previous_in c
 
 abbrev pub AreWritten : List (Option Node) → Type 0
 AreWritten cells = (node : ℕ) → node < length cells → IsWritten cells node
-
--- the nodes with one link or number set
-abbrev pub with_next : ℕ → ℕ → NodesState → NodesState
-with_next node next nodes = record nodes { next = slice_set nodes.next node next }
-
-abbrev pub with_previous : ℕ → ℕ → NodesState → NodesState
-with_previous node previous nodes = record nodes { previous = slice_set nodes.previous node previous }
-
-abbrev pub with_number : ℕ → Option ℕ → NodesState → NodesState
-with_number node number nodes = record nodes { numbers = slice_set nodes.numbers node number }

@@ -1,1 +1,4 @@
+pub mod Frames
 pub mod Lends
+pub mod Lists
+pub mod Nodes

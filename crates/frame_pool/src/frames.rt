@@ -1,5 +1,5 @@
 ghost use Rattle.std.specs.Prelude.{◌≡◌, ◌<◌, length, replicate, slice_index_or, slice_set, is_some, IfOk, Some, None};
-ghost use Rattle.frame_pool.specs.Frames.{shown_at};
+ghost use Rattle.frame_pool.specs.inner.Frames.{shown_at};
 
 use crate::region::Region;
 use std::alloc::{AllocError, Global};

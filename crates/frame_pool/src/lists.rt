@@ -1,6 +1,7 @@
 ghost use Rattle.std.specs.Prelude.{◌≡◌, ◌+◌, ◌<◌, ◌^◌, [], replicate, slice_get, slice_set, IfOk, IfSome, None};
 ghost use Rattle.std.specs.List.{range_with_len};
-ghost use Rattle.frame_pool.specs.Lists.{HoldEach, list_at, moved, total};
+ghost use Rattle.frame_pool.specs.Lists.{HoldEach, moved, total};
+ghost use Rattle.frame_pool.specs.inner.Lists.{list_at};
 ghost use Rattle.frame_pool.specs.Numbers.{kept_at};
 ghost use Rattle.frame_pool.specs.Ring.{end_of, start_of};
 

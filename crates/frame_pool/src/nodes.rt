@@ -1,7 +1,7 @@
 ghost use Rattle.std.specs.Prelude.{◌≡◌, ◌+◌, ◌-◌, ◌%◌, ◌<◌, ◌^◌, length, replicate, slice_index, map, IfOk, IfSome, None};
 ghost use Rattle.std.specs.List.{range_with_len};
 ghost use Rattle.frame_pool.specs.Numbers.{kept_at};
-ghost use Rattle.frame_pool.specs.Nodes.{with_next, with_number, with_previous};
+ghost use Rattle.frame_pool.specs.inner.Nodes.{with_next, with_number, with_previous};
 
 use crate::region::Region;
 use std::alloc::{AllocError, Global};

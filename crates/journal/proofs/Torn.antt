@@ -2,7 +2,8 @@
 use Rattle.std.proofs.Common.{◌≡◌, inl, inr, ℕ, ◌+◌, List, [], ◌∷◌, length, slice_index, subst, add-zero, sym, ◌∙◌, arith}
 use Rattle.disk_model.specs.Disk.{State, InRange, IsSyncedIn, IsSound, IsStored, IsWritten, MayLeaveTorn}
 use Rattle.disk_model.specs.laws.Contents.{stored_first}
-use Rattle.journal_format.specs.GroupList.{StandsAt, LeavesGateOrBytes, IsOpenBefore}
+use Rattle.journal_format.specs.GroupList.{StandsAt}
+use Rattle.journal_format.specs.inner.GroupList.{LeavesGateOrBytes, IsOpenBefore}
 
 -- the body is torn, and the gate is as it was
 module _ (extent : ℕ) (before : State) (gate : ℕ) (bytes : List ℕ) (sound : IsSound extent before) (stable : IsSyncedIn before gate (1 + length bytes)) where

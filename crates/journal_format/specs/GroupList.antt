@@ -100,17 +100,3 @@ pub record IsListStored (area : AreaState) (first : ℕ) (groups : List StoredGr
 pub record LeavesEither (area : AreaState) (first : ℕ) (groups : List StoredGroup) (group : StoredGroup) (state : State) (content : List ℕ) : Type 0 where
   pub others : MayLeaveTorn state area.from area.bytes content
   pub list : IsList area first groups content ⊎ IsList area first (groups ++ group ∷ []) content
-
--- what a crash may leave while these bytes are written behind a gate, and the gate is then opened: its byte is as it
--- was, or the bytes are whole
-pub record LeavesGateOrBytes (state : State) (gate : ℕ) (bytes : List ℕ) (content : List ℕ) : Type 0 where
-  pub others : MayLeaveTorn state gate (1 + length bytes) content
-  pub guarded : (slice_index content gate ≡ slice_index state.seen gate) ⊎ StandsAt content (gate + 1) bytes
-
--- the gate is open before these bytes, and nothing is unsynced
-pub record IsOpenBefore (before : State) (gate : ℕ) (bytes : List ℕ) (after : State) : Type 0 where
-  pub gate_open : IsOpen after.seen gate
-  pub whole : StandsAt after.seen (gate + 1) bytes
-  pub others : MayLeaveTorn before gate (1 + length bytes) after.seen
-  pub same : (place : ℕ) → (InRange gate (1 + length bytes) place → ⊥) → (before.loose place → ⊥) → slice_index after.seen place ≡ slice_index before.seen place
-  pub synced : IsAllSynced after

@@ -28,11 +28,6 @@ pub record IsScanned (content : List ℕ) (state : State) (area bytes : ℕ) : T
   pub inside : area + bytes ≤ length content
   pub same : (place : ℕ) → InRange area bytes place → slice_index state.seen place ≡ slice_index content place
 
--- and the window holds a part of it
-pub record IsReadAs (content : List ℕ) (state : State) (area bytes : ℕ) (window : WindowState) : Type 0 where
-  pub scanned : IsScanned content state area bytes
-  pub held : (k : ℕ) → k < window.held → slice_index window.buffer k ≡ slice_index content (area + window.from + k)
-
 -- the gate is open, and no next group stands behind it that leaves room for a gate in front of `end`
 pub record HasNoGroup (image : ℕ) (content : List ℕ) (gate next end : ℕ) : Type 0 where
   pub is_open : IsOpen content gate

@@ -14,13 +14,6 @@ use Rattle.journal_format.specs.declared.touch.StoredEdges.{StoredEdges}
 use Rattle.journal_format.specs.declared.touch.TouchedRange.{TouchedRange}
 use Rattle.journal_format.specs.Spelling.{StoredGroup, change_bytes, body_of_group}
 
--- where the bytes that a change brings stand, if it stands at this place of the device: behind its head of 13 bytes, and
--- with edges behind the byte that says which
-abbrev pub data_place : ℕ → Change → ℕ
-data_place place (Written first bytes) = place + 13
-data_place place (Cleared first blocks kind) = place + 13
-data_place place (Edged first blocks kind edges bytes) = place + 14
-
 -- the last of so many blocks from the first on, as a number of 64 bits
 abbrev pub tail_block : ℕ → ℕ → ℕ
 tail_block first blocks = (first + (blocks - 1)) % 18446744073709551616

@@ -1,1 +1,2 @@
+pub mod GroupList
 pub mod Scanning

@@ -1,7 +1,7 @@
 ghost use Rattle.std.specs.Prelude.{◌≡◌, ℕ, ◌+◌, ◌≤◌, ◌<◌, ◌-◌, min, List, length, slice_index, OnOk, IfOk, IsTrue, ◌↔◌};
 ghost use Rattle.disk_model.specs.Faults.{faults_after};
 ghost use Rattle.journal_format.specs.Reading.{IsOnlyRead};
-ghost use Rattle.journal_format.specs.Scanning.{IsReadAs};
+ghost use Rattle.journal_format.specs.inner.Scanning.{IsReadAs};
 
 use disk_model::{DeviceFault, Disk};
 use std::alloc::{AllocError, Global};

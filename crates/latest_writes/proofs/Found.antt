@@ -11,8 +11,8 @@ use Rattle.latest_writes.specs.declared.range.LastRange.{LastRange}
 use Rattle.latest_writes.specs.declared.range.PutRange.{PutRange}
 use Rattle.latest_writes.specs.Touches.{HasBytesWithin, later, said_by, touch_within}
 use Rattle.latest_writes.specs.Ranges.{AreLongest, AreRanges, EndsBefore, touch_at}
-use Rattle.latest_writes.specs.Puts.{HasNoPut, IsNextPut, is_put, put_from, put_of, puts_of}
-use Rattle.latest_writes.specs.inner.Puts.{EndsBehind, EndsBy}
+use Rattle.latest_writes.specs.Puts.{HasNoPut, IsNextPut, is_put, put_of, puts_of}
+use Rattle.latest_writes.specs.inner.Puts.{put_from, EndsBehind, EndsBy}
 use Rattle.latest_writes.specs.laws.Said.{said_before, said_behind, said_inside, said_by_none_before, same_some, some_is_none, touch_at_first, touch_at_rest, touch_within_zero}
 
 -- a put of ranges that begin at a block: each of its blocks was put last, and it is as long as can be

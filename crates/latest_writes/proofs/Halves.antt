@@ -7,7 +7,8 @@ use Rattle.journal_format.specs.laws.LastTouches.{last_touch-append}
 use Rattle.latest_writes.specs.declared.touch.LastTouch.{LastTouch}
 use Rattle.latest_writes.specs.declared.range.LastRange.{LastRange}
 use Rattle.latest_writes.specs.Touches.{later, touch_on_device}
-use Rattle.latest_writes.specs.Ranges.{AreLaidOver, AreLastTouches, touch_at}
+use Rattle.latest_writes.specs.Ranges.{AreLastTouches, touch_at}
+use Rattle.latest_writes.specs.inner.Ranges.{AreLaidOver}
 
 later_on_device : (from : ℕ) (first second : Option LastTouch) → touch_on_device from (later first second) ≡ journal.later (touch_on_device from first) (touch_on_device from second)
 later_on_device from first None = refl

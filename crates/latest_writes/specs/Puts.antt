@@ -1,5 +1,5 @@
 -- The blocks whose last touch is a put.
-use Rattle.std.specs.Prelude.{ℕ, ◌≡◌, ◌≢◌, ◌+◌, ◌-◌, ◌*◌, ◌<◌, ◌≤◌, Bool, true, false, List, [], ◌∷◌, Option, Some, None}
+use Rattle.std.specs.Prelude.{ℕ, ◌≡◌, ◌≢◌, ◌+◌, ◌*◌, ◌<◌, ◌≤◌, Bool, true, false, List, [], ◌∷◌, Option, Some, None}
 use Rattle.std.specs.List.{flat_map}
 use Rattle.latest_writes.specs.declared.touch.LastTouch.{LastTouch}
 use Rattle.latest_writes.specs.declared.touch.LastTouch.TheVariants.{Put, Clear}
@@ -25,14 +25,6 @@ pub record IsNextPut (from : ℕ) (ranges : List LastRange) (put : PutRange) : T
   pub some : 1 ≤ put.blocks
   pub puts : (k : ℕ) → k < put.blocks → touch_at (put.first + k) ranges ≡ Some (Put (put.place + 4096 * k))
   pub longest : touch_at (put.first + put.blocks) ranges ≢ Some (Put (put.place + 4096 * put.blocks))
-
--- the blocks of a put from this one on
-abbrev pub put_from : ℕ → PutRange → PutRange
-put_from block put = record {
-  first = put.first + (block - put.first);
-  blocks = put.blocks - (block - put.first);
-  place = put.place + 4096 * (block - put.first);
-}
 
 -- what of a range are puts
 abbrev pub put_of : ℕ → ℕ → LastTouch → List PutRange

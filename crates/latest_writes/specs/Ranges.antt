@@ -42,9 +42,3 @@ pub record AreLastTouches (from blocks : ℕ) (touched : List TouchedRange) (ran
   pub longest : AreLongest ranges
   pub exact : (block : ℕ) → block < blocks → touch_on_device from (touch_at block ranges) ≡ last_touch block touched
   pub none : (block : ℕ) → blocks ≤ block → touch_at block ranges ≡ None
-
--- the newer ranges laid over the older ones
-pub record AreLaidOver (older newer ranges : List LastRange) : Type 0 where
-  pub apart : AreRanges 0 4294967295 ranges
-  pub longest : AreLongest ranges
-  pub exact : (block : ℕ) → touch_at block ranges ≡ later (touch_at block older) (touch_at block newer)

@@ -1,8 +1,8 @@
 ghost use Rattle.std.specs.Prelude.{◌≡◌, ◌+◌, ◌<◌, ◌≤◌, ℕ, List, [], ◌∷◌, length, drop, IfOk, IfSome, IfNone, OnSome, OnOk};
 ghost use Rattle.std.specs.Option.{option_map_or};
 ghost use Rattle.latest_writes.specs.declared.range.LastRange.{LastRange};
-ghost use Rattle.latest_writes.specs.Ranges.{AreLaidOver, AreLongest, AreRanges, IsRange, touch_at};
-ghost use Rattle.latest_writes.specs.inner.Ranges.{AreLeft, IsNextLaid, IsPartOf, left_at};
+ghost use Rattle.latest_writes.specs.Ranges.{AreLongest, AreRanges, IsRange, touch_at};
+ghost use Rattle.latest_writes.specs.inner.Ranges.{AreLaidOver, AreLeft, IsNextLaid, IsPartOf, left_at};
 ghost use Rattle.latest_writes.specs.Touches.{later, said_by};
 
 use crate::range::LastRange;

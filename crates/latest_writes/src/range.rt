@@ -1,6 +1,6 @@
 ghost use Rattle.std.specs.Prelude.{◌≡◌, ◌+◌, ◌-◌, ◌*◌, ◌<◌, ◌≤◌, ◌↔◌, min, nat_le, ℕ, None, IsTrue, IfSome};
 ghost use Rattle.std.specs.Option.{option_to_list};
-ghost use Rattle.latest_writes.specs.Puts.{put_from};
+ghost use Rattle.latest_writes.specs.inner.Puts.{put_from};
 ghost use Rattle.latest_writes.specs.Ranges.{GoesOn, IsRange, touch_at};
 ghost use Rattle.latest_writes.specs.Touches.{HasBytesWithin, on_device, touch_on_device, touch_within};
 ghost use Rattle.journal_format.specs.Touches.{IsWithin, touch_in};

@@ -11,10 +11,6 @@ in_three out h a b one two three head first last p p' q q' r r' =
     r ∙ (λ i. (q ∙ ap (λ (t : List ℕ). t ++ a) p) i ++ b) ∙ append_assoc (out ++ h) a b ∙ append_assoc out h (a ++ b)
     ∙ (λ i. out ++ (p' i ++ (q' i ++ r' i)))
 
-pub in_two : (out a b one two first last : List ℕ) → one ≡ out ++ a → a ≡ first → two ≡ one ++ b → b ≡ last → two ≡ out ++ (first ++ last)
-in_two out a b one two first last p p' q q' =
-    q ∙ ap (λ (t : List ℕ). t ++ b) p ∙ append_assoc out a b ∙ (λ i. out ++ (p' i ++ q' i))
-
 pub on_err : {T E : Type 0} (r : Result T E) (P : Type 0) → P → OnErr r P
 on_err (Ok x) P p = tt
 on_err (Err e) P p = p

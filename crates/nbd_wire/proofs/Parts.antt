@@ -1,5 +1,5 @@
 -- A piece that ends neither a head nor data: no request comes of it, and no fault.
-use Rattle.std.proofs.Common.{◌≡◌, ℕ, ◌<◌, ◌≤◌, ◌⊎◌, inl, inr, List, [], length, take, drop, refl, ap, ◌∙◌, length-take, arith}
+use Rattle.std.proofs.Common.{◌≡◌, ℕ, ◌<◌, ◌≤◌, ◌⊎◌, inl, inr, List, [], length, take, drop, ap, ◌∙◌, length-take, arith}
 use Rattle.std.specs.Prelude.{min}
 use Rattle.std.proofs.lemmas.List.{take_all, drop_all}
 use Rattle.nbd_wire.specs.declared.stream.State.{State}
@@ -13,9 +13,6 @@ use Rattle.nbd_wire.specs.inner.State.{wanted_of, IsGoing}
 pub record Quiet (piece behind : List ℕ) (old new : State) (requests : List Message) : Type 0 where
   pub none : requests ≡ []
   pub place : ((behind ≡ piece) × (new ≡ old)) ⊎ ((behind ≡ []) × IsGoing (reading (kept new)))
-
-pub Quiet-start : (piece : List ℕ) (old : State) (requests : List Message) → requests ≡ [] → Quiet piece piece old old requests
-Quiet-start piece old requests none = record { none = none; place = inl (refl, refl) }
 
 missing_le : (state : State) → IsState state → missing_len (reading (kept state)) ≤ wanted_of state
 missing_le (Head bytes count) sound = omega (arith, length-take count bytes, sound.0, sound.1)
@@ -42,13 +39,3 @@ going (Head bytes count) more = tt
 going (Data head bytes) more = tt
 going (Discard head count) more = tt
 going (Failed fault) more = absurd (omega arith)
-
-pub Quiet-end : (piece behind : List ℕ) (old new : State) (requests : List Message) → length piece < missing_len (reading (kept old)) → Quiet piece behind old new requests → behind ≡ []
-    → (requests ≡ []) × IsGoing (reading (kept new))
-Quiet-end piece behind old new requests part quiet none = (
-  quiet.none,
-  elim quiet.place [
-    | inl same ↦ going new (rw same.1 (omega (arith, part)))
-    | inr done ↦ done.1
-  ],
-)

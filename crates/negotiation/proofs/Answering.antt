@@ -14,15 +14,12 @@ use Rattle.negotiation.specs.Dialog.{HasNoDisc, is_disc}
 use Rattle.negotiation.specs.declared.end.End.{End}
 use Rattle.nbd_wire.specs.Writes.{WritesPart}
 use Rattle.nbd_wire.specs.declared.bytes.StreamFault.{StreamFault}
-use Rattle.negotiation.specs.Streams.{Writes}
+use Rattle.negotiation.specs.inner.Streams.{Writes}
 use Rattle.negotiation.specs.Talk.{Answers, AreSteps, Exchange, asked, exchange_text, is_whole, talk_text}
 use Rattle.negotiation.specs.inner.Talk.{ServesOn}
 use Rattle.nbd_wire.specs.laws.Bytes.{appends_none, appends_on}
 
 -- ---- writing
-
-pub writes_nothing : (output : Option (List ℕ)) (due : List ℕ) → Writes output output due due true
-writes_nothing output due = record { text = []; unsent = due; begins = refl; written = appends_none output; left = λ e. refl }
 
 pub writes_part : (old new : Option (List ℕ)) (before after : List ℕ) (result : Result (Unit {0}) StreamFault) → WritesPart old new before result → after ≡ [] → Writes old new before after (is_ok result)
 writes_part old new before after (Ok done) part none = record { text = before; unsent = []; begins = sym (append-nil before); written = part; left = λ e. none }

@@ -13,7 +13,7 @@ use Rattle.negotiation.specs.declared.end.End.{End}
 use Rattle.negotiation.specs.declared.end.End.TheVariants.{IoFault, NoMemory, PeerClosed, ProtocolEnd}
 use Rattle.negotiation.specs.laws.Dialogs.{hears_none, hears_then}
 use Rattle.negotiation.specs.Hearing.{Hearing, IsTimely, ReadsOn, Tells, piece_bytes}
-use Rattle.negotiation.specs.Streams.{Writes}
+use Rattle.negotiation.specs.inner.Streams.{Writes}
 use Rattle.option_wire.specs.Handshake.{greeting_bytes}
 use Rattle.negotiation.specs.Answered.{answer_bytes}
 use Rattle.nbd_wire.specs.laws.Bytes.{appends_none, appends_on, consumes_kept, consumes_none, consumes_on}

@@ -20,8 +20,8 @@ use Rattle.negotiation.specs.declared.stage.Stage.{Stage}
 use Rattle.negotiation.specs.declared.stage.Stage.TheVariants as stages
 use Rattle.negotiation.specs.Dialog.{IsNoOption, IsTooLong, Leaves, Standing, Turn, broken, ended, exhausted, in_discard, in_flags, in_head, in_option, in_requests, kept_limit, most_bytes, answers_text, silent}
 use Rattle.negotiation.specs.Ends.{end_for}
-use Rattle.negotiation.specs.Session.{Feeds, HearsOn, IsBehind, IsGreeted, IsLongPart, IsSaid, SessionState, Step, end_of, greeting_due, handed, held_by, standing_of, wanted_of}
-use Rattle.negotiation.specs.inner.Session.{Advances, Greets, Hands, IsData, Runs, Settles, state_of}
+use Rattle.negotiation.specs.Session.{Feeds, HearsOn, IsBehind, IsGreeted, IsSaid, SessionState, end_of, greeting_due, handed, held_by, standing_of}
+use Rattle.negotiation.specs.inner.Session.{IsLongPart, Step, wanted_of, Advances, Greets, Hands, IsData, Runs, Settles, state_of}
 use Rattle.negotiation.specs.declared.stage.Talk.{Talk}
 use Rattle.negotiation.specs.laws.Dialogs.{hears_none, hears_on, hears_then, session_at}
 

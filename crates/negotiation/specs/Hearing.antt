@@ -28,10 +28,6 @@ pub record IsTimely (old : SessionState) (bytes : List ℕ) : Type 0 where
 abbrev pub ReadsOn : SessionState → Option (List ℕ) → Option (List ℕ) → List ℕ → Type 0
 ReadsOn old input left bytes = Consumes input left bytes × ((bytes ≡ []) ⊎ IsTimely old bytes)
 
--- some bytes were read off a stream
-abbrev pub ReadsSome : Option (List ℕ) → Option (List ℕ) → Type 0
-ReadsSome input left = (bytes : List ℕ) × (0 < length bytes) × Consumes input left bytes
-
 -- What an outcome says. At Ok all replies are written, and all bytes were heard, but where memory ran out behind the requests
 -- that are handed out. Where memory ran out, or a stream failed, it says nothing of the input.
 abbrev pub Tells : List Message → List ℕ → List ℕ → SessionState → SessionState → Result (Vec Message) End → Type 0

@@ -1,23 +1,19 @@
 -- What a session holds, and what a piece of its input comes to.
-use Rattle.std.specs.Prelude.{◌≡◌, ◌⊎◌, ℕ, ◌+◌, ◌-◌, ◌<◌, ◌≤◌, Option, Some, None, List, [], ◌∷◌, ◌++◌, length, Result, Ok, Err}
+use Rattle.std.specs.Prelude.{◌≡◌, ◌⊎◌, ℕ, ◌+◌, ◌<◌, ◌≤◌, Option, Some, None, List, [], ◌++◌, length, Result, Ok, Err}
 use Rattle.std.specs.Global.{Vec}
 use Rattle.std.specs.Io.KnownBytes.{Consumes, IsAtEnd}
 use Rattle.std.specs.Option.{option_map}
 use Rattle.nbd_wire.specs.Request.{Message}
-use Rattle.nbd_wire.specs.Stream.{fresh, held, end_of as end_of_requests, room_of as room_of_reader}
-use Rattle.option_wire.specs.Handshake.{client_flags_bytes, greeting_bytes}
-use Rattle.option_wire.specs.Head.{option_head}
-use Rattle.option_wire.specs.declared.handshake.ClientFlags.{ClientFlags}
+use Rattle.nbd_wire.specs.Stream.{held, end_of as end_of_requests, room_of as room_of_reader}
+use Rattle.option_wire.specs.Handshake.{greeting_bytes}
 use Rattle.negotiation.specs.declared.answer.Agreed.{Agreed}
-use Rattle.negotiation.specs.declared.answer.Next.{Next}
 use Rattle.negotiation.specs.declared.answer.Next.TheVariants as behind
 use Rattle.negotiation.specs.declared.end.End.{End}
 use Rattle.negotiation.specs.declared.end.End.TheVariants.{NoMemory, ProtocolEnd}
 use Rattle.negotiation.specs.declared.stage.Stage.{Stage}
-use Rattle.negotiation.specs.declared.stage.Talk.{Talk}
 use Rattle.negotiation.specs.declared.stage.Stage.TheVariants as stages
 use Rattle.negotiation.specs.Ends.{end_for}
-use Rattle.negotiation.specs.Dialog.{Hears, IsAccepted, IsTurn, Leaves, LeavesFlags, Outcome, Standing, Turn, agreed_with, answers_text, broken, ended, exhausted, in_discard, in_flags, in_head, in_option, in_requests, kept_limit, most_bytes, silent}
+use Rattle.negotiation.specs.Dialog.{Hears, Outcome, Standing, Turn, answers_text, broken, ended, exhausted, in_discard, in_flags, in_head, in_option, in_requests, kept_limit, silent}
 
 -- the size of the export, what is agreed on, and what was read last
 pub record SessionState : Type 0 where
@@ -56,55 +52,6 @@ IsGreeted stages.Exhausted = Unit {0}
 abbrev pub IsStage : Stage → Type 0
 IsStage stages.Silent = Unit {0}
 IsStage stage = IsGreeted stage
-
--- how many bytes end what is read of a handshake, none where it isn't one
-abbrev pub wanted_of : Stage → ℕ
-wanted_of stages.Silent = 0
-wanted_of (stages.Flags bytes) = 4 - length bytes.items
-wanted_of (stages.Head bytes) = 16 - length bytes.items
-wanted_of (stages.Data head bytes) = head.length - length bytes.items
-wanted_of (stages.Discard option missing) = missing
-wanted_of (stages.Requests reader) = 0
-wanted_of stages.Ended = 0
-wanted_of stages.Broken = 0
-wanted_of stages.Exhausted = 0
-
--- what is read behind an option
-abbrev pub standing_behind : Next → Standing
-standing_behind behind.Option = in_head []
-standing_behind behind.Transmission = in_requests fresh
-standing_behind behind.End = ended
-standing_behind behind.Fault = broken
-
--- What a text that begins with an option comes to: it is whole, and answered, or this is left of it.
-abbrev pub Takes : Agreed → ℕ → List ℕ → List Turn → Agreed → Standing → Type 0
-Takes agreed size text [] new standing = (new ≡ agreed) × Leaves standing text
-Takes agreed size text (turn ∷ []) new standing =
-    IsTurn agreed size text turn × (new ≡ turn.answer.agreed) × (standing ≡ standing_behind turn.answer.next)
-Takes agreed size text (turn ∷ other ∷ turns) new standing = ⊥
-
--- any text of this kind was read, and the answer to the option, if it is whole, was written
-pub record Step (agreed : Agreed) (size : ℕ) (IsText : List ℕ → Type 0) (before after : List ℕ) (talk : Talk) : Type 0 where
-  pub turns : List Turn
-  pub takes : (text : List ℕ) → IsText text → Takes agreed size text turns talk.agreed (standing_of talk.stage)
-  pub written : after ≡ before ++ answers_text turns
-
--- the first bytes of an option whose data come next
-abbrev pub IsPart : ℕ → ℕ → List ℕ → List ℕ → Type 0
-IsPart code size bytes text = text ≡ option_head code size ++ bytes
-
--- the same where the data are thrown away, up to the last `missing` ones
-abbrev pub IsLongPart : ℕ → ℕ → List ℕ → Type 0
-IsLongPart code missing text =
-    (sent : List ℕ) × (kept_limit < length sent + missing) × (length sent + missing ≤ most_bytes code)
-    × (text ≡ option_head code (length sent + missing) ++ sent)
-
--- what comes of the client's flags
-abbrev pub TakesFlags : Agreed → List ℕ → Agreed → Standing → Type 0
-TakesFlags agreed text new standing =
-    ((new ≡ agreed) × LeavesFlags standing text)
-    ⊎ ((client : ClientFlags) × IsAccepted client × (text ≡ client_flags_bytes client) × (new ≡ agreed_with client agreed)
-    × (standing ≡ in_head []))
 
 -- A session that had read any stream up to here has read the stream and the piece, with these further options and requests.
 abbrev pub HearsOn : SessionState → List ℕ → List Turn → List Message → SessionState → Type 0

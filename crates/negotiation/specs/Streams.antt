@@ -1,6 +1,4 @@
--- What writing to a stream comes to.
-use Rattle.std.specs.Prelude.{ℕ, ◌≡◌, Bool, true, List, ◌++◌, Option}
-use Rattle.std.specs.Io.KnownBytes.{Appends}
+-- Ends that say nothing of what was read.
 use Rattle.negotiation.specs.declared.end.End.{End}
 use Rattle.negotiation.specs.declared.end.End.TheVariants.{IoFault, NoMemory, PeerClosed, ProtocolEnd}
 
@@ -10,11 +8,3 @@ IsEarly NoMemory = Unit {0}
 IsEarly PeerClosed = ⊥
 IsEarly ProtocolEnd = ⊥
 IsEarly IoFault = Unit {0}
-
--- Of what was due the first bytes were written, and the others are due still; where that failed they are lost.
-pub record Writes (old new : Option (List ℕ)) (before after : List ℕ) (is_kept : Bool) : Type 0 where
-  pub text : List ℕ
-  pub unsent : List ℕ
-  pub begins : before ≡ text ++ unsent
-  pub written : Appends old new text
-  pub left : is_kept ≡ true → after ≡ unsent

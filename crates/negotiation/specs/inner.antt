@@ -1,3 +1,4 @@
-pub mod Session
 pub mod Hearing
+pub mod Session
+pub mod Streams
 pub mod Talk

@@ -5,8 +5,8 @@ ghost use Rattle.nbd_wire.specs.Request.{Message};
 ghost use Rattle.negotiation.specs.Dialog.{HasNoDisc, ended};
 ghost use Rattle.negotiation.specs.Session.{Fills, IsBehind, IsOpen, IsSaid, end_of, room_of};
 ghost use Rattle.negotiation.specs.declared.end.End.{End};
-ghost use Rattle.negotiation.specs.Hearing.{Hearing, ReadsOn, ReadsSome, piece_bytes};
-ghost use Rattle.negotiation.specs.inner.Hearing.{as_outcome};
+ghost use Rattle.negotiation.specs.Hearing.{Hearing, ReadsOn, piece_bytes};
+ghost use Rattle.negotiation.specs.inner.Hearing.{ReadsSome, as_outcome};
 ghost use Rattle.negotiation.specs.Streams.{IsEarly};
 
 use crate::end::End;

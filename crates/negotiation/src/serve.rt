@@ -5,7 +5,8 @@ ghost use Rattle.negotiation.specs.Dialog.{HasNoDisc, is_disc};
 ghost use Rattle.nbd_wire.specs.declared.message.Reply.{Reply};
 ghost use Rattle.nbd_wire.specs.declared.message.SessionFlags.{SessionFlags};
 ghost use Rattle.image_model.specs.declared.geometry.Geometry.{Geometry};
-ghost use Rattle.negotiation.specs.Streams.{IsEarly, Writes};
+ghost use Rattle.negotiation.specs.Streams.{IsEarly};
+ghost use Rattle.negotiation.specs.inner.Streams.{Writes};
 ghost use Rattle.negotiation.specs.Talk.{Answers, IsStep, is_thrown_away, is_whole};
 ghost use Rattle.negotiation.specs.inner.Talk.{ServesOn};
 

@@ -2,8 +2,8 @@ ghost use Rattle.std.specs.Prelude.{◌≡◌, ◌⊎◌, ◌↔◌, ℕ, ◌*�
 ghost use Rattle.std.specs.Io.KnownBytes.{Keeps};
 ghost use Rattle.negotiation.specs.declared.stage.Talk.{Talk};
 ghost use Rattle.negotiation.specs.Dialog.{HasNoDisc, ended, in_requests, is_disc, plain, silent};
-ghost use Rattle.negotiation.specs.Session.{Feeds, Fills, IsBehind, IsGreeted, IsSaid, IsStage, end_of, handed, held_by, room_of, standing_of, wanted_of};
-ghost use Rattle.negotiation.specs.inner.Session.{Advances, Greets, Hands, HandsNone, Runs, state_of};
+ghost use Rattle.negotiation.specs.Session.{Feeds, Fills, IsBehind, IsGreeted, IsSaid, IsStage, end_of, handed, held_by, room_of, standing_of};
+ghost use Rattle.negotiation.specs.inner.Session.{wanted_of, Advances, Greets, Hands, HandsNone, Runs, state_of};
 
 use crate::answer::Agreed;
 use crate::end::End;

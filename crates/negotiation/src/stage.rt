@@ -2,8 +2,8 @@ ghost use Rattle.std.specs.Prelude.{◌≡◌, ℕ, ◌+◌, ◌-◌, ◌≤◌,
 ghost use Rattle.option_wire.specs.Head.{option_head};
 ghost use Rattle.negotiation.specs.Answered.{AreShort};
 ghost use Rattle.negotiation.specs.Dialog.{Leaves, kept_limit, most_bytes};
-ghost use Rattle.negotiation.specs.Session.{IsGreeted, IsLongPart, IsPart, Step, TakesFlags, standing_behind, standing_of, wanted_of};
-ghost use Rattle.negotiation.specs.inner.Session.{IsData, Settles};
+ghost use Rattle.negotiation.specs.Session.{IsGreeted, standing_of};
+ghost use Rattle.negotiation.specs.inner.Session.{IsLongPart, IsPart, Step, TakesFlags, standing_behind, wanted_of, IsData, Settles};
 
 use crate::answer::{Agreed, Next, OptionAnswer};
 use crate::option::{answer_data, refuse_option};

@@ -16,9 +16,7 @@ use Rattle.image_model.specs.Edit.{ByteEdit, BytesPut, BytesZeroed, BytesTrimmed
 use Rattle.image_model.specs.Image.{Image, covers, last_of}
 use Rattle.image_model.specs.laws.Becoming.{get-bytes_of, length-bytes_of}
 use Rattle.image_model.specs.laws.WholeEdits.{back_bytes, bytes_from, front_bytes, put_parts}
-use Rattle.alloc_map.specs.Codes.{state_at}
-use Rattle.shared_cache.specs.Blocks.{is_held}
-use Rattle.shared_cache.specs.Cache.{CacheState, LacksBytes, bytes_seen}
+use Rattle.shared_cache.specs.Cache.{CacheState, bytes_seen}
 use Rattle.shared_cache.specs.laws.Views.{missing_seen}
 use Rattle.order_book.specs.Cached.{dirty_of}
 use Rattle.order_book.specs.Edits.{IsMissing, LacksOld, bytes_or, image_with, is_in_part, needs_old}
@@ -227,15 +225,3 @@ trim_none offset count first end image from to none =
     let more : end_spanned offset count ≤ first_spanned offset = omega (arith, from, to, none) in
     sym (ap (λ (test : Bool). if test then Cleared (first_spanned offset) (end_spanned offset count - first_spanned offset) Hole else Cleared (offset / 4096) 0 Hole)
     (le-ltb (first_spanned offset) (end_spanned offset count) more))
-
--- a block that is missing, as a range of one
-pub lacks_one : (cache : CacheState) (block size : ℕ) → size ≡ 4096 → LacksBytes cache block (size / 4096) → (state_at cache.states block ≡ Data) × (is_held block cache.blocks ≡ false)
-lacks_one cache block size is lacks =
-    let less = lacks.1 in
-    let at : block + lacks.0 ≡ block = omega (arith, is, less) in
-    (ap (state_at cache.states) (sym at) ∙ lacks.2, ap (λ (b : ℕ). is_held b cache.blocks) (sym at) ∙ lacks.3)
-
-pub one_lacks : (cache : CacheState) (block size : ℕ) → size ≡ 4096 → state_at cache.states block ≡ Data → is_held block cache.blocks ≡ false → LacksBytes cache block (size / 4096)
-one_lacks cache block size is stored none =
-    let at : block + 0 ≡ block = omega arith in
-    (0, omega (arith, is), ap (state_at cache.states) at ∙ stored, ap (λ (b : ℕ). is_held b cache.blocks) at ∙ none)

@@ -13,7 +13,7 @@ use Rattle.disk_model.specs.laws.Moments.{ends}
 use Rattle.device_image.specs.Holds.{Holds}
 use Rattle.image_model.specs.Change.{Change}
 use Rattle.image_model.specs.Image.{Image}
-use Rattle.script_runner.specs.Life.{FindsNoMore, IsOpened}
+use Rattle.script_runner.specs.inner.Life.{FindsNoMore, IsOpened}
 use Rattle.order_book.specs.Order.{OrderState}
 use Rattle.export_steps.specs.Bench.{BenchState}
 use Rattle.export_steps.specs.Parts.{IsWorldOf}

@@ -1,10 +1,7 @@
 -- A script's device from one opening to the next crash.
-use Rattle.std.specs.Prelude.{ℕ, ◌≡◌, Bool, false, List}
+use Rattle.std.specs.Prelude.{ℕ}
 use Rattle.device_image.specs.Keeper.{KeeperState}
-use Rattle.device_image.specs.Keeps.{Keeps}
-use Rattle.device_image.specs.Stands.{StandsFor}
-use Rattle.disk_model.specs.Disk.{State, MayLeave}
-use Rattle.image_model.specs.Image.{Image}
+use Rattle.disk_model.specs.Disk.{State}
 use Rattle.order_book.specs.Order.{OrderState}
 use Rattle.export_steps.specs.Bench.{BenchState}
 use Rattle.export_steps.specs.Parts.{IsWorldOf}
@@ -14,21 +11,3 @@ use Rattle.export_model.specs.World.{World}
 abbrev pub IsLifeOf : {D : Type 0} → (D → State) → (D → ℕ) → (D → Type 0) → World → OrderState → KeeperState D → BenchState → Type 0
 IsLifeOf state faults honest world order keeper bench =
     IsWorldOf world order keeper (faults keeper.disk) bench (honest keeper.disk) (state keeper.disk)
-
--- A keeper that was opened, or upgraded, works and keeps an image. A content stands for that image which a crash at the start might
--- have left; an opening keeps its sizes and its layout.
-pub record IsOpened {D : Type 0} (start : State) (upgrades : Bool) (keeper : KeeperState D) (state : State) : Type 0 where
-  pub image : Image
-  pub content : List ℕ
-  pub fixed : MayLeave start content
-  pub stands : StandsFor content image keeper.count
-  pub sizes : upgrades ≡ false → keeper.geometry ≡ stands.header.geometry
-  pub keeps : Keeps keeper state image keeper.count
-
--- a content that a crash might have left of the device stands for this image and this number
-abbrev pub IsFoundFrom : State → Image → ℕ → Type 0
-IsFoundFrom start image number = (content : List ℕ) × MayLeave start content × StandsFor content image number
-
--- whatever a crash may leave of the later device stands for nothing but what a crash might have left of the earlier one
-abbrev pub FindsNoMore : State → State → Type 0
-FindsNoMore before after = (content : List ℕ) (image : Image) (number : ℕ) → MayLeave after content → StandsFor content image number → IsFoundFrom before image number

@@ -2,7 +2,8 @@ ghost use Rattle.std.specs.Prelude.{◌≡◌, IfOk, IfSome};
 ghost use Rattle.checkpoint.specs.Recovery.{IsRecovered};
 ghost use Rattle.device_image.specs.Keeps.{Keeps};
 ghost use Rattle.image_model.specs.Image.{Image};
-ghost use Rattle.script_runner.specs.Life.{IsFoundFrom, IsLifeOf};
+ghost use Rattle.script_runner.specs.Life.{IsLifeOf};
+ghost use Rattle.script_runner.specs.inner.Life.{IsFoundFrom};
 ghost use Rattle.export_steps.specs.Life.{IsNextLife};
 ghost use Rattle.export_model.specs.World.{World};
 

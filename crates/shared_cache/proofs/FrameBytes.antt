@@ -9,7 +9,8 @@ use Rattle.frame_pool.specs.Lists.{times}
 use Rattle.frame_pool.specs.Pool.{DirtyFrame, PoolState, frames_of}
 use Rattle.frame_pool.specs.laws.Times.{times_head}
 use Rattle.shared_cache.specs.Blocks.{DirtyBlock, bytes_of, clean_bytes, dirty_bytes}
-use Rattle.shared_cache.specs.Held.{HeldState, IsHeld, IsMissing, block_at, bytes_at, blocks_of, clean_block, dirty_block, held_times}
+use Rattle.shared_cache.specs.Held.{HeldState, IsHeld, block_at, bytes_at, blocks_of, clean_block, dirty_block, held_times}
+use Rattle.shared_cache.specs.inner.Blocks.{IsMissing}
 
 found_clean : (pool : PoolState) (blocks : List ℕ) (frame : ℕ) (frames : List ℕ)
     → ((other : ℕ) → 1 ≤ times other frames → block_at blocks other ≡ block_at blocks frame → other ≡ frame)

@@ -1,5 +1,5 @@
 -- frames that hold blocks
-use Rattle.std.specs.Prelude.{ℕ, ◌≡◌, ◌≢◌, ◌+◌, ◌≤◌, List, [], length, map, slice_index, slice_index_or, Option, Some}
+use Rattle.std.specs.Prelude.{ℕ, ◌≡◌, ◌+◌, ◌≤◌, List, [], length, map, slice_index, slice_index_or, Option, Some}
 use Rattle.frame_pool.specs.Lists.{times}
 use Rattle.frame_pool.specs.Pool.{DirtyFrame, PoolState, IsPool, frames_of}
 use Rattle.shared_cache.specs.Blocks.{BlocksState, CleanBlock, DirtyBlock}
@@ -31,10 +31,6 @@ pub record IsIndexed (pool : PoolState) (blocks : List ℕ) (lookup : ℕ → Op
   pub size : length blocks ≡ length pool.bytes
   pub found : (frame : ℕ) → 1 ≤ held_times frame pool → lookup (block_at blocks frame) ≡ Some frame
   pub only : (block frame : ℕ) → lookup block ≡ Some frame → (1 ≤ held_times frame pool) × (block_at blocks frame ≡ block)
-
--- The block isn't held.
-abbrev pub IsMissing : ℕ → HeldState → Type 0
-IsMissing block held = (frame : ℕ) → 1 ≤ held_times frame held.pool → block_at held.blocks frame ≢ block
 
 abbrev pub bytes_at : PoolState → ℕ → List ℕ
 bytes_at pool frame = slice_index_or pool.bytes frame []

@@ -3,9 +3,9 @@ ghost use Rattle.std.specs.Option.{option_copied};
 ghost use Rattle.frame_pool.specs.Lists.{times};
 ghost use Rattle.frame_pool.specs.Pool.{DirtyFrame, front_through, with_bytes, with_clean, with_dirty, with_free};
 ghost use Rattle.shared_cache.specs.Blocks.{HasNoFrame, at_hand, bytes_of, cleaned, count_missing, is_dirty, with_fill, with_put, with_puts, without};
-ghost use Rattle.shared_cache.specs.inner.Blocks.{evicted, taken_leaves};
+ghost use Rattle.shared_cache.specs.inner.Blocks.{evicted, taken_leaves, IsMissing};
 ghost use Rattle.image_model.specs.Image.{covers};
-ghost use Rattle.shared_cache.specs.Held.{IsHeld, IsMissing, block_at, blocks_of, held_times};
+ghost use Rattle.shared_cache.specs.Held.{IsHeld, block_at, blocks_of, held_times};
 
 use crate::index;
 use frame_pool::{FramePool, NoFrame};

@@ -1,6 +1,6 @@
 -- Whatever is served, the order has noted the same base.
 use Rattle.std.specs.Prelude.{IfOk, OnErr}
-use Rattle.std.proofs.Common.{◌≡◌, inl, inr, ℕ, Bool, true, false, if◌then◌else◌, Result, Ok, Err, List, ap, refl, drop, ◌-◌}
+use Rattle.std.proofs.Common.{◌≡◌, inl, inr, ℕ, Result, Ok, Err, List, ap}
 use Rattle.device_image.specs.Keeper.{KeeperState}
 use Rattle.disk_model.specs.Disk.{State}
 use Rattle.image_model.specs.Image.{Image}
@@ -8,7 +8,7 @@ use Rattle.image_model.specs.declared.geometry.Geometry.{Geometry}
 use Rattle.nbd_wire.specs.Request.{Message}
 use Rattle.nbd_wire.specs.declared.error.Errno.{Errno}
 use Rattle.nbd_wire.specs.declared.head.RequestHead.{RequestHead}
-use Rattle.order_book.specs.Order.{OrderState, is_published, with_durable}
+use Rattle.order_book.specs.Order.{OrderState}
 use Rattle.order_book.specs.Shown.{ShowsImage}
 use Rattle.order_book.specs.declared.span.Span.{Span}
 use Rattle.request_core.specs.Outcomes.{IsPassed, IsServedBy, IsServedHere}
@@ -62,11 +62,3 @@ pub noted_over : {E : Type 0} (head : RequestHead) (span : Span) (bytes : List �
 noted_over head span bytes old new (Ok served) (inl none) unchanged = same old new none.0
 noted_over head span bytes old new (Ok served) (inr read) unchanged = ap (λ (o : OrderState). o.base) read.order
 noted_over head span bytes old new (Err back) over unchanged = same old new unchanged
-
--- nor does it change with what is durable
-pub noted_durable : (order : OrderState) (count : ℕ) → (with_durable order count).base ≡ order.base
-noted_durable order count = by_published (is_published order count)
-  where
-    by_published : (b : Bool) → (if b then record order { durable = count; bodies = drop (count - order.durable) order.bodies } else order).base ≡ order.base
-    by_published true = refl
-    by_published false = refl

@@ -1,5 +1,5 @@
 -- what setting codes makes of a map's bytes
-use Rattle.std.proofs.Common.{◌≡◌, ◌≢◌, ⊎_elim, ℕ, zero, suc, ◌+◌, ◌-◌, ◌*◌, ◌/◌, ◌%◌, ◌^◌, ◌<◌, ◌≤◌, Bool, true, false, nat_eq, if◌then◌else◌, List, [], ◌∷◌, ◌++◌, append_assoc, length, length-append, replicate, slice_index, slice_set, take, sym, ◌∙◌, ap, arith, rules, subst}
+use Rattle.std.proofs.Common.{◌≡◌, ◌≢◌, ⊎_elim, ℕ, zero, suc, ◌+◌, ◌-◌, ◌*◌, ◌/◌, ◌%◌, ◌^◌, ◌<◌, ◌≤◌, Bool, true, false, nat_eq, if◌then◌else◌, List, length, replicate, slice_index, slice_set, take, sym, ◌∙◌, ap, arith, rules, subst}
 use Rattle.std.proofs.lemmas.Bool.{cases_eq, cases_lt}
 use Rattle.std.proofs.lemmas.Bool.Decides.{nat_tests}
 use Rattle.std.proofs.lemmas.List.{places, ext_get_or, get_or-replicate, get_or-set_other, length-replicate}
@@ -13,7 +13,7 @@ use Rattle.image_model.specs.Patched.{patched}
 use Rattle.image_model.specs.laws.Positions.{filled_at, patched_at}
 use Rattle.alloc_map.specs.Codes.{code_at, code_of, is_state, kind_of, state_at, states_of}
 use Rattle.alloc_map.specs.Map.{IsMap}
-use Rattle.alloc_map.specs.Runs.{IsRun, AreRuns}
+use Rattle.alloc_map.specs.Runs.{IsRun}
 use Rattle.alloc_map.specs.declared.run.Run.{Run}
 use Rattle.alloc_map.specs.laws.Spelling.{kind_of-code_of, code_of-below}
 use Rattle.alloc_map.specs.laws.States.{code_of-kind_of, length-states_of, state_at-states_of}
@@ -205,16 +205,6 @@ run_of_codes blocks bytes states block to end run map are inside some within sam
           ∙ ap code_of (sym (state end (omega (arith, before, there, within, inside))) ∙ ap (state_at states) (sym there) ∙ is ∙ kind ∙ state block (omega (arith, some, within, inside)))
           ∙ code_of-kind_of (code_at bytes block) (map.below_three block));
     }
-
--- one run more behind some
-pub AreRuns-push : (states : List Kind) (from block to limit : ℕ) (runs : List Run) (run : Run)
-    → ((rest : List Run) → AreRuns states block to (limit - length runs) rest → AreRuns states from to limit (runs ++ rest))
-    → length runs < limit → IsRun states block to run
-    → (rest : List Run) → AreRuns states (block + run.blocks) to (limit - length (runs ++ run ∷ [])) rest → AreRuns states from to limit ((runs ++ run ∷ []) ++ rest)
-AreRuns-push states from block to limit runs run so_far room is rest are =
-    let count : limit - length (runs ++ run ∷ []) ≡ limit - length runs - 1 = omega (arith, length-append runs (run ∷ [])) in
-    subst (AreRuns states from to limit) (sym (append_assoc runs (run ∷ []) rest))
-    (so_far (run ∷ rest) (omega (arith, room), is, subst (λ (n : ℕ). AreRuns states (block + run.blocks) to n rest) count are))
 
 -- a part of a run counts where it is of the state that is counted
 counted_part : (states : List Kind) (kind state : Kind) (block n : ℕ) → block + n ≤ length states → ((k : ℕ) → k < n → state_at states (block + k) ≡ state)

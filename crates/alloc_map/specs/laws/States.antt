@@ -8,7 +8,7 @@ use Rattle.image_model.specs.declared.command.Kind.{Kind}
 use Rattle.image_model.specs.declared.command.Kind.TheVariants.{Hole}
 use Rattle.image_model.specs.Geometry.{map_bytes_of}
 use Rattle.alloc_map.specs.Codes.{code_at, code_of, kind_of, state_at, states_of}
-use Rattle.alloc_map.specs.Map.{IsMapOf, IsMap, IsBadMap}
+use Rattle.alloc_map.specs.Map.{IsMapOf, IsMap}
 
 pub length-states_of : (blocks : ℕ) (bytes : List ℕ) → length (states_of blocks bytes) ≡ blocks
 length-states_of blocks bytes = length-map-range_with_len (λ block. kind_of (code_at bytes block)) 0 blocks
@@ -22,11 +22,6 @@ code_of-kind_of zero below = refl
 code_of-kind_of (suc zero) below = refl
 code_of-kind_of (suc (suc zero)) below = refl
 code_of-kind_of (suc (suc (suc code))) below = absurd (omega arith)
-
--- past a list's bytes each code is 0
-pub code_at_past : (bytes : List ℕ) (block : ℕ) → length bytes ≤ block / 4 → code_at bytes block ≡ 0
-code_at_past bytes block past =
-    rw (get_or_past bytes (block / 4) 0 past, zero-div, zero-mod) refl
 
 -- in zero bytes each code is 0
 pub zero_code : (byte block : ℕ) → byte ≡ 0 → byte / 2 ^ (2 * (block % 4)) % 4 ≡ 0
@@ -66,12 +61,6 @@ own_states blocks bytes states map are =
       codes = own_code blocks bytes map;
     }
 
-pub not_bad : (blocks : ℕ) (bytes : List ℕ) → IsMap blocks bytes → IsBadMap blocks bytes → ⊥
-not_bad blocks bytes map (block, bad) = elim bad [
-  | inl three ↦ let below = map.below_three block in omega arith
-  | inr past ↦ let zero = map.padding block past.0 in omega arith
-]
-
 pub map_of_zeroes : (blocks : ℕ) → blocks ≤ 16777216 → IsMap blocks (replicate (map_bytes_of blocks) 0)
 map_of_zeroes blocks few = record {
   few = few;
@@ -86,10 +75,3 @@ states_of-zeroes blocks n bytes are =
     sym (fill_by_all (states bytes) (replicate blocks Hole) blocks Hole
     (length-replicate blocks Hole)
     (λ k below. get_or-replicate blocks k Hole Hole below ∙ sym (ap (λ list. states list k) are ∙ ap kind_of (code_at-replicate n k))))
-
-pub map_of_zero_bytes : (blocks : ℕ) (bytes : List ℕ) → blocks ≤ 16777216 → bytes ≡ replicate (map_bytes_of blocks) 0 → IsMap blocks bytes
-map_of_zero_bytes blocks bytes few are = rw are (map_of_zeroes blocks few)
-
--- a copy of a map has the states of the map
-pub copied_states : (blocks : ℕ) (bytes copied : List ℕ) → IsMap blocks bytes → copied ≡ bytes → IsMapOf bytes (states_of blocks copied)
-copied_states blocks bytes copied map same = own_states blocks bytes (states_of blocks copied) map (ap (states_of blocks) (sym same))

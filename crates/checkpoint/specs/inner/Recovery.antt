@@ -1,6 +1,13 @@
 -- What functions of this crate hand to one another, beside `Recovery`.
 use Rattle.checkpoint.specs.declared.fault.KeeperFault.{KeeperFault}
 use Rattle.checkpoint.specs.declared.fault.KeeperFault.TheVariants.{NoMemory, DeviceFault, BadMap, NoHeader, BadHeader, NumbersFull, AreaFull, OutOfOrder, DamagedGroup, NotNow, Failed, AreaSmall}
+use Rattle.device_image.specs.Keeper.{Phase, One, Copying, Mapped}
+
+-- no checkpoint is under way, or one whose map isn't written
+abbrev pub IsBegun : Phase → Type 0
+IsBegun One = Unit {0}
+IsBegun (Copying left) = Unit {0}
+IsBegun Mapped = ⊥
 
 -- the refusals that the steps of a checkpoint give in their times
 abbrev pub IsRecoveryFault : KeeperFault → Type 0

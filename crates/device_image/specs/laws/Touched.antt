@@ -12,8 +12,8 @@ use Rattle.journal_format.specs.declared.touch.Touch.{Touch}
 use Rattle.journal_format.specs.declared.touch.Touch.TheVariants.{Put, Clear}
 use Rattle.journal_format.specs.GroupList.{Stand, number_behind, size_of, sizes_of}
 use Rattle.journal_format.specs.Spelling.{StoredGroup, change_bytes, change_head, clear_byte, edged_byte, edges_byte}
-use Rattle.journal_format.specs.Touches.{data_place, last_touch, later, touched_by, touched_by_changes, touched_by_groups}
-use Rattle.journal_format.specs.laws.LastTouches.{last_touch-append, slot_inside, touch_of, touches_told}
+use Rattle.journal_format.specs.Touches.{last_touch, later, touched_by, touched_by_changes, touched_by_groups}
+use Rattle.journal_format.specs.laws.LastTouches.{data_place, last_touch-append, slot_inside, touch_of, touches_told}
 use Rattle.journal_format.specs.laws.Spelled.{length-change_head}
 
 abbrev pub IsSoundTouch : ℕ → ℕ → ℕ → ℕ → Option Touch → Type 0

@@ -8,11 +8,11 @@ use Rattle.image_model.specs.Image.{kind_given, slot, touches, writes}
 use Rattle.image_model.specs.laws.Slots.{touched_and_written}
 use Rattle.journal_format.specs.GroupList.{Stand, changes_of, number_behind, size_of}
 use Rattle.journal_format.specs.Spelling.{StoredGroup, change_bytes}
-use Rattle.journal_format.specs.Touches.{data_place, last_touch, later, touched_by, touched_by_changes, touched_by_groups}
+use Rattle.journal_format.specs.Touches.{last_touch, later, touched_by, touched_by_changes, touched_by_groups}
+use Rattle.journal_format.specs.laws.LastTouches.{data_place, last_touch-append, touch_of, touches_told}
 use Rattle.image_model.specs.declared.command.Kind.{Kind}
 use Rattle.journal_format.specs.declared.touch.Touch.{Touch}
 use Rattle.journal_format.specs.declared.touch.TouchedRange.{TouchedRange}
-use Rattle.journal_format.specs.laws.LastTouches.{last_touch-append, touch_of, touches_told}
 use Rattle.device_image.specs.Holds.{is_written}
 use Rattle.device_image.specs.Keeper.{is_put}
 use Rattle.device_image.specs.Remembers.{TellOf}

@@ -1,14 +1,11 @@
 -- commands of an order between two numbers, and the blocks that are dirty behind one
-use Rattle.std.proofs.Common.{◌≡◌, ℕ, ◌+◌, ◌-◌, ◌<◌, ◌≤◌, true, false, Some, List, ◌++◌, length, length-drop, take, drop, ap, ◌∙◌, arith}
-use Rattle.std.proofs.lemmas.Bool.{lt-ltb, le-ltb}
+use Rattle.std.proofs.Common.{◌≡◌, ℕ, ◌+◌, ◌-◌, ◌≤◌, List, ◌++◌, length, length-drop, take, drop, ap, ◌∙◌, arith}
 use Rattle.std.proofs.lemmas.List.{drop-append-le, drop-drop, take-append-le}
 use Rattle.std.proofs.Math.Seq.{take-add}
-use Rattle.std.specs.FinMap.{get, len}
+use Rattle.std.specs.FinMap.{len}
 use Rattle.image_model.specs.Change.{Change}
-use Rattle.image_model.specs.Dirty.{Dirty, dirty_blocks}
-use Rattle.image_model.specs.laws.DirtyCounts.{dirty_all_behind, dirty_fewer}
-use Rattle.export_model.specs.Checkpoint.{can_clean, to_copy}
-use Rattle.export_model.specs.World.{Stage, dirty_behind}
+use Rattle.image_model.specs.Dirty.{dirty_blocks}
+use Rattle.export_model.specs.Checkpoint.{to_copy}
 
 -- commands at the end of the order are none of those before
 pub part_same : (base until : ℕ) (order more : List Change) → base ≤ until → until ≤ length order
@@ -28,15 +25,3 @@ part_more base until further order above beyond =
     ∙ take-add (until - base) (further - until) (drop base order)
     ∙ ap (λ rest. take (until - base) (drop base order) ++ take (further - until) rest)
     (drop-drop (until - base) base order ∙ ap (λ (n : ℕ). drop n order) (let same : base + (until - base) ≡ until = omega (arith, above) in same))
-
--- it is time to let frames go exactly where a dirty block has the number of a command that map and data hold
-pub clean_time : (stage : Stage) → stage.cleaned ≤ stage.base → stage.base ≤ length stage.order → (q number : ℕ)
-    → get (dirty_behind stage.cleaned stage) q ≡ Some number → number ≤ stage.setting.opening + stage.base → can_clean stage ≡ true
-clean_time stage further within q number at below = lt-ltb (len (dirty_behind stage.base stage)) (len (dirty_behind stage.cleaned stage))
-    (dirty_fewer stage.setting.opening stage.order stage.cleaned stage.base further within q number at below)
-
-pub no_clean_time : (stage : Stage) → stage.cleaned ≤ stage.base → stage.base ≤ length stage.order
-    → ((q number : ℕ) → get (dirty_behind stage.cleaned stage) q ≡ Some number → stage.setting.opening + stage.base < number) → can_clean stage ≡ false
-no_clean_time stage further within above =
-    let same = ap (λ (d : Dirty). len d) (dirty_all_behind stage.setting.opening stage.order stage.cleaned stage.base further within above) in
-    le-ltb (len (dirty_behind stage.base stage)) (len (dirty_behind stage.cleaned stage)) (omega (arith, same))

@@ -118,10 +118,6 @@ sound_staged world stage sound more = record {
   right = sound.right;
 }
 
--- an answer that shows an image is none of the others
-shown_no_done : (image : Image) (head : RequestHead) → shown_by image head ≡ Done → ⊥
-shown_no_done image head = of_either (λ (outcome : Answer). outcome ≡ Done → ⊥) (head.kind == 0) _ _ (λ read is. cc) (λ status is. cc)
-
 module _ (world : World) (c : ℕ) (sound : IsSound world) where
   module _ (request : Message) (right : IsRight (facts_of world) c (world.places c) (Requested request)) where
     sound_ready : (errno : Errno) → IsSound (ready world c (Refused errno))

@@ -11,8 +11,8 @@ use Rattle.image_model.specs.Image.{Image, apply_all, touches}
 use Rattle.image_model.specs.declared.command.Kind.TheVariants.{Data}
 use Rattle.image_model.specs.laws.DirtyMaps.{get-dirty_blocks}
 use Rattle.order_book.specs.Reading.{IsCleanAt}
-use Rattle.export_steps.specs.Parts.{first_commands, fronts_at, part, turned_at}
-use Rattle.export_steps.specs.laws.Lives.{IsOrdered, joined_at, take_part}
+use Rattle.export_steps.specs.Parts.{fronts_at, part, turned_at}
+use Rattle.export_steps.specs.laws.Lives.{first_commands, IsOrdered, joined_at, take_part}
 use Rattle.request_core.specs.laws.Commands.{apply_append, all_behind, kind_stays, byte_stays, data_untouched}
 use Rattle.export_model.specs.World.{Stage, dirty_behind, image_after}
 

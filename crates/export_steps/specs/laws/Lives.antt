@@ -11,7 +11,7 @@ use Rattle.image_model.specs.Image.{Image, apply_all}
 use Rattle.image_model.specs.declared.geometry.Geometry.{Geometry}
 use Rattle.journal_format.specs.Group.{Numbered}
 use Rattle.order_book.specs.Order.{OrderState}
-use Rattle.export_steps.specs.Parts.{IsDiskOf, IsKeeperOf, IsOrderOf, StandsAfter, copies_of, first_commands, fronts_at, fronts_of, last_commands, lefts_by, part, turned_at}
+use Rattle.export_steps.specs.Parts.{IsDiskOf, IsKeeperOf, IsOrderOf, StandsAfter, copies_of, fronts_at, fronts_of, last_commands, lefts_by, part, turned_at}
 use Rattle.request_core.specs.laws.Commands.{apply_append, all_behind, all_front, commands_length}
 use Rattle.export_model.specs.World.{Stage, World, image_after}
 use Rattle.export_steps.specs.laws.Orders.{hand_is}
@@ -21,6 +21,10 @@ use Rattle.export_model.specs.Checkpoint.{last_turned}
 use Rattle.export_model.specs.Law.{IsRising, IsWithin}
 use Rattle.export_model.specs.laws.Within.{rising_through, turned_through}
 use Rattle.export_model.specs.laws.Parts.{copied_same, part_more, part_same}
+
+-- all the commands in the areas in front of the last, and those in the last
+abbrev pub first_commands : Stage → List Change
+first_commands stage = part stage.order stage.base (turned_at stage)
 
 -- an order with commands more still begins as it did
 pub stands_more : (order more : List Change) (image : Image) (opening least : ℕ) (content : List ℕ) → StandsAfter order image opening least content

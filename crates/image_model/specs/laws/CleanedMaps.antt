@@ -1,9 +1,9 @@
 -- what stays in a map of dirty blocks once those up to a number are clean
-use Rattle.std.proofs.Common.{◌≡◌, ℕ, ◌+◌, ◌<◌, ◌≤◌, Bool, true, false, cond, nat_lt, if◌then◌else◌, Option, Some, None, List, [], ◌∷◌, ◌++◌, length, sym, ap, ◌∙◌, refl, arith}
+use Rattle.std.proofs.Common.{◌≡◌, ℕ, ◌+◌, ◌<◌, ◌≤◌, Bool, true, false, cond, if◌then◌else◌, Option, Some, None, List, [], ◌∷◌, ◌++◌, length, sym, ap, ◌∙◌, refl, arith}
 use Rattle.std.specs.Cmp.{nat_cmp_total}
 use Rattle.std.specs.Ordering.{nat_cmp}
 use Rattle.std.specs.FinMap.{empty, get, get-empty, get-retain_keys, same_map, nat_cmp-IsAntisymmetric}
-use Rattle.std.proofs.lemmas.Bool.{lt-ltb, ltb-true}
+use Rattle.std.proofs.lemmas.Bool.{lt-ltb}
 use Rattle.std.proofs.lemmas.Bool.Decides.{nat_tests}
 use Rattle.image_model.specs.Change.{Change}
 use Rattle.image_model.specs.Image.{touches, writes}
@@ -37,9 +37,6 @@ none_stays dirty number none = same_dirty _ _ (λ q.
 none_of_empty : (number : ℕ) → NoneAbove number empty
 none_of_empty number q = ap (is_above number) (get-empty nat_cmp q)
 
-clean_empty : (number : ℕ) → clean_through empty number ≡ empty
-clean_empty number = none_stays empty number (none_of_empty number)
-
 above_given : (number own q : ℕ) (change : Change) → number < own → above number (given own q change) ≡ given own q change
 above_given number own q change later =
     elim (writes q change) as (λ w. above number (if w then Some own else None) ≡ (if w then Some own else None)) [
@@ -68,26 +65,6 @@ cleaned-from dirty number last [] within = refl
 cleaned-from dirty number last (change ∷ changes) within =
     cleaned-from (dirty_after dirty (last + 1) change) number (last + 1) changes (omega (arith, within))
     ∙ ap (λ d. dirty_from d (last + 1) changes) (cleaned-after dirty number (last + 1) change (omega (arith, within)))
-
--- what is cleaned through a number, and then through one that is no smaller, is as cleaned through this one at once
-pub cleaned-again : (dirty : Dirty) (number more : ℕ) → number ≤ more → clean_through (clean_through dirty number) more ≡ clean_through dirty more
-cleaned-again dirty number more within = same_dirty _ _ (λ q.
-    get-clean_through (clean_through dirty number) more q
-    ∙ ap (above more) (get-clean_through dirty number q)
-    ∙ twice (get dirty q)
-    ∙ sym (get-clean_through dirty more q))
-  where
-    lower : (own : ℕ) (b c : Bool) → nat_lt number own ≡ b → nat_lt more own ≡ c → above more (cond b (Some own) None) ≡ cond c (Some own) None
-    lower own true c low high = ap (λ (t : Bool). cond t (Some own) None) high
-    lower own false true low high = absurd (omega (arith, within, ltb-true more own high, not_below low))
-      where
-        not_below : nat_lt number own ≡ false → own ≤ number
-        not_below is = grind (arith, nat_tests, is)
-    lower own false false low high = refl
-
-    twice : (found : Option ℕ) → above more (above number found) ≡ above more found
-    twice None = refl
-    twice (Some own) = lower own (nat_lt number own) (nat_lt more own) refl refl
 
 none_of : (number own q : ℕ) (change : Change) (b : Bool) (was : Option ℕ) → own ≤ number → is_above number was ≡ false → is_above number (cond b (given own q change) was) ≡ false
 none_of number own q change false was within none = none
@@ -121,8 +98,3 @@ cleaned-blocks last changes more =
     ∙ cleaned-from (dirty_blocks last changes) (last + length changes) (last + length changes) more (omega arith)
     ∙ ap (λ d. dirty_from d (last + length changes) more)
     (none_stays (dirty_blocks last changes) (last + length changes) (none_above empty last changes (none_of_empty last)))
-
--- a number before theirs cleans none of them
-pub cleaned-earlier : (number last : ℕ) (changes : List Change) → number ≤ last → clean_through (dirty_blocks last changes) number ≡ dirty_blocks last changes
-cleaned-earlier number last changes within =
-    cleaned-from empty number last changes within ∙ ap (λ d. dirty_from d last changes) (clean_empty number)

@@ -20,7 +20,3 @@ areas_some Two = omega arith
 pub areas_fill : (layout : Layout) (area : ℕ) → area % 8192 ≡ 0 → areas_of layout * area_size_of layout area ≡ 2 * area
 areas_fill One area whole = omega arith
 areas_fill Two area whole = omega (arith, whole)
-
-pub size_most : (layout : Layout) (area : ℕ) → area_size_of layout area ≤ area
-size_most One area = omega arith
-size_most Two area = omega arith

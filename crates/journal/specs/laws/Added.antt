@@ -11,7 +11,8 @@ use Rattle.journal_format.specs.Group.{Numbered, IsGroup}
 use Rattle.journal_format.specs.declared.touch.TouchedRange.{TouchedRange}
 use Rattle.journal_format.specs.Spelling.{StoredGroup, stored_of, group_bytes}
 use Rattle.journal_format.specs.Touches.{touched_by_changes, touched_by_groups}
-use Rattle.journal_format.specs.GroupList.{StandsAt, IsOpen, size_of, sizes_of, number_behind, IsNextGroup, IsList, IsHeld, IsListStored, LeavesEither, LeavesGateOrBytes, IsOpenBefore}
+use Rattle.journal_format.specs.GroupList.{StandsAt, IsOpen, size_of, sizes_of, number_behind, IsNextGroup, IsList, IsHeld, IsListStored, LeavesEither}
+use Rattle.journal_format.specs.inner.GroupList.{LeavesGateOrBytes, IsOpenBefore}
 use Rattle.journal_format.specs.laws.Groups.{touched_groups-push}
 use Rattle.journal_format.specs.laws.Spelled.{length-body, length-group, sizes-push, next-push}
 use Rattle.journal_format.specs.laws.Contents.{IsSameFrom, list_ends, list_stays, list_grows}

@@ -1,5 +1,5 @@
 -- What functions of this crate hand to one another, beside `Scanning`.
-use Rattle.std.specs.Prelude.{ℕ, ◌≡◌, ◌+◌, ◌*◌, ◌≤◌, ◌⊎◌, Option, Some, None, List, ◌++◌, ◌||◌, length, if◌then◌else◌, ◌==◌}
+use Rattle.std.specs.Prelude.{ℕ, ◌≡◌, ◌+◌, ◌*◌, ◌≤◌, ◌⊎◌, Option, Some, None, List, ◌++◌, ◌||◌, length, if◌then◌else◌, ◌==◌, ◌<◌, slice_index}
 use Rattle.std.specs.List.{flat_map}
 use Rattle.image_model.specs.declared.command.Edges.{Edges}
 use Rattle.image_model.specs.declared.command.Edges.TheVariants.{Head, Tail, Both}
@@ -11,6 +11,13 @@ use Rattle.journal_format.specs.declared.touch.TouchedRange.{TouchedRange}
 use Rattle.journal_format.specs.GroupList.{StandsAt, IsOpen, size_of, number_behind, IsNextGroup}
 use Rattle.journal_format.specs.Spelling.{StoredGroup, change_bytes, group_bytes}
 use Rattle.journal_format.specs.Touches.{touched_by, touched_by_changes}
+use Rattle.disk_model.specs.Disk.{State}
+use Rattle.journal_format.specs.Scanning.{IsScanned, WindowState}
+
+-- the area is what is scanned, and the window holds a part of it
+pub record IsReadAs (content : List ℕ) (state : State) (area bytes : ℕ) (window : WindowState) : Type 0 where
+  pub scanned : IsScanned content state area bytes
+  pub held : (k : ℕ) → k < window.held → slice_index window.buffer k ≡ slice_index content (area + window.from + k)
 
 -- the kind of a head with edges
 abbrev pub IsEdgedKind : ℕ → Type 0

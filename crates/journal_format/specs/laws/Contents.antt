@@ -9,9 +9,6 @@ use Rattle.journal_format.specs.laws.Spelled.{length-group}
 pub record IsSameFrom (old new : List ℕ) (from end : ℕ) : Type 0 where
   pub same : (place : ℕ) → from ≤ place → place < end → slice_index new place ≡ slice_index old place
 
-pub same_later : {old new : List ℕ} {from end : ℕ} (count : ℕ) → IsSameFrom old new from end → IsSameFrom old new (from + count) end
-same_later count kept = record { same = λ place low high. kept.same place (omega (arith, low)) high }
-
 -- behind the list stands a gate that isn't open
 pub list_ends : (image : ℕ) (content : List ℕ) (place next : ℕ) (groups : List StoredGroup) → Stand image content place next groups → IsOpen content (place + sizes_of groups) → ⊥
 list_ends image content place next [] stand is_open =

@@ -15,9 +15,16 @@ use Rattle.journal_format.specs.declared.touch.Touch.TheVariants.{Put, Clear}
 use Rattle.journal_format.specs.declared.touch.TouchedRange.{TouchedRange}
 use Rattle.journal_format.specs.Spelling.{StoredGroup, edged_byte, edges_byte, change_head, change_bytes, body_of_group, group_head, group_bytes}
 use Rattle.journal_format.specs.GroupList.{StandsAt, size_of, number_behind, changes_of, Stand}
-use Rattle.journal_format.specs.Touches.{byte_after_touch, data_place, edge_ranges, kind_after, last_touch, later, tail_block, touch_in, touched_by, touched_by_changes, touched_by_groups}
+use Rattle.journal_format.specs.Touches.{byte_after_touch, edge_ranges, kind_after, last_touch, later, tail_block, touch_in, touched_by, touched_by_changes, touched_by_groups}
 use Rattle.journal_format.specs.laws.OneList.{front, back}
 use Rattle.journal_format.specs.laws.Spelled.{length-change_head, length-group_head}
+
+-- where the bytes that a change brings stand, if it stands at this place of the device: behind its head of 13 bytes, and
+-- with edges behind the byte that says which
+abbrev pub data_place : ℕ → Change → ℕ
+data_place place (Written first bytes) = place + 13
+data_place place (Cleared first blocks kind) = place + 13
+data_place place (Edged first blocks kind edges bytes) = place + 14
 
 -- the later of two touches
 later_kind : (first second : Option Touch) (kind : Kind) → kind_after second (kind_after first kind) ≡ kind_after (later first second) kind

@@ -3,7 +3,8 @@ use Rattle.std.proofs.Common.{◌≡◌, ℕ, ◌+◌, ◌-◌, ◌≤◌, ◌<�
 use Rattle.disk_model.specs.Disk.{State, IsSound, IsSyncedIn}
 use Rattle.journal_format.specs.GroupList.{StandsAt}
 use Rattle.journal_format.specs.Reading.{IsOnlyRead}
-use Rattle.journal_format.specs.Scanning.{IsReadAs, IsScanned, WindowState}
+use Rattle.journal_format.specs.Scanning.{IsScanned, WindowState}
+use Rattle.journal_format.specs.inner.Scanning.{IsReadAs}
 
 pub scanned_on : {extent : ℕ} {before after : State} (content : List ℕ) (area bytes : ℕ) → IsSound extent before → IsOnlyRead before after → IsScanned content before area bytes → IsScanned content after area bytes
 scanned_on content area bytes sound read known = record {

@@ -1,6 +1,14 @@
 -- What functions of this crate hand to one another, beside `Puts`.
-use Rattle.std.specs.Prelude.{ℕ, ◌+◌, ◌<◌, ◌≤◌}
+use Rattle.std.specs.Prelude.{ℕ, ◌+◌, ◌<◌, ◌≤◌, ◌-◌, ◌*◌}
 use Rattle.latest_writes.specs.declared.range.PutRange.{PutRange}
+
+-- the blocks of a put from this one on
+abbrev pub put_from : ℕ → PutRange → PutRange
+put_from block put = record {
+  first = put.first + (block - put.first);
+  blocks = put.blocks - (block - put.first);
+  place = put.place + 4096 * (block - put.first);
+}
 
 -- a put ends before or at the block, or behind it
 abbrev pub EndsBy : ℕ → PutRange → Type 0

@@ -3,7 +3,13 @@ use Rattle.std.specs.Prelude.{ℕ, ◌≡◌, ◌+◌, ◌<◌, ◌≤◌, nat_l
 use Rattle.latest_writes.specs.declared.touch.LastTouch.{LastTouch}
 use Rattle.latest_writes.specs.declared.range.LastRange.{LastRange}
 use Rattle.latest_writes.specs.Touches.{later, said_by}
-use Rattle.latest_writes.specs.Ranges.{touch_at, IsRange, AreRanges}
+use Rattle.latest_writes.specs.Ranges.{touch_at, IsRange, AreRanges, AreLongest}
+
+-- the newer ranges laid over the older ones
+pub record AreLaidOver (older newer ranges : List LastRange) : Type 0 where
+  pub apart : AreRanges 0 4294967295 ranges
+  pub longest : AreLongest ranges
+  pub exact : (block : ℕ) → touch_at block ranges ≡ later (touch_at block older) (touch_at block newer)
 
 -- what newer ranges laid over older ones say of the block, from `done` on
 abbrev pub left_at : List LastRange → List LastRange → ℕ → ℕ → Option LastTouch

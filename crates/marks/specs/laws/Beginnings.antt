@@ -1,5 +1,5 @@
 -- Beginnings of one list.
-use Rattle.std.proofs.Common.{◌≡◌, ℕ, ◌≤◌, max, nat_le, Bool, true, false, if◌then◌else◌, List, [], ◌∷◌, ◌++◌, length, map, take, drop, refl, ap, sym, ◌∙◌, arith, append_assoc, length-append, take-append-drop}
+use Rattle.std.proofs.Common.{◌≡◌, ℕ, ◌≤◌, nat_le, Bool, true, false, if◌then◌else◌, List, [], ◌∷◌, ◌++◌, length, map, take, drop, refl, ap, sym, ◌∙◌, arith, append_assoc, length-append, take-append-drop}
 use Rattle.std.proofs.lemmas.Bool.Decides.{nat_tests}
 use Rattle.std.proofs.lemmas.List.{map-append}
 use mathlib.Core.List.{IsPrefix}
@@ -48,10 +48,3 @@ longer_by xs ys zs false is p q = (prefix_self xs, prefix_shorter ys xs zs q p (
 
 pub longer_of : (xs ys zs : List Command) → IsPrefix xs zs → IsPrefix ys zs → IsPrefix xs (longer xs ys) × IsPrefix ys (longer xs ys) × IsPrefix (longer xs ys) zs
 longer_of xs ys zs p q = longer_by xs ys zs (nat_le (length xs) (length ys)) refl p q
-
-length_by : (xs ys : List Command) (b : Bool) → nat_le (length xs) (length ys) ≡ b → length (if b then ys else xs) ≡ max (length xs) (length ys)
-length_by xs ys true is = grind (arith, nat_tests, is)
-length_by xs ys false is = grind (arith, nat_tests, is)
-
-pub length-longer : (xs ys : List Command) → length (longer xs ys) ≡ max (length xs) (length ys)
-length-longer xs ys = length_by xs ys (nat_le (length xs) (length ys)) refl

@@ -2,7 +2,7 @@
 use Rattle.std.proofs.Common.{◌≡◌, ◌≢◌, ℕ, ◌-◌, ◌+◌, ◌<◌, ◌≤◌, ◌⊎◌, inl, inr, false, leb, cond, List, [], ◌∷◌, ◌++◌, length, take, refl, sym, ap, subst, ◌∙◌, append_assoc, length-append, arith}
 use Rattle.std.specs.Prelude.{Option, Some, None}
 use Rattle.std.proofs.lemmas.Bool.{le-leb, lt-leb, cond-true}
-use Rattle.std.proofs.lemmas.List.{append-nil, length-take, take-append-le}
+use Rattle.std.proofs.lemmas.List.{append-nil}
 use Rattle.nbd_wire.specs.declared.error.RequestFault.{RequestFault}
 use Rattle.nbd_wire.specs.declared.error.RequestFault.TheVariants.{BadMagic, TooLong}
 use Rattle.nbd_wire.specs.declared.head.RequestHead.{RequestHead}
@@ -10,8 +10,8 @@ use Rattle.nbd_wire.specs.declared.stream.State.{State}
 use Rattle.nbd_wire.specs.declared.stream.State.TheVariants.{Head, Data, Discard, Failed}
 use Rattle.nbd_wire.specs.Head.{request_magic, head_bytes, IsHead}
 use Rattle.nbd_wire.specs.Request.{write_type, payload_limit, stream_limit, Message, data_len, IsRequest}
-use Rattle.nbd_wire.specs.Stream.{Kept, in_head, in_data, in_discard, failed, Reader, reading, starved, fresh, held, IsFault, Keeps, Reads, Begins, Feeds, Fed, IsRun, all_bytes, all_requests}
-use Rattle.nbd_wire.specs.State.{kept, reader_of, IsReader}
+use Rattle.nbd_wire.specs.Stream.{Kept, in_head, in_data, in_discard, failed, Reader, reading, starved, fresh, Keeps, Reads, Begins, Feeds, Fed, IsRun, all_bytes, all_requests}
+use Rattle.nbd_wire.specs.State.{kept}
 use Rattle.nbd_wire.specs.inner.State.{found, Advances, AdvancesTo}
 use Rattle.nbd_wire.specs.laws.Heads.{length-head_bytes, take-head_bytes, one_head_lem}
 use Rattle.nbd_wire.specs.laws.Requests.{same_front, one_request_lem, data_len_write}
@@ -33,29 +33,11 @@ Advances-then first second ms ns old between new one two text keeps =
     subst (λ (t : List ℕ). Reads t (ms ++ ns) new) (append_assoc text first second)
     (Reads-then (text ++ first) second ms ns between new (one text keeps) two)
 
--- a fault stays, whatever comes behind it
-IsFault-append : (fault : RequestFault) (text more : List ℕ) → IsFault fault text → IsFault fault (text ++ more)
-IsFault-append BadMagic text more fault =
-    let same : take 4 (text ++ more) ≡ take 4 text = take-append-le 4 text more (omega (arith, fault.0)) in
-    (omega (arith, fault.0, length-append text more), λ magic. fault.1 (sym same ∙ magic))
-IsFault-append TooLong text more fault =
-    (fault.0, fault.1 ++ more, fault.2, fault.3, fault.4, ap (λ (t : List ℕ). t ++ more) fault.5 ∙ append_assoc (head_bytes fault.0) fault.1 more)
-
-pub Advances-failed : (fault : RequestFault) (piece : List ℕ) → Advances (failed fault) piece [] (failed fault)
-Advances-failed fault piece text keeps = IsFault-append fault text piece keeps
-
 -- a reader that reads a piece bit by bit: what is behind is still to be read
 pub record Step (piece behind : List ℕ) (old new : Kept) (requests : List Message) : Type 0 where
   pub taken : List ℕ
   pub parts : piece ≡ taken ++ behind
   pub reads : Advances old taken requests new
-
-pub Step-start : (piece : List ℕ) (old : Kept) (requests : List Message) → requests ≡ [] → Step piece piece old old requests
-Step-start piece old requests none = record {
-  taken = [];
-  parts = refl;
-  reads = λ text keeps. rw (none, append-nil text) keeps;
-}
 
 pub Step-none : (piece rest front behind : List ℕ) (old between new : Kept) (requests : List Message) (next : Option Message) → Step piece rest old between requests
     → rest ≡ front ++ behind → Advances between front (found next) new → next ≡ None → Step piece behind old new requests
@@ -76,21 +58,10 @@ Step-some piece rest front behind old between new requests more next request ste
       (Advances-then step.taken front requests (found next) old between new step.reads two);
 }
 
-pub Step-end : (piece : List ℕ) (behind : List ℕ) (old new : Kept) (requests : List Message) → Step piece behind old new requests → behind ≡ [] → Advances old piece requests new
-Step-end piece behind old new requests step none =
-    subst (λ (t : List ℕ). Advances old t requests new) (sym (step.parts ∙ ap (λ (t : List ℕ). step.taken ++ t) none ∙ append-nil step.taken)) step.reads
-
 -- memory runs out, and the requests stay as they were
 pub Step-starved : (piece behind : List ℕ) (old between : Kept) (requests same : List Message) → Step piece behind old between requests → same ≡ requests → AdvancesTo old piece same starved
 Step-starved piece behind old between requests same step equal =
     (step.taken, behind, between, step.parts, subst (λ (r : List Message). Advances old step.taken r between) (sym equal) step.reads)
-
-pub held_bound : (state : Option State) → IsReader state → held (reader_of state) < 28 + payload_limit
-held_bound (Some (Head bytes count)) sound = omega (arith, sound.0, length-take count bytes)
-held_bound (Some (Data head bytes)) sound = omega (arith, sound.0.2, sound.1)
-held_bound (Some (Discard head missing)) sound = omega arith
-held_bound (Some (Failed fault)) sound = omega arith
-held_bound None sound = omega arith
 
 pub state_failed : (state : State) (fault : RequestFault) → kept state ≡ failed fault → state ≡ Failed fault
 state_failed (Head bytes count) fault same = cc

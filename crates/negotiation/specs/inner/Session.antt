@@ -1,15 +1,71 @@
 -- What functions of this crate hand to one another, beside `Session`.
-use Rattle.std.specs.Prelude.{◌≡◌, ◌⊎◌, ℕ, Option, Some, List, [], ◌++◌, length}
+use Rattle.std.specs.Prelude.{◌≡◌, ◌⊎◌, ℕ, Option, Some, List, [], ◌++◌, length, ◌+◌, ◌-◌, ◌<◌, ◌≤◌, ◌∷◌}
 use Rattle.std.specs.Io.KnownBytes.{Consumes, IsAtEnd}
 use Rattle.nbd_wire.specs.Request.{Message}
-use Rattle.option_wire.specs.Handshake.{greeting_bytes}
+use Rattle.option_wire.specs.Handshake.{greeting_bytes, client_flags_bytes}
 use Rattle.option_wire.specs.Head.{option_head}
 use Rattle.negotiation.specs.Answered.{Answered, answer_bytes}
 use Rattle.negotiation.specs.declared.answer.Agreed.{Agreed}
 use Rattle.negotiation.specs.declared.end.End.TheVariants.{NoMemory}
 use Rattle.negotiation.specs.declared.stage.Talk.{Talk}
-use Rattle.negotiation.specs.Dialog.{Standing, Turn, answers_text, in_flags, silent}
-use Rattle.negotiation.specs.Session.{SessionState, standing_of, standing_behind, HearsOn, end_of, IsOpen, IsSaid, IsBehind}
+use Rattle.negotiation.specs.Dialog.{Standing, Turn, answers_text, in_flags, silent, IsAccepted, IsTurn, Leaves, LeavesFlags, agreed_with, broken, ended, in_head, in_requests, kept_limit, most_bytes}
+use Rattle.negotiation.specs.Session.{SessionState, standing_of, HearsOn, end_of, IsOpen, IsSaid, IsBehind}
+use Rattle.nbd_wire.specs.Stream.{fresh}
+use Rattle.option_wire.specs.declared.handshake.ClientFlags.{ClientFlags}
+use Rattle.negotiation.specs.declared.answer.Next.{Next}
+use Rattle.negotiation.specs.declared.answer.Next.TheVariants as behind
+use Rattle.negotiation.specs.declared.end.End.{End}
+use Rattle.negotiation.specs.declared.stage.Stage.{Stage}
+use Rattle.negotiation.specs.declared.stage.Stage.TheVariants as stages
+
+-- how many bytes end what is read of a handshake, none where it isn't one
+abbrev pub wanted_of : Stage → ℕ
+wanted_of stages.Silent = 0
+wanted_of (stages.Flags bytes) = 4 - length bytes.items
+wanted_of (stages.Head bytes) = 16 - length bytes.items
+wanted_of (stages.Data head bytes) = head.length - length bytes.items
+wanted_of (stages.Discard option missing) = missing
+wanted_of (stages.Requests reader) = 0
+wanted_of stages.Ended = 0
+wanted_of stages.Broken = 0
+wanted_of stages.Exhausted = 0
+
+-- what is read behind an option
+abbrev pub standing_behind : Next → Standing
+standing_behind behind.Option = in_head []
+standing_behind behind.Transmission = in_requests fresh
+standing_behind behind.End = ended
+standing_behind behind.Fault = broken
+
+-- What a text that begins with an option comes to: it is whole, and answered, or this is left of it.
+abbrev pub Takes : Agreed → ℕ → List ℕ → List Turn → Agreed → Standing → Type 0
+Takes agreed size text [] new standing = (new ≡ agreed) × Leaves standing text
+Takes agreed size text (turn ∷ []) new standing =
+    IsTurn agreed size text turn × (new ≡ turn.answer.agreed) × (standing ≡ standing_behind turn.answer.next)
+Takes agreed size text (turn ∷ other ∷ turns) new standing = ⊥
+
+-- any text of this kind was read, and the answer to the option, if it is whole, was written
+pub record Step (agreed : Agreed) (size : ℕ) (IsText : List ℕ → Type 0) (before after : List ℕ) (talk : Talk) : Type 0 where
+  pub turns : List Turn
+  pub takes : (text : List ℕ) → IsText text → Takes agreed size text turns talk.agreed (standing_of talk.stage)
+  pub written : after ≡ before ++ answers_text turns
+
+-- the first bytes of an option whose data come next
+abbrev pub IsPart : ℕ → ℕ → List ℕ → List ℕ → Type 0
+IsPart code size bytes text = text ≡ option_head code size ++ bytes
+
+-- the same of an option whose data are thrown away, up to the last `missing` ones
+abbrev pub IsLongPart : ℕ → ℕ → List ℕ → Type 0
+IsLongPart code missing text =
+    (sent : List ℕ) × (kept_limit < length sent + missing) × (length sent + missing ≤ most_bytes code)
+    × (text ≡ option_head code (length sent + missing) ++ sent)
+
+-- what comes of the client's flags
+abbrev pub TakesFlags : Agreed → List ℕ → Agreed → Standing → Type 0
+TakesFlags agreed text new standing =
+    ((new ≡ agreed) × LeavesFlags standing text)
+    ⊎ ((client : ClientFlags) × IsAccepted client × (text ≡ client_flags_bytes client) × (new ≡ agreed_with client agreed)
+    × (standing ≡ in_head []))
 
 -- a session over an export of so many bytes
 abbrev pub state_of : ℕ → Talk → SessionState

@@ -3,7 +3,7 @@ use Rattle.std.specs.Prelude.{ℕ, Bool, List, ◌++◌, Option}
 use Rattle.nbd_wire.specs.Request.{Message}
 use Rattle.nbd_wire.specs.declared.message.Reply.{Reply}
 use Rattle.nbd_wire.specs.declared.message.SessionFlags.{SessionFlags}
-use Rattle.negotiation.specs.Streams.{Writes}
+use Rattle.negotiation.specs.inner.Streams.{Writes}
 use Rattle.negotiation.specs.Talk.{exchange_text, IsStep}
 
 -- A request had its step. Of what was due before and its reply behind it the first bytes were written, and the others are due; where

@@ -10,8 +10,8 @@ use Rattle.negotiation.specs.declared.answer.Next.{Next}
 use Rattle.negotiation.specs.declared.answer.Next.TheVariants as behind
 use Rattle.negotiation.specs.Dialog.{Asks, Follows, Hears, IsOver, IsTurn, Leaves, LeavesFlags, Negotiates, Outcome, Standing, Turn, agreed_with, answers_text, broken, ended, in_discard, in_flags, in_head, in_option, plain}
 use Rattle.negotiation.specs.declared.stage.Talk.{Talk}
-use Rattle.negotiation.specs.Session.{HearsOn, IsLongPart, IsPart, SessionState, Step, Takes, TakesFlags, outcome_of, standing_behind, standing_of}
-use Rattle.negotiation.specs.inner.Session.{Advances, Runs, state_of}
+use Rattle.negotiation.specs.Session.{HearsOn, SessionState, outcome_of, standing_of}
+use Rattle.negotiation.specs.inner.Session.{IsLongPart, IsPart, Step, Takes, TakesFlags, standing_behind, Advances, Runs, state_of}
 
 abbrev pub outcome : List Message → Agreed → Standing → Outcome
 outcome requests settled standing = record { requests = requests; agreed = settled; standing = standing }

@@ -21,9 +21,6 @@ pub record Reads {A : Type 0} (f : A → List ℕ) (Fits : A → Type 0) (conten
   pub fits : AllByRecursion Fits items
   pub whole : content ≡ flat_map f items ++ rest
 
-pub Reads-start : {A : Type 0} (f : A → List ℕ) (Fits : A → Type 0) (content : List ℕ) → Reads f Fits content [] content
-Reads-start f Fits content = record { fits = tt; whole = refl }
-
 fits_push : {A : Type 0} (Fits : A → Type 0) (items : List A) (item : A) → AllByRecursion Fits items → Fits item → AllByRecursion Fits (items ++ item ∷ [])
 fits_push Fits [] item all fits = (fits, tt)
 fits_push Fits (x ∷ items) item all fits = (all.0, fits_push Fits items item all.1 fits)
@@ -32,13 +29,6 @@ items_push : {A : Type 0} (f : A → List ℕ) (items : List A) (item : A) (rest
 items_push f [] item rest = ap (λ (t : List ℕ). t ++ rest) (sym (append-nil (f item)))
 items_push f (x ∷ items) item rest =
     append_assoc (f x) (flat_map f items) (f item ++ rest) ∙ ap (λ (t : List ℕ). f x ++ t) (items_push f items item rest) ∙ sym (append_assoc (f x) (flat_map f (items ++ item ∷ [])) rest)
-
-pub Reads-next : {A : Type 0} (f : A → List ℕ) (Fits : A → Type 0) (content : List ℕ) (items new : List A) (item : A) (rest behind : List ℕ) → Reads f Fits content items rest → Fits item
-    → rest ≡ f item ++ behind → new ≡ items ++ item ∷ [] → Reads f Fits content new behind
-Reads-next f Fits content items new item rest behind reads fits is new_is = rw new_is (record {
-  fits = fits_push Fits items item reads.fits fits;
-  whole = reads.whole ∙ ap (λ (t : List ℕ). flat_map f items ++ t) is ∙ items_push f items item behind;
-})
 
 -- what the rest is, where the content is items alone
 pub record Left {A : Type 0} (f : A → List ℕ) (Fits : A → Type 0) (items others : List A) (rest : List ℕ) : Type 0 where

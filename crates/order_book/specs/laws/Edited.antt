@@ -1,24 +1,21 @@
 -- What an edit becomes over an image that is in memory in part, and what the order shows then.
-use Rattle.std.proofs.Common.{◌≡◌, ℕ, ◌+◌, ◌-◌, ◌*◌, ◌/◌, ◌%◌, ◌≤◌, ◌<◌, ◌&&◌, Bool, true, false, not, nat_eq, nat_le, if◌then◌else◌, List, [], ◌++◌, length, replicate, get_or, Option, Some, None, ap, sym, subst, ◌∙◌, refl, arith, length-append}
+use Rattle.std.proofs.Common.{◌≡◌, ℕ, ◌+◌, ◌-◌, ◌*◌, ◌/◌, ◌%◌, ◌≤◌, ◌<◌, ◌&&◌, Bool, true, false, not, nat_eq, nat_le, if◌then◌else◌, List, [], ◌++◌, length, get_or, Option, Some, None, ap, sym, subst, ◌∙◌, refl, arith, length-append}
 use Rattle.std.specs.List.{sum}
 use Rattle.std.proofs.lemmas.Bool.{and_parts, both_ways}
 use Rattle.std.proofs.lemmas.Bool.Decides.{nat_tests}
-use Rattle.std.proofs.lemmas.List.{get_or-replicate, same_lists}
+use Rattle.std.proofs.lemmas.List.{same_lists}
 use Rattle.std.proofs.lemmas.List.FromFn.{get_or-map-range_with_len, length-map-range_with_len}
 use Rattle.std.specs.FinMap.{len}
-use Rattle.alloc_map.specs.Codes.{state_at}
 use Rattle.image_model.specs.declared.command.Kind.{Kind}
-use Rattle.image_model.specs.declared.command.Kind.TheVariants.{Data, Zero, Hole}
 use Rattle.image_model.specs.Change.{Change, Written, Edged}
 use Rattle.image_model.specs.declared.command.Edges.TheVariants.{Head, Tail, Both}
 use Rattle.image_model.specs.Dirty.{frames_suffice, with_blocks}
-use Rattle.image_model.specs.Edit.{ByteEdit, BytesPut, BytesZeroed, BytesTrimmed, IsZeroElsewhere, apply_edit, becomes, blocks_met, byte_edited, bytes_of, cleared_within, count_of, is_partial_data, spans}
+use Rattle.image_model.specs.Edit.{ByteEdit, BytesPut, BytesZeroed, BytesTrimmed, apply_edit, becomes, blocks_met, byte_edited, bytes_of, cleared_within, count_of, is_partial_data, spans}
 use Rattle.image_model.specs.Image.{Image, apply, is_data, last_of}
-use Rattle.image_model.specs.laws.Becoming.{becomes_edit, length-bytes_of}
+use Rattle.image_model.specs.laws.Becoming.{length-bytes_of}
 use Rattle.image_model.specs.laws.WholeEdits.{bytes_from, put_parts, back_bytes, front_bytes}
 use Rattle.marks.specs.Known.{PassState}
-use Rattle.shared_cache.specs.Cache.{CacheState, bytes_for, bytes_seen}
-use Rattle.shared_cache.specs.Blocks.{bytes_of as frame_bytes}
+use Rattle.shared_cache.specs.Cache.{CacheState, bytes_seen}
 use Rattle.order_book.specs.Cached.{ShowsCommand}
 use Rattle.order_book.specs.declared.fault.OrderFault.TheVariants.{NumbersFull, NoRoom, Stopped}
 use Rattle.order_book.specs.Edits.{TakesEdit, bytes_or, image_in, image_with, is_in_part, needs_old}
@@ -45,20 +42,6 @@ module _ (cache : CacheState) (first : ℕ) (head tail : List ℕ) where
 
 pub shows_in : (cache : CacheState) → ShowsImage (image_in cache) cache
 shows_in cache = shows_with cache 0 _ _
-
--- An image that memory shows is zero in blocks that aren't data.
-pub zero_shown : (image : Image) (cache : CacheState) → ShowsImage image cache → IsZeroElsewhere image
-zero_shown image cache shows block k below no_data = by (image.kind block) (shows.states block) no_data
-  where
-    zeros : (kind : Kind) → state_at cache.states block ≡ kind → bytes_for kind (frame_bytes block cache.blocks) ≡ Some (replicate 4096 0) → image.byte (4096 * block + k) ≡ 0
-    zeros kind is seen =
-        sym (shows.bytes block (replicate 4096 0) (ap (λ (s : Kind). bytes_for s (frame_bytes block cache.blocks)) is ∙ seen) k below)
-        ∙ get_or-replicate 4096 k 0 0 below
-
-    by : (kind : Kind) → state_at cache.states block ≡ kind → is_data kind ≡ false → image.byte (4096 * block + k) ≡ 0
-    by Data is not_data = absurd (both_ways true not_data refl)
-    by Zero is not_data = zeros Zero is refl
-    by Hole is not_data = zeros Hole is refl
 
 -- Images with the same states, and with the same bytes in each block whose old bytes the edit needs.
 pub record IsSameFor (edit : ByteEdit) (one other : Image) : Type 0 where
@@ -190,9 +173,3 @@ same_takes edit one other old new before after same t = record {
   seen = subst (λ (change : Change). ShowsCommand change old.cache new.cache) same t.seen;
   shown = subst (λ (change : Change). (given : Image) → ShowsImage given old.cache → ShowsImage (apply change given) new.cache) same t.shown;
 }
-
--- Once an edit was taken over an image that memory shows, it shows that image with the edit carried out.
-pub takes_shown : (edit : ByteEdit) (image : Image) (old new : OrderState) (before after : PassState) → 1 ≤ count_of edit → ShowsImage image old.cache
-    → TakesEdit edit image old new before after → ShowsImage (apply_edit edit image) new.cache
-takes_shown edit image old new before after some shows taken =
-    subst (λ (given : Image). ShowsImage given new.cache) (becomes_edit edit image some (zero_shown image old.cache shows)) (taken.shown image shows)

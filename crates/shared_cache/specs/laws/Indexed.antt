@@ -8,7 +8,8 @@ use Rattle.std.proofs.Math.Dec.{eqb, leb}
 use Rattle.frame_pool.specs.Lists.{times, without, total}
 use Rattle.frame_pool.specs.Pool.{DirtyFrame, PoolState, IsPool, frames_of, lists_in, others, front_through, with_bytes, with_free, with_clean, with_dirty}
 use Rattle.frame_pool.specs.laws.Times.{times-append, times-without_same, times-without_other, times_head, times_other}
-use Rattle.shared_cache.specs.Held.{HeldState, IsHeld, IsIndexed, IsMissing, block_at, held_times}
+use Rattle.shared_cache.specs.Held.{HeldState, IsHeld, IsIndexed, block_at, held_times}
+use Rattle.shared_cache.specs.inner.Blocks.{IsMissing}
 
 pub frames_of-others : (frame : ℕ) (dirty : List DirtyFrame) → frames_of (others frame dirty) ≡ without frame (frames_of dirty)
 frames_of-others frame [] = refl

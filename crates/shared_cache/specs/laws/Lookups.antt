@@ -12,8 +12,8 @@ use Rattle.frame_pool.specs.laws.Times.{times_head, times_other}
 use Rattle.shared_cache.specs.laws.Indexed.{held_before, held_times-free_same}
 use Rattle.shared_cache.specs.laws.Kept.{blocks_of-free, blocks_of-hold_dirty, blocks_of-hold_clean, blocks_of-write_again}
 use Rattle.shared_cache.specs.Blocks.{BlocksState, CleanBlock, DirtyBlock, clean_outside, dirty_outside, is_clean, is_dirty, is_held, taken, count_missing, HasNoFrame, with_fill, with_put, without}
-use Rattle.shared_cache.specs.inner.Blocks.{taken_leaves}
-use Rattle.shared_cache.specs.Held.{HeldState, IsHeld, IsMissing, block_at, blocks_of, clean_block, dirty_block, held_times}
+use Rattle.shared_cache.specs.inner.Blocks.{taken_leaves, IsMissing}
+use Rattle.shared_cache.specs.Held.{HeldState, IsHeld, block_at, blocks_of, clean_block, dirty_block, held_times}
 
 -- a dirty frame's block is dirty, another one isn't
 dirty_among : (pool : PoolState) (blocks : List ℕ) (frame : ℕ) (dirty : List DirtyFrame)

@@ -14,7 +14,8 @@ use Rattle.frame_pool.specs.Lists.{times}
 use Rattle.frame_pool.specs.laws.Times.{times_head}
 use Rattle.shared_cache.specs.laws.Indexed.{frame_below}
 use Rattle.frame_pool.specs.Pool.{DirtyFrame, PoolState, frames_of, front_through, with_clean}
-use Rattle.shared_cache.specs.Held.{HeldState, IsHeld, IsMissing, block_at, blocks_of, clean_block, dirty_block, held_times}
+use Rattle.shared_cache.specs.Held.{HeldState, IsHeld, block_at, blocks_of, clean_block, dirty_block, held_times}
+use Rattle.shared_cache.specs.inner.Blocks.{IsMissing}
 use Rattle.shared_cache.specs.laws.Kept.{blocks_of-clean_front, length-others}
 use Rattle.shared_cache.specs.laws.Lookups.{without_none}
 

@@ -1,6 +1,6 @@
 use Rattle.std.proofs.Common.{◌≡◌, ◌<◌, ℕ, List, refl, rules, sym, ◌∙◌, ap, subst}
 use Rattle.image_model.specs.Geometry.{device_bytes_of}
-use Rattle.checkpoint.specs.Recovery.{IsBegun}
+use Rattle.checkpoint.specs.inner.Recovery.{IsBegun}
 use Rattle.checkpoint.specs.Keeper.{AreSized}
 use Rattle.checkpoint.proofs.Areas.{placed_sized}
 use Rattle.checkpoint.proofs.Rotating.{counted_read, sized_read, uncopied_behind}

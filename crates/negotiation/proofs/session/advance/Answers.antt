@@ -2,8 +2,8 @@ use Rattle.std.proofs.Common.{◌≡◌, ℕ, ◌+◌, ◌-◌, ◌≤◌, ◌++
 use Rattle.std.specs.Prelude.{IfOk}
 use Rattle.std.proofs.lemmas.Result.{IfOk-weaker}
 use Rattle.negotiation.specs.Dialog.{Standing, in_discard}
-use Rattle.negotiation.specs.Session.{IsLongPart, IsPart, Step, TakesFlags, standing_of, wanted_of}
-use Rattle.negotiation.specs.inner.Session.{Advances, state_of}
+use Rattle.negotiation.specs.Session.{standing_of}
+use Rattle.negotiation.specs.inner.Session.{IsLongPart, IsPart, Step, TakesFlags, wanted_of, Advances, state_of}
 use Rattle.negotiation.specs.declared.stage.Stage.{Stage}
 use Rattle.negotiation.specs.declared.stage.Stage.TheVariants as stages
 use Rattle.negotiation.specs.declared.stage.Talk.{Talk}

@@ -1,6 +1,5 @@
 use Rattle.std.proofs.Common.{◌≡◌, ◌++◌, ap, refl, rules, ◌∙◌}
-use Rattle.negotiation.specs.Session.{wanted_of}
-use Rattle.negotiation.specs.inner.Session.{state_of}
+use Rattle.negotiation.specs.inner.Session.{wanted_of, state_of}
 use Rattle.negotiation.specs.declared.stage.Talk.{Talk}
 use Rattle.negotiation.specs.laws.Dialogs.{Runs-next, Runs-start}
 use Rattle.negotiation.proofs.session.negotiate.Goals as goal

@@ -1,6 +1,6 @@
 use Rattle.std.proofs.Common.{◌≡◌, length}
-use Rattle.negotiation.specs.Session.{IsGreeted, wanted_of}
-use Rattle.negotiation.specs.inner.Session.{Runs, state_of}
+use Rattle.negotiation.specs.Session.{IsGreeted}
+use Rattle.negotiation.specs.inner.Session.{wanted_of, Runs, state_of}
 use Rattle.negotiation.proofs.session.negotiate.Given as goal
 
 abbrev pub invariant-loop-alloc : goal.invariant-loop-alloc

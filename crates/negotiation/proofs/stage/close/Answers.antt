@@ -1,6 +1,5 @@
 use Rattle.std.proofs.lemmas.Result.{IfOk-weaker}
-use Rattle.negotiation.specs.Session.{Step}
-use Rattle.negotiation.specs.inner.Session.{IsData, Settles}
+use Rattle.negotiation.specs.inner.Session.{Step, IsData, Settles}
 use Rattle.negotiation.proofs.Sessions.{closed}
 use Rattle.negotiation.proofs.stage.close.Goals as goal
 

@@ -1,7 +1,6 @@
 use Rattle.std.proofs.Common.{◌≡◌, ℕ, ◌-◌, length, arith}
 use Rattle.std.proofs.lemmas.Result.{IfOk-weaker}
-use Rattle.negotiation.specs.Session.{IsLongPart, Step}
-use Rattle.negotiation.specs.inner.Session.{Settles}
+use Rattle.negotiation.specs.inner.Session.{IsLongPart, Step, Settles}
 use Rattle.negotiation.specs.declared.stage.Talk.{Talk}
 use Rattle.negotiation.proofs.Sessions.{discarded}
 use Rattle.negotiation.proofs.stage.discard.Goals as goal

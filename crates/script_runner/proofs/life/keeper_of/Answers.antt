@@ -1,6 +1,6 @@
 use Rattle.std.proofs.Common.{Bool, sym, subst}
 use Rattle.std.specs.Prelude.{IfOk}
-use Rattle.script_runner.specs.Life.{IsOpened}
+use Rattle.script_runner.specs.inner.Life.{IsOpened}
 use Rattle.script_runner.proofs.Lives.{opened_of, upgraded_of}
 use Rattle.script_runner.proofs.life.keeper_of.Goals as goal
 

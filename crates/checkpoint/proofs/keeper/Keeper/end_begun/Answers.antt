@@ -4,7 +4,7 @@ use Rattle.checkpoint.proofs.Answered.{err_given, both_ways}
 use Rattle.disk_model.specs.laws.Moments.{begins, goes_on}
 use Rattle.device_image.specs.Keeper.{KeeperState}
 use Rattle.device_image.specs.laws.Kept.{kept_content}
-use Rattle.checkpoint.specs.Recovery.{IsBegun}
+use Rattle.checkpoint.specs.inner.Recovery.{IsBegun}
 use Rattle.checkpoint.specs.declared.fault.KeeperFault.TheVariants.{DeviceFault}
 use Rattle.device_image.specs.Keeps.{Keeps}
 use Rattle.checkpoint.proofs.Recovered.{begun_left}

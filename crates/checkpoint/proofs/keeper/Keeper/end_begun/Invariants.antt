@@ -4,7 +4,7 @@ use Rattle.image_model.specs.Image.{Image}
 use Rattle.device_image.specs.Keeper.{One}
 use Rattle.device_image.specs.Keeps.{Keeps}
 use Rattle.device_image.specs.Stands.{StandsFor}
-use Rattle.checkpoint.specs.Recovery.{IsBegun}
+use Rattle.checkpoint.specs.inner.Recovery.{IsBegun}
 use Rattle.checkpoint.proofs.keeper.Keeper.end_begun.Given as goal
 
 abbrev pub invariant-loop-self : goal.invariant-loop-self

@@ -1,6 +1,7 @@
 use Rattle.std.proofs.Common.{rules, ◌≡◌, ℕ, get_or, slice_get, Some, sym, subst, ap, ◌∙◌}
 use Rattle.frame_pool.specs.Linked.{LinkedState}
-use Rattle.frame_pool.specs.Lists.{HoldEach, list_at}
+use Rattle.frame_pool.specs.Lists.{HoldEach}
+use Rattle.frame_pool.specs.inner.Lists.{list_at}
 use Rattle.frame_pool.proofs.Moved.{front_held}
 use Rattle.frame_pool.proofs.Linked.{front_linked}
 use Rattle.frame_pool.proofs.lists.FrameLists.front.Goals as goal

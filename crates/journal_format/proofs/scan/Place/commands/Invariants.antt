@@ -1,7 +1,6 @@
 use Rattle.std.proofs.Common.{◌≡◌, ◌≤◌, ◌+◌, ◌↔◌, List, ℕ}
 use Rattle.journal_format.specs.Reading.{IsOnlyRead}
-use Rattle.journal_format.specs.Scanning.{IsReadAs}
-use Rattle.journal_format.specs.inner.Scanning.{FoundChanges}
+use Rattle.journal_format.specs.inner.Scanning.{IsReadAs, FoundChanges}
 use Rattle.journal_format.specs.Touches.{AreWithin}
 use Rattle.journal_format.specs.laws.Found.{AreLeft}
 use Rattle.journal_format.proofs.scan.Place.commands.Given as goal

@@ -1,6 +1,7 @@
 use Rattle.std.proofs.Common.{◌≡◌, ◌+◌, ◌-◌, ◌<◌, ◌↔◌, List, [], ℕ}
 use Rattle.journal_format.specs.Reading.{IsOnlyRead}
-use Rattle.journal_format.specs.Scanning.{IsReadAs, IsScanned}
+use Rattle.journal_format.specs.Scanning.{IsScanned}
+use Rattle.journal_format.specs.inner.Scanning.{IsReadAs}
 use Rattle.journal_format.specs.Touches.{AreWithin}
 use Rattle.journal_format.specs.laws.Groups.{FoundLead}
 use Rattle.journal_format.proofs.scan.Place.list_end.Given as goal

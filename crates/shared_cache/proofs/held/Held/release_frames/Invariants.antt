@@ -1,7 +1,8 @@
 use Rattle.std.proofs.Common.{◌≡◌, ◌<◌, ◌≤◌, ℕ, true}
 use Rattle.image_model.specs.Image.{covers}
 use Rattle.shared_cache.specs.Blocks.{without}
-use Rattle.shared_cache.specs.Held.{IsHeld, IsMissing, block_at, blocks_of}
+use Rattle.shared_cache.specs.Held.{IsHeld, block_at, blocks_of}
+use Rattle.shared_cache.specs.inner.Blocks.{IsMissing}
 use Rattle.shared_cache.proofs.held.Held.release_frames.Given as goal
 
 abbrev pub invariant-loop-frame : goal.invariant-loop-frame
