@@ -8,6 +8,7 @@
 - The shell block of README.md, a first served image, runs to its end, where its client is installed.
 - The man page, docs/nbdj.1: its synopsis, and of each command the texts, arguments, options, names of values, defaults and values, as
   the command's `--help` has them.
+- The completion for bash, packaging/nbdj.bash: its commands are those of the man page.
 - Each wrong body, of crates/CRATE/must-fail/ and of wrong-bodies/CRATE/, changes texts that stand once in the crate's sources.
 - docs/DESIGN.md has the table of the crates that tools/crate-table makes of crates.txt, and docs/HEADLINE.md those of the definitions
   that tools/headline-definitions makes of the sources.
@@ -168,6 +169,15 @@ def check_man_page(program):
     check("the version of the man page", [version], re.findall(r'^\.TH NBDJ 1 "\d{4}-\d\d-\d\d" "(.*?)"', page, re.M))
 
 
+def check_completion():
+    """The first words that the completion offers, but for `help` and the options, against the commands of the man page."""
+    commands = re.findall(r"^\.SS nbdj (\w+)$", read(f"{TOP}/docs/nbdj.1"), re.M)
+    offered = re.search(r'"\$COMP_CWORD" -eq 1 .*?compgen -W \'([^\']*)\'', read(f"{TOP}/packaging/nbdj.bash"), re.S)
+    words = offered[1].split() if offered else []
+    check("the man page has commands", True, len(commands) > 0)
+    check("the commands of the completion", commands, [it for it in words if it != "help" and not it.startswith("-")])
+
+
 def check_design():
     wanted = subprocess.run([f"{TOP}/tools/crate-table"], capture_output=True, text=True, check=True).stdout
     found = re.search(r"^\| Crate \|.*?\n(?=\n)", read(f"{TOP}/docs/DESIGN.md"), re.M | re.S)
@@ -220,6 +230,7 @@ def check_columns():
 
 def main():
     check_refusals()
+    check_completion()
     check_design()
     check_headline()
     check_files()
