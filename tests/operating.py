@@ -1,6 +1,7 @@
 #!/usr/bin/env python3
 """How `serve` of the built program NBDJ begins, goes on and ends, as who runs it sees it: what a kill leaves, also of sectors that clients
-write beside one another, clients beside a slow device, an end that is asked for, dead clients, a device that fails, and what is told.
+write beside one another and of blocks that they write by turns, clients beside a slow device, an end that is asked for, dead clients, a
+device that fails, and what is told.
 
 Prints a line for each check that fails, and last 'N passed, M failed'.
 """
@@ -45,6 +46,13 @@ def killed(server):
     server.process.kill()
     server.process.wait(timeout=60)
     return recovered(server)
+
+
+def stored(server):
+    """The bytes of the image that a server has left, read by `pipe`."""
+    asked = b"".join(request(READ, place, place * MIB, MIB) for place in range(hostile.BLOCKS * BLOCK // MIB))
+    read = subprocess.run([NBDJ, "pipe", server.image], input=asked + request(DISC, 0, 0, 0), capture_output=True, timeout=60).stdout
+    return b"".join(read[place + 16:place + 16 + MIB] for place in range(0, len(read), MIB + 16))
 
 
 def ended(server, seconds=20):
@@ -170,9 +178,7 @@ def sectors(folder):
         for client in clients:
             client.close()
         check("sectors: the recovery", "commands", recovered(server).split()[0])
-        asked = b"".join(request(READ, place, place * MIB, MIB) for place in range(count * SECTOR // MIB))
-        read = subprocess.run([NBDJ, "pipe", server.image], input=asked + request(DISC, 0, 0, 0), capture_output=True, timeout=60).stdout
-    image = b"".join(read[place + 16:place + 16 + MIB] for place in range(0, len(read), MIB + 16))
+        image = stored(server)
     check("sectors: the image that is read", count * SECTOR, len(image))
     found = [hostile.struct.unpack(">I", image[sector * SECTOR + 4:sector * SECTOR + 8])[0] for sector in range(count)]
     torn = [sector for sector, number in enumerate(found)
@@ -187,6 +193,32 @@ def sectors(folder):
     writes = sum(len(numbers) for numbers in it.sent)
     check("sectors: there were writes, and flushes", True, writes > 1000 and it.flushes > 9 or (writes, it.flushes))
     print(f"sectors: {writes} writes of {SECTOR} bytes, {it.flushes} flushes", flush=True)
+
+
+def in_turn(folder):
+    """Three connections write blocks by turns, each once the one before it is answered, until a kill. The image is as after the first of these
+    writes, as many as the recovery tells, whichever connections they came from."""
+    of_block, number, source, good = [[0] for _ in range(256)], 0, random.Random(9), True
+    with Server(folder, "in_turn", 4, "--flush-interval", "1") as server:
+        clients = [server.shaken() for _ in range(3)]
+        end = time.monotonic() + 2.5
+        while good and time.monotonic() < end:
+            number += 1
+            block = source.randrange(len(of_block))
+            of_block[block].append(number)
+            client = clients[number % 3]
+            client.sendall(request(WRITE, number, block * BLOCK, BLOCK) + block_of(number))
+            good = take(client, 16) == reply(number)
+        check("in turn: each write is answered", True, good)
+        count = int(killed(server).split()[1])
+        for client in clients:
+            client.close()
+        image = stored(server)
+    check("in turn: the writes of a second or more are stored", True, number > count // 2 > 50 or (number, count))
+    wanted = [max(it for it in numbers if it <= count) for numbers in of_block]
+    amiss = [block for block, number in enumerate(wanted) if image[block * BLOCK:(block + 1) * BLOCK] != (block_of(number) if number else bytes(BLOCK))]
+    check("in turn: the image is as after the first of the writes", [], amiss[:9])
+    print(f"in turn: {number} writes, {count} stored", flush=True)
 
 
 def is_silent(client):
@@ -428,7 +460,7 @@ def copied(folder):
 
 def main():
     with tempfile.TemporaryDirectory() as folder:
-        for scenario in (kills, intervals, sectors, beside, shown, asked_to_end, idle, failing, told, copied):
+        for scenario in (kills, intervals, sectors, in_turn, beside, shown, asked_to_end, idle, failing, told, copied):
             begun = time.monotonic()
             hostile.guarded(scenario, folder)
             print(f"{scenario.__name__}: {time.monotonic() - begun:.1f} s", flush=True)
