@@ -60,6 +60,7 @@ abbrev pub numbers_of : ℕ → List ℕ → List ℕ
 numbers_of opening [] = []
 numbers_of opening (count ∷ counts) = (opening + count) ∷ numbers_of opening counts
 
+-- the commands in the last area
 abbrev pub last_commands : Stage → List Change
 last_commands stage = part stage.order (turned_at stage) stage.stored
 

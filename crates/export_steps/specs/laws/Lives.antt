@@ -22,7 +22,7 @@ use Rattle.export_model.specs.Law.{IsRising, IsWithin}
 use Rattle.export_model.specs.laws.Within.{rising_through, turned_through}
 use Rattle.export_model.specs.laws.Parts.{copied_same, part_more, part_same}
 
--- all the commands in the areas in front of the last, and those in the last
+-- the commands in the areas in front of the last
 abbrev pub first_commands : Stage → List Change
 first_commands stage = part stage.order stage.base (turned_at stage)
 
