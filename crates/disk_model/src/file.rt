@@ -1,12 +1,35 @@
-ghost use Rattle.std.specs.Prelude.{◌≡◌, ◌^◌, ◌<◌};
+ghost use Rattle.std.specs.Prelude.{◌≡◌, ◌^◌, ◌<◌, ◌+◌, length};
 
 use crate::disk::{DeviceFault, Disk};
 use crate::faults::outcome;
 use std::fs::OpenFile;
+use std::io;
 use std::os::unix::fs::FileExt;
 
-/// A device over the first bytes of a file. Short reads and writes are finished, so that a call is one call of the
-/// system where the system does it whole, and a sync brings the data to the drive (`fdatasync`).
+/// The bytes of one write of the system. Linux caches a file in folios as large as the writes that filled it, and a later write of
+/// one block takes longer in a large folio.
+const PIECE: usize = 32768;
+
+/// Writes the bytes at `offset` in pieces that end at multiples of `PIECE`.
+fn write_pieces<F: FileExt>(file: &F, offset: u64, from: &[u8]) -> io::Result<()>
+    requires { offset + length from.now < 2 ^ 64 }
+{
+    let first = PIECE - (offset % PIECE as u64) as usize;
+    if from.len() <= first {
+        return file.write_all_at(from, offset);
+    }
+    let (head, rest) = from.split_at(first);
+    file.write_all_at(head, offset)?;
+    let mut at = offset + first as u64;
+    for piece in rest.chunks(PIECE) {
+        file.write_all_at(piece, at)?;
+        at = at.saturating_add(piece.len() as u64);
+    }
+    Ok(())
+}
+
+/// A device over the first bytes of a file. Short reads and writes are finished. A read that the system does whole is one call of it, a
+/// write one for each piece of 32 KiB, and a sync brings the data to the drive (`fdatasync`).
 ///
 /// Nothing is claimed of the content: its `honest` can't be met. A read past the end of a shorter file is a fault.
 #[derive(Drop)]
@@ -66,7 +89,7 @@ impl<F: FileExt + OpenFile> Disk for FileDisk<F> {
     }
 
     fn write_at(&mut self, offset: u64, from: &[u8]) -> Result<(), DeviceFault> {
-        outcome(self.file.write_all_at(from, offset), &mut self.failures)
+        outcome(write_pieces(&self.file, offset, from), &mut self.failures)
     }
 
     fn sync(&mut self) -> Result<(), DeviceFault> {
