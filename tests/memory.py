@@ -1,19 +1,21 @@
 #!/usr/bin/env python3
 """Runs the built program NBDJ again and again, and refuses it another call for memory each time, up to the last one that it makes: over each
-script of tests/scripts, over format, pipe, recover, upgrade and check on a file, over a server with clients, and so the built tests of each crate
-that has some.
+script of tests/scripts, over format, pipe, recover, upgrade and check on a file, and over a server with clients.
 
-usage: tests/memory.py [--long]
+usage: tests/memory.py [--built-tests] [--long] [--sample SEED]
 
+With --built-tests so are the tests of each crate that `rt ci` built. With --sample it refuses about one call in eight, drawn from the seed.
 A run of a script that was refused its call has to be that of the same script with one choice made otherwise, which is replayed with memory
 there: by the program itself, or by ORACLE, a command that reads a script and prints what `nbdj rehearse` does. The calls of long tests are
 refused in samples, with --long each. Prints a line for each run that does anything but what a refusal may do, how many runs there were, and
 last 'N passed, M failed': a script, a command and a test are one check each, however many runs that takes.
 """
+import argparse
 import contextlib
 import glob
 import itertools
 import os
+import random
 import re
 import shlex
 import shutil
@@ -30,7 +32,14 @@ from concurrent.futures import ThreadPoolExecutor
 TOP = os.path.dirname(os.path.dirname(os.path.abspath(__file__)))
 NBDJ = os.environ["NBDJ"]
 ORACLE = shlex.split(os.environ.get("ORACLE", "")) or [NBDJ, "rehearse"]
-LONG = "--long" in sys.argv[1:]
+words = argparse.ArgumentParser(description="Refuses the program one call for memory after another.")
+words.add_argument("--built-tests", action="store_true")
+words.add_argument("--long", action="store_true")
+words.add_argument("--sample", type=int, metavar="SEED")
+OPTIONS = words.parse_args()
+LONG = OPTIONS.long
+# One call in so many is refused with --sample.
+SPARSE = 8
 # How many calls of a built test are refused in turn before they are taken in samples, and how many samples there are then.
 IN_TURN, SAMPLES = (10**9, 0) if LONG else (60, 60)
 # Scripts over hundreds of blocks, which --long alone tries.
@@ -86,13 +95,22 @@ def tell_documents(errors):
             told.write(errors)
 
 
+def calls_in_turn(name):
+    """The numbers of the calls to refuse: each in turn, or some of them, drawn from the seed."""
+    if OPTIONS.sample is None:
+        return itertools.count(1)
+    drawn = random.Random(f"{OPTIONS.sample} {name}")
+    return itertools.accumulate(drawn.randint(1, 2 * SPARSE - 1) for _ in itertools.count())
+
+
 def refuse_each(name, words, given, amiss, whole=lambda run: ""):
     """Refuses each call of a command in turn, up to the first run that meets none, which has to be as `whole` says. `amiss` says what is
     wrong with a run that was refused its call; both answer nothing where all is well."""
     wrong, calls = [], 0
-    for first in itertools.count(1, 32):
-        runs = list(pool.map(lambda call: Run(words, given, call), range(first, first + 32)))
-        for call, run in enumerate(runs, first):
+    wanted = calls_in_turn(name)
+    while batch := list(itertools.islice(wanted, 32)):
+        runs = list(pool.map(lambda call: Run(words, given, call), batch))
+        for call, run in zip(batch, runs):
             if not run.met:
                 wrong += [f"with no call refused: {it}" for it in [whole(run)] if it]
                 break
@@ -273,7 +291,7 @@ class FileCommand:
 def refuse_on_file(name, words, image, amiss, whole, given=b""):
     """As `refuse_each`, each run on an image of its own; `amiss` and `whole` look at the file too."""
     wrong, calls = [], 0
-    for call in itertools.count(1):
+    for call in calls_in_turn(name):
         with contextlib.closing(FileCommand(words, image, given, call)) as tried:
             if not tried.run.met:
                 wrong += [f"with no call refused: {it}" for it in [whole(tried)] if it]
@@ -555,11 +573,12 @@ def judge_served(status, errors, talks, image):
 def refuse_serve():
     wrong, calls = [], 0
     subprocess.run([NBDJ, "format", "wide.img", "--blocks", "64", "--area", "2097152"], check=True, stdout=subprocess.DEVNULL)
-    for first in itertools.count(1, 16):
-        for call, (amiss, met) in enumerate(pool.map(serve_refused, range(first, first + 16)), first):
+    wanted = calls_in_turn("serve")
+    while batch := list(itertools.islice(wanted, 16)):
+        for call, (amiss, met) in zip(batch, pool.map(serve_refused, batch)):
             wrong += [f"call {call}: {amiss}"] if amiss else []
             calls = call if met else calls
-        if calls < first + 15:
+        if calls < batch[-1]:
             break
     conclude("serve", calls, wrong)
 
@@ -625,7 +644,8 @@ with tempfile.TemporaryDirectory() as folder, ThreadPoolExecutor(len(os.sched_ge
     refuse_check("check", "stored.img")
     refuse_check("check with four areas in use", "four.img")
     refuse_serve()
-    refuse_tests()
+    if OPTIONS.built_tests or LONG:
+        refuse_tests()
     print(f"{refused} runs with memory refused")
     print(f"{passed} passed, {failed} failed")
     sys.exit(failed > 0)

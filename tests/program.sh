@@ -158,7 +158,7 @@ example=${example#*&& nbdj serve }
 serves 'the example of the program: serve' 143 "listening ${example##*:}" '' $example
 fresh 16 2097152
 serves 'an address without a port' 143 'listening 10809' '' d.img --listen 127.0.0.1
-if [ -s /proc/net/if_inet6 ]; then
+if grep -q . /proc/net/if_inet6 2>/dev/null; then
     for address in ::1 '[::1]' '[::1]:10809'; do
         serves "the address $address" 143 'listening 10809' '' d.img --listen "$address"
     done

@@ -3,10 +3,17 @@
 # what is opened afterwards is compared with plain bytes. Swept are the scripts of tests/scripts, without their lines that crash the
 # device or let a call of it fail, those of docs/SCRIPTS.md, and some that are drawn. Prints how many runs with a crash there were, and
 # last 'N passed, M failed'. Those that take many minutes are swept with --long alone.
+#
+# usage: tests/sweeps.sh [--long | --sample SEED]          (--sample: one script in six, drawn from the seed)
 set -u
 here=$(cd "$(dirname "$0")/.." && pwd)
 . "$here/tests/checks.sh"
 runs=0
+seed=
+[ "${1:-}" != --sample ] || seed=$2
+
+# in_sample NAME: whether a script is swept in this run
+in_sample() { [ -z "$seed" ] || [ $(($(printf %s "$seed $1" | cksum | cut -d ' ' -f 1) % 6)) -eq 0 ]; }
 
 # Scripts with hundreds of calls of the device, or of a large one.
 long='checkpoint_lets_frames_go edge_is_held_before_its_read edge_waits_for_a_frame group_of_seven_puts_of_257_blocks
@@ -70,12 +77,14 @@ for how in --sweep --faults; do ends "an upgrade of small areas, $how" 1 "$(text
 for script in "$here"/tests/scripts/*.in; do
     name=$(basename "$script" .in)
     case " $(echo $long) " in *" $name "*) continue ;; esac
+    in_sample "$name" || continue
     without_trouble "$script"
     swept "$name"
 done
 
 block() { awk -v kind="$1" -v k="$2" '$0 == "```" kind { n++; on = n == k; next } /^```/ { on = 0 } on' "$here/docs/SCRIPTS.md"; }
 for k in 1 2 3 4 5; do
+    in_sample "page $k" || continue
     block script "$k" >whole
     without_trouble whole
     swept "script $k of the page"
@@ -110,9 +119,9 @@ drawn() {
             store()
         }'
 }
-for seed in 4711 20260 998244353; do
-    drawn "$seed" >input
-    swept "the script of seed $seed"
+for drawn_from in ${seed:-4711 20260 998244353}; do
+    drawn "$drawn_from" >input
+    swept "the script of seed $drawn_from"
 done
 
 echo "$runs runs with a crash"

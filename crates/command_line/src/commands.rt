@@ -39,7 +39,7 @@ fn bare<'a>(alloc: Global) -> Command<'a>
     ensures { app_of result ≡ bare_app }
 {
     Command::new(alloc, "nbdj")
-        .version("0.1.0")
+        .version("1.0.0")
         .propagate_version(true)
         .about("Network Block Device export server over a journalled image")
         .after_help(

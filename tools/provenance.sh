@@ -1,0 +1,95 @@
+# The sources that the program's proof rests on, and what dist/PROVENANCE records of them. To be read by '.', with the top of the repository
+# in `here`. It uses the shell and coreutils alone, so that ./demo needs nothing else.
+
+# program_crates: the crates of crates.txt that the program stands on, and the program's own
+program_crates() {
+    listed=' '
+    while read -r name below; do
+        case $name in
+        '' | '#'*) continue ;;
+        esac
+        name=${name%:}
+        listed="$listed$name "
+        eval "below_$name=\${below%%#*}"
+    done <"$here/crates.txt"
+    found=' '
+    left=nbdj
+    while [ -n "$left" ]; do
+        next=
+        for name in $left; do
+            case $listed in *" $name "*) ;; *) continue ;; esac
+            case $found in *" $name "*) continue ;; esac
+            found="$found$name "
+            eval "next=\"\$next \$below_$name\""
+        done
+        left=$next
+    done
+    printf '%s\n' $found
+}
+
+# source_files FOLDER: the .rt and .antt files of a folder and of those in it
+source_files() {
+    for entry in "$1"/*; do
+        if [ -d "$entry" ]; then
+            source_files "$entry"
+        else
+            case $entry in *.rt | *.antt) printf '%s\n' "$entry" ;; esac
+        fi
+    done
+}
+
+# sources_digest: one digest of the names and contents of crates.txt and of each source that the program's proof rests on
+sources_digest() {
+    (
+        cd "$here" || exit 1
+        set -- crates.txt
+        for crate in $(program_crates); do
+            for part in src specs proofs; do
+                set -- "$@" $(source_files "crates/$crate/$part")
+            done
+        done
+        sha256sum "$@" | LC_ALL=C sort | digest
+    )
+}
+
+# digest [FILE]: the SHA-256 of a file, or of standard input
+digest() { sha256sum -- "${1:--}" | cut -d ' ' -f 1; }
+
+# provenance: the text of a PROVENANCE with the values of version, sources, kit, program and archive. Its last line has the digest of the
+# others, so that a change of any byte shows.
+provenance() {
+    lines=$(printf 'version %s\nsources %s\nkit %s\nprogram %s\narchive %s' "$version" "$sources" "$kit" "$program" "$archive")
+    printf '%s\nrecord %s\n' "$lines" "$(printf '%s\n' "$lines" | digest)"
+}
+
+# read_provenance: sets these five by dist/PROVENANCE; it fails if there is none, or not one of these very lines
+read_provenance() {
+    version='' sources='' kit='' program='' archive=''
+    [ -f "$here/dist/PROVENANCE" ] || return 1
+    {
+        read -r _ version
+        read -r _ sources
+        read -r _ kit
+        read -r _ program
+        read -r _ archive
+    } <"$here/dist/PROVENANCE"
+    [ "$(cat "$here/dist/PROVENANCE" && echo .)" = "$(provenance && echo .)" ]
+}
+
+# archive_name: the name of the archive of this version
+archive_name() { echo "nbdj-$version-x86_64-linux.tar.xz"; }
+
+# A line `PROGRAM SOURCES` of out/proved says that the program with the one digest was proved from the sources with the other.
+
+# note_proved SOURCES: notes that the program in crates/nbdj/out was proved from sources with this digest; it fails if they have changed since
+note_proved() {
+    [ "$1" = "$(sources_digest)" ] || return 1
+    mkdir -p "$here/out"
+    echo "$(digest "$here/crates/nbdj/out/nbdj") $1" >"$here/out/proved"
+}
+
+# is_proved: whether the program in crates/nbdj/out is one that was proved from the sources as they are
+is_proved() {
+    [ -f "$here/out/proved" ] && [ -x "$here/crates/nbdj/out/nbdj" ] &&
+        [ "$(cat "$here/out/proved")" = "$(digest "$here/crates/nbdj/out/nbdj") $(sources_digest)" ]
+}
