@@ -5,10 +5,10 @@
 program_crates() {
     listed=' '
     while read -r name below; do
-        case $name in
-        '' | '#'*) continue ;;
-        esac
         name=${name%:}
+        case $name in
+        '' | *[!a-z0-9_]*) continue ;;
+        esac
         listed="$listed$name "
         eval "below_$name=\${below%%#*}"
     done <"$here/crates.txt"
