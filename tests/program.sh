@@ -913,14 +913,43 @@ wait $!
 is 'the end of the script' 0 $?
 exec 4<&-
 
-# Installed into a folder, and as a package; and what the unit for systemd runs, in a shell.
-"$here/tools/install" --prefix "$folder/installed"
-is 'the installed program' "nbdj $version" "$(installed/bin/nbdj --version)"
-is 'the installed completion' yes "$([ -s installed/share/bash-completion/completions/nbdj ] && echo yes)"
+# Installed into a folder, also by a relative path with a space, and as a package; and what the unit for systemd runs, in a shell.
+"$here/tools/install" --prefix 'in stalled'
+is 'the installed program' "nbdj $version" "$('in stalled/bin/nbdj' --version)"
+is 'the installed completion' yes "$([ -s 'in stalled/share/bash-completion/completions/nbdj' ] && echo yes)"
+unit='in stalled/lib/systemd/system/nbdj@.service'
+is 'the program of the unit' "ExecStart=\"$folder/in stalled/bin/nbdj-server\"" "$(sed -n 's/^\(ExecStart="[^"]*"\) .*/\1/p' "$unit")"
+fresh 16 2097152
+mkdir run
+: >printed
+timeout 20 sh -c "exec $(sed -n 's/^ExecStart=//p' "$unit" | sed "s|/run/nbdj-%i|$folder/run|; s|/var/lib/nbdj/%i.img|$folder/d.img|")" >printed 2>errors &
+serving=$!
+tries=0
+until [ -s printed ] || [ "$tries" -eq 200 ]; do
+    sleep 0.05
+    tries=$((tries + 1))
+done
+is 'the unit: it listens' "listening $folder/run/socket" "$(cat printed)"
+kill "$serving"
+wait "$serving"
+is 'the unit: the end' "0|nbdj: recovered 0 commands|no" "$?|$(sed 's/ in .*//' errors)|$([ -e run/socket ] && echo yes || echo no)"
+if command -v systemd-analyze >/dev/null; then
+    cp "$unit" nbdj@data.service
+    sed -i 's|^ExecStart="[^"]*"|ExecStart=/bin/true|' nbdj@data.service
+    is 'the unit: its exposure is below 3' 0 "$(systemd-analyze security --offline=true --threshold=29 --no-pager ./nbdj@data.service >printed 2>&1; echo $?)"
+else
+    skipped 'the exposure of the unit' 'systemd-analyze is not installed'
+fi
+"$here/tools/install" --prefix 'in stalled' --uninstall
+is 'what is left of what was installed' '' "$(find 'in stalled' -type f)"
+is 'the help of tools/install' '0|usage: ' "$("$here/tools/install" --help >printed; echo "$?|$(head -c 7 printed)")"
+is 'a prefix of other characters' 2 "$("$here/tools/install" --prefix 'a|b' 2>errors; echo $?)"
 if command -v dpkg-deb >/dev/null; then
     package=$("$here/tools/package-deb" "$folder/package" 2>errors)
     dpkg-deb -x "$package" unpacked
     is 'the program of the package' "nbdj $version" "$(unpacked/usr/bin/nbdj --version)"
+    is 'what the package needs' 'libc6 (>= 2.34)' "$(dpkg-deb -f "$package" Depends)"
+    is 'the package tells systemd of its unit' yes "$(dpkg-deb -I "$package" postinst | grep -q 'systemctl daemon-reload' && echo yes)"
     if command -v man >/dev/null; then
         is 'the man page of the package' 0 "$(man -l unpacked/usr/share/man/man1/nbdj.1.gz >printed 2>&1 </dev/null; echo $?)"
     else
@@ -929,22 +958,5 @@ if command -v dpkg-deb >/dev/null; then
 else
     skipped 'the package' 'dpkg-deb is not installed'
 fi
-unit=installed/lib/systemd/system/nbdj@.service
-placed() { sed -n "s/^$1=\/bin\/sh -c '\(.*\)'\$/\1/p" "$unit" | sed "s|/run/nbdj-%i|$folder/run|g; s|/var/lib/nbdj/%i.img|$folder/d.img|g"; }
-fresh 16 2097152
-mkdir run
-: >printed
-timeout 20 sh -c "$(placed ExecStart)" >printed 2>errors &
-serving=$!
-tries=0
-until [ -s printed ] || [ "$tries" -eq 200 ]; do
-    sleep 0.05
-    tries=$((tries + 1))
-done
-is 'the unit: it listens' "listening $folder/run/socket" "$(cat printed)"
-MAINPID=$serving timeout 20 sh -c "$(placed ExecStop)"
-is 'the unit: its stop' 0 $?
-wait "$serving"
-is 'the unit: the end' "0|nbdj: recovered 0 commands|no" "$?|$(sed 's/ in .*//' errors)|$([ -e run/socket ] && echo yes || echo no)"
 
 the_end
