@@ -2,12 +2,9 @@
 # Checks of `nbdj serve`, by the program NBDJ, with clients that others wrote: libnbd's (nbdinfo, nbdcopy, nbdfuse, and its library under
 # tests/libnbd_client.py), QEMU's (qemu-img, qemu-io), fio, nbdkit as a proxy, nbd-client, and Linux's ext4 over nbdfuse. None is told
 # anything of blocks by an option of its own. Each that writes is met by a kill of the server too: what a FLUSH had confirmed has to be
-# there. A client that isn't installed is skipped, and the line says so; `tests/clients.sh --install` installs Debian's packages. The last
-# line is 'N passed, M failed'.
+# there. A client that isn't installed is skipped, and the line says so; tools/install-clients installs Debian's packages. The last line is
+# 'N passed, M failed'.
 set -u
-if [ "${1:-}" = --install ]; then
-    apt-get update && exec apt-get install -y --no-install-recommends libnbd-bin python3-libnbd qemu-utils qemu-block-extra fio fuse3 e2fsprogs nbdkit nbd-client
-fi
 here=$(cd "$(dirname "$0")/.." && pwd)
 . "$here/tests/checks.sh"
 SIZE=67108864 HALF=33554432 AREA=8388608
