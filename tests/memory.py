@@ -114,7 +114,7 @@ def refuse_each(name, words, given, amiss, whole=lambda run: ""):
             if not run.met:
                 wrong += [f"with no call refused: {it}" for it in [whole(run)] if it]
                 break
-            calls = call
+            calls += 1
             wrong += [f"call {call}: {it}" for it in [amiss(run)] if it]
         if not runs[-1].met:
             break
@@ -296,7 +296,7 @@ def refuse_on_file(name, words, image, amiss, whole, given=b""):
             if not tried.run.met:
                 wrong += [f"with no call refused: {it}" for it in [whole(tried)] if it]
                 break
-            calls = call
+            calls += 1
             wrong += [f"call {call}: {it}" for it in [amiss(tried)] if it]
     conclude(name, calls, wrong)
 
@@ -534,14 +534,14 @@ def serve_refused(call):
         try:
             listening = server.stdout.readline().startswith(b"listening")
             talks = [converse(path, 0), converse_at_once(path), converse(path, 1), converse(path, 2)] if listening else []
-            errors = server.communicate()[1].decode().strip()
+            told = server.communicate()[1]
         except ValueError as error:
             server.kill()
             return f"{error}", os.path.exists(met)
         finally:
             limit.cancel()
-    tell_documents(errors.encode())
-    amiss = judge_served(server.returncode, errors, talks, image)
+    tell_documents(told)
+    amiss = judge_served(server.returncode, told.decode().strip(), talks, image)
     was_met = os.path.exists(met)
     for it in (image, path, met):
         with contextlib.suppress(FileNotFoundError):
@@ -575,10 +575,10 @@ def refuse_serve():
     subprocess.run([NBDJ, "format", "wide.img", "--blocks", "64", "--area", "2097152"], check=True, stdout=subprocess.DEVNULL)
     wanted = calls_in_turn("serve")
     while batch := list(itertools.islice(wanted, 16)):
-        for call, (amiss, met) in zip(batch, pool.map(serve_refused, batch)):
-            wrong += [f"call {call}: {amiss}"] if amiss else []
-            calls = call if met else calls
-        if calls < batch[-1]:
+        runs = list(pool.map(serve_refused, batch))
+        wrong += [f"call {call}: {amiss}" for call, (amiss, _) in zip(batch, runs) if amiss]
+        calls += sum(met for _, met in runs)
+        if not runs[-1][1]:
             break
     conclude("serve", calls, wrong)
 
