@@ -3,7 +3,6 @@
 ghost use Rattle.std.specs.Prelude.{◌≡◌, ◌<◌, ◌≤◌, ◌^◌};
 
 mod edits;
-mod limits;
 mod load;
 mod reads;
 mod threads;
@@ -233,28 +232,6 @@ fn measure_reads<B: BoardName>(
     measure_order(rt, alloc, &mut opened, keeper)
 }
 
-// What stands at the limits: groups, dirty blocks, and what isn't durable.
-fn print_limits(rt: &impl Print, alloc: Global) -> Result<()> {
-    let long = limits::long_group::<Brand>(alloc, BlankBoard::new(alloc, 7)?)?;
-    let cut = limits::cut_group::<Brand>(alloc, BlankBoard::new(alloc, 0)?)?;
-    for group in [long, cut] {
-        println!(rt;
-            "a group of {} from {}: {} bytes",
-            group.commands, group.first, group.body
-        )?;
-    }
-    let full = limits::full_frames::<Brand>(alloc, BlankBoard::new(alloc, 0)?)?;
-    let (fault, block, again, cleared) = full;
-    println!(rt; "block {block}: {fault}, then {again} and {cleared}")?;
-    let (few, many) = limits::cleared_frames::<Brand>(alloc, BlankBoard::new(alloc, 0)?)?;
-    println!(rt; "{few} and {many} frames free after clears")?;
-    let (full, fault, next) = limits::full_backlog::<Brand>(alloc, BlankBoard::new(alloc, 0)?)?;
-    println!(rt; "after {full}: {fault}, then {next}")?;
-    let (last, fault) = limits::stopped_order::<Brand>(alloc, BlankBoard::new(alloc, 7)?)?;
-    println!(rt; "after {last}: {fault}")?;
-    Ok(())
-}
-
 // How many commands were accepted, and how many are durable, where each batch was stored.
 fn stored<B: BoardName>(
     alloc: Global,
@@ -272,18 +249,14 @@ fn stored<B: BoardName>(
     ))
 }
 
-fn print_stored(rt: &impl Print, alloc: Global) -> Result<()> {
+/// Prints what is stored of commands that are accepted.
+pub fn print_example(rt: &(impl Print + AllocGlobal)) -> Result<()> {
+    let alloc = rt.alloc();
     let mut keeper = load::keeper(alloc, 1_000, 8_388_608)?;
     let blank = BlankBoard::new(alloc, keeper.count())?;
     let (accepted, durable) = stored::<Brand>(alloc, blank, &mut keeper)?;
     println!(rt; "{accepted} accepted, {durable} durable")?;
     Ok(())
-}
-
-/// Prints what is stored of commands that are accepted, and what stands at the limits.
-pub fn print_example(rt: &(impl Print + AllocGlobal)) -> Result<()> {
-    print_stored(rt, rt.alloc())?;
-    print_limits(rt, rt.alloc())
 }
 
 /// Measures accepts by the number of dirty blocks, through one lock by 1, 2 and 4 threads, and then reads and a clean.

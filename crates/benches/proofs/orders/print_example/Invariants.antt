@@ -1,4 +1,4 @@
-use Rattle.benches.proofs.orders.print_stored.Given as goal
+use Rattle.benches.proofs.orders.print_example.Given as goal
 
 -- the boards that were just made
 abbrev pub ghosts-stored : goal.ghosts-stored

@@ -1,4 +1,0 @@
-//! What an allocation map and a cache cost.
-
-pub mod frames;
-pub mod maps;
