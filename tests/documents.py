@@ -9,7 +9,8 @@
 - The man page, docs/nbdj.1: its synopsis, and of each command the texts, arguments, options, names of values, defaults and values, as
   the command's `--help` has them.
 - The completion for bash, packaging/nbdj.bash: its commands are those of the man page.
-- Each wrong body, of crates/CRATE/must-fail/ and of wrong-bodies/CRATE/, changes texts that stand once in the crate's sources.
+- Each wrong body, of crates/CRATE/must-fail/, of wrong-bodies/CRATE/ and of wrong-bodies/by-test/, changes texts that stand once in the
+  crate's sources; those for a test name one.
 - docs/DESIGN.md has the table of the crates that tools/crate-table makes of crates.txt, and docs/HEADLINE.md those of the definitions
   that tools/headline-definitions makes of the sources.
 - The files of crates that documents name are there.
@@ -192,8 +193,12 @@ def check_headline():
 
 def check_wrong_bodies():
     crates = sorted(os.listdir(f"{TOP}/crates"))
+    by_test = {it: dict(re.findall(r"^(crate|test): (.*)$", read(it), re.M)) for it in glob.glob(f"{TOP}/wrong-bodies/by-test/*.edit")}
+    check("each wrong body for a test is of a crate", [], [it for it, of in by_test.items() if of.get("crate") not in crates])
+    check("each wrong body for a test names one", [], [it for it, of in by_test.items() if not is_test(of.get("test", ""))])
     for crate in crates:
         edits = glob.glob(f"{TOP}/crates/{crate}/must-fail/*.edit") + glob.glob(f"{TOP}/wrong-bodies/{crate}/*.edit")
+        edits += [it for it, of in by_test.items() if of.get("crate") == crate]
         stale = []
         for edit in edits:
             texts, path, old = {}, None, None
@@ -211,7 +216,15 @@ def check_wrong_bodies():
                     texts[path] = texts[path].replace(old, rest[1:])
         if edits:
             check(f"the wrong bodies of {crate} change what is there", [], stale)
-    check("each wrong body is of a crate", [], [it for it in sorted(os.listdir(f"{TOP}/wrong-bodies")) if it not in crates])
+    check("each wrong body is of a crate", [], [it for it in sorted(os.listdir(f"{TOP}/wrong-bodies")) if it not in [*crates, "by-test"]])
+
+
+def is_test(words):
+    """Whether this names a script of tests/, or a crate of tests and a test of it."""
+    name, _, test = words.partition(" ")
+    if name.startswith("tests/"):
+        return os.access(f"{TOP}/{name}", os.X_OK)
+    return any(re.search(rf"\bfn {re.escape(test)}\(", read(it)) for it in glob.glob(f"{TOP}/crates/{name}/src/*.rt")) if test else False
 
 
 def check_files():

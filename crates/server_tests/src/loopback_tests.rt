@@ -1,0 +1,191 @@
+//! Two clients of one server: a group of one is held on its way to the device, and the other's WRITE is answered meanwhile.
+
+use crate::client::Client;
+use bitflags::Flags;
+use checkpoint::Keeper;
+use disk_model::SimDisk;
+use export::{OpenDevice, Point, SyncPoints};
+use export_model::Mode;
+use front_end::{Limits, OnFault, Refusal, ServeOptions};
+use image_model::Geometry;
+use nbd_wire::CommandFlags;
+use server::{Event, Listener, Log, serve};
+use std::alloc::{AllocError, Global};
+use std::io::{self, ErrorKind};
+use std::net::{Ipv4Addr, SocketAddr, TcpListener, TcpStream};
+use std::os::unix::net::UnixStream;
+use std::rt::Clock;
+use std::sync::Wait;
+use std::sync::atomic::{AtomicBool, AtomicU64, Ordering};
+use std::thread::{self, Threads};
+use std::time::Duration;
+
+// For so many turns of a millisecond a group is held, and waited for.
+const TURNS: u64 = 10_000;
+
+// What the threads of a server have come to.
+#[derive(Drop)]
+struct Seen {
+    // Whether a group has been held.
+    is_held: AtomicBool,
+    // Whether a reply was written while it was held.
+    is_overtaken: AtomicBool,
+    // How many times replies were written.
+    answers: AtomicU64,
+}
+
+// Holds the first group that is to be stored until a reply was written.
+struct Gate<'a, R: Clock> {
+    rt: &'a R,
+    seen: &'a Seen,
+}
+
+impl<'a, R: Clock> Clone for Gate<'a, R> {
+    fn clone(&self) -> Result<Gate<'a, R>, AllocError> {
+        Ok(*self)
+    }
+}
+
+impl<'a, R: Clock> Copy for Gate<'a, R> {}
+
+impl<'a, R: Clock> SyncPoints for Gate<'a, R> {
+    fn reach(&mut self, at: Point) {
+        match at {
+            Point::Append => self.hold(),
+            Point::Answered => {
+                self.seen.answers.fetch_add(1, Ordering::SeqCst);
+            }
+            _ => {}
+        }
+    }
+}
+
+impl<'a, R: Clock> Log for Gate<'a, R> {
+    fn note(&self, _event: Event<'_>) {}
+}
+
+impl<'a, R: Clock> Gate<'a, R> {
+    fn hold(&self) {
+        if self.seen.is_held.load(Ordering::SeqCst) {
+            return;
+        }
+        let before = self.seen.answers.load(Ordering::SeqCst);
+        self.seen.is_held.store(true, Ordering::SeqCst);
+        for _ in 0..TURNS {
+            if self.seen.answers.load(Ordering::SeqCst) != before {
+                self.seen.is_overtaken.store(true, Ordering::SeqCst);
+                return;
+            }
+            thread::sleep(self.rt, Duration::from_millis(1));
+        }
+    }
+}
+
+// Waits until a group is held.
+fn wait_for(rt: &HostRuntime, flag: &AtomicBool) -> io::Result<()> {
+    for _ in 0..TURNS {
+        if flag.load(Ordering::SeqCst) {
+            return Ok(());
+        }
+        thread::sleep(rt, Duration::from_millis(1));
+    }
+    Err(io::Error::from(ErrorKind::TimedOut))
+}
+
+// One client's FUA WRITE is held, and another's WRITE is answered meanwhile.
+fn write_beside_a_held_one(rt: &HostRuntime, port: u16, seen: &Seen) -> io::Result<()> {
+    let mut one = Client::connect(rt, port)?;
+    one.send_write(1, 0x41, CommandFlags::FUA.bits())?;
+    wait_for(rt, &seen.is_held)?;
+    let mut other = Client::connect(rt, port)?;
+    other.send_write(2, 0x42, 0)?;
+    other.expect_done(2)?;
+    one.expect_done(1)?;
+    one.disconnect()?;
+    other.disconnect()
+}
+
+// A device over holes that was opened.
+fn fresh(alloc: Global) -> Option<OpenDevice<SimDisk, ()>> {
+    let geometry = Geometry::new(64, 2_097_152)?;
+    let mut disk = SimDisk::new(alloc, geometry.device_bytes()).ok()?;
+    Keeper::format(alloc, &mut disk, geometry).ok()?;
+    OpenDevice::open(alloc, disk, None).ok()
+}
+
+// What a run came to: what the clients met, and what the server and its device did.
+#[derive(Drop)]
+struct Ran {
+    clients: io::Result<()>,
+    outcome: Result<(), Refusal>,
+    disk: SimDisk,
+}
+
+// Has the clients served by two workers until two sessions have ended.
+fn run<R: Threads + Wait + Clock + Copy + Send + Sync + Drop + 'static>(
+    rt: &HostRuntime,
+    threads: &R,
+    seen: &Seen,
+) -> Option<Ran> {
+    let alloc = rt.alloc();
+    let socket = TcpListener::bind(rt, SocketAddr::from((Ipv4Addr::LOCALHOST, 0))).ok()?;
+    let port = socket.local_addr().ok()?.port();
+    let limits = Limits {
+        sessions: 2,
+        handshake_seconds: 5,
+        idle_seconds: 0,
+        flush_seconds: 0,
+    };
+    let options = ServeOptions::new(512, Mode::Writeback, 2, limits, OnFault::Stay, false)?;
+    let device = fresh(alloc)?;
+    let listener = Listener::Tcp(socket);
+    // (the server's input doesn't end before it does)
+    let (_ending, input) = UnixStream::pair(rt).ok()?;
+    let gate = Gate { rt: threads, seen };
+    thread::scope(thread::scope_env(), threads, move |scope| {
+        let Ok(server) = scope.spawn(move || serve(
+            threads, alloc, device, listener, input, options, gate,
+        )) else {
+            return None;
+        };
+        let clients = write_beside_a_held_one(rt, port, seen);
+        // Where a client gave up the server still waits for its sessions.
+        for _ in 0..2 {
+            let _ = TcpStream::connect(rt, SocketAddr::from((Ipv4Addr::LOCALHOST, port)));
+        }
+        let (outcome, disk) = server.join(threads);
+        Some(Ran {
+            clients,
+            outcome,
+            disk,
+        })
+    })
+}
+
+// Whether an opened device's image has a block of one byte over and over.
+fn has_block(keeper: &mut Keeper<SimDisk>, block: u64, byte: u8) -> bool {
+    let mut into = [0; 4096];
+    if block >= keeper.geometry().blocks || keeper.read_base(block, &mut into).is_err() {
+        return false;
+    }
+    into == [byte; 4096]
+}
+
+#[test]
+fn write_is_answered_while_a_sync_is_held(rt: HostRuntime) {
+    let seen = Seen {
+        is_held: AtomicBool::new(false),
+        is_overtaken: AtomicBool::new(false),
+        answers: AtomicU64::new(0),
+    };
+    let ran = run(&rt, &rt, &seen).expect(&rt, "a server");
+    assert!(rt; ran.clients.is_ok());
+    assert!(rt; ran.outcome.is_ok());
+    assert!(rt; seen.is_overtaken.load(Ordering::SeqCst));
+    let mut keeper = Keeper::open(rt.alloc(), ran.disk)
+        .ok()
+        .expect(&rt, "an image");
+    assert_eq!(rt; keeper.count(), 2);
+    assert!(rt; has_block(&mut keeper, 1, 0x41));
+    assert!(rt; has_block(&mut keeper, 2, 0x42));
+}
