@@ -8,4 +8,5 @@ mod Same
 mod Stored
 mod Submits
 mod Told
+mod Unserved
 mod Waits

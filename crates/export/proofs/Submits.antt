@@ -42,7 +42,7 @@ use Rattle.export.specs.inner.Submits.{IsServedFor, IsWaitedFor}
 write_flushes_none : (kind : ℕ) → is_write_type kind ≡ true → (kind == 3) ≡ false
 write_flushes_none kind write = grind (arith, nat_tests)
 
-refused_undone : (errno : Errno) → Refused errno ≢ Done
+pub refused_undone : (errno : Errno) → Refused errno ≢ Done
 refused_undone errno is = cc
 
 shown_undone : (image : Image) (head : RequestHead) → shown_by image head ≢ Done
@@ -66,7 +66,7 @@ less_next number = grind (arith, nat_tests)
 
 module _ (opening : ℕ) (first : Image) (Sure : Type 0 → Type 0) (request : Message) (kept : Mode) (pass next : PassState) where
   -- what is answered and isn't Done, of a pass that is as it was
-  unanswered : (cookie : ℕ) (answer : Answer) (result : Served) → answer ≢ Done → next ≡ pass → result ≡ ready_for cookie answer → IsServedFor opening first Sure request kept pass next result
+  pub unanswered : (cookie : ℕ) (answer : Answer) (result : Served) → answer ≢ Done → next ≡ pass → result ≡ ready_for cookie answer → IsServedFor opening first Sure request kept pass next result
   unanswered cookie answer result undone left is =
       subst (λ (r : Served). IsServedFor opening first Sure request kept pass next r) (sym is)
       (record { knew = subst (λ (p : PassState). IsPrefix pass.history p.history) (sym left) (prefix_self pass.history); written = λ done. absurd (undone done); flushed = λ done. absurd (undone done); covered = λ done. absurd (undone done); refused = λ errno is_errno other. left; own = inl (ap (λ (p : PassState). p.own) left); lasts = let same = ap (λ (p : PassState). p.durable) left in omega (arith, same) })

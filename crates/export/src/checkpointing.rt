@@ -1,16 +1,17 @@
 use crate::beside::ReadBeside;
 use crate::export::Export;
 use crate::name::ExportName;
+use crate::shortage::Retries;
 use crate::storage_engine::{CopyStep, StorageEngine};
 use crate::sync_points::{Point, SyncPoints};
 use checkpoint::KeeperFault;
 use disk_model::Disk;
 use std::rt::Clock;
 use std::sync::Wait;
-use std::thread;
 use std::time::{Duration, Instant};
 
 // What came of a hold of the keeper's lock.
+#[derive(Clone, Copy)]
 enum Hold {
     // Another area was taken into use.
     Rotated,
@@ -18,8 +19,8 @@ enum Hold {
     Copied(CopyStep),
     // There is nothing to copy.
     Idle,
-    // Memory was refused, and the step is taken again.
-    Again,
+    // Memory was refused, and the step is taken again later.
+    NoMemory,
     // No further step can be taken, of this checkpoint or of another.
     Ended,
 }
@@ -37,6 +38,8 @@ struct Progress {
     // Since when the first area is copied, and how many of its blocks are.
     began: Option<Instant>,
     blocks: u64,
+    // How its next step was refused memory.
+    retries: Retries,
 }
 
 impl Progress {
@@ -69,12 +72,13 @@ impl<B: ExportName, D: Disk, H: ReadBeside> Export<B, D, H> {
     ///
     /// It ends once the flusher has, so it is started behind one that was, and what waits to be copied is then copied to the
     /// end; when a call of the device has failed; and where no greater generation of a header is left, after which what
-    /// finds no room waits for good.
+    /// finds no room waits for good. Where memory is refused it tries again, as the flusher does.
     pub fn checkpointer<R: Wait + Clock, G: SyncPoints>(&self, rt: &R, points: &mut G) {
         let mut progress = Progress {
             is_copying: false,
             began: None,
             blocks: 0,
+            retries: Retries::new(),
         };
         for _ in rt.forever() {
             let goes_on = if progress.is_copying {
@@ -113,6 +117,10 @@ impl<B: ExportName, D: Disk, H: ReadBeside> Export<B, D, H> {
     ) -> bool {
         points.reach(Point::Step);
         let hold = self.take_step(rt, &mut self.engine.lock(rt));
+        if !matches!(hold, Hold::NoMemory) && !progress.retries.are_none() {
+            progress.retries = Retries::new();
+            self.queue.lock(rt).set_cannot_copy(false);
+        }
         match hold {
             Hold::Rotated => {}
             Hold::Copied(CopyStep::Blocks(more)) => {
@@ -120,10 +128,30 @@ impl<B: ExportName, D: Disk, H: ReadBeside> Export<B, D, H> {
             }
             Hold::Copied(CopyStep::LetGo { waiting }) => progress.let_go(rt, points, waiting),
             Hold::Idle => progress.is_copying = false,
-            Hold::Again => thread::yield_now(),
+            Hold::NoMemory => return self.wait_to_copy(rt, points, &mut progress.retries),
             Hold::Ended => return false,
         }
         true
+    }
+
+    // Waits for memory for the next step; whether that is taken. Where it waits for long no request waits for room any more.
+    fn wait_to_copy<R: Wait + Clock, G: SyncPoints>(
+        &self,
+        rt: &R,
+        points: &mut G,
+        retries: &mut Retries,
+    ) -> bool {
+        if retries.are_none() {
+            points.reach(Point::NoMemory);
+        }
+        retries.wait(rt);
+        if !retries.are_long() {
+            return true;
+        }
+        let mut queue = self.queue.lock(rt);
+        queue.set_cannot_copy(true);
+        self.signals.settled.notify_all();
+        !(queue.is_flushed() && (queue.stopped() || retries.are_hopeless()))
     }
 
     // Takes the first step that there is, under the keeper's lock. Another area is taken into use where none waits to be copied, and
@@ -170,7 +198,7 @@ impl<B: ExportName, D: Disk, H: ReadBeside> Export<B, D, H> {
     // What comes of a step that was refused.
     fn refused<R: Wait>(&self, rt: &R, fault: KeeperFault) -> Hold {
         match fault {
-            KeeperFault::NoMemory => Hold::Again,
+            KeeperFault::NoMemory => Hold::NoMemory,
             KeeperFault::NumbersFull => Hold::Ended,
             _ => {
                 self.fail(rt);

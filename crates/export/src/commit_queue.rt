@@ -14,6 +14,7 @@ ghost use Rattle.shared_store.specs.Orders.{SpanRead, Trusting};
 ghost use Rattle.shared_store.specs.Parts.{StandsWithin};
 
 use crate::beside::ReadBeside;
+use crate::edges::MissingEdges;
 use crate::gathering::Waiters;
 use crate::name::ExportName;
 use crate::settling::FlushInterval;
@@ -21,7 +22,7 @@ use crate::storage_engine::StorageEngine;
 use crate::throttling::Throttle;
 use disk_model::Disk;
 use marks::{Board, Pass};
-use nbd_wire::{Answer, Request};
+use nbd_wire::{Answer, Request, RequestHead};
 use order_book::{OrderFault, Span};
 use request_core::{Blocks, NeedsKeeper, Served, Terms, plan_read};
 use shared_store::{SealedGroup, SharedKeeper, SharedOrder};
@@ -59,6 +60,9 @@ pub(crate) struct CommitQueue<B: ExportName> {
     wish: Option<u64>,
     // Whether no group will be stored any more.
     is_flushed: bool,
+    // Whether memory has been refused for so long that nobody is to wait for the next group, or for a copy of the journal.
+    cannot_store: bool,
+    cannot_copy: bool,
     // How long what is pending may wait.
     interval: FlushInterval,
     // By how much clients that write are slowed down.
@@ -80,6 +84,8 @@ impl<B: ExportName> Drop for CommitQueue<B> {
             lacks_room: _,
             wish: _,
             is_flushed: _,
+            cannot_store: _,
+            cannot_copy: _,
             interval: _,
             throttle: _,
         } = self;
@@ -137,6 +143,8 @@ impl<B: ExportName> CommitQueue<B> {
             lacks_room: false,
             wish: None,
             is_flushed: false,
+            cannot_store: false,
+            cannot_copy: false,
             interval: FlushInterval::endless(),
             throttle: Throttle::new(),
         }
@@ -178,6 +186,11 @@ impl<B: ExportName> CommitQueue<B> {
         })
     }
 
+    /// The blocks of which a write command takes old bytes from the device.
+    pub(crate) fn missing_edges(&self, head: &RequestHead) -> MissingEdges {
+        MissingEdges::of(head, self.order.order())
+    }
+
     /// Serves a READ with bytes that were read of the device with no lock held. They come back where they may be others than
     /// those that the blocks have now, or where another block is needed.
     ///
@@ -216,7 +229,7 @@ impl<B: ExportName> CommitQueue<B> {
         ensures unchanged { OnErr result ((self.new.order ≡ self.old.order) × (pass.new ≡ pass.old)) }
         ensures rest { (self.new.frames ≡ self.old.frames) × (self.new.passes ≡ self.old.passes) × (self.new.wanted ≡ self.old.wanted)
             × (self.new.waiters ≡ self.old.waiters) × (self.new.is_full ≡ self.old.is_full) × (self.new.lacks_room ≡ self.old.lacks_room)
-            × (self.new.wish ≡ self.old.wish) × (self.new.is_flushed ≡ self.old.is_flushed) × (self.new.interval ≡ self.old.interval)
+            × (self.new.wish ≡ self.old.wish) × (self.new.is_flushed ≡ self.old.is_flushed) × (self.new.cannot_store ≡ self.old.cannot_store) × (self.new.cannot_copy ≡ self.old.cannot_copy) × (self.new.interval ≡ self.old.interval)
             × (self.new.throttle ≡ self.old.throttle) }
     {
         if planned.settled != self.settled {
@@ -428,6 +441,35 @@ impl<B: ExportName> CommitQueue<B> {
     /// Whether no group will be stored any more.
     pub(crate) fn is_flushed(&self) -> bool {
         self.is_flushed
+    }
+
+    /// Whether memory has been refused to the flusher for so long that nobody is to wait for a group.
+    pub(crate) fn set_cannot_store(&mut self, cannot: bool)
+        ensures { self.new.settled ≡ self.old.settled }
+    {
+        self.cannot_store = cannot;
+    }
+
+    /// The same of the checkpointer, and of room.
+    pub(crate) fn set_cannot_copy(&mut self, cannot: bool)
+        ensures { self.new.settled ≡ self.old.settled }
+    {
+        self.cannot_copy = cannot;
+    }
+
+    /// Whether nothing pending will be stored soon, for want of memory.
+    pub(crate) fn cannot_store(&self) -> bool {
+        self.cannot_store || (self.is_full && self.cannot_copy)
+    }
+
+    /// Whether no room will be made soon, for want of memory.
+    pub(crate) fn cannot_make_room(&self) -> bool {
+        self.cannot_store || self.cannot_copy
+    }
+
+    /// Whether all passes have left.
+    pub(crate) fn is_left(&self) -> bool {
+        self.passes == 0
     }
 
     /// Takes the longest beginning of what is pending as a group.

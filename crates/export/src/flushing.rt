@@ -3,83 +3,137 @@ use crate::commit_queue::CommitQueue;
 use crate::export::Export;
 use crate::gathering::Pace;
 use crate::name::ExportName;
+use crate::shortage::Retries;
 use crate::storage_engine::StorageEngine;
 use crate::sync_points::{Point, SyncPoints};
 use disk_model::Disk;
 use shared_store::{SealedGroup, Unstored};
 use std::rt::Clock;
 use std::sync::Wait;
-use std::thread;
 use std::time::{Duration, Instant};
+
+// What came of a step of the flusher.
+enum Flush<B: ExportName> {
+    // A group was sealed, and is stored next.
+    Sealed(SealedGroup<B>),
+    // It was stored, or is pending again.
+    Done,
+    // There was nothing to store for a while.
+    Waited,
+    // Memory was refused. A group that was sealed stays in hand.
+    NoMemory(Option<SealedGroup<B>>),
+    // There will be no other group.
+    Ended,
+}
 
 impl<B: ExportName, D: Disk, H: ReadBeside> Export<B, D, H> {
     /// Stores groups of commands where somebody waits for one, where more than 4 MiB are pending, where a command had no room,
     /// where one was pending for as long as `store_within` says, and once all passes have left. It ends when all have left and
     /// nothing is pending, or when a call of the device has failed.
     ///
+    /// Where memory is refused it tries again, with longer and longer waits of up to a second. Once that has gone on for a second,
+    /// requests that wait for room are answered ENOMEM and those that wait to be stored EIO, until a group is stored. Once it has gone on
+    /// for ten and all passes have left, it ends, and what is pending is lost.
+    ///
     /// A group is sealed a little later than somebody waits for it, where storing one takes long and more are likely to wait
     /// for the same one.
     pub fn flusher<R: Wait + Clock, G: SyncPoints>(&self, rt: &R, points: &mut G) {
-        let mut pace = Pace::new();
-        let mut in_hand = None;
-        for _ in rt.forever() {
-            in_hand = match in_hand {
-                Some(group) => {
-                    let back = self.store_group(
-                        rt,
-                        points,
-                        &mut pace,
-                        &mut self.engine.lock(rt),
-                        group,
-                    );
-                    // Where memory is refused it stays in hand, and is stored later: others may let some go meanwhile.
-                    if back.is_some() {
-                        thread::yield_now();
-                    }
-                    back
-                }
-                None => {
-                    let Some(next) = self.next_group(rt, &mut pace) else {
-                        break;
-                    };
-                    next
-                }
-            };
-        }
-        // There is none where it ends; one would have to be spent.
-        if let Some(group) = in_hand {
-            group.let_go();
-        }
+        self.store_groups(rt, points);
         self.queue.lock(rt).end();
         self.signals.checkpoint_due.notify_all();
     }
 
-    // The next group that is to be stored, where there is one, else it waits for a while; None where there will be no other.
-    fn next_group<R: Wait + Clock>(
+    // Stores one group after another, until there will be no other.
+    fn store_groups<R: Wait + Clock, G: SyncPoints>(&self, rt: &R, points: &mut G) {
+        let mut pace = Pace::new();
+        let mut retries = Retries::new();
+        let mut in_hand = None;
+        for _ in rt.forever() {
+            let step = match in_hand {
+                Some(group) => self.store_group(
+                    rt,
+                    points,
+                    &mut pace,
+                    &mut self.engine.lock(rt),
+                    group,
+                ),
+                None => self.next_group(rt, &mut pace),
+            };
+            let Some(next) = self.after_step(rt, points, &mut retries, step) else {
+                return;
+            };
+            in_hand = next;
+        }
+        unreachable!()
+    }
+
+    // The group that is in hand after a step; None where there will be no other step.
+    fn after_step<R: Wait + Clock, G: SyncPoints>(
         &self,
         rt: &R,
-        pace: &mut Pace,
+        points: &mut G,
+        retries: &mut Retries,
+        step: Flush<B>,
     ) -> Option<Option<SealedGroup<B>>> {
+        match step {
+            Flush::Sealed(group) => Some(Some(group)),
+            Flush::Waited => Some(None),
+            Flush::Ended => None,
+            Flush::Done => {
+                if !retries.are_none() {
+                    *retries = Retries::new();
+                    self.queue.lock(rt).set_cannot_store(false);
+                }
+                Some(None)
+            }
+            Flush::NoMemory(back) => {
+                if retries.are_none() {
+                    points.reach(Point::NoMemory);
+                }
+                retries.wait(rt);
+                if retries.are_long() && self.gives_up(rt, retries) {
+                    if let Some(group) = back {
+                        group.let_go();
+                    }
+                    return None;
+                }
+                Some(back)
+            }
+        }
+    }
+
+    // No request waits any more for what can't be stored; whether the flusher doesn't either.
+    fn gives_up<R: Wait>(&self, rt: &R, retries: &Retries) -> bool {
+        let mut queue = self.queue.lock(rt);
+        queue.set_cannot_store(true);
+        self.signals.settled.notify_all();
+        queue.stopped() || (queue.is_left() && retries.are_hopeless())
+    }
+
+    // Seals the next group that is to be stored, where there is one, else it waits for a while.
+    fn next_group<R: Wait + Clock>(&self, rt: &R, pace: &mut Pace) -> Flush<B> {
         let mut queue = self.queue.lock(rt);
         if queue.stopped() || queue.is_done() {
-            return None;
+            return Flush::Ended;
         }
         if !queue.is_group_due() {
             self.wait_for_work(rt, queue);
-        } else if let Some(left) = time_to_gather(rt, &*queue, pace) {
-            let _woken = self.signals.work.wait_timeout(rt, queue, left);
-        } else if let Ok(Some(group)) = queue.seal(&self.board) {
-            pace.seal();
-            return Some(Some(group));
-        } else {
-            // No memory for it: others may let some go meanwhile.
-            drop(queue);
-            thread::yield_now();
+            return Flush::Waited;
         }
-        Some(None)
+        if let Some(left) = time_to_gather(rt, &*queue, pace) {
+            let _woken = self.signals.work.wait_timeout(rt, queue, left);
+            return Flush::Waited;
+        }
+        match queue.seal(&self.board) {
+            Ok(Some(group)) => {
+                pace.seal();
+                Flush::Sealed(group)
+            }
+            Ok(None) | Err(_) => Flush::NoMemory(None),
+        }
     }
 
-    // Stores a group under the keeper's lock, or gives it back where memory was refused.
+    // Stores a group under the keeper's lock.
     fn store_group<R: Wait + Clock, G: SyncPoints>(
         &self,
         rt: &R,
@@ -87,25 +141,25 @@ impl<B: ExportName, D: Disk, H: ReadBeside> Export<B, D, H> {
         pace: &mut Pace,
         engine: &mut StorageEngine<B, D>,
         group: SealedGroup<B>,
-    ) -> Option<SealedGroup<B>> {
+    ) -> Flush<B> {
         let begin = Instant::now(rt).ok();
         points.reach(Point::Append);
         match engine.append(&self.board, group) {
             Ok(()) => {
                 pace.note(rt, begin);
                 self.publish(rt, engine);
-                None
+                Flush::Done
             }
-            Err(Unstored::NoMemory(group)) => Some(group),
+            Err(Unstored::NoMemory(group)) => Flush::NoMemory(Some(group)),
             Err(Unstored::AreaFull(group)) => {
                 // It is pending again, and is stored once another area is in use.
                 self.queue.lock(rt).take_back(&self.board, group);
                 self.signals.notify(false, true);
-                None
+                Flush::Done
             }
             Err(Unstored::Failed) => {
                 self.fail(rt);
-                None
+                Flush::Done
             }
         }
     }

@@ -1,7 +1,7 @@
-ghost use Rattle.std.specs.Prelude.{◌≡◌, ◌≢◌, ◌≤◌, ◌<◌, ◌-◌, ◌*◌, max, IfNone, IfSome, OnOk, length, slice_range, vec_len};
+ghost use Rattle.std.specs.Prelude.{◌≡◌, ◌≢◌, ◌⊎◌, ◌≤◌, ◌<◌, ◌-◌, ◌*◌, max, IfNone, IfSome, OnOk, length, slice_range, vec_len};
 ghost use mathlib.Core.List.{IsPrefix};
 ghost use Rattle.export.specs.Submits.{IsCovered, IsJudged, IsSubmitted};
-ghost use Rattle.export.specs.inner.Submits.{FitsServed, IsServedFor, IsWaitedFor};
+ghost use Rattle.export.specs.inner.Submits.{FitsServed, IsServedFor, IsUnserved, IsWaitedFor};
 ghost use Rattle.export.specs.inner.Outcomes.{ComesToImage, FitsOutcome, IsOutcomeFor};
 ghost use Rattle.image_model.specs.Image.{apply_all};
 ghost use Rattle.marks.specs.Known.{known};
@@ -16,16 +16,17 @@ ghost use Rattle.shared_store.specs.Orders.{Trusting};
 use crate::beside::ReadBeside;
 use crate::buffer_pool::LEAST_KEPT;
 use crate::commit_queue::Planned;
+use crate::edges::MissingEdges;
 use crate::export::Export;
 use crate::name::ExportName;
 use crate::retired::RetiredPass;
 use disk_model::{DeviceFault, Disk};
 use image_model::BLOCK_BYTES;
 use marks::{Pass, Told};
-use nbd_wire::{Answer, Errno, Reply, Request, SessionFlags};
+use nbd_wire::{Answer, Errno, FLUSH, Reply, Request, SessionFlags};
 use order_book::Span;
 use regions::Regions;
-use request_core::{Blocks, NeedsKeeper, Served, Terms};
+use request_core::{Action, Blocks, NeedsKeeper, Served, Terms, judge};
 use std::sync::Wait;
 
 /// So often a READ tries to be read beside the locks, before it waits for the keeper.
@@ -76,6 +77,9 @@ impl<B: ExportName, D: Disk, H: ReadBeside> Export<B, D, H> {
     /// A request that is refused by the rules on requests is answered with their error, and any other one with EIO after a
     /// device fault, ENOMEM where memory is refused, ENOSPC where no number is left, or what was asked for. When one of these comes
     /// isn't said.
+    ///
+    /// Where a read by the second handle fails, the request that it is for is answered EIO, and nothing else changes. So are requests that
+    /// wait to be stored, where memory for that has been refused for a second.
     pub fn submit<R: Wait>(
         &self,
         rt: &R,
@@ -161,8 +165,9 @@ impl<B: ExportName, D: Disk, H: ReadBeside> Export<B, D, H> {
             Ok(served) => served,
             Err(NeedsKeeper(back)) => {
                 let planned = queue.plan(&back, &terms);
+                let edges = queue.missing_edges(&back.head());
                 drop(queue);
-                return self.serve_missing(rt, pass, back, planned, terms);
+                return self.serve_missing(rt, pass, back, planned, edges, terms);
             }
         };
         match &served {
@@ -172,6 +177,9 @@ impl<B: ExportName, D: Disk, H: ReadBeside> Export<B, D, H> {
                 self.signals.notify(work, is_due);
             }
             Served::Wait(_) => {}
+            Served::NoRoom(back) if queue.cannot_make_room() => {
+                return refuse(back, &terms, Errno::NoMemory);
+            }
             Served::NoRoom(_) => {
                 queue.miss_room();
                 self.signals.notify(true, true);
@@ -181,13 +189,15 @@ impl<B: ExportName, D: Disk, H: ReadBeside> Export<B, D, H> {
         served
     }
 
-    // Serves a request for which the device is needed: a planned one beside the locks, where that can be, else with the keeper.
+    // Serves a request for which the device is needed: a planned one beside the locks, where that can be, else with the keeper; but not
+    // one that takes old bytes which the second handle can't read.
     fn serve_missing<R: Wait>(
         &self,
         rt: &R,
         pass: &mut Pass<B>,
         request: Request,
         planned: Option<Planned>,
+        edges: MissingEdges,
         terms: Terms,
     ) -> Served
         requires kind { request.head.kind ≢ 2 }
@@ -199,13 +209,38 @@ impl<B: ExportName, D: Disk, H: ReadBeside> Export<B, D, H> {
     {
         match self.serve_beside(rt, pass, &request, planned, &terms) {
             Some(served) => served,
+            None if planned.is_none() && !self.can_read(edges) => {
+                refuse(&request, &terms, Errno::Io)
+            }
             None => self.serve_locked(rt, pass, request, terms),
         }
     }
 
+    // Whether the second handle, where there is one, can read the blocks of which a write command takes old bytes. A fault is met here,
+    // and not by the keeper, whose faults stop the export.
+    fn can_read(&self, edges: MissingEdges) -> bool {
+        let Some(handle) = &self.beside else {
+            return true;
+        };
+        let mut bytes = [0; BLOCK_BYTES as usize];
+        for block in [edges.first, edges.last] {
+            let Some(block) = block else {
+                continue;
+            };
+            if block >= self.geometry.blocks {
+                continue;
+            }
+            let from = Regions::of(&self.geometry).block_from(block);
+            if handle.read_beside(from, &mut bytes).is_err() {
+                return false;
+            }
+        }
+        true
+    }
+
     // Serves a READ whose missing blocks are read with no lock held; not where nothing is planned, there is no second handle or no
-    // memory, a read fails, or what was read isn't enough each time. The device's fault is then met with the keeper, or isn't there any
-    // more.
+    // memory, or what was read isn't enough each time. Where a read fails the READ is answered EIO: it doesn't come to the keeper, whose
+    // faults stop the export.
     fn serve_beside<R: Wait>(
         &self,
         rt: &R,
@@ -234,7 +269,7 @@ impl<B: ExportName, D: Disk, H: ReadBeside> Export<B, D, H> {
         };
         for _ in 0..MOST_TRIES {
             let Ok(()) = self.read_span(handle, blocks.first, planned.span, &mut bytes) else {
-                return None;
+                return Some(refuse(request, terms, Errno::Io));
             };
             let mut queue = self.queue.lock(rt);
             let served = queue.serve_over(
@@ -341,7 +376,7 @@ impl<B: ExportName, D: Disk, H: ReadBeside> Export<B, D, H> {
             if self.board.look_durable(pass) >= number {
                 return Answer::Done;
             }
-            if queue.stopped() {
+            if queue.stopped() || queue.cannot_store() {
                 return Answer::Refused(Errno::Io);
             }
             queue = self.signals.settled.wait(rt, queue);
@@ -370,6 +405,26 @@ impl<B: ExportName, D: Disk, H: ReadBeside> Export<B, D, H> {
         let told = self.tell(&mut other);
         self.learn(&mut pass.pass, told);
     }
+}
+
+// Answers a request that isn't a DISC, of which nothing was done, with an error: by the rules on requests, else with this one. A FLUSH
+// is never refused for want of memory.
+fn refuse(request: &Request, terms: &Terms, errno: Errno) -> Served
+    requires kind { request.now.head.kind ≢ 2 }
+    requires errors { (errno ≡ Errno.Io) ⊎ (errno ≡ Errno.NoMemory) }
+    ensures { IsUnserved terms.now.geometry terms.now.flags request.now result }
+{
+    let head = request.head();
+    let errno = match judge(&head, &terms.geometry, &terms.flags) {
+        Ok(Action::Serve) if head.kind == FLUSH => Errno::Io,
+        Ok(Action::Serve) => errno,
+        Ok(Action::End) => unreachable!(),
+        Err(refusal) => refusal,
+    };
+    Served::Ready(Reply {
+        cookie: head.cookie,
+        answer: Answer::Refused(errno),
+    })
 }
 
 // What a request comes to once there was room for its command.

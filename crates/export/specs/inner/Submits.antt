@@ -7,10 +7,12 @@ use Rattle.image_model.specs.declared.geometry.Geometry.{Geometry}
 use Rattle.marks.specs.Known.{PassState, known}
 use Rattle.nbd_wire.specs.Reply.{IsAnswerTo}
 use Rattle.nbd_wire.specs.Request.{Message}
+use Rattle.nbd_wire.specs.declared.error.Errno.{Errno}
 use Rattle.nbd_wire.specs.declared.error.Errno.TheVariants.{Io}
 use Rattle.nbd_wire.specs.declared.message.Answer.{Answer}
 use Rattle.nbd_wire.specs.declared.message.Answer.TheVariants.{Bytes, Done, Refused, States}
 use Rattle.nbd_wire.specs.declared.message.SessionFlags.{SessionFlags}
+use Rattle.request_core.specs.Serving.{ready_for}
 use Rattle.request_core.specs.declared.serving.Served.{Served}
 use Rattle.request_core.specs.declared.serving.Served.TheVariants as served
 use Rattle.export_model.specs.Log.{is_flush, is_write}
@@ -58,6 +60,12 @@ abbrev pub FitsServed : Geometry → SessionFlags → Message → Served → Typ
 FitsServed geometry flags request (served.Ready reply) = IsAnswerTo flags request.head.kind reply.answer × IsJudged (verdict request.head geometry flags) request reply.answer
 FitsServed geometry flags request (served.Wait number) = IsWaiting geometry flags request
 FitsServed geometry flags request (served.NoRoom back) = Unit {0}
+
+-- A request of which nothing was done is answered with an error that the verdict on it allows.
+pub record IsUnserved (geometry : Geometry) (flags : SessionFlags) (request : Message) (served : Served) : Type 0 where
+  pub errno : Errno
+  pub answer : served ≡ ready_for request.head.cookie (Refused errno)
+  pub judged : IsJudged (verdict request.head geometry flags) request (Refused errno)
 
 -- Who has waited for a number is answered Ok once it is durable, or EIO.
 pub record IsWaitedFor (number : ℕ) (old new : PassState) (answer : Answer) : Type 0 where

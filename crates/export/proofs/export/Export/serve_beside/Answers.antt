@@ -2,6 +2,9 @@ use Rattle.std.specs.Prelude.{slice_range}
 use Rattle.std.proofs.Common.{◌∙◌, ◌≤◌, ◌-◌, ◌*◌, ◌/◌, ℕ, length, ap, refl, subst, sym}
 use Rattle.export.proofs.Given.{given, inside}
 use Rattle.export.proofs.Same.{served_same}
+use Rattle.export.proofs.Unserved.{unserved_fits, unserved_for, unserved_tells}
+use Rattle.image_model.specs.Image.{apply_all}
+use Rattle.shared_store.specs.laws.Trust.{anyway}
 use Rattle.image_model.specs.Edit.{blocks_met}
 use Rattle.nbd_wire.specs.declared.head.RequestHead.{RequestHead}
 use Rattle.regions.specs.Layout.{block_at}
@@ -24,7 +27,14 @@ pub returns-in_default-room : goal.returns-in_default-room
 returns-in_default-room g c = record { served = tt; fits = tt; tells = tt; unchanged = refl }
 
 pub returns-in_default-read_span : goal.returns-in_default-read_span
-returns-in_default-read_span g c = record { served = tt; fits = tt; tells = tt; unchanged = c.loop.invariant.pass }
+returns-in_default-read_span g c =
+    let opening = g.B.BoardName.opening in let image = g.B.ImageName.image in let vouches = g.B.ImageName.vouches in let trusted = g.B.ImageName.trusted in
+    let request = c.args.request.now in let geometry = c.args.terms.now.geometry in let flags = c.args.terms.now.flags in let is = c.refuse.ensures in record {
+      served = unserved_for geometry flags request c.refuse.result is opening image (Trusting opening image vouches trusted) c.args.terms.now.mode c.args.pass.now c.loop.pass c.loop.invariant.pass;
+      fits = unserved_fits geometry flags request c.refuse.result is;
+      tells = anyway opening image vouches trusted (unserved_tells geometry flags request c.refuse.result is (apply_all c.loop.pass.history image) request.head);
+      unchanged = tt;
+    }
 
 pub returns-in-Ok-served : goal.returns-in-Ok-served
 returns-in-Ok-served g c =

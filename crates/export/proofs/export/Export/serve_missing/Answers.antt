@@ -1,0 +1,9 @@
+use Rattle.export.proofs.Unserved.{unserved_for}
+use Rattle.shared_store.specs.Orders.{Trusting}
+use Rattle.export.proofs.export.Export.serve_missing.Goals as goal
+
+pub returns-in-None-clause-served : goal.returns-in-None-clause-served
+returns-in-None-clause-served g c =
+    let opening = g.B.BoardName.opening in let image = g.B.ImageName.image in
+    unserved_for c.args.terms.geometry c.args.terms.flags c.args.request c.refuse.result c.refuse.ensures opening image (Trusting opening image g.B.ImageName.vouches g.B.ImageName.trusted) c.args.terms.mode
+    c.args.pass.now c.serve_beside.new.pass c.in-None.ensures.unchanged

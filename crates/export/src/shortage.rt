@@ -1,0 +1,60 @@
+//! What the threads do that store and copy, where memory is refused.
+
+use std::rt::Clock;
+use std::thread;
+use std::time::Duration;
+
+/// A step that was refused memory is taken again after so many milliseconds, and each time after twice as many, up to the most.
+const LEAST_WAIT: u64 = 10;
+
+const MOST_WAIT: u64 = 1_000;
+
+/// After so many milliseconds no client waits for the step any more.
+const PATIENCE: u64 = 1_000;
+
+/// After so many, once all clients have left, it isn't taken again.
+const LAST_PATIENCE: u64 = 10_000;
+
+/// For how long a step has been refused memory, again and again.
+#[derive(Clone, Copy)]
+pub(crate) struct Retries {
+    next: u64,
+    waited: u64,
+}
+
+impl Retries {
+    pub(crate) fn new() -> Retries {
+        Retries {
+            next: LEAST_WAIT,
+            waited: 0,
+        }
+    }
+
+    /// Whether the step hasn't been refused since one was last taken.
+    pub(crate) fn are_none(&self) -> bool {
+        self.waited == 0
+    }
+
+    /// Whether no client is to wait for the step any more.
+    pub(crate) fn are_long(&self) -> bool {
+        self.waited >= PATIENCE
+    }
+
+    /// Whether the step isn't to be taken again, once all clients have left.
+    pub(crate) fn are_hopeless(&self) -> bool {
+        self.waited >= LAST_PATIENCE
+    }
+
+    /// Waits before the step is taken again, which is done with no lock held: others may let memory go meanwhile.
+    pub(crate) fn wait<R: Clock>(&mut self, rt: &R) {
+        let left = PATIENCE.saturating_sub(self.waited);
+        let wait = if left == 0 {
+            self.next
+        } else {
+            self.next.min(left)
+        };
+        thread::sleep(rt, Duration::from_millis(wait));
+        self.next = self.next.saturating_mul(2).min(MOST_WAIT);
+        self.waited = self.waited.saturating_add(wait);
+    }
+}
