@@ -1,32 +1,38 @@
+use crate::server_log::{ServerLog, Topic};
 use disk_model::DeviceFault;
 use export::{ExportName, ReadBeside};
 use image_model::Geometry;
 use order_book::{Order, Span};
 use std::fs::File;
 use std::os::unix::fs::FileExt;
+use std::rt::Clock;
+use std::sync::Wait;
 
-/// A second handle of a device's file.
+/// A second handle of a device's file, whose reads that fail are told.
 #[derive(Drop)]
-pub struct SecondHandle(File);
-
-impl SecondHandle {
-    /// A second handle of an open file, where the system has one left; without it reads wait for the first one.
-    pub fn of(file: &File) -> Option<SecondHandle> {
-        match file.try_clone() {
-            Ok(file) => Some(SecondHandle(file)),
-            Err(_) => None,
-        }
-    }
+pub struct SecondHandle<'a, R> {
+    pub file: File,
+    pub log: ServerLog<'a, R>,
 }
 
-impl ReadBeside for SecondHandle {
+impl<'a, R: Wait + Clock> ReadBeside for SecondHandle<'a, R> {
     // Nothing is claimed of what a file holds.
     ghost gives = { λ handle offset bytes. Unit {0} };
 
     ghost vouches = { λ handle read. Unit {0} };
 
     fn read_beside(&self, offset: u64, into: &mut [u8]) -> Result<(), DeviceFault> {
-        self.0.read_exact_at(into, offset).map_err(|_| DeviceFault)
+        match self.file.read_exact_at(into, offset) {
+            Ok(()) => Ok(()),
+            Err(error) => {
+                let count = into.len();
+                self.log.tell(
+                    Topic::Unread,
+                    format_args!("read of {count} bytes at {offset}: {error}"),
+                );
+                Err(DeviceFault)
+            }
+        }
     }
 
     fn vouch<B: ExportName>(

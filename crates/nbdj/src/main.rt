@@ -5,10 +5,10 @@ ghost use Rattle.std.specs.Prelude.{ℕ};
 ghost use Rattle.nbdj_pipe.specs.Plan.{Suits};
 
 mod beside;
+mod server_log;
 mod serving;
 mod teller;
 
-use crate::beside::SecondHandle;
 use crate::serving::serve_at;
 use crate::teller::Teller;
 use clap::error::ErrorKind;
@@ -82,9 +82,10 @@ where
             options,
         } => match open(rt, path) {
             Ok(opened) => {
-                let beside = SecondHandle::of(&opened.file);
+                // Where the system has no second handle left reads wait for the first one.
+                let beside = opened.file.try_clone().ok();
                 let disk = disk_of(rt, teller, opened, path, true);
-                serve_at(rt, threads, teller, disk, beside, address, options)
+                serve_at(rt, threads, teller, path, disk, beside, address, options)
             }
             Err(fault) => no_file(rt, teller, path, fault),
         },

@@ -1,6 +1,7 @@
 //! The sockets of a server.
 
 use crate::beside::SecondHandle;
+use crate::server_log::{LogLines, ServerLog};
 use crate::teller::Teller;
 use disk_model::{Disk, FileDisk};
 use export::OpenDevice;
@@ -25,27 +26,37 @@ pub fn serve_at<R: Threads + Wait + Clock + Copy + Send + Sync + Drop + 'static>
     rt: &HostRuntime,
     threads: &R,
     teller: Teller,
+    path: &str,
     disk: FileDisk<ToldFile<'_, File>>,
-    beside: Option<SecondHandle>,
+    beside: Option<File>,
     address: Address<'_>,
     options: ServeOptions,
 ) -> u8 {
-    let outcome = match open_device(rt, teller, disk, beside) {
-        Ok(device) => listen(rt, threads, teller, device, address, options),
+    let Ok(lines) = LogLines::start(rt, threads) else {
+        return exit_status(Err(Refusal::NoMemory), &mut rt.stderr());
+    };
+    let log = ServerLog::new(threads, &lines, path, teller.is_verbose());
+    let beside = match beside {
+        Some(file) => Some(SecondHandle { file, log }),
+        None => None,
+    };
+    let outcome = match open_device(rt, log, disk, beside) {
+        Ok(device) => listen(rt, threads, teller, log, device, address, options),
         Err(refusal) => Err(refusal),
     };
+    log.finish();
     exit_status(outcome, &mut rt.stderr())
 }
 
 // Opens a device, and tells how many commands that has recovered.
-fn open_device<'a>(
+fn open_device<'a, 'b, R: Wait + Clock>(
     rt: &HostRuntime,
-    teller: Teller,
+    log: ServerLog<'b, R>,
     disk: FileDisk<ToldFile<'a, File>>,
-    beside: Option<SecondHandle>,
-) -> Result<OpenDevice<FileDisk<ToldFile<'a, File>>, SecondHandle>, Refusal> {
+    beside: Option<SecondHandle<'b, R>>,
+) -> Result<OpenDevice<FileDisk<ToldFile<'a, File>>, SecondHandle<'b, R>>, Refusal> {
     let mut disk = disk;
-    let base = if teller.is_verbose() {
+    let base = if log.is_verbose() {
         base_of(&mut disk)
     } else {
         None
@@ -55,7 +66,7 @@ fn open_device<'a>(
         Ok(device) => {
             if let (Some(base), Ok(start)) = (base, start) {
                 let commands = device.keeper.count().saturating_sub(base);
-                teller.tell_recovery(commands, start.elapsed(rt).unwrap_or(Duration::ZERO));
+                log.tell_recovery(commands, start.elapsed(rt).unwrap_or(Duration::ZERO));
             }
             Ok(device)
         }
@@ -74,21 +85,14 @@ fn listen<R: Threads + Wait + Clock + Copy + Send + Sync + Drop + 'static>(
     rt: &HostRuntime,
     threads: &R,
     teller: Teller,
-    device: OpenDevice<FileDisk<ToldFile<'_, File>>, SecondHandle>,
+    log: ServerLog<'_, R>,
+    device: OpenDevice<FileDisk<ToldFile<'_, File>>, SecondHandle<'_, R>>,
     address: Address<'_>,
     options: ServeOptions,
 ) -> Result<(), Refusal> {
     let listener = open_socket(rt, teller, address)?;
     let input = rt.stdin();
-    let (outcome, _disk) = serve(
-        threads,
-        rt.alloc(),
-        device,
-        listener,
-        input,
-        options,
-        teller,
-    );
+    let (outcome, _disk) = serve(threads, rt.alloc(), device, listener, input, options, log);
     if let Address::Unix(path) = address {
         // Where it can't be removed, the next server replaces it.
         let _ = fs::remove_file(rt, path);

@@ -1,16 +1,11 @@
-//! What `--verbose` tells: why something can't be done, and what happens in a server.
+//! What `--verbose` tells: why something can't be done.
 
 use disk_model::{Disk, FileDisk};
-use export::{Point, SyncPoints};
 use header_slots::{HeaderFault, read_current};
 use image_files::{FileFault, header_of};
-use nbd_wire::SessionFlags;
-use negotiation::End;
-use server::{Event, Log, Traffic};
 use std::fmt::{self, Display, Formatter};
 use std::fs::File;
 use std::io;
-use std::time::Duration;
 
 /// What is told beside the texts that are always there.
 #[derive(Clone, Copy)]
@@ -95,95 +90,6 @@ impl Teller {
             },
         }
         disk
-    }
-}
-
-impl Teller {
-    // Tells what has happened.
-    pub fn report<T: Display + Drop>(&self, text: T) {
-        if self.is_verbose {
-            // Where it can't be written nobody listens.
-            let _ = eprintln!(self.rt; "nbdj: {text}");
-        }
-    }
-
-    /// Tells how many commands an opening has recovered.
-    pub fn tell_recovery(&self, commands: u64, took: Duration) {
-        self.report(format_args!("recovered {commands} commands in {}", Seconds(took)));
-    }
-}
-
-// It holds no thread.
-impl SyncPoints for Teller {
-    fn reach(&mut self, at: Point) {
-        if let Point::Copied { blocks, took } = at {
-            self.report(format_args!("checkpoint of {blocks} blocks in {}", Seconds(took)));
-        }
-    }
-}
-
-impl Log for Teller {
-    fn note(&self, event: Event<'_>) {
-        match event {
-            Event::Came { client, from } => {
-                self.report(format_args!("client {client} came from {from}"));
-            }
-            Event::Full { workers } => {
-                self.report(format_args!(
-                    "all {workers} workers have a client, and further ones wait"
-                ));
-            }
-            Event::Agreed { client, flags } => {
-                self.report(format_args!("client {client} agreed on {}", agreed(flags)));
-            }
-            Event::Left {
-                client,
-                end,
-                traffic,
-            } => self.tell_end(client, end, traffic),
-        }
-    }
-}
-
-impl Teller {
-    fn tell_end(&self, client: u64, end: Result<(), End>, traffic: Traffic) {
-        let Traffic {
-            requests,
-            bytes_read,
-            bytes_written,
-        } = traffic;
-        let way = way_out(end);
-        self.report(format_args!(
-            "client {client} {way} after {requests} requests, {bytes_read} bytes read and {bytes_written} written"
-        ));
-    }
-}
-
-fn agreed(flags: SessionFlags) -> &'static str {
-    match (flags.structured, flags.context) {
-        (true, true) => "structured replies and base:allocation",
-        (true, false) => "structured replies",
-        (false, _) => "simple replies",
-    }
-}
-
-fn way_out(end: Result<(), End>) -> &'static str {
-    match end {
-        Ok(()) => "left",
-        Err(End::PeerClosed) => "was gone, or its session ended from here,",
-        Err(End::ProtocolEnd) => "was let go for what it sent",
-        Err(End::IoFault) => "was cut off, or silent for too long,",
-        Err(End::NoMemory) => "was let go for want of memory",
-    }
-}
-
-// Seconds with three digits behind the point.
-#[derive(Drop)]
-struct Seconds(Duration);
-
-impl Display for Seconds {
-    fn fmt<W: fmt::Write>(&self, f: &mut Formatter<W>) -> fmt::Result {
-        write!(f, "{}.{:03} s", self.0.as_secs(), self.0.subsec_millis())
     }
 }
 

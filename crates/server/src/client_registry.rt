@@ -44,16 +44,13 @@ impl ClientRegistry {
     }
 
     /// Waits for the next client. Where one couldn't be accepted it has gone, too many files are open, or the registry is closed.
-    pub(crate) fn accept<R: Clock>(&self, rt: &R) -> Option<Client> {
-        match self.listener.accept() {
-            Ok(client) => Some(client),
-            Err(_) => {
-                if !self.is_closed() {
-                    thread::sleep(rt, Duration::from_millis(PAUSE));
-                }
-                None
-            }
-        }
+    pub(crate) fn accept(&self) -> io::Result<Client> {
+        self.listener.accept()
+    }
+
+    /// Waits a little before the next client, since one couldn't be accepted.
+    pub(crate) fn pause<R: Clock>(&self, rt: &R) {
+        thread::sleep(rt, Duration::from_millis(PAUSE));
     }
 
     /// Whether no client is served any more.

@@ -1,6 +1,7 @@
 use crate::client::Client;
 use nbd_wire::SessionFlags;
 use negotiation::End;
+use std::io;
 
 /// What a session has asked for.
 #[derive(Clone, Copy)]
@@ -23,6 +24,10 @@ pub enum Event<'a> {
     /// All workers have a client.
     Full {
         workers: u32,
+    },
+    /// A client couldn't be accepted.
+    Unaccepted {
+        error: &'a io::Error,
     },
     /// A client's first request has come, after this was agreed on.
     Agreed {

@@ -166,8 +166,13 @@ impl<'a, B: ExportName, D: Disk, H: ReadBeside, R: Wait + Clock, G: SyncPoints +
             if registry.is_closed() || !self.pool.begin(self.rt) {
                 break;
             }
-            if let Some(client) = registry.accept(self.rt) {
-                self.receive(slot, &mut pass, client);
+            match registry.accept() {
+                Ok(client) => self.receive(slot, &mut pass, client),
+                Err(_) if registry.is_closed() => {}
+                Err(error) => {
+                    self.watch.note(Event::Unaccepted { error: &error });
+                    registry.pause(self.rt);
+                }
             }
         }
         self.pool.retire(self.rt, self.export, pass);

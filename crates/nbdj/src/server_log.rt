@@ -1,0 +1,347 @@
+//! What `serve` tells on standard error while it works. A thread of its own writes it, so that nobody waits for who reads it.
+
+use export::{Point, SyncPoints};
+use nbd_wire::SessionFlags;
+use negotiation::End;
+use server::{Event, Log, Traffic};
+use std::alloc::{AllocError, Global};
+use std::fmt::{self, Display, Formatter};
+use std::io::Write;
+use std::mem;
+use std::rt::Clock;
+use std::sync::{Arc, Condvar, CondvarTimeouts, Mutex, Wait};
+use std::thread::{self, Threads};
+use std::time::{Duration, Instant};
+
+/// The most bytes of lines that wait to be written.
+const MOST_WAITING: usize = 65_536;
+
+/// The most bytes of a line.
+const LONGEST_LINE: usize = 4_608;
+
+/// For so many seconds the program waits at its end until all lines are written.
+const LAST_WAIT: u64 = 1;
+
+/// What a line is about.
+#[derive(Clone, Copy, PartialEq, Eq)]
+pub enum Topic {
+    Recovered,
+    Came,
+    Full,
+    Agreed,
+    Left,
+    Copied,
+    Unread,
+    NoMemory,
+    Unaccepted,
+}
+
+const TOPICS: usize = 9;
+
+impl Topic {
+    fn place(self) -> usize {
+        match self {
+            Topic::Recovered => 0,
+            Topic::Came => 1,
+            Topic::Full => 2,
+            Topic::Agreed => 3,
+            Topic::Left => 4,
+            Topic::Copied => 5,
+            Topic::Unread => 6,
+            Topic::NoMemory => 7,
+            Topic::Unaccepted => 8,
+        }
+    }
+
+    // The seconds from one line to the next.
+    fn gap(self) -> u64 {
+        match self {
+            Topic::Full | Topic::Unread | Topic::NoMemory | Topic::Unaccepted => 60,
+            _ => 1,
+        }
+    }
+
+    // Whether it is told though nobody has asked for `--verbose`: something is amiss.
+    fn is_urgent(self) -> bool {
+        matches!(self, Topic::Unread | Topic::NoMemory | Topic::Unaccepted)
+    }
+}
+
+// Lines that wait to be written.
+#[derive(Drop)]
+struct Lines {
+    waiting: Vec<u8>,
+    // Whether others were taken out and aren't written yet.
+    is_writing: bool,
+    // How many lines were left out since that was last told.
+    left_out: u64,
+    // When a line of each topic was last told.
+    last: [Option<Instant>; TOPICS],
+}
+
+impl Lines {
+    // Adds a line, cut to the longest; not where there is no room.
+    fn add<T: Display + Drop>(&mut self, path: &str, text: T) -> bool {
+        let mut line = [0; LONGEST_LINE];
+        let mut room = line.as_mut_slice();
+        // (A text that is longer than the room fails, once the room is full.)
+        let _ = write!(room, "nbdj: {path}: {text}");
+        let length = LONGEST_LINE.saturating_sub(room.len());
+        let line = line.get(..length).unwrap_or(&[]);
+        if self.waiting.len().saturating_add(length) >= MOST_WAITING {
+            return false;
+        }
+        self.waiting.extend_from_slice(line).is_ok() && self.waiting.push(b'\n').is_ok()
+    }
+
+    // Tells how many lines were left out, where some were.
+    fn tell_left_out(&mut self, path: &str) {
+        let count = self.left_out;
+        if count > 0 && self.add(path, format_args!("{count} lines left out")) {
+            self.left_out = 0;
+        }
+    }
+
+    // Whether so many seconds have passed since a line of this topic, which is told now then.
+    fn is_due<R: Clock>(&mut self, rt: &R, topic: Topic) -> bool {
+        let Some(last) = self.last.get_mut(topic.place()) else {
+            return false;
+        };
+        if let Some(since) = *last {
+            let gap = Duration::from_secs(topic.gap());
+            if since.elapsed(rt).unwrap_or(Duration::ZERO) < gap {
+                return false;
+            }
+        }
+        *last = Instant::now(rt).ok();
+        true
+    }
+}
+
+/// The lines, and the thread that writes them.
+#[derive(Drop)]
+pub struct LogLines {
+    lines: Mutex<Lines>,
+    // Told when a line is added, and when all are written.
+    added: Condvar,
+    written: Condvar,
+}
+
+impl LogLines {
+    /// Starts the thread, which nobody waits for: it may wait for a reader for ever.
+    pub fn start<R>(host: &HostRuntime, rt: &R) -> Result<Arc<LogLines, Global>, AllocError>
+    where
+        R: Threads + Wait + Clock + Copy + Send + Drop + 'static,
+    {
+        let alloc = host.alloc();
+        let lines = Lines {
+            waiting: Vec::with_capacity(alloc, MOST_WAITING)?,
+            is_writing: false,
+            left_out: 0,
+            last: [None; TOPICS],
+        };
+        let made = Arc::new(
+            alloc,
+            LogLines {
+                lines: Mutex::new(lines),
+                added: Condvar::new(),
+                written: Condvar::new(),
+            },
+        )?;
+        let taken = Vec::with_capacity(alloc, MOST_WAITING)?;
+        let (own, its, host) = (*rt, Arc::try_clone(&made)?, *host);
+        match thread::spawn(rt, move || its.write_on(&own, host, taken)) {
+            Ok(_) => Ok(made),
+            Err(_) => Err(AllocError),
+        }
+    }
+
+    // Writes lines as they come. `taken` has room for them.
+    fn write_on<R: Wait>(&self, rt: &R, host: HostRuntime, taken: Vec<u8>) {
+        let mut taken = taken;
+        let mut errors = host.stderr();
+        for _ in rt.forever() {
+            let mut lines = self.lines.lock(rt);
+            if lines.waiting.is_empty() {
+                lines.is_writing = false;
+                self.written.notify_all();
+                let _woken = self.added.wait(rt, lines);
+                continue;
+            }
+            mem::swap(&mut lines.waiting, &mut taken);
+            lines.is_writing = true;
+            drop(lines);
+            // Where it can't be written nobody listens.
+            let _ = errors.write_all(&taken);
+            taken.clear();
+        }
+    }
+}
+
+/// By which a server tells what happens in it.
+#[derive(Clone, Copy)]
+pub struct ServerLog<'a, R> {
+    rt: &'a R,
+    lines: &'a LogLines,
+    path: &'a str,
+    is_verbose: bool,
+}
+
+impl<'a, R: Wait + Clock> ServerLog<'a, R> {
+    /// For the image at this path.
+    pub fn new(
+        rt: &'a R,
+        lines: &'a LogLines,
+        path: &'a str,
+        is_verbose: bool,
+    ) -> ServerLog<'a, R> {
+        ServerLog {
+            rt,
+            lines,
+            path,
+            is_verbose,
+        }
+    }
+
+    /// Whether all is told that happens.
+    pub fn is_verbose(&self) -> bool {
+        self.is_verbose
+    }
+
+    /// Tells a line, and never waits for who reads it. One that comes too early behind another one of its topic, or for which there is
+    /// no room, is left out, and counted.
+    pub fn tell<T: Display + Drop>(&self, topic: Topic, text: T) {
+        if !self.is_verbose && !topic.is_urgent() {
+            return;
+        }
+        let mut lines = self.lines.lines.lock(self.rt);
+        if lines.is_due(self.rt, topic) {
+            lines.tell_left_out(self.path);
+            if !lines.add(self.path, text) {
+                lines.left_out = lines.left_out.saturating_add(1);
+            }
+        } else {
+            lines.left_out = lines.left_out.saturating_add(1);
+        }
+        drop(lines);
+        self.lines.added.notify_one();
+    }
+
+    /// Waits for a second at most until all lines are written, the count of those that were left out last.
+    pub fn finish(&self) {
+        let mut lines = self.lines.lines.lock(self.rt);
+        lines.tell_left_out(self.path);
+        self.lines.added.notify_one();
+        let is_unwritten = |lines: &mut Lines| lines.is_writing || !lines.waiting.is_empty();
+        let _written = self.lines.written.wait_timeout_while(
+            self.rt,
+            lines,
+            Duration::from_secs(LAST_WAIT),
+            is_unwritten,
+        );
+    }
+
+    /// Tells how many commands an opening has recovered.
+    pub fn tell_recovery(&self, commands: u64, took: Duration) {
+        self.tell(
+            Topic::Recovered,
+            format_args!("recovered {commands} commands in {}", Seconds(took)),
+        );
+    }
+
+    fn tell_end(&self, client: u64, end: Result<(), End>, traffic: Traffic) {
+        let Traffic {
+            requests,
+            bytes_read,
+            bytes_written,
+        } = traffic;
+        let way = way_out(end);
+        self.tell(
+            Topic::Left,
+            format_args!(
+                "client {client} {way} after {requests} requests, {bytes_read} bytes read and {bytes_written} written"
+            ),
+        );
+    }
+}
+
+// It holds no thread.
+impl<'a, R: Wait + Clock> SyncPoints for ServerLog<'a, R> {
+    fn reach(&mut self, at: Point) {
+        match at {
+            Point::Copied { blocks, took } => self.tell(
+                Topic::Copied,
+                format_args!("checkpoint of {blocks} blocks in {}", Seconds(took)),
+            ),
+            Point::NoMemory => self.tell(
+                Topic::NoMemory,
+                "no memory to store what was written, which is tried again",
+            ),
+            Point::Append | Point::Step | Point::Answered => {}
+        }
+    }
+}
+
+impl<'a, R: Wait + Clock> Log for ServerLog<'a, R> {
+    fn note(&self, event: Event<'_>) {
+        match event {
+            Event::Came { client, from } => {
+                self.tell(
+                    Topic::Came,
+                    format_args!("client {client} came from {from}"),
+                );
+            }
+            Event::Full { workers } => {
+                self.tell(
+                    Topic::Full,
+                    format_args!("all {workers} workers have a client, and further ones wait"),
+                );
+            }
+            Event::Unaccepted { error } => {
+                self.tell(
+                    Topic::Unaccepted,
+                    format_args!("a client can't be accepted: {error}"),
+                );
+            }
+            Event::Agreed { client, flags } => {
+                self.tell(
+                    Topic::Agreed,
+                    format_args!("client {client} agreed on {}", agreed(flags)),
+                );
+            }
+            Event::Left {
+                client,
+                end,
+                traffic,
+            } => self.tell_end(client, end, traffic),
+        }
+    }
+}
+
+fn agreed(flags: SessionFlags) -> &'static str {
+    match (flags.structured, flags.context) {
+        (true, true) => "structured replies and base:allocation",
+        (true, false) => "structured replies",
+        (false, _) => "simple replies",
+    }
+}
+
+fn way_out(end: Result<(), End>) -> &'static str {
+    match end {
+        Ok(()) => "left",
+        Err(End::PeerClosed) => "was gone, or its session ended from here,",
+        Err(End::ProtocolEnd) => "was let go for what it sent",
+        Err(End::IoFault) => "was cut off, or silent for too long,",
+        Err(End::NoMemory) => "was let go for want of memory",
+    }
+}
+
+// Seconds with three digits behind the point.
+#[derive(Drop)]
+struct Seconds(Duration);
+
+impl Display for Seconds {
+    fn fmt<W: fmt::Write>(&self, f: &mut Formatter<W>) -> fmt::Result {
+        write!(f, "{}.{:03} s", self.0.as_secs(), self.0.subsec_millis())
+    }
+}
