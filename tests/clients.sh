@@ -72,7 +72,7 @@ serves() {
     tcp) uri=nbd://127.0.0.1:$(sed -n 's/^listening //p' heard) where="127.0.0.1 $(sed -n 's/^listening //p' heard)" ;;
     unix) uri="nbd+unix:///?socket=$(sed -n 's/^listening //p' heard)" where="-unix $(sed -n 's/^listening //p' heard)" ;;
     esac
-    is "$transport: the server listens" "listening" "$(cut -d ' ' -f 1 heard; grep -v '^nbdj: recovered ' serve_errors)"
+    is "$transport: the server listens" "listening" "$(cut -d ' ' -f 1 heard; grep -v '^nbdj: d.img: recovered ' serve_errors)"
 }
 
 # killed NAME: the server is killed as by a power cut, which it lived to see, and the image recovered

@@ -520,6 +520,10 @@ def judge_sent(answers, found):
     return f"of the WRITEs without an answer these are there: {unknown}" if unknown != sorted(unknown, reverse=True) else ""
 
 
+# How a line ends that tells of memory which is refused while something is stored.
+TRIES_AGAIN = ": no memory to store what was written, which is tried again"
+
+
 def serve_refused(call):
     """A server that is refused one call, with four clients one after another: what is amiss, and whether the call was met."""
     name = f"served-{next(Run.numbers)}"
@@ -551,6 +555,7 @@ def serve_refused(call):
 
 def judge_served(status, errors, talks, image):
     """One client at most is refused something; the server goes on, or ends for want of memory; what was flushed is there."""
+    errors = "\n".join(line for line in errors.splitlines() if not line.endswith(TRIES_AGAIN))
     harmed = [it for it in talks if it[0]]
     if status == 1 and errors == "nbdj: no memory (0)":
         pass
@@ -568,6 +573,79 @@ def judge_served(status, errors, talks, image):
             return f"block {block} was flushed and isn't there"
     # (A server that ends for want of memory may leave unstored what wasn't flushed.)
     return judge_sent(talks[1][1], found) if status == 0 else ""
+
+
+def talk_while_short(path):
+    """Writes blocks and flushes them twice. Whether the first FLUSH was answered Ok, so the blocks are stored; an answer that doesn't come
+    within 15 seconds is an error of the clock's."""
+    with contextlib.closing(socket.socket(socket.AF_UNIX)) as client:
+        client.settimeout(15)
+        try:
+            client.connect(path)
+            client.sendall(struct.pack(">I", 3) + b"IHAVEOPT" + struct.pack(">II", 7, 8) + struct.pack(">IHH", 0, 1, 3))
+            greeting = receive(client, 18 + 32 + 34 + 20)
+            if len(greeting) < 104:
+                return False
+            asked = [request(WRITE, it, it * BLOCK, filled(b"S")) for it in range(4)] + [request(FLUSH, 4, 0), request(FLUSH, 5, 0)]
+            client.sendall(b"".join(asked))
+            replies = receive(client, 16 * len(asked))
+        except (ConnectionError, FileNotFoundError):
+            return False
+    errors = [struct.unpack_from(">IIQ", replies, at)[1] for at in range(0, len(replies) - 15, 16)]
+    return len(errors) > 4 and not any(errors[:5])
+
+
+def receive(client, count):
+    """So many bytes; fewer where the server closes."""
+    found = b""
+    while len(found) < count and (piece := client.recv(count - len(found))):
+        found += piece
+    return found
+
+
+def serve_short(call):
+    """A server that is refused all calls from this one on, with three clients at once: each is answered or cut off, and the server ends once
+    it is asked to. What is amiss, and whether the call was met."""
+    name = f"short-{next(Run.numbers)}"
+    image, path, met = f"{name}.img", f"{name}.sock", f"{name}.met"
+    shutil.copyfile("wide.img", image)
+    environment = dict(os.environ) | {"REFUSE_AT": str(call), "REFUSE_ON": "1", "REFUSE_MET": met, "LD_PRELOAD": "./refuse.so"}
+    words = [NBDJ, "serve", image, "--unix", path, "--workers", "3", "--frames", "512", "--until-eof"]
+    with subprocess.Popen(words, stdin=subprocess.PIPE, stdout=subprocess.PIPE, stderr=subprocess.PIPE, env=environment) as server:
+        amiss, stored = "", False
+        try:
+            if server.stdout.readline().startswith(b"listening"):
+                with ThreadPoolExecutor(3) as clients:
+                    stored = any(clients.map(talk_while_short, [path] * 3))
+            errors = server.communicate(timeout=40)[1].decode().splitlines()
+            told = [line for line in errors if not line.endswith(TRIES_AGAIN)]
+            if (server.returncode, told) not in [(0, []), (1, ["nbdj: no memory (0)"]), (1, ["nbdj: device fault (1)"])]:
+                amiss = f"status {server.returncode}, {errors}"
+        except (subprocess.TimeoutExpired, TimeoutError) as error:
+            server.kill()
+            amiss = f"{error!r}"
+    asked = b"".join(request(READ, it, it * BLOCK, length=BLOCK) for it in range(4)) + request(DISC, 5, 0)
+    found = Run([NBDJ, "pipe", image], asked).output
+    if stored and found != b"".join(struct.pack(">IIQ", 0x67446698, 0, it) + filled(b"S") for it in range(4)):
+        amiss = amiss or "what was flushed isn't there"
+    was_met = os.path.exists(met)
+    for it in (image, path, met):
+        with contextlib.suppress(FileNotFoundError):
+            os.unlink(it)
+    return amiss, was_met
+
+
+def refuse_serve_on():
+    """From some call on all are refused, to the end: later and later ones, up to the last that a server makes."""
+    wrong, calls = [], 0
+    wanted = itertools.accumulate(itertools.cycle((1, 5, 9)))
+    while batch := list(itertools.islice(wanted, 12)):
+        runs = list(pool.map(serve_short, batch))
+        wrong += [f"from call {call} on: {amiss}" for call, (amiss, _) in zip(batch, runs) if amiss]
+        calls += sum(met for _, met in runs)
+        if not runs[-1][1]:
+            break
+    conclude("serve without memory from some call on", calls, wrong)
 
 
 def refuse_serve():
@@ -644,6 +722,7 @@ with tempfile.TemporaryDirectory() as folder, ThreadPoolExecutor(len(os.sched_ge
     refuse_check("check", "stored.img")
     refuse_check("check with four areas in use", "four.img")
     refuse_serve()
+    refuse_serve_on()
     if OPTIONS.built_tests or LONG:
         refuse_tests()
     print(f"{refused} runs with memory refused")

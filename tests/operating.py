@@ -1,7 +1,7 @@
 #!/usr/bin/env python3
 """How `serve` of the built program NBDJ begins, goes on and ends, as who runs it sees it: what a kill leaves, also of sectors that clients
 write beside one another and of blocks that they write by turns, clients beside a slow device, an end that is asked for, dead clients, a
-device that fails, and what is told.
+device that fails, a sector that can't be read, what is told, and a log that nobody reads.
 
 Prints a line for each check that fails, and last 'N passed, M failed'.
 """
@@ -228,10 +228,7 @@ def is_silent(client):
 
 def slow(folder):
     """How a server whose device takes five seconds for each sync is run."""
-    preload = os.path.join(folder, "slow_sync.so")
-    source = os.path.join(TOP, "tools", "slow_sync.c")
-    subprocess.run([os.environ.get("CC", "cc"), "-Wall", "-Werror", "-shared", "-fPIC", "-O2", "-o", preload, source, "-ldl"], check=True)
-    return {"env": {**os.environ, "SLOW_SYNC_US": "5000000", "LD_PRELOAD": preload}}
+    return {"env": {**os.environ, "SLOW_SYNC_US": "5000000", "LD_PRELOAD": preloaded(folder, "slow_sync")}}
 
 
 def beside(folder):
@@ -412,6 +409,60 @@ def failing(folder):
         check("staying: it told once", [True], [line.endswith(": File too large (os error 27)") for line in told])
 
 
+def preloaded(folder, name):
+    """The library that tools/NAME.c makes, to be preloaded."""
+    preload = os.path.join(folder, f"{name}.so")
+    if not os.path.exists(preload):
+        source = os.path.join(TOP, "tools", f"{name}.c")
+        subprocess.run([os.environ.get("CC", "cc"), "-Wall", "-Werror", "-shared", "-fPIC", "-O2", "-o", preload, source, "-ldl"], check=True)
+    return preload
+
+
+def unreadable(folder):
+    """A sector of the image that can't be read: who reads it, and who writes a part of its block, is answered EIO, and nobody else notices."""
+    bad, lines = 9, []
+    with Server(folder, "unreadable", 3) as server, server.shaken() as client:
+        client.sendall(request(WRITE, 1, 0, 16 * BLOCK) + bytes([1]) * 16 * BLOCK + request(DISC, 2, 0, 0))
+        check("unreadable: a write", reply(1), take(client, 16))
+        check("unreadable: the end of the session", b"", take(client, 1))
+        # (the start after a kill copies what is stored into the image)
+        check("unreadable: a kill", "commands 1", killed(server))
+    with open(server.image, "rb") as file:
+        data = file.read().rindex(bytes([1]) * 16 * BLOCK)
+    place = data + bad * BLOCK + 700
+    settings = {"env": {**os.environ, "BAD_BYTE": str(place), "LD_PRELOAD": preloaded(folder, "fail_calls")}}
+    with Server(folder, "unreadable", 3, made=True, **settings) as server, server.shaken() as one, server.shaken() as other:
+        answers = []
+        for number in range(1, 501):
+            one.sendall(request(WRITE, number, (100 + number) * BLOCK, BLOCK) + block_of(number))
+            answers.append(take(one, 16))
+        check("unreadable: the blocks that one client writes", [reply(number) for number in range(1, 501)], answers)
+        for cookie in (1, 2):
+            other.sendall(request(READ, cookie, bad * BLOCK, BLOCK))
+            check("unreadable: a read of the sector", reply(cookie, EIO), take(other, 16))
+        other.sendall(request(READ, 3, (bad + 1) * BLOCK, BLOCK))
+        check("unreadable: a read of the next block", reply(3) + bytes([1]) * BLOCK, take(other, 16 + BLOCK))
+        other.sendall(request(WRITE, 4, bad * BLOCK, SECTOR) + bytes(SECTOR))
+        check("unreadable: a write of a part of the block", reply(4, EIO), take(other, 16))
+        other.sendall(request(WRITE, 5, (bad + 2) * BLOCK, SECTOR) + bytes([5]) * SECTOR)
+        check("unreadable: a write of a part of another block", reply(5), take(other, 16))
+        one.sendall(request(FLUSH, 501, 0, 0))
+        check("unreadable: a flush of the one client", reply(501), take(one, 16))
+        other.sendall(request(WRITE, 6, bad * BLOCK, BLOCK) + block_of(6))
+        check("unreadable: a write of the whole block", reply(6), take(other, 16))
+        other.sendall(request(READ, 7, bad * BLOCK, BLOCK))
+        check("unreadable: a read of what was written", reply(7) + block_of(6), take(other, 16 + BLOCK))
+        check("unreadable: it lives", None, server.process.poll())
+        server.process.kill()
+        server.process.wait(timeout=60)
+        lines = server.process.stderr.read().splitlines()
+    check("unreadable: it is told once", [f"nbdj: {server.image}: read of {BLOCK} bytes at {place - 700}: Input/output error (os error 5)"], lines)
+    recovered(server)
+    image = stored(server)
+    amiss = [number for number in range(1, 501) if image[(100 + number) * BLOCK:(101 + number) * BLOCK] != block_of(number)]
+    check("unreadable: what was flushed is there", [], amiss[:9])
+
+
 def told(folder):
     """What a server tells of two clients that share one worker, and of the one that waits."""
     with Server(folder, "told", 1, "--verbose") as server:
@@ -421,6 +472,8 @@ def told(folder):
             check("told: a read", reply(2), take(client, 16 + BLOCK)[:16])
             client.sendall(request(DISC, 3, 0, 0))
             check("told: the end of the first session", b"", take(client, 1))
+        # (of each kind there is a line a second, and of busy workers one a minute)
+        time.sleep(1.2)
         with server.connect() as client:
             client.sendall(hostile.LONG_HANDSHAKE + request(FLUSH, 1, 0, 0))
             check("told: a greeting", 18, len(take(client, 18)))
@@ -430,18 +483,55 @@ def told(folder):
         server.process.kill()
         server.process.wait(timeout=60)
         lines = [re.sub(r"\d+\.\d+ s$", "T s", re.sub(r"127\.0\.0\.1:\d+", "A", line)) for line in server.process.stderr.read().splitlines()]
-        full = "nbdj: all 1 workers have a client, and further ones wait"
-        check("what is told", [
-            "nbdj: recovered 0 commands in T s",
-            "nbdj: client 1 came from A",
-            full,
-            "nbdj: client 1 agreed on simple replies",
-            "nbdj: client 1 left after 2 requests, 4096 bytes read and 8192 written",
-            "nbdj: client 2 came from A",
-            full,
-            "nbdj: client 2 agreed on structured replies and base:allocation",
-            "nbdj: client 2 was gone, or its session ended from here, after 1 requests, 0 bytes read and 0 written",
-        ], lines)
+        check("what is told", [f"nbdj: {server.image}: {line}" for line in (
+            "recovered 0 commands in T s",
+            "client 1 came from A",
+            "all 1 workers have a client, and further ones wait",
+            "client 1 agreed on simple replies",
+            "client 1 left after 2 requests, 4096 bytes read and 8192 written",
+            "client 2 came from A",
+            "1 lines left out",
+            "client 2 agreed on structured replies and base:allocation",
+            "client 2 was gone, or its session ended from here, after 1 requests, 0 bytes read and 0 written",
+        )], lines)
+
+
+def crowded(folder):
+    """More clients than the system gives the server files for: that is told."""
+    few = {"preexec_fn": lambda: resource.setrlimit(resource.RLIMIT_NOFILE, (9, 9)), "restore_signals": False}
+    with Server(folder, "crowded", 8, **few) as server:
+        clients = [server.connect() for _ in range(8)]
+        late = threading.Timer(20, server.process.kill)
+        late.start()
+        line = server.process.stderr.readline()
+        late.cancel()
+        for client in clients:
+            client.close()
+        check("crowded: what is told", f"nbdj: {server.image}: a client can't be accepted: Too many open files (os error 24)\n", line)
+        server.goes_on("behind a crowd")
+
+
+def unheard(folder):
+    """Nobody reads what a server tells, into a pipe that is full: clients are served, and the server ends."""
+    silent, full = os.pipe()
+    os.set_blocking(full, False)
+    try:
+        while True:
+            os.write(full, bytes(4096))
+    except BlockingIOError:
+        os.set_blocking(full, True)
+    with Server(folder, "unheard", 2, "--verbose", "--until-eof", stdin=subprocess.PIPE, stderr=full) as server:
+        for _ in range(3):
+            with server.shaken(5) as client:
+                check("unheard: a write", True, write(client, 1, 2 * BLOCK))
+                client.sendall(request(FLUSH, 2, 0, 0))
+                check("unheard: a flush", reply(2), take(client, 16))
+                client.sendall(request(DISC, 3, 0, 0))
+                check("unheard: the end of the session", b"", take(client, 1))
+        server.process.stdin.close()
+        check("unheard: the end", 0, server.process.wait(timeout=20))
+    os.close(silent)
+    os.close(full)
 
 
 def copied(folder):
@@ -455,12 +545,12 @@ def copied(folder):
             late.start()
             line = next((it for it in server.process.stderr if "checkpoint" in it), "")
             late.cancel()
-        check("copied: what is told", "nbdj: checkpoint of 128 blocks in T s\n", re.sub(r"\d+\.\d{3} s$", "T s", line, flags=re.M))
+        check("copied: what is told", f"nbdj: {server.image}: checkpoint of 128 blocks in T s\n", re.sub(r"\d+\.\d{3} s$", "T s", line, flags=re.M))
 
 
 def main():
     with tempfile.TemporaryDirectory() as folder:
-        for scenario in (kills, intervals, sectors, in_turn, beside, shown, asked_to_end, idle, failing, told, copied):
+        for scenario in (kills, intervals, sectors, in_turn, beside, shown, asked_to_end, idle, failing, unreadable, told, crowded, unheard, copied):
             begun = time.monotonic()
             hostile.guarded(scenario, folder)
             print(f"{scenario.__name__}: {time.monotonic() - begun:.1f} s", flush=True)

@@ -2,7 +2,8 @@
  * Preloaded into a program, it adds a line to the file CALLS_LOG for each: 'pwrite OFFSET COUNT' or 'fdatasync'. Where FAIL_CALL is
  * 'pwrite N' or 'fdatasync N', the N-th such call, counted from 1, does nothing and answers EIO; its line ends in ' failed'. Where it is
  * 'flock N' or 'ftruncate N', that call answers ENOLCK or EFBIG, as where a file system has no locks, or no room for a length; of these
- * calls no line tells. */
+ * calls no line tells. Where BAD_BYTE is a number, each 'pread' that touches the byte at this offset answers EIO, as of a sector that can't
+ * be read; of these no line tells either. */
 #define _GNU_SOURCE
 #include <dlfcn.h>
 #include <errno.h>
@@ -13,6 +14,7 @@
 #include <sys/file.h>
 #include <unistd.h>
 
+static ssize_t (*next_pread)(int, void *, size_t, off_t);
 static ssize_t (*next_pwrite)(int, const void *, size_t, off_t);
 static int (*next_fdatasync)(int);
 static int (*next_flock)(int, int);
@@ -23,12 +25,14 @@ static unsigned long fail_write;
 static unsigned long fail_sync;
 static unsigned long fail_lock;
 static unsigned long fail_length;
+static long long bad_byte = -1;
 static unsigned long writes;
 static unsigned long syncs;
 static unsigned long locks;
 static unsigned long lengths;
 
 __attribute__((constructor)) static void start(void) {
+    next_pread = (ssize_t(*)(int, void *, size_t, off_t))dlsym(RTLD_NEXT, "pread");
     next_pwrite = (ssize_t(*)(int, const void *, size_t, off_t))dlsym(RTLD_NEXT, "pwrite");
     next_fdatasync = (int (*)(int))dlsym(RTLD_NEXT, "fdatasync");
     next_flock = (int (*)(int, int))dlsym(RTLD_NEXT, "flock");
@@ -36,6 +40,10 @@ __attribute__((constructor)) static void start(void) {
     const char *path = getenv("CALLS_LOG");
     if (path) {
         notes = open(path, O_WRONLY | O_CREAT | O_APPEND, 0600);
+    }
+    const char *bad = getenv("BAD_BYTE");
+    if (bad) {
+        bad_byte = strtoll(bad, NULL, 10);
     }
     const char *fail = getenv("FAIL_CALL");
     if (fail && strncmp(fail, "pwrite ", 7) == 0) {
@@ -56,6 +64,18 @@ static void note(const char *line, int fails) {
     if (notes >= 0 && write(notes, text, (size_t)length) != length) {
         abort();
     }
+}
+
+ssize_t pread(int file, void *into, size_t count, off_t offset) {
+    if (offset <= bad_byte && bad_byte < offset + (long long)count) {
+        errno = EIO;
+        return -1;
+    }
+    return next_pread(file, into, count, offset);
+}
+
+ssize_t pread64(int file, void *into, size_t count, off_t offset) {
+    return pread(file, into, count, offset);
 }
 
 ssize_t pwrite(int file, const void *from, size_t count, off_t offset) {

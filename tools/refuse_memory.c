@@ -1,5 +1,6 @@
 /* Refuses one call for memory. Preloaded into a program, it lets all calls through but the one whose number REFUSE_AT says, counted
- * from 1, which answers that there is no memory. That the call was met is told by making the file REFUSE_MET. */
+ * from 1, which answers that there is no memory; where REFUSE_ON is set, so do all calls behind it. That the call was met is told by
+ * making the file REFUSE_MET. */
 #define _GNU_SOURCE
 #include <dlfcn.h>
 #include <errno.h>
@@ -17,6 +18,7 @@ static void (*next_free)(void *);
 
 static unsigned long refuse_at;
 static unsigned long calls;
+static int refuse_on;
 static int ready;
 
 /* What dlsym itself asks for before the calls behind are known. */
@@ -49,11 +51,20 @@ __attribute__((constructor)) static void start(void) {
     next_free = (void (*)(void *))dlsym(RTLD_NEXT, "free");
     const char *at = getenv("REFUSE_AT");
     refuse_at = at ? strtoul(at, NULL, 10) : 0;
+    refuse_on = getenv("REFUSE_ON") != NULL;
     ready = 1;
 }
 
 static int is_refused(void) {
-    if (!ready || ++calls != refuse_at) {
+    if (!ready) {
+        return 0;
+    }
+    unsigned long call = __atomic_add_fetch(&calls, 1, __ATOMIC_SEQ_CST);
+    if (refuse_on && refuse_at != 0 && call > refuse_at) {
+        errno = ENOMEM;
+        return 1;
+    }
+    if (call != refuse_at) {
         return 0;
     }
     const char *met = getenv("REFUSE_MET");
