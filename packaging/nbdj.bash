@@ -1,12 +1,13 @@
 # The completion of nbdj for bash: commands, and of each its options as its help tells them.
 _nbdj() {
     local word=${COMP_WORDS[COMP_CWORD]} command=${COMP_WORDS[1]}
-    if [ "$COMP_CWORD" -eq 1 ]; then
+    if [ "$COMP_CWORD" -eq 1 ] || { [ "$COMP_CWORD" -eq 2 ] && [ "$command" = help ]; }; then
         mapfile -t COMPREPLY < <(compgen -W 'format serve pipe recover upgrade check rehearse help --help --version' -- "$word")
         return
     fi
     case ${COMP_WORDS[COMP_CWORD - 1]} in
     --cache) mapfile -t COMPREPLY < <(compgen -W 'writeback writethrough' -- "$word") ;;
+    --layout) mapfile -t COMPREPLY < <(compgen -W '1 2' -- "$word") ;;
     --on-fault) mapfile -t COMPREPLY < <(compgen -W 'exit stay' -- "$word") ;;
     *)
         case $word in

@@ -29,8 +29,11 @@ made_until() {
     made "$1" "$(printf '%s\n' "$2" | awk -v kind="${3% *}" -v n="${3#* }" '$1 == kind && ++met == n { print $0 " failed"; exit } { print }')"
 }
 
-# A format closes both header gates; it writes area 0's first gate, map slot 0 and the header's body; it opens the header's gate.
-format_calls='pwrite 0 1
+# A format writes zeroes over headers, journal and maps, so that they are allocated. It closes both header gates; it writes area 0's first
+# gate, map slot 0 and the header's body; it opens the header's gate.
+format_calls="$(seq 0 32768 4161536 | sed 's/.*/pwrite & 32768/')
+pwrite 4194304 16384
+"'pwrite 0 1
 pwrite 4096 1
 fdatasync
 pwrite 8192 1
@@ -43,7 +46,7 @@ fdatasync'
 called '' format d.img --blocks 16 --area 2097152
 is 'a format' "0|$(text 'formatted 4276224')|" "$status|$output|$errors"
 made 'the calls of a format' "$format_calls"
-for fail in 'pwrite 1' 'pwrite 2' 'fdatasync 1' 'pwrite 3' 'pwrite 4' 'pwrite 5' 'fdatasync 2' 'pwrite 6' 'fdatasync 3'; do
+for fail in 'pwrite 1' 'pwrite 129' 'pwrite 130' 'pwrite 131' 'fdatasync 1' 'pwrite 132' 'pwrite 133' 'pwrite 134' 'fdatasync 2' 'pwrite 135' 'fdatasync 3'; do
     called "$fail" format d.img --blocks 16 --area 2097152
     is "format where $fail fails" '1||nbdj: device fault (1)' "$status|$output|$errors"
     made_until "the calls of a format where $fail fails" "$format_calls" "$fail"
@@ -53,6 +56,13 @@ for fail in 'pwrite 1' 'pwrite 2' 'fdatasync 1' 'pwrite 3' 'pwrite 4' 'pwrite 5'
     *) wanted='nbdj: no header (7)' ;;
     esac
     is "after a format where $fail failed" "$wanted" "$(found)"
+done
+
+# A new file that doesn't become an image is removed.
+rm d.img
+for fail in 'ftruncate 1' 'pwrite 1' 'pwrite 130' 'fdatasync 2'; do
+    called "$fail" format d.img --blocks 16 --area 2097152
+    is "a new file where $fail failed" '1|no' "$status|$([ -e d.img ] && echo yes || echo no)"
 done
 
 # A file system without locks, and one that doesn't take the length: each file stays as it was, and no call is made.
@@ -65,7 +75,7 @@ for command in 'pipe d.img' 'recover d.img' 'check d.img' 'format d.img --size 6
     made "the calls of $command without locks" ''
 done
 cp old.img d.img
-called 'ftruncate 1' format d.img --size 1G
+called 'ftruncate 1' format d.img --blocks 262144 --area 64M
 is 'a format of a length that is not taken' '1||nbdj: cannot open d.img' "$status|$output|$errors"
 same 'the file after a format of a length that is not taken' old.img d.img
 

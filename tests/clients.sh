@@ -439,7 +439,7 @@ full_disk() {
     is 'a full disk: a copy that has room' 0 "$(quiet nbdcopy --flush one "$uri")"
     is 'a full disk: a copy that has none' 1 "$(quiet nbdcopy --flush half_a "$uri" | head -n 1)"
     wait "$server" 2>wait
-    is 'a full disk: the end' '1|nbdj: d.img: write of N bytes at K: No space left on device (os error 28)|nbdj: device fault (1)' \
+    is 'a full disk: the end' '1|nbdj: d.img: write of N bytes at K: No space left on device (os error 28)|nbdj: no space left on device: free some and start again; nothing a FLUSH confirmed is lost|nbdj: device fault (1)' \
         "$?|$(sed 's/of [0-9]* bytes at [0-9]*/of N bytes at K/' serve_errors | paste -sd '|')"
     server=''
     "$NBDJ" recover d.img >output 2>errors
@@ -513,24 +513,25 @@ fi
 # Addresses that can't be listened on, and an image in use: the server that has them goes on.
 image
 "$NBDJ" format other.img --size 64K --area 2M >/dev/null
-# refused NAME ERRORS WORD..: a second server is refused
+# refused NAME STATUS ERRORS WORD..: a second server is refused
 refused() {
-    name=$1 wanted="1||$2"
-    shift 2
+    name=$1 wanted="$2||$3"
+    shift 3
     timeout 20 "$NBDJ" serve "$@" >output 2>errors
-    is "$name" "$wanted" "$?|$(cat output)|$(cat errors)"
+    is "$name" "$wanted" "$?|$(cat output)|$(paste -s -d '|' errors)"
 }
 serves tcp
-refused 'a port in use' 'nbdj: stream fault (21)' other.img --listen "127.0.0.1:${uri##*:}"
-refused 'no port' 'nbdj: stream fault (21)' other.img --listen 127.0.0.1:
-refused 'an image in use' 'nbdj: d.img is in use' d.img --listen 127.0.0.1:0
+port=${uri##*:}
+refused 'a port in use' 1 "nbdj: 127.0.0.1:$port: Address already in use (os error 98)|nbdj: stream fault (21)" other.img --listen "127.0.0.1:$port"
+refused 'no port' 1 'nbdj: 127.0.0.1:: invalid port value|nbdj: stream fault (21)' other.img --listen 127.0.0.1:
+refused 'an image in use' 4 'nbdj: d.img: another process has locked it|nbdj: d.img is in use' d.img --listen 127.0.0.1:0
 killed 'behind a port in use'
 serves unix
-refused 'a socket in use' 'nbdj: stream fault (21)' other.img --unix socket
+refused 'a socket in use' 1 'nbdj: socket: Address already in use (os error 98)|nbdj: stream fault (21)' other.img --unix socket
 : >file
-refused 'a socket where a file is' 'nbdj: stream fault (21)' other.img --unix file
+refused 'a socket where a file is' 1 'nbdj: file: Address already in use (os error 98)|nbdj: stream fault (21)' other.img --unix file
 is 'the file where a socket was wanted' yes "$([ -f file ] && echo yes)"
-refused 'a socket in no folder' 'nbdj: stream fault (21)' other.img --unix none/socket
+refused 'a socket in no folder' 1 'nbdj: none/socket: No such file or directory (os error 2)|nbdj: stream fault (21)' other.img --unix none/socket
 if has nbdinfo; then
     is 'the server of the socket in use' 67108864 "$(timeout 20 nbdinfo --size "$uri" 2>&1)"
 fi

@@ -88,15 +88,15 @@ def take(client, count):
 class Server:
     """A server of an image of its own, by TCP."""
 
-    def __init__(self, folder, name, workers, *words, made=False, **settings):
+    def __init__(self, folder, name, workers, *words, made=False, program=(NBDJ, "serve"), **settings):
         """With `made` of the image that there is."""
         self.name, self.workers = name, workers
         image = self.image = os.path.join(folder, f"{name}.img")
         if not made:
             subprocess.run([NBDJ, "format", image, "--blocks", str(BLOCKS), "--area", "2097152"], check=True, stdout=subprocess.DEVNULL, timeout=60)
-        words = ["serve", image, "--listen", "127.0.0.1:0", "--frames", str(FRAMES), "--workers", str(workers), *words]
+        words = [*program, image, "--listen", "127.0.0.1:0", "--frames", str(FRAMES), "--workers", str(workers), *words]
         settings = {"stdin": subprocess.DEVNULL, "stderr": subprocess.PIPE, **settings}
-        self.process = subprocess.Popen([NBDJ, *words], stdout=subprocess.PIPE, text=True, **settings)
+        self.process = subprocess.Popen(words, stdout=subprocess.PIPE, text=True, **settings)
         told = self.process.stdout.readline().split()
         check(f"{name}: it listens", ["listening"], told[:1])
         self.port = int(told[1])

@@ -318,7 +318,7 @@ def refuse_format():
             return ""
         return f"status {tried.run.status}, {tried.run.errors}, and the file has {'not ' if tried.content() == old else ''}changed"
 
-    words = ["format", "IMAGE", "--size", "64K", "--area", "2M"]
+    words = ["format", "IMAGE", "--size", "64K", "--area", "2M", "--force"]
     refuse_on_file("format over an old file", words, "old.img", amiss, lambda tried: "" if tried.run.output == b"formatted 4276224\n" else "not formatted")
 
 

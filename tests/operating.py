@@ -77,7 +77,8 @@ def kills(folder):
             client.shutdown(socket.SHUT_RDWR)
         time.sleep(1)
         check("a kill behind a connection that was cut", "commands 1", killed(server))
-    for name, words, wait, found in (("interval", ("--flush-interval", "1"), 2.5, 3), ("never", ("--flush-interval", "0"), 2.5, 0), ("usual", (), 7, 3)):
+    for name, words, wait, found in (("interval", ("--flush-interval", "1"), 2.5, 3), ("never", ("--flush-interval", "0"), 2.5, 0), ("usual", (), 2.5, 3),
+                                    ("tenths", ("--flush-interval", "0.2"), 0.8, 3)):
         with Server(folder, name, 2, *words) as server, server.shaken() as client:
             # (a quarter of the frames would be stored for a checkpoint)
             check(f"{name}: three writes", True, all(write(client, cookie, MIB // 8) for cookie in (0, 1, 2)))
@@ -359,6 +360,62 @@ def asked_to_end(folder):
     check("an empty input at a Unix socket", (0, f"listening {path}\n", "", False), (done.returncode, done.stdout, done.stderr, os.path.exists(path)))
 
 
+def goes_on_in(client, blocks, answered):
+    """Writes of blocks by turns, none flushed, until the connection ends; of each block the number of its last write that was answered."""
+    number = 0
+    try:
+        while True:
+            number += 1
+            block = blocks[number % len(blocks)]
+            client.sendall(request(WRITE, number, block * BLOCK, BLOCK) + block_of(number))
+            if take(client, 16) != reply(number):
+                return
+            answered[block] = number
+    except OSError:
+        pass
+
+
+def managed(folder):
+    """nbdj-server, stopped amid writes as service managers do it, by a signal to the main process or to all of its group: each write that was
+    answered is stored, and the status is 0."""
+    script = os.path.join(TOP, "packaging", "nbdj-server")
+    ways = (("terminated", os.kill, signal.SIGTERM), ("interrupted", os.kill, signal.SIGINT), ("hung-up", os.kill, signal.SIGHUP),
+            ("group", os.killpg, signal.SIGTERM))
+    for name, send, number in ways:
+        settings = {"program": (script,), "env": {**os.environ, "NBDJ": NBDJ}, "start_new_session": True}
+        with Server(folder, name, 4, "--flush-interval", "0", **settings) as server:
+            answered = {}
+            clients = [server.shaken() for _ in range(3)]
+            threads = [threading.Thread(target=goes_on_in, args=(client, range(index * 100, index * 100 + 100), answered)) for index, client in enumerate(clients)]
+            for thread in threads:
+                thread.start()
+            time.sleep(1)
+            send(server.process.pid, number)
+            check(f"{name}: the end", (0, ""), ended(server))
+            for thread in threads:
+                thread.join()
+            for client in clients:
+                client.close()
+            image = stored(server)
+            found = {block: hostile.struct.unpack_from(">I", image, block * BLOCK)[0] for block in answered}
+            check(f"{name}: what was answered is stored", [], [block for block in answered if found[block] < answered[block]][:9])
+            check(f"{name}: there were writes", True, len(answered) > 100 or len(answered))
+    with Server(folder, "killed", 4, "--flush-interval", "0", **settings) as server, server.shaken() as client:
+        check("killed: a write", True, write(client, 1, BLOCK))
+        server.process.kill()
+        check("killed: nbdj ends, and stores what was answered", b"", take(client, 1))
+        server.process.wait(timeout=60)
+        for _ in range(100):
+            found = recovered(server)
+            if found:
+                break
+            time.sleep(0.1)
+        check("killed: what is stored", "commands 1", found)
+    done = subprocess.run([script, os.path.join(folder, "none.img"), "--unix", "none.sock"], env=settings["env"], stdin=subprocess.DEVNULL, capture_output=True,
+                          text=True, timeout=20)
+    check("nbdj-server of a missing image", (1, "nbdj: cannot open"), (done.returncode, done.stderr.splitlines()[-1][:17]))
+
+
 def idle(folder):
     """A client that says nothing behind its handshake is let go, and one that says something in time isn't."""
     with Server(folder, "idle", 1, "--idle-timeout", "2", "--flush-interval", "0") as server:
@@ -550,7 +607,7 @@ def copied(folder):
 
 def main():
     with tempfile.TemporaryDirectory() as folder:
-        for scenario in (kills, intervals, sectors, in_turn, beside, shown, asked_to_end, idle, failing, unreadable, told, crowded, unheard, copied):
+        for scenario in (kills, intervals, sectors, in_turn, beside, shown, asked_to_end, managed, idle, failing, unreadable, told, crowded, unheard, copied):
             begun = time.monotonic()
             hostile.guarded(scenario, folder)
             print(f"{scenario.__name__}: {time.monotonic() - begun:.1f} s", flush=True)

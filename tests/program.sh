@@ -78,8 +78,14 @@ for seconds in 0 86401; do
 done
 for seconds in -1 86401 many ''; do
     refused "an idle timeout of '$seconds' seconds" serve new.img --listen 127.0.0.1:0 --idle-timeout="$seconds"
+done
+for seconds in -1 86401 86400.001 many '' . .5 1. 1.0001 0,1 1.+5 1e3; do
     refused "a flush interval of '$seconds' seconds" serve new.img --listen 127.0.0.1:0 --flush-interval="$seconds"
 done
+for mode in '' 8 0888 1000 -1 0x1ff rw; do
+    refused "a socket's mode of '$mode'" serve new.img --unix new.sock --unix-mode="$mode"
+done
+refused 'the mode of no socket' serve new.img --listen 127.0.0.1:0 --unix-mode 0660
 for way in '' Exit leave; do
     refused "'$way' on a fault" serve new.img --listen 127.0.0.1:0 --on-fault="$way"
 done
@@ -114,8 +120,8 @@ for command in format serve pipe recover upgrade check rehearse; do
     is "version of $command" "0|$version|" "$status|$(sed 's/.* //' output)|$errors"
     run "$command" --help
     is "help of $command" '0|yes|' "$status|$(grep -q "^Usage: nbdj $command" output && echo yes)|$errors"
-    # each command has 0, 1 and 2, and check has 3 too
-    case $command in check) statuses='0 1 2 3 ' ;; *) statuses='0 1 2 ' ;; esac
+    # each command has 0, 1 and 2, check has 3 too, and those that work on a file have 4
+    case $command in check) statuses='0 1 2 3 4 ' ;; rehearse) statuses='0 1 2 ' ;; *) statuses='0 1 2 4 ' ;; esac
     is "the exit statuses in the help of $command" "$statuses" "$(sed -n 's/^Exit status: //p' output | tr ';' '\n' | sed 's/^ *\([0-9]*\) [a-z].*/\1/' | tr '\n' ' ')"
 done
 
@@ -130,7 +136,8 @@ for command in format pipe recover upgrade check rehearse; do
     is "the example of $command" "0|nbdj $command" "$(PATH="$folder/bin:$PATH" sh -c "$example" >printed 2>&1; echo $?)|$(echo "$example" | cut -d ' ' -f 1-2)"
 done
 fresh 16 2097152
-# serves NAME STATUS PRINTED ERRORS WORD..: how a server ends; one that goes on is stopped once it has printed something, with status 143
+# serves NAME STATUS PRINTED ERRORS WORD..: how a server ends, with the last line of its errors; one that goes on is stopped once it has
+# printed something, with status 143
 serves() {
     name=$1
     wanted="$2|$3|$4"
@@ -146,7 +153,7 @@ serves() {
     done
     [ -s errors ] || kill "$serving"
     wait "$serving" 2>/dev/null
-    is "$name" "$wanted" "$?|$(cat printed)|$(cat errors)"
+    is "$name" "$wanted" "$?|$(cat printed)|$(tail -n 1 errors)"
     told
 }
 example=$("$NBDJ" serve --help | sed -n 's/^Example: nbdj serve //p')
@@ -167,6 +174,9 @@ else
 fi
 serves 'a Unix socket' 143 'listening d.sock' '' d.img --unix d.sock
 is 'the socket of a killed server' yes "$([ -S d.sock ] && echo yes)"
+(umask 0 && serves 'a Unix socket with a mode' 143 'listening e.sock' '' d.img --unix e.sock --unix-mode 0640)
+is 'the mode of a socket' 640 "$(stat -c %a e.sock)"
+rm -f e.sock
 serves 'a Unix socket that nobody listens on' 143 'listening d.sock' '' d.img --unix d.sock
 : >d.file
 serves 'a file in the place of a socket' 1 '' 'nbdj: stream fault (21)' d.img --unix d.file
@@ -186,14 +196,14 @@ mkfifo d.fifo
 for path in d.fifo d.sock . /dev/null /dev/zero; do
     for command in recover check pipe 'serve --listen 127.0.0.1:0' 'format --size 64K --area 2M'; do
         timeout 10 "$NBDJ" $command "$path" <input >printed 2>errors
-        is "$command of $path" "1||nbdj: cannot open $path" "$?|$(cat printed)|$(cat errors)"
+        is "$command of $path" "1||nbdj: cannot open $path" "$?|$(cat printed)|$(tail -n 1 errors)"
         told
     done
 done
 is 'the fifo and the socket' yes "$([ -p d.fifo ] && [ -S d.sock ] && echo yes)"
 rm -f d.fifo d.sock
 
-# Reasons, which come in front of the text that is always there, where -v asks for them.
+# Reasons, which come in front of the text that is always there: of a server, and where -v asks for them.
 reason() {
     name=$1
     wanted=$(printf '%s\n%s' "$3" "$4")
@@ -202,8 +212,9 @@ reason() {
     timeout 10 "$NBDJ" "$@" <input >printed 2>errors
     is "the reason of $name" "$code|$wanted" "$?|$(grep -v '^nbdj: recovered ' errors)"
 }
-reason 'a missing file' 1 'nbdj: none.img: No such file or directory' 'nbdj: cannot open none.img' recover none.img -v
-reason 'a missing folder' 1 'nbdj: none/d.img: No such file or directory' 'nbdj: cannot open none/d.img' format none/d.img --size 64K --verbose
+reason 'a missing file' 1 'nbdj: none.img: No such file or directory (os error 2)' 'nbdj: cannot open none.img' recover none.img -v
+reason 'a missing file to be served' 1 'nbdj: none.img: No such file or directory (os error 2)' 'nbdj: cannot open none.img' serve none.img --unix d.sock
+reason 'a missing folder' 1 'nbdj: none/d.img: No such file or directory (os error 2)' 'nbdj: cannot open none/d.img' format none/d.img --size 64K --verbose
 reason 'a folder' 1 'nbdj: .: neither a file nor a block device' 'nbdj: cannot open .' pipe -v .
 : >d.img
 reason 'an empty file' 3 'nbdj: d.img: not an image of nbdj; see nbdj format' 'nbdj: no header (7)' check d.img -v
@@ -212,15 +223,25 @@ reason 'a file of ones' 1 "nbdj: d.img: its header isn't one that nbdj has writt
 fresh 16 2097152
 truncate -s -4096 d.img
 reason 'a file that was cut' 3 'nbdj: d.img: 4,096 bytes shorter than its header says' 'nbdj: bad header (8)' check d.img -v
-reason 'a served file that was cut' 1 'nbdj: d.img: 4,096 bytes shorter than its header says' 'nbdj: bad header (8)' serve d.img -v --unix d.sock
+reason 'a served file that was cut' 1 'nbdj: d.img: 4,096 bytes shorter than its header says' 'nbdj: bad header (8)' serve d.img --unix d.sock
 truncate -s +1238663 d.img
 reason 'a file that has grown' 1 'nbdj: d.img: 1,234,567 bytes longer than its header says' 'nbdj: bad header (8)' recover d.img -v
 fresh 16 2097152
-reason 'an address of another machine' 1 'nbdj: 192.0.2.1:0: Cannot assign requested address' 'nbdj: stream fault (21)' serve d.img -v --listen 192.0.2.1:0
-reason 'a socket in a folder that is missing' 1 'nbdj: none/d.sock: No such file or directory' 'nbdj: stream fault (21)' serve d.img -v --unix none/d.sock
+reason 'an address of another machine' 1 'nbdj: 192.0.2.1:0: Cannot assign requested address (os error 99)' 'nbdj: stream fault (21)' serve d.img --listen 192.0.2.1:0
+reason 'a socket in a folder that is missing' 1 'nbdj: none/d.sock: No such file or directory (os error 2)' 'nbdj: stream fault (21)' serve d.img --unix none/d.sock
+reason 'a socket where a file is' 1 'nbdj: d.img: Address already in use (os error 98)' 'nbdj: stream fault (21)' serve d.img --unix d.img
+long=$(printf '%0120d' 0)
+reason 'a path of a socket that is too long' 1 "nbdj: $long: path must be shorter than SUN_LEN" 'nbdj: stream fault (21)' serve d.img --unix "$long"
+# (a terminal is told reasons too)
+if command -v script >/dev/null; then
+    is 'the reason of a missing file, on a terminal' 'nbdj: none.img: No such file or directory (os error 2)|nbdj: cannot open none.img' \
+        "$(script -qec "$NBDJ recover none.img" /dev/null 2>&1 </dev/null | tr -d '\r' | paste -s -d '|')"
+else
+    skipped 'reasons on a terminal' 'there is no script'
+fi
 if command -v flock >/dev/null; then
     flock -x d.img "$NBDJ" check d.img -v >printed 2>errors
-    is 'the reason of a file in use' "1|$(printf 'nbdj: d.img: another process has locked it\nnbdj: d.img is in use')" "$?|$(cat errors)"
+    is 'the reason of a file in use' "4|$(printf 'nbdj: d.img: another process has locked it\nnbdj: d.img is in use')" "$?|$(cat errors)"
 fi
 rm -f d.img
 
@@ -366,11 +387,11 @@ exec 3>requests 4<replies
 is 'a reply of who holds the file' "$(reply 7 0)" "$(head -c 16 <&4 | hex)"
 cp d.img before.img
 for command in 'pipe d.img' 'recover d.img' 'check d.img' 'format d.img --blocks 16 --area 2097152' 'format d.img --size 1G'; do
-    ends "$command of a file in use" 1 '' 'nbdj: d.img is in use' $command
+    ends "$command of a file in use" 4 '' 'nbdj: d.img is in use' $command
     same "the file in use after $command" before.img d.img
 done
 ln -s d.img link.img
-ends 'a link to a file in use' 1 '' 'nbdj: link.img is in use' check link.img
+ends 'a link to a file in use' 4 '' 'nbdj: link.img is in use' check link.img
 { request 0001 1 8 4096 4096; filled 4096 H; request 0000 2 9 0 0; } >&3
 exec 3>&-
 wait $serving
@@ -383,9 +404,9 @@ if command -v flock >/dev/null; then
     flock -s d.img "$NBDJ" check d.img >shared 2>&1
     is 'a check beside a check' '0|blocks 16' "$?|$(head -n 1 shared)"
     flock -s d.img "$NBDJ" recover d.img >shared 2>&1
-    is 'a recovery beside a check' '1|nbdj: d.img is in use' "$?|$(cat shared)"
+    is 'a recovery beside a check' '4|nbdj: d.img is in use' "$?|$(cat shared)"
     flock -x d.img "$NBDJ" check d.img >shared 2>&1
-    is 'a check beside a server' '1|nbdj: d.img is in use' "$?|$(cat shared)"
+    is 'a check beside a server' '4|nbdj: d.img is in use' "$?|$(cat shared)"
 else
     skipped 'locks that are shared' 'there is no flock'
 fi
@@ -841,6 +862,7 @@ fi
 # The largest image with the largest areas, where the file system takes a file of 66 GiB with holes: it is formatted and opened in
 # memory that goes with its map, of 4 MiB, and not with its data or its journal.
 if dd if=/dev/null of=large.img bs=1 seek=70875357184 2>/dev/null; then
+    rm -f large.img
     is 'the largest image' 'formatted 70875357184' "$(ulimit -v 65536 && "$NBDJ" format large.img --blocks 16777216 --area 1073741824 2>&1)"
     is 'the header of the largest image' 014e42444a524e4c3100000000000000010000000001000000 "$(part large.img 0 25)"
     is 'the largest image again' 'commands 0' "$(ulimit -v 65536 && "$NBDJ" recover large.img 2>&1)"

@@ -1,3 +1,4 @@
 mod Builders
 mod Given
+mod Intervals
 mod Sizes

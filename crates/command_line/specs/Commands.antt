@@ -48,8 +48,8 @@ layout_rule = record (option_rule (codes "layout")) { parser = Some (parser.Unsi
 
 abbrev pub format_app : App
 format_app =
-    with_rule (with_rule (with_rule (with_rule (with_rule (with_rule (with_rule (new_app (codes "format")) path_rule) size_rule) blocks_rule) area_rule)
-    layout_rule) (flag_rule (codes "preallocate"))) verbose_rule
+    with_rule (with_rule (with_rule (with_rule (with_rule (with_rule (with_rule (with_rule (new_app (codes "format")) path_rule) size_rule) blocks_rule) area_rule)
+    layout_rule) (flag_rule (codes "preallocate"))) (flag_rule (codes "force"))) verbose_rule
 
 abbrev pub pipe_app : ValueParser → App
 pipe_app modes = with_rule (with_rule (with_rule (with_rule (new_app (codes "pipe")) path_rule) frames_rule) (cache_rule modes)) verbose_rule
@@ -61,6 +61,9 @@ listen_rule = record (option_rule (codes "listen")) { is_free = false }
 abbrev pub unix_rule : Rule
 unix_rule = option_rule (codes "unix")
 
+abbrev pub unix_mode_rule : Rule
+unix_mode_rule = record (option_rule (codes "unix-mode")) { is_free = false }
+
 abbrev pub workers_rule : Rule
 workers_rule = record (option_rule (codes "workers")) { parser = Some (parser.Unsigned 1 16); defaults = codes "4" ∷ [] }
 
@@ -71,11 +74,15 @@ abbrev pub handshake_rule : Rule
 handshake_rule = record (option_rule (codes "handshake-timeout")) { parser = Some (parser.Unsigned 1 86400); defaults = codes "30" ∷ [] }
 
 abbrev pub served_app : App
-served_app = with_rule (with_rule (with_rule (new_app (codes "serve")) path_rule) listen_rule) unix_rule
+served_app = with_rule (with_rule (with_rule (with_rule (new_app (codes "serve")) path_rule) listen_rule) unix_rule) unix_mode_rule
 
 -- an option whose value is a number of seconds up to a day, 0 for no end
-abbrev pub interval_rule : Text → Text → Rule
-interval_rule name usual = record (option_rule name) { parser = Some (parser.Unsigned 0 86400); defaults = usual ∷ [] }
+abbrev pub idle_rule : Rule
+idle_rule = record (option_rule (codes "idle-timeout")) { parser = Some (parser.Unsigned 0 86400); defaults = codes "0" ∷ [] }
+
+-- the same with digits behind a point, which clap takes as any text
+abbrev pub flush_rule : Rule
+flush_rule = record (option_rule (codes "flush-interval")) { defaults = codes "1" ∷ [] }
 
 abbrev pub on_fault_rule : Rule
 on_fault_rule = record (option_rule (codes "on-fault")) { defaults = codes "exit" ∷ [] }
@@ -85,8 +92,7 @@ loaded_app modes = with_rule (with_rule (with_rule served_app workers_rule) fram
 
 abbrev pub timed_app : ValueParser → App
 timed_app modes =
-    with_rule (with_rule (with_rule (with_rule (loaded_app modes) sessions_rule) handshake_rule) (interval_rule (codes "idle-timeout") (codes "0")))
-    (interval_rule (codes "flush-interval") (codes "5"))
+    with_rule (with_rule (with_rule (with_rule (loaded_app modes) sessions_rule) handshake_rule) idle_rule) flush_rule
 
 abbrev pub serve_app : ValueParser → App
 serve_app modes = with_rule (with_rule (with_rule (timed_app modes) on_fault_rule) (flag_rule (codes "until-eof"))) verbose_rule

@@ -1,4 +1,5 @@
 pub mod Commands
 pub mod Line
+pub mod Seconds
 pub mod Size
 pub mod inner

@@ -3,6 +3,7 @@
 use Rattle.std.specs.Prelude.{ℕ, Bool, true, false, ◌≡◌, ◌≢◌, ◌≤◌, ◌<◌, ◌%◌, ◌⊎◌, ◌*◌, Option, Some, None, List, [], codes}
 use Rattle.std.specs.Str.Parse.{IsNumeral, digits_value, without_leading_plus}
 use Rattle.clap.specs.Words.{Row, Text, first_of, one_of}
+use Rattle.command_line.specs.Seconds.{IsSeconds}
 use Rattle.command_line.specs.Size.{IsSize}
 use Rattle.image_model.specs.declared.layout.Layout.{Layout}
 use Rattle.image_model.specs.declared.layout.Layout.TheVariants.{One, Two}
@@ -32,6 +33,19 @@ pub record IsGivenSize (rows : List Row) (name : Text) (bytes : ℕ) : Type 0 wh
   pub text : Text
   pub value : first_of name rows ≡ Some text
   pub size : IsSize text bytes
+
+-- the option was given so many milliseconds, in seconds
+pub record IsGivenSeconds (rows : List Row) (name : Text) (millis : ℕ) : Type 0 where
+  pub text : Text
+  pub value : first_of name rows ≡ Some text
+  pub seconds : IsSeconds text millis
+
+-- the option was given this number, in octal digits
+pub record IsGivenOctal (rows : List Row) (name : Text) (number : ℕ) : Type 0 where
+  pub text : Text
+  pub value : first_of name rows ≡ Some text
+  pub numeral : IsNumeral 8 (without_leading_plus text)
+  pub is : number ≡ digits_value 8 (without_leading_plus text)
 
 -- the option without a value was given, or not: clap reads `true` of it, or `false`
 pub record SaysFlag (rows : List Row) (name : Text) (flag : Bool) : Type 0 where
@@ -67,6 +81,11 @@ IsUsualLayout rows area Two = IsLeftOut rows (codes "blocks") × (4194304 ≤ ar
 abbrev pub SaysLayout : List Row → ℕ → Layout → Type 0
 SaysLayout rows area layout = IsGiven rows (codes "layout") (layout_number layout) ⊎ (IsLeftOut rows (codes "layout") × IsUsualLayout rows area layout)
 
+-- data that are there may be lost: with --blocks always, and else where --force is given
+abbrev pub SaysReplaces : List Row → Bool → Type 0
+SaysReplaces rows replaces =
+    ((first_of (codes "blocks") rows ≢ None) × (replaces ≡ true)) ⊎ (IsLeftOut rows (codes "blocks") × SaysFlag rows (codes "force") replaces)
+
 -- Layout 2 is asked for, and its areas would be below their limit: the blocks and the bytes of an area are within those of layout 1.
 abbrev pub SaysSmallAreas : List Row → Type 0
 SaysSmallAreas rows =
@@ -88,12 +107,18 @@ fault_name Stay = codes "stay"
 abbrev pub SaysLimits : List Row → Limits → Type 0
 SaysLimits rows limits =
     IsGiven rows (codes "sessions") limits.sessions × IsGiven rows (codes "handshake-timeout") limits.handshake_seconds
-    × IsGiven rows (codes "idle-timeout") limits.idle_seconds × IsGiven rows (codes "flush-interval") limits.flush_seconds
+    × IsGiven rows (codes "idle-timeout") limits.idle_seconds × IsGivenSeconds rows (codes "flush-interval") limits.flush_millis
+
+-- the mode of a socket is what --unix-mode says, within the bits for owner, group and others; none where it is left out
+abbrev pub SaysUnixMode : List Row → Option ℕ → Type 0
+SaysUnixMode rows None = IsLeftOut rows (codes "unix-mode")
+SaysUnixMode rows (Some mode) = IsGivenOctal rows (codes "unix-mode") mode × (mode ≤ 511)
 
 -- clients arrive where --listen says, or else --unix, which isn't empty, and the other is left out
 abbrev pub SaysAddress : List Row → Address → Type 0
 SaysAddress rows (Tcp text) = (first_of (codes "listen") rows ≡ Some text.now) × IsLeftOut rows (codes "unix")
-SaysAddress rows (Unix path) = (first_of (codes "unix") rows ≡ Some path.now) × (path.now ≢ []) × IsLeftOut rows (codes "listen")
+SaysAddress rows (Unix path mode) =
+    (first_of (codes "unix") rows ≡ Some path.now) × (path.now ≢ []) × IsLeftOut rows (codes "listen") × SaysUnixMode rows mode
 
 -- which of --sweep and --faults was given, if any
 abbrev pub SaysScriptRuns : List Row → Course → Type 0
@@ -104,9 +129,10 @@ SaysScriptRuns rows Faults = SaysFlag rows (codes "sweep") false × SaysFlag row
 -- the subcommand with its values, as clap reads them from the words, asks for this plan
 abbrev pub IsAsked : Option (Text × List Row) → Plan → Type 0
 IsAsked None plan = ⊥
-IsAsked (Some (name, rows)) (Format path geometry preallocates) =
+IsAsked (Some (name, rows)) (Format path geometry options) =
     (name ≡ codes "format") × HasPath rows path.now × SaysBlocks rows geometry.blocks × SaysArea rows geometry.area
-    × SaysLayout rows geometry.area geometry.layout × SaysFlag rows (codes "preallocate") preallocates
+    × SaysLayout rows geometry.area geometry.layout × SaysFlag rows (codes "preallocate") options.preallocates
+    × SaysReplaces rows options.replaces
 IsAsked (Some (name, rows)) (Pipe path options) =
     (name ≡ codes "pipe") × HasPath rows path.now × IsGiven rows (codes "frames") options.frames
     × (first_of (codes "cache") rows ≡ Some (mode_name options.mode))

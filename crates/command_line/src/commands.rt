@@ -221,7 +221,7 @@ const VERBOSE: ArgumentRow<'static> = ArgumentRow {
 pub static FORMAT: SubcommandRow<'static> = SubcommandRow {
     name: "format",
     about: "Makes or replaces the file at its full size: an image of holes with an empty journal",
-    after_help: "Example: nbdj format d.img --size 10G\n\nWhat the file held before is lost, unless the format is refused. A kill or a power cut before the end leaves what the file held, or a file that doesn't open.\n\nExit status: 0 done; 1 a fault of file, device or memory, or an area below 4M for layout 2; 2 a refused command line.",
+    after_help: "Example: nbdj format d.img --size 10G\n\nWith --size a file that isn't empty, or a block device with known data, is refused without --force. A kill or a power cut before the end leaves what the file held, or a file that doesn't open.\n\nExit status: 0 done; 1 a fault of file, device or memory, data that --force would replace, or an area below 4M for layout 2; 2 a refused command line; 4 a file or a device in use.",
     usage: Some(
         "nbdj format [OPTIONS] --size <SIZE> <PATH>\n       nbdj format [OPTIONS] --blocks <N> --area <BYTES> <PATH>",
     ),
@@ -257,6 +257,12 @@ pub static FORMAT: SubcommandRow<'static> = SubcommandRow {
             tie: Tie::None,
             help: "Writes zeroes over the whole file, so that no block of it is missing later on a full disk",
         },
+        ArgumentRow {
+            name: "force",
+            form: Form::Flag,
+            tie: Tie::None,
+            help: "Replaces a file that isn't empty, or data on a block device; --blocks always does",
+        },
         VERBOSE,
     ],
 };
@@ -265,7 +271,7 @@ pub static FORMAT: SubcommandRow<'static> = SubcommandRow {
 pub static SERVE: SubcommandRow<'static> = SubcommandRow {
     name: "serve",
     about: "Serves the image to clients of the Network Block Device protocol",
-    after_help: "Example: nbdj serve d.img --listen 127.0.0.1:10809\n\nIt prints `listening PORT`, or `listening SOCKET`, once clients can come. A kill is as a power cut: every write that a FLUSH, or a FUA reply, has confirmed stays. So a service manager may stop it by any signal.\n\nExit status: 0 ended as asked; 1 a fault of file, image, address, device or memory; 2 a refused command line.",
+    after_help: "Example: nbdj serve d.img --listen 127.0.0.1:10809\n\nIt prints `listening PORT`, or `listening SOCKET`, once clients can come. A kill is as a power cut: every write that a FLUSH, or a FUA reply, has confirmed stays. nbdj-server runs it so that a signal loses no other write either.\n\nExit status: 0 ended as asked; 1 a fault of file, image, address, device or memory; 2 a refused command line; 4 a file or a device in use.",
     usage: Some(
         "nbdj serve [OPTIONS] --listen <ADDR> <PATH>\n       nbdj serve [OPTIONS] --unix <SOCKET> <PATH>",
     ),
@@ -282,6 +288,12 @@ pub static SERVE: SubcommandRow<'static> = SubcommandRow {
             form: Form::Text("SOCKET"),
             tie: Tie::None,
             help: "The path of a Unix socket, which is made and at the end removed; one that nobody listens on is replaced",
+        },
+        ArgumentRow {
+            name: "unix-mode",
+            form: Form::Text("MODE"),
+            tie: Tie::Excludes("listen"),
+            help: "Who may connect to the Unix socket, as the mode of its file in octal, 0 to 777, as 0660; by default what the umask leaves",
         },
         ArgumentRow {
             name: "workers",
@@ -311,9 +323,9 @@ pub static SERVE: SubcommandRow<'static> = SubcommandRow {
         },
         ArgumentRow {
             name: "flush-interval",
-            form: Form::ValueOr("SECONDS", "5", ValueParser::Unsigned(0, 86_400)),
+            form: Form::TextOr("SECONDS", "1"),
             tie: Tie::None,
-            help: "After so long a write is stored though no client flushes: 1 to 86400, or 0 for never",
+            help: "After so long a write is stored though no client flushes: 0.001 to 86400, as 0.1, or 0 for never",
         },
         ArgumentRow {
             name: "on-fault",
@@ -334,7 +346,7 @@ pub static SERVE: SubcommandRow<'static> = SubcommandRow {
 static PIPE: SubcommandRow<'static> = SubcommandRow {
     name: "pipe",
     about: "Serves the transmission phase of one connection over standard input and output",
-    after_help: "Example: nbdj pipe d.img --cache writethrough <requests >replies\n\nA kill or a power cut keeps every write that a FLUSH, or a FUA reply, has confirmed.\n\nExit status: 0 the client has ended the session; 1 a fault of file, image, device, stream or memory; 2 a refused command line.",
+    after_help: "Example: nbdj pipe d.img --cache writethrough <requests >replies\n\nA kill or a power cut keeps every write that a FLUSH, or a FUA reply, has confirmed.\n\nExit status: 0 the client has ended the session; 1 a fault of file, image, device, stream or memory; 2 a refused command line; 4 a file or a device in use.",
     usage: None,
     arguments: &[PATH, FRAMES, CACHE, VERBOSE],
 };
@@ -342,7 +354,7 @@ static PIPE: SubcommandRow<'static> = SubcommandRow {
 static RECOVER: SubcommandRow<'static> = SubcommandRow {
     name: "recover",
     about: "Recovers the device and prints the number of its last command",
-    after_help: "Example: nbdj recover d.img\n\nThe journal is copied into the image and is empty then. A kill or a power cut loses nothing.\n\nExit status: 0 done; 1 a fault of file, image, device or memory; 2 a refused command line.",
+    after_help: "Example: nbdj recover d.img\n\nThe journal is copied into the image and is empty then. A kill or a power cut loses nothing.\n\nExit status: 0 done; 1 a fault of file, image, device or memory; 2 a refused command line; 4 a file or a device in use.",
     usage: None,
     arguments: &[PATH, VERBOSE],
 };
@@ -350,7 +362,7 @@ static RECOVER: SubcommandRow<'static> = SubcommandRow {
 static UPGRADE: SubcommandRow<'static> = SubcommandRow {
     name: "upgrade",
     about: "Recovers the device, and gives it four journal areas in the place of two: layout 2",
-    after_help: "Example: nbdj upgrade d.img\n\nThe image stays. A kill or a power cut loses nothing: it leaves the one layout or the other.\n\nExit status: 0 done; 1 a fault of file, image, device or memory, or an area below 4M; 2 a refused command line.",
+    after_help: "Example: nbdj upgrade d.img\n\nThe image stays. A kill or a power cut loses nothing: it leaves the one layout or the other.\n\nExit status: 0 done; 1 a fault of file, image, device or memory, or an area below 4M; 2 a refused command line; 4 a file or a device in use.",
     usage: None,
     arguments: &[PATH, VERBOSE],
 };
@@ -358,7 +370,7 @@ static UPGRADE: SubcommandRow<'static> = SubcommandRow {
 static CHECK: SubcommandRow<'static> = SubcommandRow {
     name: "check",
     about: "Prints what the device holds, and writes nothing",
-    after_help: "Example: nbdj check d.img\n\nA kill or a power cut changes nothing.\n\nExit status: 0 the image is whole; 1 a fault of file, device or memory; 2 a refused command line; 3 the image is bad.",
+    after_help: "Example: nbdj check d.img\n\nA kill or a power cut changes nothing.\n\nExit status: 0 the image is whole; 1 a fault of file, device or memory; 2 a refused command line; 3 the image is bad; 4 a file or a device in use.",
     usage: None,
     arguments: &[PATH, VERBOSE],
 };

@@ -3,6 +3,7 @@
 
 mod commands;
 mod parse;
+mod seconds;
 mod size;
 
 pub use clap::Error as LineFault;

@@ -2,17 +2,19 @@ ghost use Rattle.std.specs.Prelude.{◌≡◌, ◌≤◌, ◌<◌, ◌*◌, Some
 ghost use Rattle.clap.specs.Words.{first_of, found_of, rows_of, subcommand_of};
 ghost use Rattle.clap.specs.declared.builder.value_parser.ValueParser.{ValueParser};
 ghost use Rattle.command_line.specs.Commands.{nbdj_app};
-ghost use Rattle.command_line.specs.Line.{fault_name, layout_number, mode_name, HasPath, IsAsked, IsInvocation, IsGiven, SaysAddress, SaysArea, SaysBlocks, SaysLayout, SaysScriptRuns, SaysFlag, SaysLimits};
+ghost use Rattle.command_line.specs.Line.{fault_name, layout_number, mode_name, HasPath, IsAsked, IsInvocation, IsGiven, IsGivenSeconds, SaysAddress, SaysArea, SaysBlocks, SaysLayout, SaysReplaces, SaysScriptRuns, SaysFlag, SaysLimits, SaysUnixMode};
 ghost use Rattle.command_line.specs.Size.{IsSize};
 ghost use Rattle.image_model.specs.declared.layout.Layout.TheVariants as Layout;
 
 use crate::commands::{FORMAT, SERVE, program, subcommand};
+use crate::seconds::millis_of;
 use crate::size::bytes_of;
 use clap::error::ErrorKind;
 use clap::{ArgMatches, Command, Error};
 use export_model::Mode;
 use front_end::{
-    Address, Course, Invocation, Limits, OnFault, PipeOptions, Plan, Refusal, ServeOptions,
+    Address, Course, FormatOptions, Invocation, Limits, OnFault, PipeOptions, Plan, Refusal,
+    ServeOptions,
 };
 use image_model::{BLOCK_BYTES, Geometry, LEAST_AREA_BYTES, Layout, MOST_AREA_BYTES, MOST_BLOCKS};
 use std::alloc::{AllocError, Global};
@@ -73,6 +75,7 @@ fn format<'a>(alloc: Global, matches: &ArgMatches<'a>) -> Result<Plan<'a>, Error
     let blocks = blocks(alloc, matches)?;
     let area = area(alloc, matches)?;
     let preallocates = flag(matches, "preallocate");
+    let replaces = replaces(matches);
     let Some(geometry) = Geometry::new(blocks, area) else {
         return Err(format_fault(alloc, "--area: the bytes of an area are a multiple of 8192"));
     };
@@ -80,12 +83,25 @@ fn format<'a>(alloc: Global, matches: &ArgMatches<'a>) -> Result<Plan<'a>, Error
         Some(geometry) => Ok(Plan::Format {
             path,
             geometry,
-            preallocates,
+            options: FormatOptions {
+                preallocates,
+                replaces,
+            },
         }),
         None => Ok(Plan::Refuse {
             path,
             refusal: Refusal::AreaSmall,
         }),
+    }
+}
+
+// Whether data that are there may be lost: with --blocks always.
+fn replaces(matches: &ArgMatches<'_>) -> bool
+    ensures { SaysReplaces (rows_of (found_of matches.now)) result }
+{
+    match text(matches, "blocks") {
+        Some(_) => true,
+        None => flag(matches, "force"),
     }
 }
 
@@ -266,13 +282,33 @@ fn limits(alloc: Global, matches: &ArgMatches<'_>) -> Result<Limits, Error>
     let sessions = number(alloc, matches, "sessions")?;
     let handshake_seconds = number(alloc, matches, "handshake-timeout")?;
     let idle_seconds = number(alloc, matches, "idle-timeout")?;
-    let flush_seconds = number(alloc, matches, "flush-interval")?;
+    let flush_millis = flush_millis(alloc, matches)?;
     Ok(Limits {
         sessions,
         handshake_seconds,
         idle_seconds,
-        flush_seconds,
+        flush_millis,
     })
+}
+
+// A day.
+const MOST_MILLIS: u64 = 86_400_000;
+
+// After how long a write is stored.
+fn flush_millis(alloc: Global, matches: &ArgMatches<'_>) -> Result<u64, Error>
+    ensures { IfOk result (IsGivenSeconds (rows_of (found_of matches.now)) (codes "flush-interval")) }
+{
+    if let Some(seconds) = text(matches, "flush-interval") {
+        if let Some(millis) = millis_of(seconds) {
+            if millis <= MOST_MILLIS {
+                return Ok(millis);
+            }
+        }
+    }
+    Err(serve_fault(
+        alloc,
+        "invalid value for '--flush-interval <SECONDS>': it is 0 to 86400, with at most three digits behind a point",
+    ))
 }
 
 // Where clients arrive, as one of two options says.
@@ -285,10 +321,32 @@ fn address<'a>(alloc: Global, matches: &ArgMatches<'a>) -> Result<Address<'a>, E
             alloc,
             "invalid value '' for '--unix <SOCKET>': the path of a socket isn't empty",
         )),
-        (None, Some(path)) => Ok(Address::Unix(path)),
+        (None, Some(path)) => Ok(Address::Unix {
+            path,
+            mode: unix_mode(alloc, matches)?,
+        }),
         _ => Err(serve_fault(
             alloc,
             "one of --listen <ADDR> and --unix <SOCKET> is wanted",
+        )),
+    }
+}
+
+// The bits that a mode of a file has for its owner, its group and others.
+const ALL_MODE_BITS: u32 = 0o777;
+
+// Who may connect to a Unix socket, where that is said.
+fn unix_mode(alloc: Global, matches: &ArgMatches<'_>) -> Result<Option<u32>, Error>
+    ensures { IfOk result (SaysUnixMode (rows_of (found_of matches.now))) }
+{
+    let Some(octal) = text(matches, "unix-mode") else {
+        return Ok(None);
+    };
+    match u32::from_str_radix(octal, 8) {
+        Ok(mode) if mode <= ALL_MODE_BITS => Ok(Some(mode)),
+        _ => Err(serve_fault(
+            alloc,
+            "invalid value for '--unix-mode <MODE>': it is a number of octal digits up to 777",
         )),
     }
 }

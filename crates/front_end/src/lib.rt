@@ -2,12 +2,14 @@
 //! have, and why a run of the program ends early.
 #![tactic(auto)]
 
+mod format_options;
 mod limits;
 mod options;
 mod pipe_options;
 mod plan;
 mod refusal;
 
+pub use format_options::FormatOptions;
 pub use limits::{LEAST_FRAMES, MOST_FRAMES};
 pub use options::{Limits, MOST_WORKERS, OnFault, ServeOptions};
 pub use pipe_options::PipeOptions;

@@ -25,8 +25,8 @@ pub struct Limits {
     pub handshake_seconds: u64,
     /// For so many seconds it may say nothing afterwards; 0 for no end.
     pub idle_seconds: u64,
-    /// After so many seconds what is pending is stored, though nobody waits for it; 0 for no end.
-    pub flush_seconds: u64,
+    /// After so many milliseconds what is pending is stored, though nobody waits for it; 0 for no end.
+    pub flush_millis: u64,
 }
 
 impl Limits {
@@ -42,7 +42,10 @@ impl Limits {
 
     /// How long what is pending may wait; none for no end.
     pub fn pending(&self) -> Option<Duration> {
-        seconds(self.flush_seconds)
+        if self.flush_millis == 0 {
+            return None;
+        }
+        Some(Duration::from_millis(self.flush_millis))
     }
 }
 

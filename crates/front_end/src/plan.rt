@@ -1,3 +1,4 @@
+use crate::format_options::FormatOptions;
 use crate::options::ServeOptions;
 use crate::pipe_options::PipeOptions;
 use crate::refusal::Refusal;
@@ -8,8 +9,8 @@ use image_model::Geometry;
 pub enum Address<'a> {
     /// An IP address or a host's name, and a port; with port 0 the system picks one.
     Tcp(&'a str),
-    /// The path of a Unix socket, which is made.
-    Unix(&'a str),
+    /// The path of a Unix socket, which is made; and who may read and write it, as the bits of its file's mode, where that is said.
+    Unix { path: &'a str, mode: Option<u32> },
 }
 
 /// How a script is run.
@@ -33,11 +34,11 @@ pub struct Invocation<'a> {
 /// What is to be done. A path names a device's file, which the caller opens or makes.
 #[derive(Clone, Copy)]
 pub enum Plan<'a> {
-    /// Makes the device an image of holes; where it preallocates, all of its file was written before.
+    /// Makes the device an image of holes.
     Format {
         path: &'a str,
         geometry: Geometry,
-        preallocates: bool,
+        options: FormatOptions,
     },
     /// Serves one connection over standard input and output.
     Pipe {

@@ -1,32 +1,51 @@
-//! Files all of whose blocks are there before the first one is wanted.
+//! Files whose blocks are there before they are wanted.
 
-use std::fs::OpenFile;
-use std::io::{self, IsTerminal};
+use std::io;
 use std::os::unix::fs::FileExt;
 
-// So many bytes are written at a time: 1 MiB.
-const PIECE: usize = 1_048_576;
+// The bytes of one write: as many as those of an image, since Linux caches a file in folios as large as the writes that filled it, and
+// a later write of one block takes longer in a large one.
+const PIECE: usize = 32_768;
 
-/// Writes zeroes over a file of so many bytes, and tells on standard error how far it is where that is a terminal.
-pub fn fill<F: FileExt + OpenFile>(rt: &HostRuntime, file: &F, size: u64) -> io::Result<()> {
-    let zeroes = vec![in rt.alloc(); 0u8; PIECE]?;
-    let shows = rt.stderr().is_terminal();
-    let pieces = size.div_ceil(PIECE as u64);
-    for piece in 0..pieces {
-        let offset = piece.saturating_mul(PIECE as u64);
-        let count = size.saturating_sub(offset).min(PIECE as u64) as usize;
-        file.write_all_at(zeroes.get(..count).unwrap_or(&[]), offset)?;
-        if shows {
-            show(rt, piece, pieces, "");
-        }
-    }
-    file.sync_all()?;
-    if shows {
-        show(rt, pieces, pieces, "\n");
-    }
-    Ok(())
+static ZEROES: [u8; PIECE] = [0; PIECE];
+
+// So many pieces are 1 MiB.
+const TOLD: u64 = 32;
+
+/// Tells how far a long work is, where standard error is a terminal.
+#[derive(Clone, Copy)]
+pub(crate) struct Progress<'a> {
+    pub(crate) rt: &'a HostRuntime,
+    pub(crate) shows: bool,
 }
 
-fn show(rt: &HostRuntime, piece: u64, pieces: u64, end: &str) {
-    let _ = eprint!(rt; "\rnbdj: {piece} of {pieces} MiB written{end}");
+impl Progress<'_> {
+    fn show(&self, done: u64, count: u64, end: &str) {
+        if self.shows {
+            let _ = eprint!(self.rt; "\rnbdj: {done} of {count} MiB written{end}");
+        }
+    }
+}
+
+/// Writes so many zeroes at an offset of a file.
+pub(crate) fn fill<F: FileExt>(
+    file: &F,
+    offset: u64,
+    size: u64,
+    progress: &Progress<'_>,
+) -> io::Result<()> {
+    let pieces = size.div_ceil(PIECE as u64);
+    for piece in 0..pieces {
+        let done = piece.saturating_mul(PIECE as u64);
+        let count = size.saturating_sub(done).min(PIECE as u64) as usize;
+        file.write_all_at(
+            ZEROES.get(..count).unwrap_or(&[]),
+            offset.saturating_add(done),
+        )?;
+        if piece % TOLD == 0 {
+            progress.show(piece / TOLD, pieces.div_ceil(TOLD), "");
+        }
+    }
+    progress.show(pieces.div_ceil(TOLD), pieces.div_ceil(TOLD), "\n");
+    Ok(())
 }

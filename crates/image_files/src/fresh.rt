@@ -1,35 +1,111 @@
-use crate::files::Place;
+use crate::devices::Locks;
+use crate::files::{Place, Wanted};
+use crate::filling::{Progress, fill};
 use std::cell::Cell;
 use std::fs::{File, Metadata, OpenFile};
-use std::io;
-use std::os::unix::fs::FileExt;
+use std::io::{self, IsTerminal};
+use std::os::unix::fs::{FileExt, MetadataExt};
 
-/// A file that is emptied and gets its full length, both stable, before the first byte of it is written. So whoever gives
-/// up before that has lost nothing of what it held. A block device is written as it is.
+// The unit in which the system tells how much of a file is allocated.
+const SECTOR_BYTES: u64 = 512;
+
+/// A file that is emptied, gets its full length, and has its first bytes allocated, all stable, before the first byte of it is written.
+/// So whoever gives up before that has lost nothing of what it held. A block device is written as it is; where all of it is to be
+/// allocated it is filled with zeroes.
 #[derive(Drop)]
 pub struct FreshFile {
+    rt: HostRuntime,
     file: File,
-    size: u64,
+    wanted: Wanted,
+    place: Place,
+    is_new: bool,
     is_ready: Cell<bool>,
+    _locks: Locks,
 }
 
 impl FreshFile {
-    pub(crate) fn new(file: File, size: u64, place: Place) -> FreshFile {
+    pub(crate) fn new(
+        rt: &HostRuntime,
+        file: File,
+        wanted: Wanted,
+        place: Place,
+        locks: Locks,
+    ) -> FreshFile {
         FreshFile {
+            rt: *rt,
             file,
-            size,
-            is_ready: Cell::new(place == Place::BlockDevice),
+            wanted,
+            place,
+            is_new: false,
+            is_ready: Cell::new(false),
+            _locks: locks,
         }
+    }
+
+    pub(crate) fn told_new(self, is_new: bool) -> FreshFile {
+        FreshFile { is_new, ..self }
+    }
+
+    /// Whether there was no file at its path.
+    pub fn is_new(&self) -> bool {
+        self.is_new
     }
 
     fn make_ready(&self) -> io::Result<()> {
         if !self.is_ready.get() {
-            OpenFile::set_len(&self.file, 0)?;
-            OpenFile::set_len(&self.file, self.size)?;
-            OpenFile::sync_all(&self.file)?;
+            match self.place {
+                Place::File => self.make_file_ready()?,
+                Place::BlockDevice if self.fills_all() => self.allocate()?,
+                Place::BlockDevice => {}
+            }
             self.is_ready.set(true);
         }
         Ok(())
+    }
+
+    fn fills_all(&self) -> bool {
+        self.wanted.allocated == self.wanted.size
+    }
+
+    // A file for which there is no room is as long as it was, or else empty.
+    fn make_file_ready(&self) -> io::Result<()> {
+        self.try_room()?;
+        OpenFile::set_len(&self.file, 0)?;
+        OpenFile::set_len(&self.file, self.wanted.size)?;
+        let allocated = self.allocate();
+        if allocated.is_err() {
+            // What was written takes room that others want.
+            OpenFile::set_len(&self.file, 0)?;
+        }
+        allocated
+    }
+
+    fn allocate(&self) -> io::Result<()> {
+        let progress = Progress {
+            rt: &self.rt,
+            shows: self.fills_all() && self.rt.stderr().is_terminal(),
+        };
+        fill(&self.file, 0, self.wanted.allocated, &progress)?;
+        OpenFile::sync_all(&self.file)
+    }
+
+    // Whether there is room shows before anything is lost: as many zeroes as blocks are missing are written behind the end, and taken
+    // away again.
+    fn try_room(&self) -> io::Result<()> {
+        let metadata = OpenFile::metadata(&self.file)?;
+        let present = metadata.blocks().saturating_mul(SECTOR_BYTES);
+        let missing = self.wanted.allocated.saturating_sub(present);
+        if metadata.len() == 0 || missing == 0 {
+            return Ok(());
+        }
+        let silent = Progress {
+            rt: &self.rt,
+            shows: false,
+        };
+        // (no sync: what was only cached goes at once)
+        let tried = fill(&self.file, metadata.len(), missing, &silent);
+        OpenFile::set_len(&self.file, metadata.len())?;
+        tried
     }
 }
 

@@ -2,14 +2,20 @@
 //! standard streams, kept apart from it.
 #![tactic(auto)]
 
+mod contents;
+mod devices;
 mod files;
 mod filling;
 mod fresh;
 mod streams;
 mod told;
 
-pub use files::{FileFault, Opened, header_of, open, open_for_reading, open_fresh, try_fresh};
-pub use filling::fill;
+pub use contents::Content;
+pub use devices::Locks;
+pub use files::{
+    FileFault, Holder, Opened, Wanted, header_of, open, open_for_reading, open_fresh, remove_made,
+    try_fresh,
+};
 pub use fresh::FreshFile;
 pub use streams::ClosedStreams;
 pub use told::ToldFile;

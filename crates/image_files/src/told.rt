@@ -1,7 +1,7 @@
 use std::cell::Cell;
 use std::fmt::Display;
 use std::fs::{Metadata, OpenFile};
-use std::io;
+use std::io::{self, ErrorKind};
 use std::os::unix::fs::FileExt;
 
 /// A device's file of which the first call that fails is told on standard error, with what was tried and why it failed.
@@ -12,16 +12,29 @@ pub struct ToldFile<'a, F: FileExt + OpenFile + Drop> {
     rt: HostRuntime,
     // Whether a call that fails is still to be told.
     tells: Cell<bool>,
+    // Whether it holds an image, with commands that a FLUSH may have confirmed.
+    holds_image: bool,
 }
 
+// What is told of an image on a full disk.
+const FULL: &str =
+    "nbdj: no space left on device: free some and start again; nothing a FLUSH confirmed is lost";
+
 impl<'a, F: FileExt + OpenFile + Drop> ToldFile<'a, F> {
-    /// The file at this path, whose faults are told where `tells` is set.
-    pub fn new(rt: &HostRuntime, file: F, path: &'a str, tells: bool) -> ToldFile<'a, F> {
+    /// The file at this path, whose faults are told where `tells` is set; whether it holds an image already.
+    pub fn new(
+        rt: &HostRuntime,
+        file: F,
+        path: &'a str,
+        tells: bool,
+        holds_image: bool,
+    ) -> ToldFile<'a, F> {
         ToldFile {
             file,
             path,
             rt: *rt,
             tells: Cell::new(tells),
+            holds_image,
         }
     }
 
@@ -31,6 +44,9 @@ impl<'a, F: FileExt + OpenFile + Drop> ToldFile<'a, F> {
             let path = self.path;
             // Where not even that can be written, the status alone tells.
             let _ = eprintln!(self.rt; "nbdj: {path}: {call}: {error}");
+            if self.holds_image && error.kind() == ErrorKind::StorageFull {
+                let _ = eprintln!(self.rt; "{FULL}");
+            }
         }
     }
 

@@ -14,11 +14,12 @@ use crate::teller::Teller;
 use clap::error::ErrorKind;
 use command_line::line;
 use disk_model::{Disk, FileDisk};
-use front_end::{Course, Invocation, Plan, Refusal};
+use front_end::{Course, FormatOptions, Invocation, Plan};
 use image_files::{
-    ClosedStreams, FileFault, Opened, ToldFile, fill, open, open_for_reading, open_fresh, try_fresh,
+    ClosedStreams, FileFault, Locks, Opened, ToldFile, Wanted, open, open_for_reading, open_fresh,
+    remove_made, try_fresh,
 };
-use image_model::Geometry;
+use image_model::{BLOCK_BYTES, Geometry};
 use nbdj_pipe::{exit_status, perform};
 use nbdj_sweep::{faults, sweep};
 use script_runner::script;
@@ -64,18 +65,18 @@ fn no_memory(rt: &HostRuntime) -> u8 {
     1
 }
 
-// Carries out the plan, and gives the exit status. The lock on a device's file is held as long as the file is open.
+// Carries out the plan, and gives the exit status. The locks on a device's file are held to the end.
 fn run<R>(rt: &HostRuntime, threads: &R, invocation: Invocation<'_>) -> u8
 where
     R: Threads + Wait + Clock + Copy + Send + Sync + Drop + 'static,
 {
-    let teller = Teller::new(rt, invocation.is_verbose);
+    let teller = Teller::new(rt, &invocation);
     match invocation.plan {
         Plan::Format {
             path,
             geometry,
-            preallocates,
-        } => format(rt, teller, path, geometry, preallocates),
+            options,
+        } => format(rt, teller, path, geometry, options),
         Plan::Serve {
             path,
             address,
@@ -84,7 +85,7 @@ where
             Ok(opened) => {
                 // Where the system has no second handle left reads wait for the first one.
                 let beside = opened.file.try_clone().ok();
-                let disk = disk_of(rt, teller, opened, path, true);
+                let (disk, _locks) = disk_of(rt, teller, opened, path);
                 serve_at(rt, threads, teller, path, disk, beside, address, options)
             }
             Err(fault) => no_file(rt, teller, path, fault),
@@ -109,29 +110,45 @@ where
     }
 }
 
-// Makes an image of a file, all of which is written before where it preallocates.
+// Makes an image of a file. One that was made for it and doesn't become an image is removed.
 fn format(
     rt: &HostRuntime,
     teller: Teller,
     path: &str,
     geometry: Geometry,
-    preallocates: bool,
+    options: FormatOptions,
 ) -> u8 {
-    match open_fresh(rt, path, geometry.device_bytes()) {
+    let wanted = Wanted {
+        size: geometry.device_bytes(),
+        allocated: allocated_of(geometry, options),
+        replaces: options.replaces,
+    };
+    match open_fresh(rt, path, wanted) {
         Ok((file, size)) => {
-            let file = ToldFile::new(rt, file, path, teller.is_verbose());
-            if preallocates && fill(rt, &file, size).is_err() {
-                return exit_status(Err(Refusal::DeviceFault), &mut rt.stderr());
-            }
+            let is_new = file.is_new();
+            let file = ToldFile::new(rt, file, path, teller.tells_causes(), false);
             let plan = Plan::Format {
                 path,
                 geometry,
-                preallocates,
+                options,
             };
-            run_on(rt, &plan, FileDisk::new(file, size))
+            let status = run_on(rt, &plan, FileDisk::new(file, size));
+            if status != 0 && is_new {
+                remove_made(rt, path);
+            }
+            status
         }
         Err(fault) => no_file(rt, teller, path, fault),
     }
+}
+
+// How many of the first bytes are allocated: where not all are, headers, journal and maps, so that no write of those lacks space later.
+fn allocated_of(geometry: Geometry, options: FormatOptions) -> u64 {
+    let size = geometry.device_bytes();
+    if options.preallocates {
+        return size;
+    }
+    size.saturating_sub(geometry.blocks.saturating_mul(BLOCK_BYTES))
 }
 
 // Carries out the plan on the file of a device, where it was opened.
@@ -146,27 +163,32 @@ fn run_opened(
 {
     match found {
         Ok(opened) => {
-            let disk = disk_of(rt, teller, opened, path, teller.is_verbose());
+            let (disk, _locks) = disk_of(rt, teller, opened, path);
             run_on(rt, plan, disk)
         }
         Err(fault) => no_file(rt, teller, path, fault),
     }
 }
 
-// The device of a file that was opened. Where `tells`, the first call that fails is told.
+// The device of a file that was opened, and the locks on what else names it.
 fn disk_of<'a>(
     rt: &HostRuntime,
     teller: Teller,
     opened: Opened,
     path: &'a str,
-    tells: bool,
-) -> FileDisk<ToldFile<'a, File>> {
-    let Opened { file, size, length } = opened;
+) -> (FileDisk<ToldFile<'a, File>>, Locks) {
+    let Opened {
+        file,
+        size,
+        length,
+        locks,
+    } = opened;
     let mut disk = FileDisk::new(file, size);
-    if teller.is_verbose() {
+    if teller.tells_causes() {
         disk = teller.tell_header(path, length, disk);
     }
-    FileDisk::new(ToldFile::new(rt, disk.into_file(), path, tells), size)
+    let file = ToldFile::new(rt, disk.into_file(), path, teller.tells_causes(), true);
+    (FileDisk::new(file, size), locks)
 }
 
 // Carries out the plan on its device.
@@ -180,6 +202,9 @@ fn run_on<D: Disk + Drop>(rt: &HostRuntime, plan: &Plan<'_>, disk: D) -> u8
     status
 }
 
+// The exit status where something else works on the file.
+const IN_USE: u8 = 4;
+
 // Tells why there is no file to work on, and gives the exit status.
 fn no_file(rt: &HostRuntime, teller: Teller, path: &str, fault: FileFault) -> u8 {
     teller.tell_fault(path, &fault);
@@ -188,7 +213,12 @@ fn no_file(rt: &HostRuntime, teller: Teller, path: &str, fault: FileFault) -> u8
         FileFault::Unopened(_) | FileFault::Unfit | FileFault::Short => eprintln!(rt;
             "nbdj: cannot open {path}"
         ),
-        FileFault::InUse => eprintln!(rt; "nbdj: {path} is in use"),
+        FileFault::InUse(_) => {
+            let _ = eprintln!(rt; "nbdj: {path} is in use");
+            return IN_USE;
+        }
+        FileFault::HasData(_) => eprintln!(rt; "nbdj: {path} holds data, which --force replaces"),
+        FileFault::NoMemory => return no_memory(rt),
         FileFault::Unlocked(_) => eprintln!(rt; "nbdj: cannot lock {path}"),
         FileFault::IsOutput => eprintln!(rt; "nbdj: {path} is standard output"),
         FileFault::IsErrors => Ok(()),

@@ -11,10 +11,10 @@ use image_files::ToldFile;
 use nbdj_pipe::exit_status;
 use server::{Listener, serve};
 use std::fmt::Display;
-use std::fs::{self, File};
+use std::fs::{self, File, Permissions};
 use std::io::{self, ErrorKind, Write};
 use std::net::TcpListener;
-use std::os::unix::fs::FileTypeExt;
+use std::os::unix::fs::{FileTypeExt, PermissionsExt};
 use std::os::unix::net::{UnixListener, UnixStream};
 use std::rt::Clock;
 use std::sync::Wait;
@@ -93,7 +93,7 @@ fn listen<R: Threads + Wait + Clock + Copy + Send + Sync + Drop + 'static>(
     let listener = open_socket(rt, teller, address)?;
     let input = rt.stdin();
     let (outcome, _disk) = serve(threads, rt.alloc(), device, listener, input, options, log);
-    if let Address::Unix(path) = address {
+    if let Address::Unix { path, .. } = address {
         // Where it can't be removed, the next server replaces it.
         let _ = fs::remove_file(rt, path);
     }
@@ -114,7 +114,7 @@ fn open_socket(
             },
             Err(error) => Err(no_socket(teller, address, &error)),
         },
-        Address::Unix(path) => match bind_unix(rt, path) {
+        Address::Unix { path, mode } => match bind_unix(rt, path, mode) {
             Ok(listener) => match tell(rt, path) {
                 Ok(()) => Ok(listener),
                 Err(_) => {
@@ -129,7 +129,7 @@ fn open_socket(
 
 // Why nobody can arrive at an address.
 fn no_socket(teller: Teller, address: &str, error: &io::Error) -> Refusal {
-    teller.tell_error(address, error);
+    teller.tell(address, format_args!("{error}"));
     Refusal::StreamFault
 }
 
@@ -158,8 +158,8 @@ fn host_alone(address: &str) -> Option<&str> {
     Some(address)
 }
 
-// A socket with a file, which takes the place of one that nobody listens on.
-fn bind_unix(rt: &HostRuntime, path: &str) -> io::Result<Listener> {
+// A socket with a file, which takes the place of one that nobody listens on, and has this mode where one is said.
+fn bind_unix(rt: &HostRuntime, path: &str, mode: Option<u32>) -> io::Result<Listener> {
     let listener = match UnixListener::bind(rt, path) {
         Err(error) if error.kind() == ErrorKind::AddrInUse && is_abandoned(rt, path) => {
             fs::remove_file(rt, path)?;
@@ -167,6 +167,12 @@ fn bind_unix(rt: &HostRuntime, path: &str) -> io::Result<Listener> {
         }
         bound => bound?,
     };
+    if let Some(mode) = mode {
+        if let Err(error) = fs::set_permissions(rt, path, Permissions::from_mode(mode)) {
+            let _ = fs::remove_file(rt, path);
+            return Err(error);
+        }
+    }
     Ok(Listener::Unix(listener))
 }
 

@@ -1,60 +1,62 @@
 //! What `--verbose` tells: why something can't be done.
 
 use disk_model::{Disk, FileDisk};
+use front_end::{Invocation, Plan};
 use header_slots::{HeaderFault, read_current};
-use image_files::{FileFault, header_of};
+use image_files::{FileFault, Holder, header_of};
 use std::fmt::{self, Display, Formatter};
 use std::fs::File;
-use std::io;
+use std::io::IsTerminal;
 
 /// What is told beside the texts that are always there.
 #[derive(Clone, Copy)]
 pub struct Teller {
     rt: HostRuntime,
     is_verbose: bool,
+    tells_causes: bool,
 }
 
 impl Teller {
-    pub fn new(rt: &HostRuntime, is_verbose: bool) -> Teller {
+    /// What is told of this invocation: why something can't be done by a server always, else to a terminal or where `--verbose` asks for it.
+    pub fn new(rt: &HostRuntime, invocation: &Invocation<'_>) -> Teller {
+        let is_verbose = invocation.is_verbose;
+        let serves = matches!(invocation.plan, Plan::Serve { .. });
         Teller {
             rt: *rt,
             is_verbose,
+            tells_causes: is_verbose || serves || rt.stderr().is_terminal(),
         }
     }
 
-    /// Whether anything is told.
+    /// Whether it is told what happens.
     pub fn is_verbose(&self) -> bool {
         self.is_verbose
     }
 
-    /// Tells of a subject, as a path or an address.
-    pub fn tell<S: Display + Drop, T: Display + Drop>(&self, subject: S, text: T) {
-        if self.is_verbose {
-            // Where it can't be written nobody listens.
-            let _ = eprintln!(self.rt; "nbdj: {subject}: {text}");
-        }
+    /// Whether it is told why something can't be done.
+    pub fn tells_causes(&self) -> bool {
+        self.tells_causes
     }
 
-    /// Tells why a call of the system failed.
-    pub fn tell_error<S: Display + Drop>(&self, subject: S, error: &io::Error) {
-        let Ok(text) = format!(in self.rt.alloc(); "{error}") else {
-            return;
-        };
-        // The system's own text, without the number behind it.
-        match text.as_str().split_once(" (os error ") {
-            Some((reason, _)) => self.tell(subject, reason),
-            None => self.tell(subject, text.as_str()),
+    /// Tells why something can't be done with a subject, as a path or an address.
+    pub fn tell<S: Display + Drop, T: Display + Drop>(&self, subject: S, text: T) {
+        if self.tells_causes {
+            // Where it can't be written nobody listens.
+            let _ = eprintln!(self.rt; "nbdj: {subject}: {text}");
         }
     }
 
     /// Tells why there is no file to work on.
     pub fn tell_fault(&self, path: &str, fault: &FileFault) {
         match fault {
-            FileFault::Unopened(error) | FileFault::Unlocked(error) => self.tell_error(path, error),
+            FileFault::Unopened(error) | FileFault::Unlocked(error) => {
+                self.tell(path, format_args!("{error}"));
+            }
             FileFault::Unfit => self.tell(path, "neither a file nor a block device"),
             FileFault::Short => self.tell(path, "the block device has fewer bytes than the image"),
-            FileFault::InUse => self.tell(path, "another process has locked it"),
-            FileFault::IsOutput | FileFault::IsErrors => {}
+            FileFault::InUse(holder) => self.tell(path, use_of(*holder)),
+            FileFault::HasData(content) => self.tell(path, format_args!("it has {content}")),
+            FileFault::NoMemory | FileFault::IsOutput | FileFault::IsErrors => {}
         }
     }
 
@@ -90,6 +92,15 @@ impl Teller {
             },
         }
         disk
+    }
+}
+
+fn use_of(holder: Holder) -> &'static str {
+    match holder {
+        Holder::Process => "another process has locked it",
+        Holder::Mount => "a file system on it is mounted",
+        Holder::Swap => "the system swaps to it",
+        Holder::Device => "another device stands on it",
     }
 }
 

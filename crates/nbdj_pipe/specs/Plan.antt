@@ -8,7 +8,7 @@ use Rattle.image_model.specs.declared.geometry.Geometry.{Geometry}
 -- a device of this size can be worked on as the plan says; the plan of a script has no device, that of a server is carried
 -- out elsewhere, and what is refused has none
 abbrev pub Suits : Plan → ℕ → Type 0
-Suits (Format path geometry preallocates) extent = extent ≡ device_bytes_of geometry.blocks geometry.area
+Suits (Format path geometry options) extent = extent ≡ device_bytes_of geometry.blocks geometry.area
 Suits (Pipe path options) extent = Unit {0}
 Suits (Serve path address options) extent = ⊥
 Suits (Recover path) extent = Unit {0}
@@ -19,7 +19,7 @@ Suits (Refuse path refusal) extent = ⊥
 
 -- what a plan that serves a connection comes to, by its options
 abbrev pub IfPipe : Plan → (PipeOptions → Type 0) → Type 0
-IfPipe (Format path geometry preallocates) P = Unit {0}
+IfPipe (Format path geometry options) P = Unit {0}
 IfPipe (Pipe path options) P = P options
 IfPipe (Serve path address options) P = Unit {0}
 IfPipe (Recover path) P = Unit {0}
@@ -30,7 +30,7 @@ IfPipe (Refuse path refusal) P = Unit {0}
 
 -- what a plan that only reads the device comes to
 abbrev pub IfCheck : Plan → Type 0 → Type 0
-IfCheck (Format path geometry preallocates) P = Unit {0}
+IfCheck (Format path geometry options) P = Unit {0}
 IfCheck (Pipe path options) P = Unit {0}
 IfCheck (Serve path address options) P = Unit {0}
 IfCheck (Recover path) P = Unit {0}
@@ -41,7 +41,7 @@ IfCheck (Refuse path refusal) P = Unit {0}
 
 -- what a plan that formats a device comes to, by the sizes
 abbrev pub IfFormat : Plan → (Geometry → Type 0) → Type 0
-IfFormat (Format path geometry preallocates) P = P geometry
+IfFormat (Format path geometry options) P = P geometry
 IfFormat (Pipe path options) P = Unit {0}
 IfFormat (Serve path address options) P = Unit {0}
 IfFormat (Recover path) P = Unit {0}
@@ -52,7 +52,7 @@ IfFormat (Refuse path refusal) P = Unit {0}
 
 -- what a plan that recovers a device comes to
 abbrev pub IfRecover : Plan → Type 0 → Type 0
-IfRecover (Format path geometry preallocates) P = Unit {0}
+IfRecover (Format path geometry options) P = Unit {0}
 IfRecover (Pipe path options) P = Unit {0}
 IfRecover (Serve path address options) P = Unit {0}
 IfRecover (Recover path) P = P
@@ -63,7 +63,7 @@ IfRecover (Refuse path refusal) P = Unit {0}
 
 -- what a plan that makes a device one of layout 2 comes to
 abbrev pub IfUpgrade : Plan → Type 0 → Type 0
-IfUpgrade (Format path geometry preallocates) P = Unit {0}
+IfUpgrade (Format path geometry options) P = Unit {0}
 IfUpgrade (Pipe path options) P = Unit {0}
 IfUpgrade (Serve path address options) P = Unit {0}
 IfUpgrade (Recover path) P = Unit {0}

@@ -3,7 +3,7 @@ ghost use Rattle.nbdj_pipe.specs.Plan.{Suits};
 
 use disk_model::{Disk, SimDisk};
 use export_model::Mode;
-use front_end::{PipeOptions, Plan};
+use front_end::{FormatOptions, PipeOptions, Plan};
 use image_model::Geometry;
 use nbd_wire::{RequestHead, encode_request};
 use nbdj_pipe::perform;
@@ -69,7 +69,10 @@ pub fn formatted(rt: &impl Abort, alloc: Global, blocks: u64, area: u32) -> Resu
         &Plan::Format {
             path: "",
             geometry,
-            preallocates: false,
+            options: FormatOptions {
+                preallocates: false,
+                replaces: true,
+            },
         },
         disk,
         &mut [].as_slice(),

@@ -134,7 +134,7 @@ fn run<R: Threads + Wait + Clock + Copy + Send + Sync + Drop + 'static>(
         sessions: 2,
         handshake_seconds: 5,
         idle_seconds: 0,
-        flush_seconds: 0,
+        flush_millis: 0,
     };
     let options = ServeOptions::new(512, Mode::Writeback, 2, limits, OnFault::Stay, false)?;
     let device = fresh(alloc)?;
