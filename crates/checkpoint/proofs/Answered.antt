@@ -24,6 +24,13 @@ pub err_given : {T : Type 0} (P : KeeperFault → Type 0) (result : Given T) (fa
 err_given P (Ok value) fault none holds = tt
 err_given P (Err given) fault is holds = subst P (sym is) holds
 
+pub is_err : {T : Type 0} (result : Given T) (fault : KeeperFault) → IsErrAnd result (λ given. given ≡ fault) → result ≡ Err fault
+is_err (Ok value) fault none = absurd none
+is_err (Err given) fault is = ap Err is
+
+pub err_same : {T : Type 0} {fault wanted : KeeperFault} → ◌≡◌ {A = Given T} (Err fault) (Err wanted) → fault ≡ wanted
+err_same is = cc
+
 -- an error is one fault of the device more
 pub failed_counted : {T E : Type 0} (result : Result T E) (faults : ℕ) → IsErr result → faults_after result faults ≡ counted faults
 failed_counted (Ok value) faults is = cc

@@ -1,9 +1,9 @@
 -- What an opening finds, and what it leaves.
-use Rattle.std.proofs.Common.{◌≡◌, ◌⊎◌, inl, inr, ℕ, ◌<◌, ◌^◌, Option, Some, None, List, [], ◌∷◌, ◌++◌, length, refl, sym, ◌∙◌, ap, subst, arith}
+use Rattle.std.proofs.Common.{◌≡◌, inl, inr, ⊎_elim, ℕ, ◌<◌, ◌^◌, Option, Some, None, Result, Ok, List, [], ◌∷◌, ◌++◌, length, refl, sym, ◌∙◌, ap, subst, arith}
 use Rattle.std.proofs.lemmas.List.Sums.{sum_by-cons}
 use Rattle.disk_model.specs.Disk.{State, IsAllSynced, LeavesOnly, MayLeave}
 use Rattle.disk_model.specs.laws.Contents.{leaves_seen}
-use Rattle.disk_model.specs.laws.Moments.{goes_on, weakens}
+use Rattle.disk_model.specs.laws.Moments.{goes_on}
 use Rattle.header_slots.specs.declared.header.Header.{Header}
 use Rattle.image_model.specs.Image.{Image}
 use Rattle.image_model.specs.declared.command.Kind.{Kind}
@@ -19,7 +19,7 @@ use Rattle.device_image.specs.Stands.{StandsFor, all_changes, area_of, areas_in_
 use Rattle.device_image.specs.laws.CheckpointBounds.{fronts_many}
 use Rattle.device_image.specs.laws.Frame.{moved_list}
 use Rattle.device_image.specs.laws.Sole.{same_header}
-use Rattle.checkpoint.specs.Opening.{HasLastGeneration, IsAtRest, IsOpeningRefused, IsRefused, StandsAs}
+use Rattle.checkpoint.specs.Opening.{HasLastGeneration, IsAtRest, IsFixedOrNot, IsOpeningRefused, IsRefused, StandsAs, disk_after}
 use Rattle.checkpoint.specs.inner.Recovery.{IsRecoveryFault}
 use Rattle.checkpoint.specs.declared.fault.KeeperFault.{KeeperFault}
 use Rattle.checkpoint.specs.declared.fault.KeeperFault.TheVariants.{NoMemory, DeviceFault, BadMap, NoHeader, BadHeader, NumbersFull, AreaFull, OutOfOrder, DamagedGroup, NotNow, Failed, AreaSmall}
@@ -146,7 +146,16 @@ is_full keeper state image number keeps last = record {
 pub stood_content : (before : State) (image : Image) (number : ℕ) → IsAllSynced before → StandsFor before.seen image number → (content : List ℕ) → MayLeave before content → StandsFor content image number
 stood_content before image number synced stands content left = subst (λ (c : List ℕ). StandsFor c image number) (sym (leaves_seen before content synced left)) stands
 
--- what a crash leaves while a device that was read is recovered
-pub recovers : (before mid after : State) (image : Image) (number : ℕ) → StandsFor mid.seen image number → LeavesOnly before mid (MayLeave before) → LeavesOnly mid after (λ content. StandsFor content image number)
-    → LeavesOnly before after (λ content. MayLeave before content ⊎ StandsAs mid.seen content)
-recovers before mid after image number stands first second = goes_on (weakens first (λ content left. inl left)) second (λ content stood. inr (image, number, stands, stood))
+-- what a crash leaves while what was opened is recovered, or changed
+pub recovers : {D : Type 0} (before : State) (state : D → State) (found : List ℕ) (keeper : KeeperState D) (result : Result (KeeperState D) (KeeperFault × D)) (image : Image) (number : ℕ) → StandsFor found image number
+    → IsFixedOrNot before state (Ok keeper) found → LeavesOnly (state keeper.disk) (state (disk_after result)) (λ content. StandsFor content image number) → IsFixedOrNot before state result found
+recovers before state found keeper result image number stands opened call = ⊎_elim
+    (λ is. inl (record {
+      first = is.first;
+      synced = is.synced;
+      seen = is.seen;
+      until_then = is.until_then;
+      from_then = goes_on is.from_then call (λ content stood. inr (image, number, stands, stood));
+    }))
+    (λ failed. absurd failed)
+    opened

@@ -15,6 +15,7 @@ use Rattle.device_image.specs.Keeper.{KeeperState, One, PlanState, phase_of}
 use Rattle.device_image.specs.Keeps.{Keeps}
 use Rattle.device_image.specs.Stands.{StandsFor}
 use Rattle.device_image.specs.laws.Upgraded.{AreHalved, keeper_with, keeps_upgraded, new_area, new_header, upgrade_left}
+use Rattle.checkpoint.proofs.Answered.{err_same}
 use Rattle.checkpoint.specs.Keeper.{plans_of}
 use Rattle.checkpoint.specs.Opening.{HasLastGeneration, IsAtRest, IsOpeningRefused, IsPassing, StandsAs}
 use Rattle.checkpoint.specs.Recovery.{IsRecovered}
@@ -152,14 +153,6 @@ changed_by {D} inside old now same geometry two blocks area sizes header is slot
       count = refl;
     }))
 
--- what a refusal that changed nothing leaves
-pub unchanged_keeps : {D : Type 0} (state : D → State) (fault : KeeperFault) (old new : KeeperState D) (image : Image) (number : ℕ) → (fault ≡ faults.DeviceFault) ⊎ (new ≡ old) → fault ≢ faults.DeviceFault
-    → Keeps old (state old.disk) image number → Keeps new (state new.disk) image number
-unchanged_keeps {D} state fault old new image number unchanged other keeps = ⊎_elim
-    (λ device. absurd (other device))
-    (λ same. subst (λ (k : KeeperState D). Keeps k (state k.disk) image number) (sym same) keeps)
-    unchanged
-
 same_keeper : {D : Type 0} (fault : KeeperFault) (old new : KeeperState D) → (fault ≡ faults.DeviceFault) ⊎ (new ≡ old) → fault ≢ faults.DeviceFault → new ≡ old
 same_keeper fault old new unchanged other = ⊎_elim (λ device. absurd (other device)) (λ same. same) unchanged
 
@@ -203,9 +196,6 @@ small_areas {D} state fault old new image found is unchanged given recovered sta
         small = subst (λ (g : Geometry). g.area < 4194304) keeps.sizes given.1;
       },
     )
-
-err_same : {fault wanted : KeeperFault} → (let given : Result (Unit {0}) KeeperFault = Err fault in given ≡ Err wanted) → fault ≡ wanted
-err_same is = cc
 
 -- a refusal that changed nothing hands the device back as it was
 pub refused_still : {D : Type 0} (fault wanted : KeeperFault) (old new : KeeperState D) (disk : D) → (let given : Result (Unit {0}) KeeperFault = Err fault in given ≡ Err wanted) → (wanted ≡ faults.DeviceFault → ⊥)

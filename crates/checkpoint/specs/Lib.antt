@@ -7,3 +7,4 @@ pub mod Report
 pub mod Steps
 pub mod Upgrade
 pub mod inner
+pub mod laws

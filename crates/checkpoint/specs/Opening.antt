@@ -1,10 +1,10 @@
 -- what an opening finds, and what it refuses
-use Rattle.std.specs.Prelude.{ℕ, ◌≡◌, ◌≢◌, ◌⊎◌, List, [], length, Result, Ok, Err, IfErr}
+use Rattle.std.specs.Prelude.{ℕ, ◌≡◌, ◌⊎◌, List, [], length, Result, Ok, Err}
 use Rattle.header_slots.specs.Slots.{HoldsHeader, HoldsNone, HoldsBad}
 use Rattle.header_slots.specs.declared.header.Header.{Header}
 use Rattle.image_model.specs.declared.side.Side.{Side}
 use Rattle.image_model.specs.Image.{Image}
-use Rattle.disk_model.specs.Disk.{State, LeavesOnly, MayLeave}
+use Rattle.disk_model.specs.Disk.{State, IsAllSynced, IsSyncFailed, LeavesOnly, MayLeave}
 use Rattle.journal_format.specs.GroupList.{IsList}
 use Rattle.device_image.specs.Keeper.{KeeperState}
 use Rattle.checkpoint.specs.Keeper.{faults_by}
@@ -58,6 +58,30 @@ faults_after_opening (Err refused) faults = faults_by refused.0 faults
 abbrev pub StandsAs : List ℕ → List ℕ → Type 0
 StandsAs found content = (image : Image) × (number : ℕ) × StandsFor found image number × StandsFor content image number
 
+-- the content is the one that was found, or stands for the same
+abbrev pub IsAsFound : List ℕ → List ℕ → Type 0
+IsAsFound found content = (content ≡ found) ⊎ StandsAs found content
+
+-- The first sync of an opening was good: until then a crash left what it could leave at the start, and then nothing but the
+-- content found. From then on, at every moment and behind a refusal too, all that a crash may leave is as found.
+pub record IsFixed {D : Type 0} (before : State) (state : D → State) (after : State) (found : List ℕ) : Type 0 where
+  -- the device behind that sync
+  pub first : D
+  pub synced : IsAllSynced (state first)
+  pub seen : (state first).seen ≡ found
+  pub until_then : LeavesOnly before (state first) (MayLeave before)
+  pub from_then : LeavesOnly (state first) after (IsAsFound found)
+
+-- The first sync of an opening failed, and with it the opening: the device is as that sync left it, and all that a crash may
+-- leave, or might have left, it could leave at the start.
+abbrev pub IsUnfixed : {D : Type 0} → State → (D → State) → Result (KeeperState D) (KeeperFault × D) → Type 0
+IsUnfixed before state (Ok keeper) = ⊥
+IsUnfixed before state (Err refused) = (refused.0 ≡ DeviceFault) × IsSyncFailed before (state refused.1) × LeavesOnly before (state refused.1) (MayLeave before)
+
+-- what a crash may leave from the start of an opening to its end, by its first sync
+abbrev pub IsFixedOrNot : {D : Type 0} → State → (D → State) → Result (KeeperState D) (KeeperFault × D) → List ℕ → Type 0
+IsFixedOrNot before state result found = IsFixed before state (state (disk_after result)) found ⊎ IsUnfixed before state result
+
 -- No generation is greater than that of the header in force.
 pub record HasLastGeneration (content : List ℕ) : Type 0 where
   pub header : Header
@@ -100,7 +124,5 @@ IsOutcome state (Err refused) found = IsOpeningRefused refused.0 found (state re
 pub record IsOpening {D : Type 0} (before : State) (state : D → State) (result : Result (KeeperState D) (KeeperFault × D)) (found : List ℕ) : Type 0 where
   pub fixed : MayLeave before found
   pub outcome : IsOutcome state result found
-  -- what a crash may leave meanwhile
-  pub crash : LeavesOnly before (state (disk_after result)) (λ content. MayLeave before content ⊎ StandsAs found content)
-  -- and after a refusal that no fault of the device is the cause of
-  pub settled : IfErr result (λ refused. refused.0 ≢ DeviceFault → (content : List ℕ) → MayLeave (state refused.1) content → (content ≡ found) ⊎ StandsAs found content)
+  -- what a crash may leave meanwhile, and behind a refusal
+  pub crash : IsFixedOrNot before state result found

@@ -1,5 +1,5 @@
 -- what an upgrade to layout 2 finds, and what it refuses
-use Rattle.std.specs.Prelude.{ℕ, ◌≡◌, ◌≢◌, ◌⊎◌, ◌≤◌, ◌<◌, List, length, Result, Ok, Err, IfErr, IfOk, MatchResult}
+use Rattle.std.specs.Prelude.{ℕ, ◌≡◌, ◌≢◌, ◌≤◌, ◌<◌, List, length, Result, Ok, Err, IfOk, MatchResult}
 use Rattle.disk_model.specs.Disk.{State, IsAllSynced, LeavesOnly, MayLeave}
 use Rattle.header_slots.specs.Change.{IsUpgraded}
 use Rattle.header_slots.specs.Slots.{HoldsBad, HoldsHeader, HoldsNone}
@@ -12,7 +12,7 @@ use Rattle.device_image.specs.Damage.{HasBadMap, HasDamagedGroup}
 use Rattle.device_image.specs.Keeper.{KeeperState}
 use Rattle.device_image.specs.Keeps.{Keeps}
 use Rattle.device_image.specs.Stands.{StandsFor}
-use Rattle.checkpoint.specs.Opening.{HasLastGeneration, IsAtRest, IsOpening, StandsAs, disk_after, faults_after_opening}
+use Rattle.checkpoint.specs.Opening.{HasLastGeneration, IsAtRest, IsFixedOrNot, IsOpening, StandsAs, disk_after, faults_after_opening}
 use Rattle.checkpoint.specs.Recovery.{IsRecovered}
 use Rattle.checkpoint.specs.declared.fault.KeeperFault.{KeeperFault}
 use Rattle.checkpoint.specs.declared.fault.KeeperFault.TheVariants.{NoMemory, DeviceFault, BadMap, NoHeader, BadHeader, NumbersFull, AreaFull, OutOfOrder, DamagedGroup, NotNow, Failed, AreaSmall}
@@ -59,10 +59,8 @@ IsUpgradeOutcome state (Err refused) found = IsUpgradeRefused refused.0 found (s
 pub record IsUpgrade {D : Type 0} (before : State) (state : D → State) (result : Result (KeeperState D) (KeeperFault × D)) (found : List ℕ) : Type 0 where
   pub fixed : MayLeave before found
   pub outcome : IsUpgradeOutcome state result found
-  -- what a crash may leave meanwhile
-  pub crash : LeavesOnly before (state (disk_after result)) (λ content. MayLeave before content ⊎ StandsAs found content)
-  -- and after a refusal that no fault of the device is the cause of
-  pub settled : IfErr result (λ refused. refused.0 ≢ DeviceFault → (content : List ℕ) → MayLeave (state refused.1) content → (content ≡ found) ⊎ StandsAs found content)
+  -- what a crash may leave meanwhile, and behind a refusal
+  pub crash : IsFixedOrNot before state result found
 
 -- What a keeper is once its header says layout 2: one change of the header, into the other slot, and no more.
 pub record IsChanged {D : Type 0} (opened keeper : KeeperState D) : Type 0 where

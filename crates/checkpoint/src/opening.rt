@@ -1,16 +1,16 @@
-ghost use Rattle.std.specs.Prelude.{◌≡◌, ◌≢◌, ◌<◌, ◌↔◌, List, [], length, false, IfErr, IfOk, MatchResult, OnOk};
+ghost use Rattle.std.specs.Prelude.{◌≡◌, ◌⊎◌, ◌<◌, ◌↔◌, List, [], length, false, Err, IfErr, IfOk, MatchResult, OnOk};
 ghost use Rattle.checkpoint.specs.Keeper.{AreSized, faults_by};
 ghost use Rattle.device_image.specs.Keeps.{HoldsAreas, IsPlaced, Keeps};
 ghost use Rattle.device_image.specs.inner.Keeps.{HoldsListed};
 ghost use Rattle.device_image.specs.Damage.{IsAreaDamaged};
-ghost use Rattle.checkpoint.specs.Opening.{IsRefused, disk_after, faults_after_opening};
+ghost use Rattle.checkpoint.specs.Opening.{IsFixed, IsFixedOrNot, IsRefused, disk_after, faults_after_opening};
 ghost use Rattle.checkpoint.specs.inner.Opening.{IsOpened, IsGroupsRefused};
 ghost use Rattle.checkpoint.specs.inner.Recovery.{IsBegun};
 ghost use Rattle.checkpoint.specs.declared.fault.KeeperFault.TheVariants as KeeperFault;
 ghost use Rattle.device_image.specs.Keeper.{AreUncopied, IsUncopied, earlier_of, last_turned, turned_of};
 ghost use Rattle.journal_format.specs.GroupList.{HoldsList, IsDamaged};
 ghost use Rattle.device_image.specs.Stands.{area_of, last_area, next_number};
-ghost use Rattle.disk_model.specs.Disk.{IsAllSynced, LeavesOnly, MayLeave};
+ghost use Rattle.disk_model.specs.Disk.{IsAllSynced, IsSyncFailed, LeavesOnly, MayLeave};
 ghost use Rattle.image_model.specs.Geometry.{device_bytes_of};
 ghost use Rattle.image_model.specs.Image.{Image};
 ghost use Rattle.journal_format.specs.Reading.{IsOnlyRead};
@@ -53,7 +53,7 @@ pub fn load<D: Disk>(alloc: Global, mut disk: D) -> Result<Keeper<D>, (KeeperFau
         (λ keeper. (image : Image) × Keeps keeper (D.state keeper.disk) image keeper.count)
         (λ refused. IsRefused refused.0 (D.state refused.1).seen) }
     ensures fixed { D.honest disk → MayLeave (D.state disk) (D.state (disk_after result)).seen }
-    ensures settled { D.honest disk → IfErr result (λ refused. refused.0 ≢ KeeperFault.DeviceFault → IsAllSynced (D.state refused.1)) }
+    ensures first { D.honest disk → IsFixedOrNot (D.state disk) D.state result (D.state (disk_after result)).seen }
     ensures any_moment { D.honest disk → LeavesOnly (D.state disk) (D.state (disk_after result)) (MayLeave (D.state disk)) }
 {
     match read_device(alloc, &mut disk) {
@@ -101,7 +101,8 @@ fn read_device<D: Disk>(alloc: Global, disk: &mut D) -> Result<Opened, KeeperFau
     ensures many { IfOk result (λ opened. opened.header.in_front ≡ length opened.plans.items) }
 
     ensures fixed { D.honest disk.old → MayLeave (D.state disk.old) (D.state disk.new).seen }
-    ensures settled { D.honest disk.old → IfErr result (λ fault. fault ≢ KeeperFault.DeviceFault → IsAllSynced (D.state disk.new)) }
+    ensures first { D.honest disk.old → IsFixed (D.state disk.old) D.state (D.state disk.new) (D.state disk.new).seen
+        ⊎ ((result ≡ Err KeeperFault.DeviceFault) × IsSyncFailed (D.state disk.old) (D.state disk.new)) }
     ensures read { D.honest disk.old → MatchResult result
         (λ opened. IsOpened (D.state disk.new) opened.header opened.slot opened.map opened.plans.items opened.area)
         (λ fault. IsRefused fault (D.state disk.new).seen) }

@@ -41,8 +41,9 @@ impl<D: Disk> Keeper<D> {
         ensures recovered { IfOk result IsRecovered }
 
         // On an honest device there is a content, one that a crash at the start may leave, that is found: at `Ok` it stands
-        // for an image, which the keeper keeps with an empty journal, and a refusal says what is bad of it. A crash at any
-        // moment leaves what it could leave at the start, or what stands for the same as the content found.
+        // for an image, which the keeper keeps with an empty journal, and a refusal says what is bad of it. Until the first
+        // sync is good, and where it fails, a crash leaves what it could leave at the start; from then on, at every moment
+        // and behind every refusal, the content found or what stands for the same.
         ensures found { D.honest disk → (content : List ℕ) × IsOpening (D.state disk) D.state result content }
 
         // Where nothing is unsynced at the start and the content stands for an image, the keeper keeps that one, only want

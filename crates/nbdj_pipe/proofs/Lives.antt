@@ -4,10 +4,10 @@ use Rattle.std.proofs.lemmas.List.{append-nil}
 use Rattle.std.specs.List.{AllByRecursion}
 use Rattle.checkpoint.specs.Opening.{IsOpening}
 use Rattle.checkpoint.specs.declared.fault.KeeperFault.TheVariants.{NoMemory}
+use Rattle.checkpoint.specs.laws.FirstSync.{each_left, let_go}
 use Rattle.device_image.specs.Keeper.{KeeperState}
 use Rattle.device_image.specs.Keeps.{Keeps}
 use Rattle.device_image.specs.Stands.{holes}
-use Rattle.device_image.specs.laws.Kept.{kept_content}
 use Rattle.disk_model.specs.Disk.{State, MayLeave}
 use Rattle.disk_model.specs.Faults.{HasRisen}
 use Rattle.image_model.specs.Image.{Image}
@@ -72,12 +72,10 @@ told_talk Q exchanges (Some request) each = told_exchanges Q exchanges (front_of
 -- the keeper of a device that was opened is let go, where memory for the connections was refused
 pub starved_opening : {D : Type 0} (state : D → State) (keeper : KeeperState D) (before : State) (found : List ℕ) → IsOpening before state (Ok keeper) found → IsOpening before state (Err (NoMemory, keeper.disk)) found
 starved_opening state keeper before found opening =
-    let (image, stands, keeps, base, sizes) = opening.outcome in
     record {
       fixed = opening.fixed;
       outcome = tt;
-      crash = opening.crash;
-      settled = λ other content left. inr (image, keeper.count, stands, kept_content keeper (state keeper.disk) image keeper.count keeps content left);
+      crash = let_go before state found keeper NoMemory opening.crash;
     }
 
 module _ {D : Type 0} (state : D → State) (faults : D → ℕ) (honest : D → Type 0) (law : LeadsLaw state faults honest) (truth : (world : World) → IsReached world → TellsTruth world) (within : (world : World) → IsReached world → IsWithin world)
@@ -117,7 +115,7 @@ module _ {D : Type 0} (state : D → State) (faults : D → ℕ) (honest : D →
   found_of true given is =
       let (content, opening) = found (given refl) in
       let (image, stands, keeps, base, sizes) = opening.outcome in
-      record { content = content; fixed = opening.fixed; stands = stands; sizes = sizes; seen = keeps.stands; geometry = keeps.sizes; generation = keeps.generation; base = sym base ∙ keeps.from_base; any_moment = opening.crash }
+      record { content = content; fixed = opening.fixed; stands = stands; sizes = sizes; seen = keeps.stands; geometry = keeps.sizes; generation = keeps.generation; base = sym base ∙ keeps.from_base; any_moment = each_left (state start) state content opening.fixed (Ok keeper) opening.crash }
   found_of false given is = cc
 
   -- the device has failed since the life began

@@ -5,6 +5,7 @@ mod Filled
 mod Frames
 mod Handed
 mod Imaged
+mod Keeping
 mod Maps
 mod Missing
 mod Sealed

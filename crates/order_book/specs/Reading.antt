@@ -1,15 +1,24 @@
 -- what a read that goes to the device makes of what is in memory of an image
-use Rattle.std.specs.Prelude.{ℕ, ◌≡◌, ◌+◌, ◌*◌, ◌<◌, ◌≤◌, ◌⊎◌, false, List, length, slice_index, take, drop, Some, None}
+use Rattle.std.specs.Prelude.{ℕ, zero, suc, ◌≡◌, ◌+◌, ◌*◌, ◌/◌, ◌<◌, ◌≤◌, ◌⊎◌, ◌&&◌, ◌==◌, not, if◌then◌else◌, Bool, true, false, List, length, slice_index, take, drop, Some, None}
 use Rattle.std.specs.FinMap.{get}
+use Rattle.alloc_map.specs.Codes.{state_at}
 use Rattle.device_image.specs.Holds.{is_written}
 use Rattle.image_model.specs.Change.{Change}
 use Rattle.image_model.specs.Dirty.{Dirty}
 use Rattle.image_model.specs.Image.{Image}
-use Rattle.image_model.specs.declared.command.Kind.TheVariants.{Data}
+use Rattle.image_model.specs.declared.command.Kind.{Kind}
+use Rattle.image_model.specs.declared.command.Kind.TheVariants.{Data, Zero, Hole}
 use Rattle.order_book.specs.Cached.{frames_of}
+use Rattle.order_book.specs.declared.kept.Kept.{Kept}
+use Rattle.order_book.specs.declared.kept.Kept.TheVariants.{All, NoMemory}
 use Rattle.order_book.specs.declared.span.Span.{Span}
-use Rattle.shared_cache.specs.Blocks.{is_dirty}
+use Rattle.shared_cache.specs.Blocks.{at_hand, is_dirty, with_fill}
 use Rattle.shared_cache.specs.Cache.{CacheState, bytes_seen}
+
+abbrev pub is_data : Kind → Bool
+is_data Data = true
+is_data Zero = false
+is_data Hole = false
 
 -- the bytes of a block among those of blocks in a row
 abbrev pub block_of : List ℕ → ℕ → List ℕ
@@ -33,6 +42,24 @@ pub record ShowsRead (first : ℕ) (bytes : List ℕ) (old new : CacheState) : T
   pub dirty : new.blocks.dirty ≡ old.blocks.dirty
   pub frames : frames_of new ≡ frames_of old
   pub each : (block : ℕ) → KeepsOrReads first bytes old new block
+
+-- A block that was read, once it is kept: where it is data and no frame holds it, in a free frame, else in that of the clean
+-- front; where there is neither, or it is held or no data, nothing changes.
+abbrev pub with_kept : ℕ → List ℕ → CacheState → CacheState
+with_kept block bytes cache =
+    if is_data (state_at cache.states block) && not (at_hand cache.blocks == 0)
+    then record { states = cache.states; blocks = with_fill block bytes cache.blocks }
+    else cache
+
+-- the first so many of the blocks that were read, kept one after another
+abbrev pub with_all_kept : ℕ → List ℕ → ℕ → CacheState → CacheState
+with_all_kept first bytes zero cache = cache
+with_all_kept first bytes (suc count) cache = with_kept (first + count) (block_of bytes count) (with_all_kept first bytes count cache)
+
+-- What is in memory of blocks that were read: all that there are frames for, or, where memory was refused, of some first ones.
+abbrev pub IsKept : ℕ → List ℕ → CacheState → CacheState → Kept → Type 0
+IsKept first bytes old new All = new ≡ with_all_kept first bytes (length bytes / 4096) old
+IsKept first bytes old new NoMemory = (count : ℕ) × (4096 * count < length bytes) × (new ≡ with_all_kept first bytes count old)
 
 -- Blocks of the image that are data and not dirty are at the base as the image has them, and no command in front of the last area
 -- writes one.

@@ -5,6 +5,7 @@ mod backlog;
 mod commands;
 mod edits;
 mod fault;
+mod kept;
 mod laws;
 mod order;
 mod pending;
@@ -12,6 +13,7 @@ mod reading;
 mod span;
 
 pub use fault::OrderFault;
+pub use kept::Kept;
 pub use laws::dirty_blocks_law;
 pub use order::Order;
 pub use span::Span;

@@ -14,7 +14,7 @@ ghost use Rattle.marks.specs.Known.{known};
 ghost use Rattle.image_model.specs.Command.{IsCommand};
 ghost use Rattle.image_model.specs.Image.{Image, apply as image_after};
 ghost use Rattle.order_book.specs.Cached.{ShowsCommand};
-ghost use Rattle.order_book.specs.Reading.{GivesBase, IsCleanAt, LiesIn, ShowsRead};
+ghost use Rattle.order_book.specs.Reading.{GivesBase, IsCleanAt, IsKept, LiesIn, ShowsRead};
 ghost use Rattle.order_book.specs.Shown.{ShowsImage, IsZeroOutsideData};
 ghost use Rattle.order_book.specs.Order.{OrderState, new_order, IsNumbered, has_room, with_command, with_clean, Seals, IsInHand, with_group, with_durable, PublishesTo};
 ghost use Rattle.order_book.specs.inner.Order.{refusal_of};
@@ -26,6 +26,7 @@ mod editing;
 use crate::backlog::Backlog;
 use crate::commands::{apply, clean_through, has_frames};
 use crate::fault::OrderFault;
+use crate::kept::Kept;
 use crate::pending::{PendingCommands, have_small_bodies};
 use crate::reading::{holds, keep_blocks, missing_span, put_held, read_all_held, read_blocks};
 use crate::span::Span;
@@ -472,7 +473,7 @@ impl<B: BoardName> Order<B> {
         clean_through(&mut self.cache, keeper.base())
     }
 
-    /// Reads blocks from the first one on, as all that was accepted left them. It is refused with 14 (missing) exactly
+    /// Reads blocks from the first one on, as all that was accepted left them. It is refused with 14 (missing block) exactly
     /// where one that is data has no frame; the slice then holds any bytes.
     pub fn read_cached(&self, first: u64, into: &mut [[u8; 4096]]) -> Result<(), Missing>
         requires range { first + length into.old ≤ length self.now.cache.states }
@@ -511,7 +512,7 @@ impl<B: BoardName> Order<B> {
 
     /// Reads blocks from the first one on, as all that was accepted left them: from memory those that are there, and from
     /// the data region each run of the others in one call of the device. These are then kept in memory, as far as there
-    /// are frames that aren't dirty.
+    /// are frames that aren't dirty and memory isn't refused, which it tells.
     ///
     /// Where all are in memory nothing has changed. Else refusals 1 (device fault), and 16 (failed) after an earlier one;
     /// `into` then holds any bytes.
@@ -520,7 +521,7 @@ impl<B: BoardName> Order<B> {
         keeper: &mut Keeper<D>,
         first: u64,
         into: &mut [u8],
-    ) -> Result<(), KeeperFault>
+    ) -> Result<Kept, KeeperFault>
         requires whole { length into.old % 4096 ≡ 0 }
         requires range { first + length into.old / 4096 ≤ length self.old.cache.states }
         requires device { first + length into.old / 4096 ≤ keeper.old.geometry.blocks }
@@ -538,6 +539,7 @@ impl<B: BoardName> Order<B> {
             → OnOk result ((j k : ℕ) → 4096 * j < length into.new → k < 4096 → bytes_seen self.old.cache (first + j) ≡ None
             → base.kind (first + j) ≡ Data → is_written (first + j) (joined fronts) ≡ false
             → slice_index into.new (4096 * j + k) ≡ base.byte (4096 * (first + j) + k)) }
+        ensures kept { IfOk result (IsKept first into.new self.old.cache self.new.cache) }
         ensures view { OnOk result (ShowsRead first into.new self.old.cache self.new.cache) }
 
         // So they are those of the image, where the base has what is data and not dirty, and the image is shown still.
@@ -560,8 +562,7 @@ impl<B: BoardName> Order<B> {
             → OnOk result (Holds keeper.new (D.state keeper.new.disk) base fronts last) }
     {
         let held = read_blocks(&self.cache, keeper, first, into)?;
-        keep_blocks(&mut self.cache, first, held, into);
-        Ok(())
+        Ok(keep_blocks(&mut self.cache, first, held, into))
     }
 
     /// The span from the first block that isn't in memory to the last, of so many: what a read of them needs of the device.
@@ -615,7 +616,7 @@ impl<B: BoardName> Order<B> {
             return false;
         }
         if span.end - span.first <= MOST_KEPT {
-            keep_blocks(&mut self.cache, first, (span.first - first) as usize, into);
+            let _kept = keep_blocks(&mut self.cache, first, (span.first - first) as usize, into);
         }
         true
     }

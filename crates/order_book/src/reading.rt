@@ -7,15 +7,17 @@ ghost use Rattle.image_model.specs.Image.{Image};
 ghost use Rattle.image_model.specs.declared.command.Kind.TheVariants.{Data};
 ghost use Rattle.journal_format.specs.Reading.{IsOnlyRead};
 ghost use Rattle.order_book.specs.Cached.{frames_of};
-ghost use Rattle.order_book.specs.Reading.{LiesIn, ShowsRead};
+ghost use Rattle.order_book.specs.Reading.{IsKept, LiesIn, ShowsRead, with_kept};
+ghost use Rattle.order_book.specs.declared.kept.Kept.TheVariants as Kept;
 ghost use Rattle.shared_cache.specs.Cache.{LacksBytes, bytes_seen};
 ghost use Rattle.shared_cache.specs.View.{ShowsFill};
 
+use crate::kept::Kept;
 use crate::span::Span;
 use checkpoint::{Keeper, KeeperFault};
 use disk_model::Disk;
 use image_model::Kind;
-use shared_cache::Cache;
+use shared_cache::{Cache, KeepFault};
 
 /// The bytes of a block.
 pub(crate) const BLOCK: usize = 4_096;
@@ -169,31 +171,45 @@ pub(crate) fn read_blocks<D: Disk>(
 }
 
 // Keeps a block that was read, where it is data and there is a frame for it; whether it is kept changes no answer.
-fn keep_block(cache: &mut Cache, block: u64, bytes: &[u8; 4096])
+fn keep_block(cache: &mut Cache, block: u64, bytes: &[u8; 4096]) -> Kept
     requires range { block < length cache.old.states }
+    ensures all { result ≡ Kept.All → cache.new ≡ with_kept block bytes.now cache.old }
+    ensures none { result ≡ Kept.NoMemory → cache.new ≡ cache.old }
     ensures view { (cache.new ≡ cache.old) ⊎ ShowsFill block bytes.now cache.old cache.new }
     ensures states { cache.new.states ≡ cache.old.states }
     ensures dirty { cache.new.blocks.dirty ≡ cache.old.blocks.dirty }
     ensures frames { frames_of cache.new ≡ frames_of cache.old }
 {
-    if cache.map().state(block) == Kind::Data {
-        let _kept = cache.fill(block, bytes);
+    match cache.map().state(block) {
+        Kind::Data => match cache.fill(block, bytes) {
+            Ok(()) => Kept::All,
+            Err(KeepFault::NoFrame) => Kept::All,
+            Err(KeepFault::NoMemory) => Kept::NoMemory,
+        },
+        Kind::Zero => Kept::All,
+        Kind::Hole => Kept::All,
     }
 }
 
-// Keeps blocks that were read, from this one of them on.
-pub(crate) fn keep_blocks(cache: &mut Cache, first: u64, from: usize, bytes: &[u8])
+// Keeps blocks that were read, from this one of them on, where those in front of it are in memory.
+pub(crate) fn keep_blocks(cache: &mut Cache, first: u64, from: usize, bytes: &[u8]) -> Kept
     requires whole { length bytes.now % 4096 ≡ 0 }
     requires range { first + length bytes.now / 4096 ≤ length cache.old.states }
     requires fits { first + length bytes.now / 4096 < 2 ^ 64 }
     requires from { 4096 * from ≤ length bytes.now }
+    requires there { (j : ℕ) → j < from → bytes_seen cache.old (first + j) ≢ None }
+    ensures kept { IsKept first bytes.now cache.old cache.new result }
     ensures view { ShowsRead first bytes.now cache.old cache.new }
     ensures none { 4096 * from ≡ length bytes.now → cache.new ≡ cache.old }
 {
     let (blocks, _) = bytes.as_chunks::<4096>();
     for offset in from..blocks.len() {
-        keep_block(cache, first + offset as u64, &blocks[offset]);
+        match keep_block(cache, first + offset as u64, &blocks[offset]) {
+            Kept::All => {}
+            Kept::NoMemory => return Kept::NoMemory,
+        }
     }
+    Kept::All
 }
 
 // The span from the first block that isn't in memory to the last, of so many; where all are it is empty.

@@ -8,7 +8,7 @@ use checkpoint::{Keeper, KeeperFault};
 use disk_model::{CallKind, SimDisk};
 use image_model::{Edit, Geometry, Kind, MOST_BLOCKS};
 use marks::{BlankBoard, BoardName, KeeperSeat, Opened, OrderSeat};
-use order_book::{Order, OrderFault};
+use order_book::{Kept, Order, OrderFault};
 use std::alloc::Global;
 use std::marker::Brand;
 
@@ -299,7 +299,8 @@ impl<B: BoardName> Subject<B> {
             .order
             .read_with(&mut self.keeper, first, &mut into)
         {
-            Ok(()) => Some(Ok(into)),
+            Ok(Kept::All) => Some(Ok(into)),
+            Ok(Kept::NoMemory) => None,
             Err(fault) => Some(Err(fault)),
         }
     }

@@ -119,7 +119,7 @@ pub(crate) fn serve_read<B: BoardName, D: Disk>(
     let Ok(mut bytes) = vec![in alloc; 0; blocks.bytes()] else {
         return refused(head.cookie, Errno::NoMemory);
     };
-    let Ok(()) = order.read_with(keeper, blocks.first, &mut bytes) else {
+    let Ok(_kept) = order.read_with(keeper, blocks.first, &mut bytes) else {
         order.stop();
         return refused(head.cookie, Errno::Io);
     };

@@ -23,7 +23,7 @@ impl From<AllocError> for KeepFault {
     }
 }
 
-/// Refusal 14 (missing): a block that is data has no frame.
+/// Refusal 14 (missing block): a block that is data has no frame.
 #[derive(Clone, Copy, Debug, PartialEq, Eq, Error)]
-#[error("missing")]
+#[error("missing block")]
 pub struct Missing;

@@ -1,7 +1,9 @@
-use Rattle.std.proofs.Common.{◌≡◌, ◌<◌, ℕ, List, refl, rules, sym, ◌∙◌, ap, subst}
+use Rattle.std.proofs.Common.{◌≡◌, ◌<◌, inl, inr, ⊎_elim, ℕ, List, refl, rules, sym, ◌∙◌, ap, subst}
 use Rattle.image_model.specs.Geometry.{device_bytes_of}
 use Rattle.checkpoint.specs.inner.Recovery.{IsBegun}
 use Rattle.checkpoint.specs.Keeper.{AreSized}
+use Rattle.checkpoint.specs.declared.fault.KeeperFault.TheVariants.{DeviceFault}
+use Rattle.checkpoint.proofs.Answered.{err_same, ok_apart}
 use Rattle.checkpoint.proofs.Areas.{placed_sized}
 use Rattle.checkpoint.proofs.Rotating.{counted_read, sized_read, uncopied_behind}
 use Rattle.device_image.specs.Keeper.{PlanState, last_turned, phase_of, turned_of}
@@ -21,6 +23,13 @@ returns-in-Ok-clause-found g c honest =
       opened_image state read.header read.slot read.map read.plans.items read.area opened fits,
       opened_keeps state read.header read.slot read.map read.plans.items read.area opened fits _ sound refl refl refl refl refl refl refl refl c.take_first-plan.ensures.plans refl refl (search rules),
     )
+
+pub returns-in-Ok-clause-first : goal.returns-in-Ok-clause-first
+returns-in-Ok-clause-first g c honest = ⊎_elim (λ is. inl is) (λ failed. absurd (ok_apart c.in-Ok.field-0 DeviceFault failed.0)) (c.in-Ok.ensures.first honest)
+
+pub returns-in-Err-clause-first : goal.returns-in-Err-clause-first
+returns-in-Err-clause-first g c honest =
+    ⊎_elim (λ is. inl is) (λ failed. inr (err_same failed.0, failed.1, c.in-Err.ensures.any_moment honest)) (c.in-Err.ensures.first honest)
 
 pub returns-in-Ok-clause-begun : goal.returns-in-Ok-clause-begun
 returns-in-Ok-clause-begun g c = subst (λ (plans : List PlanState). IsBegun (phase_of plans)) (sym c.take_first-plan.ensures.plans) (uncopied_begun _ c.in-Ok.ensures.uncopied)

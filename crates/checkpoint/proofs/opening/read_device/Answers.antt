@@ -1,10 +1,11 @@
-use Rattle.std.proofs.Common.{sym, subst, ap, ◌∙◌}
+use Rattle.std.proofs.Common.{inl, inr, sym, subst, ap, ◌∙◌}
 use Rattle.std.proofs.lemmas.Result.{IfErr-weaker, IfOk-from_err, IfOk-weaker, on_ok_weaker}
-use Rattle.disk_model.specs.laws.Moments.{ends, stays_on}
+use Rattle.disk_model.specs.laws.Moments.{ends, stays_on, weakens}
+use Rattle.disk_model.specs.laws.Contents.{leaves_seen}
 use Rattle.checkpoint.specs.Keeper.{AreSized, faults_by}
 use Rattle.checkpoint.specs.declared.fault.KeeperFault.TheVariants.{DeviceFault}
-use Rattle.checkpoint.proofs.Answered.{err_given}
-use Rattle.checkpoint.proofs.Readings.{still_synced}
+use Rattle.checkpoint.proofs.Answered.{err_given, is_err}
+use Rattle.checkpoint.proofs.Readings.{seen_same}
 use Rattle.checkpoint.proofs.opening.read_device.Goals as goal
 
 pub returns-in_err-sync-clause-placed : goal.returns-in_err-sync-clause-placed
@@ -52,6 +53,9 @@ returns-in_err-sync-clause-honest g c = c.sync.ensures.honest
 pub returns-in_err-sync-clause-fixed : goal.returns-in_err-sync-clause-fixed
 returns-in_err-sync-clause-fixed g c honest = (c.in_err-sync.ensures.failed honest).seen
 
+pub returns-in_err-sync-clause-first : goal.returns-in_err-sync-clause-first
+returns-in_err-sync-clause-first g c honest = inr (is_err c.from_residual.result DeviceFault c.from_residual.ensures.1, c.in_err-sync.ensures.failed honest)
+
 pub returns-in_err-sync-clause-any_moment : goal.returns-in_err-sync-clause-any_moment
 returns-in_err-sync-clause-any_moment g c = c.sync.ensures.any_moment
 
@@ -76,9 +80,19 @@ returns g c = record {
       let moments = stays_on (c.sync.ensures.any_moment honest) (g.met.D.Disk.sound c.sync.new.self trusted) (c.read_parts.ensures.only_read trusted).any_moment in
       let sound = g.met.D.Disk.sound c.read_parts.new.disk (c.read_parts.ensures.honest.1 trusted) in
       ends moments sound _ sound.as_read;
-  settled = λ honest.
+  first = λ honest.
       let trusted = c.sync.ensures.honest.1 honest in
-      IfErr-weaker c.read_parts.result _ _ (λ _ _ _. still_synced (c.in_ok-sync.ensures.synced honest).synced (c.read_parts.ensures.only_read trusted)) c.read_parts.ensures.faults_err;
+      let first = g.D.Disk.state c.sync.new.self in
+      let synced = (c.in_ok-sync.ensures.synced honest).synced in
+      let only_read = c.read_parts.ensures.only_read trusted in
+      let seen = seen_same (g.met.D.Disk.sound c.sync.new.self trusted) synced only_read in
+      inl (record {
+        first = c.sync.new.self;
+        synced = synced;
+        seen = seen;
+        until_then = c.sync.ensures.any_moment honest;
+        from_then = weakens only_read.any_moment (λ content left. inl (leaves_seen first content synced left ∙ seen));
+      });
   read = λ honest. c.read_parts.ensures.read (c.sync.ensures.honest.1 honest) (c.in_ok-sync.ensures.synced honest).synced;
   any_moment = λ honest.
       let trusted = c.sync.ensures.honest.1 honest in

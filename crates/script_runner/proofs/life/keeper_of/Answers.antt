@@ -1,5 +1,6 @@
 use Rattle.std.proofs.Common.{Bool, sym, subst}
 use Rattle.std.specs.Prelude.{IfOk}
+use Rattle.checkpoint.specs.laws.FirstSync.{each_left}
 use Rattle.script_runner.specs.inner.Life.{IsOpened}
 use Rattle.script_runner.proofs.Lives.{opened_of, upgraded_of}
 use Rattle.script_runner.proofs.life.keeper_of.Goals as goal
@@ -13,7 +14,7 @@ returns-then-upgrades-clause-opened g c = λ honest.
 pub returns-then-upgrades-clause-left : goal.returns-then-upgrades-clause-left
 returns-then-upgrades-clause-left g c = λ honest.
     let (found, opening, upgrade) = c.upgrade.ensures.steps.found honest in
-    (found, upgrade.fixed, upgrade.crash)
+    (found, upgrade.fixed, each_left (g.D.Disk.state c.args.disk) g.D.Disk.state found upgrade.fixed c.upgrade.result upgrade.crash)
 
 pub returns-clause-opened : goal.returns-clause-opened
 returns-clause-opened g c = λ honest.
@@ -23,4 +24,4 @@ returns-clause-opened g c = λ honest.
 pub returns-clause-left : goal.returns-clause-left
 returns-clause-left g c = λ honest.
     let (found, opening) = c.open.ensures.found honest in
-    (found, opening.fixed, opening.crash)
+    (found, opening.fixed, each_left (g.D.Disk.state c.args.disk) g.D.Disk.state found opening.fixed c.open.result opening.crash)

@@ -1,12 +1,11 @@
-use Rattle.std.proofs.Common.{◌≡◌, ◌⊎◌, inl, inr, ℕ, List, Err, sym, ◌∙◌, ap, subst}
-use Rattle.disk_model.specs.Disk.{LeavesOnly, MayLeave}
+use Rattle.std.proofs.Common.{◌≡◌, ℕ, List, Ok, Err, sym, ◌∙◌, ap, subst}
+use Rattle.disk_model.specs.Disk.{LeavesOnly}
 use Rattle.disk_model.specs.laws.Contents.{leaves_seen}
 use Rattle.disk_model.specs.laws.Moments.{goes_on, weakens}
 use Rattle.device_image.specs.Keeper.{KeeperState}
 use Rattle.device_image.specs.Keeps.{Keeps}
-use Rattle.device_image.specs.laws.Kept.{kept_content}
 use Rattle.device_image.specs.Stands.{StandsFor}
-use Rattle.checkpoint.specs.Opening.{IsAtRest, IsOpeningRefused, StandsAs}
+use Rattle.checkpoint.specs.Opening.{IsAtRest, IsFixedOrNot, IsOpeningRefused}
 use Rattle.checkpoint.specs.declared.fault.KeeperFault.TheVariants.{DeviceFault, NumbersFull}
 use Rattle.checkpoint.proofs.Opened.{keeps_same, passes, stood}
 use Rattle.checkpoint.proofs.Reopened.{empty_base, is_full, recovers, refused_opening, refused_recovery, rests, stood_content}
@@ -34,8 +33,7 @@ returns-in-Ok-recover-clause-found g c honest =
           empty_base new (g.D.Disk.state new.disk) found.0 keeper.count kept call.ok.phase call.ok.used ∙ sym counted,
           stands.1,
         );
-        crash = recovers _ _ _ found.0 keeper.count found.1.stands (read.any_moment honest) (call.any_moment trusted found.0 keeper.count found.1);
-        settled = tt;
+        crash = recovers (g.D.Disk.state c.args.disk) g.D.Disk.state (g.D.Disk.state keeper.disk).seen keeper (Ok new) found.0 keeper.count found.1.stands (read.first honest) (call.any_moment trusted found.0 keeper.count found.1);
       },
     )
 
@@ -93,15 +91,8 @@ returns-in-Err-recover-clause-found g c honest =
               is_full left (g.D.Disk.state left.disk) found.0 keeper.count still (call.full (ap Err is)),
               λ rest. let at = rests left (g.D.Disk.state left.disk) found.0 keeper.count still rest in call.wanted (ap Err is) at.0 at.1,
             )));
-        crash = subst (λ (disk : g.row.D.Denot). LeavesOnly (g.D.Disk.state c.args.disk) (g.D.Disk.state disk) (λ content. MayLeave (g.D.Disk.state c.args.disk) content ⊎ StandsAs mid.seen content)) (sym c.into_disk.ensures)
-            (recovers _ _ _ found.0 keeper.count found.1.stands (read.any_moment honest) (call.any_moment trusted found.0 keeper.count found.1));
-        settled = λ other content left. inr (
-          found.0,
-          keeper.count,
-          found.1.stands,
-          kept_content c.recover.new.self (g.D.Disk.state c.recover.new.self.disk) found.0 keeper.count (kept other) content
-              (subst (λ (disk : g.row.D.Denot). MayLeave (g.D.Disk.state disk) content) c.into_disk.ensures left),
-        );
+        crash = subst (λ (disk : g.row.D.Denot). IsFixedOrNot (g.D.Disk.state c.args.disk) g.D.Disk.state (Err (c.in-Err-recover.fault, disk)) mid.seen) (sym c.into_disk.ensures)
+            (recovers (g.D.Disk.state c.args.disk) g.D.Disk.state mid.seen keeper (Err (c.in-Err-recover.fault, left.disk)) found.0 keeper.count found.1.stands (read.first honest) (call.any_moment trusted found.0 keeper.count found.1));
       },
     )
 
@@ -134,8 +125,7 @@ returns-in-Err-clause-found g c honest =
       record {
         fixed = read.fixed honest;
         outcome = refused_opening c.in-Err.refused.0 after.seen after.seen (read.found honest);
-        crash = weakens (read.any_moment honest) (λ content left. inl left);
-        settled = λ other content left. inl (leaves_seen after content (read.settled honest other) left);
+        crash = read.first honest;
       },
     )
 

@@ -1,13 +1,13 @@
-use Rattle.std.proofs.Common.{◌⊎◌, inr, ℕ, Ok, Err, refl, sym, ◌∙◌, ap, subst, arith}
-use Rattle.disk_model.specs.Disk.{LeavesOnly, MayLeave}
+use Rattle.std.proofs.Common.{ℕ, Ok, Err, refl, sym, ◌∙◌, ap, subst, arith}
+use Rattle.disk_model.specs.Disk.{LeavesOnly}
 use Rattle.disk_model.specs.laws.Moments.{goes_on}
 use Rattle.device_image.specs.Keeps.{Keeps}
 use Rattle.device_image.specs.Stands.{StandsFor}
-use Rattle.device_image.specs.laws.Kept.{kept_content}
-use Rattle.checkpoint.specs.Opening.{StandsAs}
+use Rattle.checkpoint.specs.Opening.{IsFixedOrNot}
 use Rattle.checkpoint.specs.Upgrade.{IsUpgradeRefused}
 use Rattle.checkpoint.specs.declared.fault.KeeperFault.TheVariants.{AreaSmall, NumbersFull}
-use Rattle.checkpoint.proofs.Upgrading.{device_left, full_areas, layout_passes, numbers_not_device, opening_passes, refused_layout, refused_still, refused_upgrade, small_areas, small_not_device, unchanged_keeps}
+use Rattle.checkpoint.proofs.Reopened.{recovers}
+use Rattle.checkpoint.proofs.Upgrading.{device_left, full_areas, layout_passes, numbers_not_device, opening_passes, refused_layout, refused_still, refused_upgrade, small_areas, small_not_device}
 use Rattle.checkpoint.proofs.keeper.Keeper.upgrade.Goals as goal
 
 pub returns-in-Ok-change_layout-clause-steps : goal.returns-in-Ok-change_layout-clause-steps
@@ -35,8 +35,7 @@ returns-in-Ok-change_layout-clause-steps g c =
                 subst (λ (n : ℕ). Keeps new (g.D.Disk.state new.disk) image n) (sym kept.counted) kept,
                 call.ok.base,
               );
-              crash = goes_on found.1.crash (call.any_moment trusted image keeper.count found.1.outcome.2) (λ content stood. inr (image, keeper.count, found.1.outcome.1, stood));
-              settled = tt;
+              crash = recovers (g.D.Disk.state c.args.disk) g.D.Disk.state found.0 keeper (Ok new) image keeper.count found.1.outcome.1 found.1.crash (call.any_moment trusted image keeper.count found.1.outcome.2);
             },
           );
       at_rest = opened.at_rest;
@@ -87,15 +86,8 @@ returns-in-Err-change_layout-clause-steps g c =
                   (refused_layout fault found.0 (g.D.Disk.state new.disk).seen call.only
                   (λ is. full_areas g.D.Disk.state fault keeper new image found.0 is call.unchanged (call.full.0 (ap Err is)) stands keeps)
                   (λ is. small_areas g.D.Disk.state fault keeper new image found.0 is call.unchanged (call.small.0 (ap Err is)) opened.recovered stands keeps));
-              crash = subst (λ (disk : g.row.D.Denot). LeavesOnly before (g.D.Disk.state disk) (λ content. MayLeave before content ⊎ StandsAs found.0 content)) (sym c.into_disk.ensures)
-                  (goes_on found.1.crash (call.any_moment trusted image keeper.count keeps) (λ content stood. inr (image, keeper.count, stands, stood)));
-              settled = λ other content left. inr (
-                image,
-                keeper.count,
-                stands,
-                kept_content new (g.D.Disk.state new.disk) image keeper.count (unchanged_keeps g.D.Disk.state fault keeper new image keeper.count call.unchanged other keeps) content
-                    (subst (λ (disk : g.row.D.Denot). MayLeave (g.D.Disk.state disk) content) c.into_disk.ensures left),
-              );
+              crash = subst (λ (disk : g.row.D.Denot). IsFixedOrNot before g.D.Disk.state (Err (fault, disk)) found.0) (sym c.into_disk.ensures)
+                  (recovers before g.D.Disk.state found.0 keeper (Err (fault, new.disk)) image keeper.count stands found.1.crash (call.any_moment trusted image keeper.count keeps));
             },
           );
       at_rest = opened.at_rest;
@@ -130,7 +122,6 @@ returns-in-Err-clause-steps g c = record {
           fixed = found.1.fixed;
           outcome = refused_upgrade c.in-Err.refused.0 found.0 (g.D.Disk.state c.in-Err.refused.1).seen found.1.outcome;
           crash = found.1.crash;
-          settled = found.1.settled;
         },
       );
   at_rest = c.in-Err.ensures.at_rest;

@@ -6,7 +6,7 @@ pub returns-in-Err-new-clause-found : goal.returns-in-Err-new-clause-found
 returns-in-Err-new-clause-found g c = λ honest.
     let (content, opening) = c.in-Ok.ensures.found honest in
     let keeper = c.in-Ok.keeper in
-    (content, handed_back (g.D.Disk.state c.args.disk) g.D.Disk.state keeper (c.keeper_laws.ensures.left keeper) c.into_disk.result c.into_disk.ensures content opening)
+    (content, handed_back (g.D.Disk.state c.args.disk) g.D.Disk.state keeper c.into_disk.result c.into_disk.ensures content opening)
 
 pub returns-in-Err-new-clause-any_moment : goal.returns-in-Err-new-clause-any_moment
 returns-in-Err-new-clause-any_moment g c = λ honest synced image number stands. rw c.into_disk.ensures (c.in-Ok.ensures.any_moment honest synced image number stands)

@@ -11,7 +11,7 @@ use Rattle.order_book.proofs.order.Order.read_over.Goals as goal
 
 pub returns-then-span-le-MOST_KEPT : goal.returns-then-span-le-MOST_KEPT
 returns-then-span-le-MOST_KEPT g c = record {
-  new = read_new c.self.inside.cache c.keep_blocks.new.cache c.args.first c.put_held.new.into (state_of c.self.inside) c.args.self.now refl refl c.keep_blocks.ensures.view c.self.view_is;
+  new = read_new c.self.inside.cache c.keep_blocks-kept.new.cache c.args.first c.put_held.new.into (state_of c.self.inside) c.args.self.now refl refl c.keep_blocks-kept.ensures.view c.self.view_is;
   size = c.if-not-put_held.ensures.size;
   done = subst (λ (o : OrderState). IsTrue true → (j : ℕ) → 4096 * j < length c.args.into.now → bytes_seen o.cache (c.args.first + j) ≡ None → LiesIn (c.args.first + j) c.args.span) c.self.view_is c.if-not-put_held.ensures.done;
   undone = λ undone. absurd (true≢false undone);
@@ -21,7 +21,7 @@ returns-then-span-le-MOST_KEPT g c = record {
   handed =
       subst (λ (o : OrderState). IsTrue true → (j k : ℕ) → 4096 * j < length c.put_held.new.into → k < 4096 → bytes_seen o.cache (c.args.first + j) ≡ None
       → get_or c.put_held.new.into (4096 * j + k) 0 ≡ get_or c.args.into.now (4096 * j + k) 0) c.self.view_is c.if-not-put_held.ensures.handed;
-  view = λ done. subst (λ (o : OrderState). ShowsRead c.args.first c.put_held.new.into o.cache c.keep_blocks.new.cache) c.self.view_is c.keep_blocks.ensures.view;
+  view = λ done. subst (λ (o : OrderState). ShowsRead c.args.first c.put_held.new.into o.cache c.keep_blocks-kept.new.cache) c.self.view_is c.keep_blocks-kept.ensures.view;
   image = λ base image front.
       let put = c.if-not-put_held.ensures in
       subst (λ (order : OrderState). GivesBase c.args.first c.args.into.now order.cache base front → ShowsImage image order.cache → IsCleanAt base front image order.dirty
@@ -31,9 +31,9 @@ returns-then-span-le-MOST_KEPT g c = record {
   shown = λ base image front.
       let put = c.if-not-put_held.ensures in
       subst (λ (order : OrderState). GivesBase c.args.first c.args.into.now order.cache base front → ShowsImage image order.cache → IsCleanAt base front image order.dirty
-      → IsTrue true → ShowsImage image c.keep_blocks.new.cache)
+      → IsTrue true → ShowsImage image c.keep_blocks-kept.new.cache)
       c.self.view_is
-      (λ gives shows clean done. shows_read image c.args.first c.put_held.new.into c.self.inside.cache c.keep_blocks.new.cache shows c.keep_blocks.ensures.view
+      (λ gives shows clean done. shows_read image c.args.first c.put_held.new.into c.self.inside.cache c.keep_blocks-kept.new.cache shows c.keep_blocks-kept.ensures.view
       (bytes_over base image front c.self.inside.cache c.args.first c.args.into.now c.put_held.new.into put.size gives shows clean (put.in_memory done) (put.handed done)));
 }
 
@@ -60,4 +60,4 @@ returns-else-span-le-MOST_KEPT g c = record {
 }
 
 pub invariant_of-self : goal.invariant_of-self
-invariant_of-self g c = order_read (state_of c.self.inside) _ _ _ c.keep_blocks.new.cache _ _ c.self.invariant c.keep_blocks.ensures.view.dirty
+invariant_of-self g c = order_read (state_of c.self.inside) _ _ _ c.keep_blocks-kept.new.cache _ _ c.self.invariant c.keep_blocks-kept.ensures.view.dirty

@@ -1,4 +1,5 @@
 use Rattle.std.proofs.Common.{◌≡◌, ◌↔◌, ◌⊎◌, ◌<◌, ◌+◌, ◌*◌, ◌/◌, ◌∙◌, ap, refl, sym, subst, ℕ, false, List, length, get_or, None, Some, Err}
+use Rattle.std.proofs.lemmas.Result.{IfOk-from_err}
 use Rattle.std.specs.Bool.{IsTrue}
 use Rattle.checkpoint.specs.Keeper.{faults_by, refused_by}
 use Rattle.checkpoint.specs.declared.fault.KeeperFault.TheVariants.{DeviceFault, Failed}
@@ -6,7 +7,7 @@ use Rattle.device_image.specs.Holds.{is_written, joined}
 use Rattle.image_model.specs.declared.command.Kind.TheVariants.{Data}
 use Rattle.order_book.specs.Cached.{dirty_of, frames_of}
 use Rattle.order_book.specs.Order.{OrderState}
-use Rattle.order_book.specs.Reading.{IsCleanAt, ShowsRead}
+use Rattle.order_book.specs.Reading.{IsCleanAt, IsKept, ShowsRead}
 use Rattle.order_book.specs.Shown.{ShowsImage}
 use Rattle.order_book.specs.State.{state_of}
 use Rattle.order_book.proofs.Handed.{err_with, failed_on, on_err, on_ok, works_on}
@@ -25,7 +26,7 @@ returns g c = record {
         held.1,
       );
   lacks = tt;
-  failed = works_on c.in_ok-held.held tt c.in_ok-held.ensures.failed (λ both. (both.0, subst (λ (o : OrderState). LacksBytes o.cache c.args.first (length c.args.into.now / 4096)) (sym c.self.view_is) both.1));
+  failed = works_on c.in_ok-held.held c.keep_blocks.result c.in_ok-held.ensures.failed (λ both. (both.0, subst (λ (o : OrderState). LacksBytes o.cache c.args.first (length c.args.into.now / 4096)) (sym c.self.view_is) both.1));
   only = tt;
   in_memory =
       subst (λ (o : OrderState). (j k : ℕ) (bytes : List ℕ) → 4096 * j < length c.read_blocks.new.into → k < 4096 → bytes_seen o.cache (c.args.first + j) ≡ Some bytes
@@ -35,6 +36,7 @@ returns g c = record {
       → base.kind (c.args.first + j) ≡ Data → is_written (c.args.first + j) (joined fronts) ≡ false → get_or c.read_blocks.new.into (4096 * j + k) 0 ≡ base.byte (4096 * (c.args.first + j) + k))
       c.self.view_is
       (c.in_ok-held.ensures.from_base honest base fronts last holds);
+  kept = subst (λ (o : OrderState). IsKept c.args.first c.read_blocks.new.into o.cache c.keep_blocks.new.cache c.keep_blocks.result) c.self.view_is c.keep_blocks.ensures.kept;
   view = subst (λ (o : OrderState). ShowsRead c.args.first c.read_blocks.new.into o.cache c.keep_blocks.new.cache) c.self.view_is c.keep_blocks.ensures.view;
   image = λ honest base image fronts last holds.
       subst (λ (order : OrderState). ShowsImage image order.cache → IsCleanAt base (joined fronts) image order.dirty
@@ -74,6 +76,7 @@ returns-in_err-held g c =
       only = err_with c.from_residual.result c.in_err-held.field-0.0 given (λ fault. (fault ≡ DeviceFault) ⊎ (fault ≡ Failed)) c.in_err-held.ensures.only;
       in_memory = on_ok c.from_residual.result c.in_err-held.field-0.0 given _;
       from_base = λ honest base fronts last holds. on_ok c.from_residual.result c.in_err-held.field-0.0 given _;
+      kept = IfOk-from_err c.from_residual.result _ c.from_residual.ensures.0;
       view = on_ok c.from_residual.result c.in_err-held.field-0.0 given _;
       image = λ honest base image fronts last holds shows clean. on_ok c.from_residual.result c.in_err-held.field-0.0 given _;
       shown = λ honest base image fronts last holds shows clean. on_ok c.from_residual.result c.in_err-held.field-0.0 given _;

@@ -1,0 +1,23 @@
+-- What a crash may leave from the start of an opening to its end, of each content by itself, as crates above use it.
+use Rattle.std.proofs.Common.{◌⊎◌, inl, inr, ⊎_elim, ℕ, List, Result, Ok, Err, sym, subst}
+use Rattle.disk_model.specs.Disk.{State, LeavesOnly, MayLeave}
+use Rattle.disk_model.specs.laws.Moments.{goes_on, weakens}
+use Rattle.device_image.specs.Keeper.{KeeperState}
+use Rattle.checkpoint.specs.Opening.{IsAsFound, IsFixedOrNot, IsUnfixed, StandsAs, disk_after}
+use Rattle.checkpoint.specs.declared.fault.KeeperFault.{KeeperFault}
+
+module _ {D : Type 0} (before : State) (state : D → State) (found : List ℕ) (fixed : MayLeave before found) where
+  was_or_stands : (content : List ℕ) → IsAsFound found content → MayLeave before content ⊎ StandsAs found content
+  was_or_stands content = ⊎_elim (λ is. inl (subst (MayLeave before) (sym is) fixed)) (λ stands. inr stands)
+
+  unfixed_leaves : (result : Result (KeeperState D) (KeeperFault × D)) → IsUnfixed before state result → LeavesOnly before (state (disk_after result)) (λ content. MayLeave before content ⊎ StandsAs found content)
+  unfixed_leaves (Ok keeper) failed = absurd failed
+  unfixed_leaves (Err refused) failed = weakens failed.2 (λ content left. inl left)
+
+  -- what it could leave at the start, or what stands for the same as the content found
+  pub each_left : (result : Result (KeeperState D) (KeeperFault × D)) → IsFixedOrNot before state result found → LeavesOnly before (state (disk_after result)) (λ content. MayLeave before content ⊎ StandsAs found content)
+  each_left result = ⊎_elim (λ is. goes_on (weakens is.until_then (λ content left. inl left)) is.from_then was_or_stands) (unfixed_leaves result)
+
+-- the keeper of an opening is let go, and hands its device back
+pub let_go : {D : Type 0} (before : State) (state : D → State) (found : List ℕ) (keeper : KeeperState D) (fault : KeeperFault) → IsFixedOrNot before state (Ok keeper) found → IsFixedOrNot before state (Err (fault, keeper.disk)) found
+let_go before state found keeper fault = ⊎_elim (λ is. inl is) (λ failed. absurd failed)
