@@ -13,6 +13,6 @@ returns-in-NoRoom-clause-served g c =
     let request = c.args.request in let terms = c.args.terms in let pass = c.args.pass.now in let next = c.serve.new.pass in
     let none : c.in-Ok.served ≡ served.NoRoom c.in-NoRoom.back = search rules in
     let as_it_was : (next ≡ pass) × (c.in-NoRoom.back ≡ request) =
-        subst (λ (s : Served). IsServedFor opening image (Trusting opening image g.B.ImageName.vouches g.B.ImageName.trusted) request terms.mode pass next s) none c.in-Ok.ensures.served in
+    subst (λ (s : Served). IsServedFor opening image (Trusting opening image g.B.ImageName.vouches g.B.ImageName.trusted) request terms.mode pass next s) none c.in-Ok.ensures.served in
     let is : IsUnserved terms.geometry terms.flags request c.refuse.result = subst (λ (r : Message). IsUnserved terms.geometry terms.flags r c.refuse.result) as_it_was.1 c.refuse.ensures in
     unserved_for terms.geometry terms.flags request c.refuse.result is opening image (Trusting opening image g.B.ImageName.vouches g.B.ImageName.trusted) terms.mode pass next as_it_was.0
