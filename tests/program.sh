@@ -210,7 +210,7 @@ reason() {
     code=$2
     shift 4
     timeout 10 "$NBDJ" "$@" <input >printed 2>errors
-    is "the reason of $name" "$code|$wanted" "$?|$(grep -v '^nbdj: recovered ' errors)"
+    is "the reason of $name" "$code|$wanted" "$?|$(grep -v ': recovered ' errors)"
 }
 reason 'a missing file' 1 'nbdj: none.img: No such file or directory (os error 2)' 'nbdj: cannot open none.img' recover none.img -v
 reason 'a missing file to be served' 1 'nbdj: none.img: No such file or directory (os error 2)' 'nbdj: cannot open none.img' serve none.img --unix d.sock
@@ -954,7 +954,7 @@ done
 is 'the unit: it listens' "listening $folder/run/socket" "$(cat printed)"
 kill "$serving"
 wait "$serving"
-is 'the unit: the end' "0|nbdj: recovered 0 commands|no" "$?|$(sed 's/ in .*//' errors)|$([ -e run/socket ] && echo yes || echo no)"
+is 'the unit: the end' "0|nbdj: $folder/d.img: recovered 0 commands|no" "$?|$(sed 's/ in .*//' errors)|$([ -e run/socket ] && echo yes || echo no)"
 if command -v systemd-analyze >/dev/null; then
     cp "$unit" nbdj@data.service
     sed -i 's|^ExecStart="[^"]*"|ExecStart=/bin/true|' nbdj@data.service
