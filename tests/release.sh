@@ -119,6 +119,9 @@ rm copy/dist/PROVENANCE
 noticed 'no PROVENANCE' 'there is no dist/PROVENANCE'
 restored dist/PROVENANCE
 
+is 'a build that is asked for' "1||a build was asked for: building the program
+a build began" "$(copy/tools/get-program --build >output 2>errors; echo "$?|$(cat output)|$(cat errors)")"
+
 # What was unpacked and changed since is unpacked again.
 got >/dev/null
 changed "out/nbdj-$version/bin/nbdj" 5000
