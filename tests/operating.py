@@ -375,6 +375,10 @@ def goes_on_in(client, blocks, answered):
         pass
 
 
+def heed_interrupts():
+    signal.signal(signal.SIGINT, signal.SIG_DFL)
+
+
 def managed(folder):
     """nbdj-server, stopped amid writes as service managers do it, by a signal to the main process or to all of its group: each write that was
     answered is stored, and the status is 0."""
@@ -382,7 +386,8 @@ def managed(folder):
     ways = (("terminated", os.kill, signal.SIGTERM), ("interrupted", os.kill, signal.SIGINT), ("hung-up", os.kill, signal.SIGHUP),
             ("group", os.killpg, signal.SIGTERM))
     for name, send, number in ways:
-        settings = {"program": (script,), "env": {**os.environ, "NBDJ": NBDJ}, "start_new_session": True}
+        # (a shell can't trap a signal that was ignored when it began, as SIGINT is for what runs in the background)
+        settings = {"program": (script,), "env": {**os.environ, "NBDJ": NBDJ}, "start_new_session": True, "preexec_fn": heed_interrupts}
         with Server(folder, name, 4, "--flush-interval", "0", **settings) as server:
             answered = {}
             clients = [server.shaken() for _ in range(3)]
@@ -392,6 +397,8 @@ def managed(folder):
             time.sleep(1)
             send(server.process.pid, number)
             check(f"{name}: the end", (0, ""), ended(server))
+            # (the clients go on as long as the server does)
+            server.process.kill()
             for thread in threads:
                 thread.join()
             for client in clients:
