@@ -25,19 +25,20 @@ loop_off() { losetup -d "$1" && loops=$(printf '%s' "$loops" | sed "s| $1\$||; s
 
 # in_use NAME PATH REASON: each command refuses a path as in use, tells why, and leaves its bytes
 in_use() {
-    cksum <"$2" >before
+    # (of a device that is in use more may change by itself)
+    head -c 4096 "$2" | cksum >before
     for command in 'recover -v' 'upgrade -v' 'pipe -v' 'serve --unix d.sock' 'format -v --force --size 1M --area 2M' 'format -v --blocks 16 --area 2M'; do
         timeout 20 "$NBDJ" $command "$2" <input >output 2>errors
         is "$1: ${command%% *}" "4||nbdj: $2: $3|nbdj: $2 is in use" "$?|$(cat output)|$(paste -s -d '|' errors)"
         told
     done
-    is "$1: its bytes" "$(cat before)" "$(cksum <"$2")"
+    is "$1: its bytes" "$(cat before)" "$(head -c 4096 "$2" | cksum)"
 }
 
 # used DEVICE FILE: what uses a block device, by the device's own node, by another one, and by the file behind it
 used() {
     mkdir mounted
-    if mkfs.ext4 -q -F "$1" 2>/dev/null && mount "$1" mounted; then
+    if mkfs.ext4 -q -F "$1" 2>/dev/null && mount -o ro "$1" mounted; then
         mounted=mounted
         in_use 'a mounted device' "$1" 'a file system on it is mounted'
         mknod other_node b $((0x$(stat -L -c %t "$1"))) $((0x$(stat -L -c %T "$1")))
@@ -136,7 +137,7 @@ on_partition() {
         return
     fi
     mkfs.ext4 -q -F "$1p1"
-    mount "$1p1" mounted
+    mount -o ro "$1p1" mounted
     mounted=mounted
     in_use 'a device whose partition is mounted' "$1" 'a file system on it is mounted'
     umount mounted

@@ -406,7 +406,7 @@ def managed(folder):
             image = stored(server)
             found = {block: hostile.struct.unpack_from(">I", image, block * BLOCK)[0] for block in answered}
             check(f"{name}: what was answered is stored", [], [block for block in answered if found[block] < answered[block]][:9])
-            check(f"{name}: there were writes", True, len(answered) > 100 or len(answered))
+            check(f"{name}: there were writes", True, len(answered) > 9 or len(answered))
     with Server(folder, "killed", 4, "--flush-interval", "0", **settings) as server, server.shaken() as client:
         check("killed: a write", True, write(client, 1, BLOCK))
         server.process.kill()
