@@ -4,7 +4,7 @@
 # device or let a call of it fail, those of docs/SCRIPTS.md, and some that are drawn. Prints how many runs with a crash there were, and
 # last 'N passed, M failed'. Those that take many minutes are swept with --long alone.
 #
-# usage: tests/sweeps.sh [--long | --sample SEED]          (--sample: one script in six, drawn from the seed)
+# usage: tests/sweeps.sh [--long | --sample SEED]          (--sample: one script in ten, drawn from the seed)
 set -u
 here=$(cd "$(dirname "$0")/.." && pwd)
 . "$here/tests/checks.sh"
@@ -13,7 +13,7 @@ seed=
 [ "${1:-}" != --sample ] || seed=$2
 
 # in_sample NAME: whether a script is swept in this run
-in_sample() { [ -z "$seed" ] || [ $(($(printf %s "$seed $1" | cksum | cut -d ' ' -f 1) % 6)) -eq 0 ]; }
+in_sample() { [ -z "$seed" ] || [ $(($(printf %s "$seed $1" | cksum | cut -d ' ' -f 1) % 10)) -eq 0 ]; }
 
 # Scripts with hundreds of calls of the device, or of a large one.
 long='checkpoint_lets_frames_go edge_is_held_before_its_read edge_waits_for_a_frame group_of_seven_puts_of_257_blocks
