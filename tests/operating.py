@@ -375,8 +375,10 @@ def goes_on_in(client, blocks, answered):
         pass
 
 
-def heed_interrupts():
-    signal.signal(signal.SIGINT, signal.SIG_DFL)
+def heed_signals():
+    """A shell can't trap a signal that was ignored when it began, as SIGINT is for what runs in the background, and SIGHUP under nohup."""
+    for number in (signal.SIGTERM, signal.SIGINT, signal.SIGHUP):
+        signal.signal(number, signal.SIG_DFL)
 
 
 def managed(folder):
@@ -386,8 +388,7 @@ def managed(folder):
     ways = (("terminated", os.kill, signal.SIGTERM), ("interrupted", os.kill, signal.SIGINT), ("hung-up", os.kill, signal.SIGHUP),
             ("group", os.killpg, signal.SIGTERM))
     for name, send, number in ways:
-        # (a shell can't trap a signal that was ignored when it began, as SIGINT is for what runs in the background)
-        settings = {"program": (script,), "env": {**os.environ, "NBDJ": NBDJ}, "start_new_session": True, "preexec_fn": heed_interrupts}
+        settings = {"program": (script,), "env": {**os.environ, "NBDJ": NBDJ}, "start_new_session": True, "preexec_fn": heed_signals}
         with Server(folder, name, 4, "--flush-interval", "0", **settings) as server:
             answered = {}
             clients = [server.shaken() for _ in range(3)]

@@ -4,16 +4,15 @@
 # device or let a call of it fail, those of docs/SCRIPTS.md, and some that are drawn. Prints how many runs with a crash there were, and
 # last 'N passed, M failed'. Those that take many minutes are swept with --long alone.
 #
-# usage: tests/sweeps.sh [--long | --sample SEED]          (--sample: one script in ten, drawn from the seed)
+# usage: tests/sweeps.sh [--long | --sample SEED]          (--sample: in an order drawn from the seed, for a minute)
 set -u
 here=$(cd "$(dirname "$0")/.." && pwd)
 . "$here/tests/checks.sh"
 runs=0
 seed=
 [ "${1:-}" != --sample ] || seed=$2
-
-# in_sample NAME: whether a script is swept in this run
-in_sample() { [ -z "$seed" ] || [ $(($(printf %s "$seed $1" | cksum | cut -d ' ' -f 1) % 10)) -eq 0 ]; }
+# For so many seconds scripts of the sample are begun.
+SAMPLE_SECONDS=60
 
 # Scripts with hundreds of calls of the device, or of a large one.
 long='checkpoint_lets_frames_go edge_is_held_before_its_read edge_waits_for_a_frame group_of_seven_puts_of_257_blocks
@@ -75,21 +74,33 @@ is 'one of both at a time' 2 "$status"
 printf '%s\n' 'format 16 2097152 512' 'send 1 put 0 1 41' 'serve 1' 'answer 1' seal append publish upgrade >input
 for how in --sweep --faults; do ends "an upgrade of small areas, $how" 1 "$(text 'failed 22')" '' rehearse "$how"; done
 
-for script in "$here"/tests/scripts/*.in; do
-    name=$(basename "$script" .in)
-    case " $(echo $long) " in *" $name "*) continue ;; esac
-    in_sample "$name" || continue
-    without_trouble "$script"
-    swept "$name"
-done
-
 block() { awk -v kind="$1" -v k="$2" '$0 == "```" kind { n++; on = n == k; next } /^```/ { on = 0 } on' "$here/docs/SCRIPTS.md"; }
-for k in 1 2 3 4 5; do
-    in_sample "page $k" || continue
-    block script "$k" >whole
-    without_trouble whole
-    swept "script $k of the page"
-done
+
+# names: the scripts that are swept, those of the page as `page K`, in the order of their names or in one drawn from the seed
+names() {
+    for script in "$here"/tests/scripts/*.in; do
+        name=$(basename "$script" .in)
+        case " $(echo $long) " in *" $name "*) ;; *) echo "$name" ;; esac
+    done
+    for k in 1 2 3 4 5; do echo "page $k"; done
+}
+drawn_order() { while read -r name; do echo "$(printf %s "$seed $name" | cksum | cut -d ' ' -f 1) $name"; done | sort -n | cut -d ' ' -f 2-; }
+if [ -n "$seed" ]; then names | drawn_order >order; else names >order; fi
+began=$(date +%s)
+count=0
+while read -r name; do
+    [ -z "$seed" ] || [ $(($(date +%s) - began)) -lt "$SAMPLE_SECONDS" ] || break
+    case $name in
+    page*)
+        block script "${name#page }" >whole
+        without_trouble whole
+        ;;
+    *) without_trouble "$here/tests/scripts/$name.in" ;;
+    esac
+    swept "$name"
+    count=$((count + 1))
+done <order
+echo "$count of $(wc -l <order) scripts were swept"
 
 # drawn SEED: a script of requests of bytes that often begin or end at the border of a block or beside it, with groups and checkpoints
 # between them
