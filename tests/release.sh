@@ -1,6 +1,6 @@
 #!/bin/sh
 # Checks of dist/: that it is of these sources, that the archive has the tree's files and can be made again byte for byte, and that a changed
-# byte anywhere is noticed before the program runs. The last line is 'N passed, M failed'.
+# byte of a source, of the archive or of PROVENANCE is noticed before the program runs. The last line is 'N passed, M failed'.
 #
 # usage: tests/release.sh [--program PROGRAM]          (with a program: only whether dist/ has the very same one)
 set -u
