@@ -2,7 +2,7 @@
 # Checks of the calls of the system that the built program NBDJ makes: that it syncs where it says so, what it does where a write or a
 # sync fails, and that what a FLUSH confirmed is found again after a kill. The last line is 'N passed, M failed'.
 set -u
-here=$(cd "$(dirname "$0")/.." && pwd)
+here=$(CDPATH='' cd "$(dirname "$0")/.." && pwd)
 . "$here/tests/checks.sh"
 ${CC:-cc} -Wall -Werror -shared -fPIC -O2 -o fail_calls.so "$here/tools/fail_calls.c" -ldl || exit 1
 

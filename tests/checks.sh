@@ -1,8 +1,10 @@
 # What the checks of the built program NBDJ share. To be read by '.', with the top of the repository in `here`; it goes to a temporary
 # folder, which is removed at the end.
 . "$here/tools/bytes.sh"
-folder=$(mktemp -d)
+folder=$(mktemp -d) || exit 1
 trap 'rm -rf "$folder"' EXIT
+# (dash runs no trap for EXIT when a signal ends it)
+trap 'exit 1' INT TERM HUP
 cd "$folder" || exit 1
 passed=0
 failed=0

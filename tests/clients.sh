@@ -5,7 +5,7 @@
 # there. A client that isn't installed is skipped, and the line says so; tools/install-clients installs Debian's packages. The last line is
 # 'N passed, M failed'.
 set -u
-here=$(cd "$(dirname "$0")/.." && pwd)
+here=$(CDPATH='' cd "$(dirname "$0")/.." && pwd)
 . "$here/tests/checks.sh"
 SIZE=67108864 HALF=33554432 AREA=8388608
 mounted='' loop='' fuse='' attached='' server=''

@@ -2,7 +2,7 @@
 # Checks of the built program NBDJ on block devices that something else uses, on devices and files that hold data, and on full disks: with
 # loop devices, as root. What can't be tried here is skipped by name. The last line is 'N passed, M failed'.
 set -u
-here=$(cd "$(dirname "$0")/.." && pwd)
+here=$(CDPATH='' cd "$(dirname "$0")/.." && pwd)
 . "$here/tests/checks.sh"
 : >input
 loops=''

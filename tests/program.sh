@@ -1,7 +1,7 @@
 #!/bin/sh
 # Checks of the built program NBDJ on real files. Prints a line for each check that fails, and last 'N passed, M failed'.
 set -u
-here=$(cd "$(dirname "$0")/.." && pwd)
+here=$(CDPATH='' cd "$(dirname "$0")/.." && pwd)
 . "$here/tests/checks.sh"
 
 # refused NAME WORD..: the command line is refused with clap's usage and status 2, and makes no file

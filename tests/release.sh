@@ -4,7 +4,7 @@
 #
 # usage: tests/release.sh [--program PROGRAM]          (with a program: only whether dist/ has the very same one)
 set -u
-here=$(cd "$(dirname "$0")/.." && pwd)
+here=$(CDPATH='' cd "$(dirname "$0")/.." && pwd)
 . "$here/tests/checks.sh"
 . "$here/tools/provenance.sh"
 
@@ -59,7 +59,7 @@ is 'what dist has' "PROVENANCE $(archive_name)" "$(cd "$top/dist" && echo *)"
 # The demo: from a fresh clone to its end in at most five seconds, with the tools of a bare system alone, and with nothing built.
 rm -rf copy/out bare
 mkdir bare
-for tool in sh tar xz cat cut dirname head tail mktemp od rm mkdir sha256sum sleep sort tr; do
+for tool in sh tar xz cat cut dirname head tail mktemp mv od rm mkdir sha256sum sleep sort tr; do
     ln -s "$(command -v "$tool")" "bare/$tool"
 done
 began=$(date +%s)

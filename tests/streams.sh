@@ -2,7 +2,7 @@
 # Checks of the built program NBDJ where standard streams are closed, or go into the image that it works on. Prints a line for each check
 # that fails, and last 'N passed, M failed'.
 set -u
-here=$(cd "$(dirname "$0")/.." && pwd)
+here=$(CDPATH='' cd "$(dirname "$0")/.." && pwd)
 . "$here/tests/checks.sh"
 
 # An image with a stored group, which an opening copies into the map, what a client sends, and a script.

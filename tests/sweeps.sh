@@ -6,7 +6,7 @@
 #
 # usage: tests/sweeps.sh [--long | --sample SEED]          (--sample: in an order drawn from the seed, for a minute)
 set -u
-here=$(cd "$(dirname "$0")/.." && pwd)
+here=$(CDPATH='' cd "$(dirname "$0")/.." && pwd)
 . "$here/tests/checks.sh"
 runs=0
 seed=

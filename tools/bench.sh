@@ -11,7 +11,7 @@
 # counts. BENCH_SECONDS (4) is the time of each measurement, BENCH_FOLDER where the images are, TMPDIR otherwise. After the time each
 # client waits for the answers that are due.
 set -eu
-here=$(cd "$(dirname "$0")/.." && pwd)
+here=$(CDPATH='' cd "$(dirname "$0")/.." && pwd)
 rounds=${ROUNDS:-1} seconds=${BENCH_SECONDS:-4}
 blocks=131072 hot=2048 frames=4096
 for tool in cc nbdkit qemu-nbd awk; do

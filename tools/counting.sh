@@ -1,6 +1,6 @@
 # Runs checks one after another, tells how far they are, and counts. To be read by '.', at the top of the repository.
 mkdir -p out
-counting=$(mktemp -d)
+counting=$(mktemp -d) || exit 1
 trap 'rm -rf "$counting"' EXIT
 passed=0
 failed=0
@@ -8,16 +8,21 @@ memory_refused=0
 
 # count LINE: adds a line 'N passed, M failed'; any other line is one failure
 count() {
-    case $1 in
-    *[0-9]' passed, '*[0-9]' failed')
+    if printf '%s\n' "$1" | grep -Eqx '[0-9]+ passed, [0-9]+ failed'; then
         passed=$((passed + ${1%% passed*}))
         rest=${1#* passed, }
         failed=$((failed + ${rest% failed}))
-        ;;
-    *)
+    else
         echo "FAILED: it ended with the line: $1"
         failed=$((failed + 1))
-        ;;
+    fi
+}
+
+# outcome LINE STATUS: what is to be counted of a run that ended so; one that counted no failure and has another status died at its end
+outcome() {
+    case $1 in
+    *' passed, 0 failed') [ "$2" -eq 0 ] && echo "$1" || echo "$1, but status $2" ;;
+    *) echo "$1" ;;
     esac
 }
 
@@ -33,6 +38,7 @@ run_check() {
     if [ "$name" = demo ]; then
         [ "$status" -eq 0 ] && last='1 passed, 0 failed' || last="status $status"
     fi
+    last=$(outcome "$last" "$status")
     # What was counted stands in the line below; the rest is what failed or was skipped.
     if [ "$status" -eq 0 ]; then grep -E '^(skipped: |not compared: |with --long alone: |of the refusals |[0-9]+ (runs|of) )' "$counting/said"; else cat "$counting/said"; fi
     forbidden=$(skips_forbidden)

@@ -79,17 +79,17 @@ read_provenance() {
 # archive_name: the name of the archive of this version
 archive_name() { echo "nbdj-$version-x86_64-linux.tar.xz"; }
 
-# A line `PROGRAM SOURCES` of out/proved says that the program with the one digest was proved from the sources with the other.
+# A line `PROGRAM SOURCES KIT` of out/proved says that the program with the one digest was proved from the sources with the other, by that kit.
 
 # note_proved SOURCES: notes that the program in crates/nbdj/out was proved from sources with this digest; it fails if they have changed since
 note_proved() {
     [ "$1" = "$(sources_digest)" ] || return 1
     mkdir -p "$here/out"
-    echo "$(digest "$here/crates/nbdj/out/nbdj") $1" >"$here/out/proved"
+    echo "$(digest "$here/crates/nbdj/out/nbdj") $1 $(rt version 2>/dev/null || echo 'kit unknown')" >"$here/out/proved"
 }
 
 # is_proved: whether the program in crates/nbdj/out is one that was proved from the sources as they are
 is_proved() {
     [ -f "$here/out/proved" ] && [ -x "$here/crates/nbdj/out/nbdj" ] &&
-        [ "$(cat "$here/out/proved")" = "$(digest "$here/crates/nbdj/out/nbdj") $(sources_digest)" ]
+        [ "$(cut -d ' ' -f 1,2 "$here/out/proved")" = "$(digest "$here/crates/nbdj/out/nbdj") $(sources_digest)" ]
 }
