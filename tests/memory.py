@@ -187,6 +187,11 @@ class Script:
         """The script with armed crashes that leave what the last good sync left."""
         return self.replay([re.sub(r"^(crash at \d+) .*", r"\1 old", it) for it in self.lines])
 
+    def unapplied(self):
+        """The script where a write that was to fail isn't in the device's record: it leaves what was there. So a group whose second write,
+        that of its gate, was to fail is as after a failure of the first one."""
+        return self.replay([re.sub(r"^fault write 2$", "fault write 1", it) for it in self.lines])
+
     def step_of(self, at):
         """Which line of the script printed this line of the wanted output: a crash prints several."""
         steps, last = 0, ""
@@ -211,6 +216,7 @@ class Script:
         elif got.startswith("opened"):
             # A write that was stopped and isn't in the device's record leaves what was there.
             yield self.unmarked()
+            yield self.unapplied()
         elif late:
             # A READ that got no memory met no device fault, which shows before its answer does.
             yield self.unsent(self.step_of(late), late)
