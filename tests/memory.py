@@ -694,7 +694,8 @@ def refuse_test(built, test):
     wrong, calls = [], 0
     wanted = calls_to_refuse()
     while batch := list(itertools.islice(wanted, 32)):
-        runs = list(pool.map(lambda call: Run([built, test], b"", call), batch))
+        # (a test over sockets waits for up to half a minute where a thread couldn't be started)
+        runs = list(pool.map(lambda call: Run([built, test], b"", call, seconds=60), batch))
         for call, run in zip(batch, runs):
             calls += run.met
             said = run.output.decode(errors="replace") + run.errors
