@@ -67,7 +67,9 @@ OPTIONS = [
     (STRUCTURED_REPLY, "", PLAIN, acknowledged(STRUCTURED_REPLY), STRUCTURED, NEXT_OPTION),
     (STRUCTURED_REPLY, "", SELECTED, acknowledged(STRUCTURED_REPLY), SELECTED, NEXT_OPTION),
     (STRUCTURED_REPLY, "00000000", PLAIN, refused(STRUCTURED_REPLY, 3), PLAIN, NEXT_OPTION),
-    (11, "ff", SELECTED, refused(11, 1), SELECTED, NEXT_OPTION),
+    *[(number, data, SELECTED, refused(number, 1), SELECTED, NEXT_OPTION) for number, data in (
+        (11, "ff"), (0, ""), (4, "0102"), (11, ""), (0x07000000, "00000000 0000"), (0xFFFFFFFF, "ff"), (STARTTLS, "09"),
+    )],
     # The name of the export, and of another one.
     (1, "61", PLAIN, b"", PLAIN, NOTHING),
     (1, "00000000", PLAIN, b"", PLAIN, NOTHING),
@@ -77,6 +79,13 @@ OPTIONS = [
     (GO, "00000001 78 0001 0003", PLAIN, refused(GO, 6), PLAIN, NEXT_OPTION),
     (GO, "00000005 0000", PLAIN, refused(GO, 3), PLAIN, NEXT_OPTION),
     (INFO, "00000000 0002 0101 0003", PLAIN, INFO_TOLD, PLAIN, NEXT_OPTION),
+    *[(number, data, PLAIN, refused(number, 3), PLAIN, NEXT_OPTION) for number, data in (
+        # Counts that are too small or too large, half a type behind the last, a name that is longer than all.
+        (GO, "00000000 0001 0003 0102"), (INFO, "00000000 0003 0003 0102"), (GO, "00000000 ffff 0003"), (GO, "00000000 0001 0003 01"),
+        (INFO, "ffffffff 0000"),
+        # Data that end early.
+        *[(GO, of("00000000 0001 0003")[:end]) for end in range(8)], *[(INFO, of("00000000 0002 0000 0003")[:end]) for end in range(10)],
+    )],
     (INFO, "00000000 0000", PLAIN, of(told(INFO, 3, "0000 0000000000010000 016d"), acknowledged(INFO)), PLAIN, NEXT_OPTION),
     # Selections of contexts, and lists of them.
     (SET_CONTEXT, SELECT, PLAIN, refused(SET_CONTEXT, 3), PLAIN, NEXT_OPTION),
@@ -86,6 +95,13 @@ OPTIONS = [
     (SET_CONTEXT, "00000000 00000000", SELECTED, acknowledged(SET_CONTEXT), STRUCTURED, NEXT_OPTION),
     (SET_CONTEXT, "00000001 78 00000000", SELECTED, refused(SET_CONTEXT, 6), STRUCTURED, NEXT_OPTION),
     (SET_CONTEXT, "00000000", SELECTED, refused(SET_CONTEXT, 3), STRUCTURED, NEXT_OPTION),
+    *[(SET_CONTEXT, data, SELECTED, refused(SET_CONTEXT, 3), STRUCTURED, NEXT_OPTION) for data in (
+        "00000000 00000002 00000001 78", "00000000 00000000 00000001 78", "00000000 ffffffff 00000001 78", "00000000 00000001 ffffffff 78",
+        *[of(SELECT)[:end] for end in range(27)],
+    )],
+    *[(LIST_CONTEXT, data, SELECTED, refused(LIST_CONTEXT, 3), SELECTED, NEXT_OPTION) for data in (
+        "00000005 6162", "00000000 00000001 00000001 7800", *[of("00000000 00000001 00000001 78")[:end] for end in range(13)],
+    )],
     (LIST_CONTEXT, "00000000 00000000", PLAIN, refused(LIST_CONTEXT, 3), PLAIN, NEXT_OPTION),
     (LIST_CONTEXT, "00000000 00000000", SELECTED, LISTED, SELECTED, NEXT_OPTION),
     (LIST_CONTEXT, "00000000 00000002 00000001 78 00000005 626173653a", STRUCTURED, LISTED, STRUCTURED, NEXT_OPTION),
@@ -136,7 +152,8 @@ BEGINNINGS = [
      of(refused(LIST, 3), refused(STARTTLS, 1), acknowledged(STRUCTURED_REPLY), refused(0x63, 1), GO_TOLD, CHUNKS)),
     # What ends a session: client flags other than those of a fixed newstyle, a name that can't be refused, an ABORT, another magic
     # number, and a GO in the place of a request.
-    *[(f"client flags {flags}", of(flags, option(1)), b"") for flags in ("00000000", "00000002", "00000004", "00000007", "80000003", "01000001")],
+    *[(f"client flags {flags}", of(flags, option(1)), b"") for flags in (
+        "00000000", "00000002", "00000004", "00000005", "00000007", "00000101", "00400003", "80000001", "80000003", "01000001")],
     *[(f"the name of another export, flags {flags}", of(flags, option(1, "61")), b"") for flags in ("00000001", "00000003")],
     ("a name that is too long", of("00000003", MAGIC, "00000001 00010001"), b""),
     ("a length of 32 MiB and a byte", of("00000003", MAGIC, "00000003 02000001"), b""),

@@ -1,7 +1,9 @@
 #!/usr/bin/env python3
 """How `serve` of the built program NBDJ begins, goes on and ends, as who runs it sees it: what a kill leaves, also of sectors that clients
-write beside one another and of blocks that they write by turns, clients beside a slow device, an end that is asked for, dead clients, a
+write beside one another and of blocks that they write by turns, eight clients at once beside plain bytes, clients beside a slow device, an end that is asked for, dead clients, a
 device that fails, a sector that can't be read, what is told, and a log that nobody reads.
+
+usage: tests/operating.py [SCENARIO ..]          (SCENARIO: the name of one of the functions below that `main` lists; by default all)
 
 Prints a line for each check that fails, and last 'N passed, M failed'.
 """
@@ -18,11 +20,15 @@ import sys
 import tempfile
 import threading
 import time
+from concurrent.futures import ThreadPoolExecutor
 
 import hostile
 from hostile import BLOCK, DISC, FLUSH, MIB, NBDJ, READ, TRIM, WRITE, Server, block_of, check, request, take
 
 EIO, SECTOR = 5, 512
+ZEROES = 6
+# The blocks that each of eight clients has for itself, and how often it asks for something.
+OWN_BLOCKS, OWN_REQUESTS = 64, 500
 FUA = 1
 TOP = os.path.dirname(os.path.dirname(os.path.abspath(__file__)))
 
@@ -220,6 +226,57 @@ def in_turn(folder):
     amiss = [block for block, number in enumerate(wanted) if image[block * BLOCK:(block + 1) * BLOCK] != (block_of(number) if number else bytes(BLOCK))]
     check("in turn: the image is as after the first of the writes", [], amiss[:9])
     print(f"in turn: {number} writes, {count} stored", flush=True)
+
+
+def works(server, own, source):
+    """Requests of one client on a part of the image of its own, each answered before the next, beside plain bytes; those bytes at the end. An
+    answer that isn't theirs is a failed check."""
+    first, plain = own * OWN_BLOCKS * BLOCK, bytearray(OWN_BLOCKS * BLOCK)
+    with server.shaken() as client:
+        for cookie in range(OWN_REQUESTS):
+            kind = source.choice([WRITE, WRITE, WRITE, READ, READ, TRIM, ZEROES, FLUSH])
+            length = 0 if kind == FLUSH else source.choice([BLOCK, BLOCK, 2 * BLOCK, 8 * BLOCK, source.randrange(1, 3 * BLOCK)])
+            place = 0 if kind == FLUSH else source.randrange(len(plain) - length + 1)
+            if kind != FLUSH and length % BLOCK == 0:
+                place -= place % BLOCK
+            data = source.randbytes(length) if kind == WRITE else b""
+            client.sendall(request(kind, cookie, 0 if kind == FLUSH else first + place, length) + data)
+            if kind == WRITE:
+                plain[place:place + length] = data
+            elif kind == ZEROES:
+                plain[place:place + length] = bytes(length)
+            elif kind == TRIM:
+                # Whole blocks alone are zeroes then.
+                inner = range(-(-place // BLOCK) * BLOCK, (place + length) // BLOCK * BLOCK)
+                plain[inner.start:max(inner.start, inner.stop)] = bytes(len(inner))
+            wanted = reply(cookie) + (plain[place:place + length] if kind == READ else b"")
+            found = take(client, len(wanted))
+            if found != wanted:
+                check(f"{server.name}: request {cookie} of client {own}, kind {kind}, {length} bytes at {place}", wanted[:16].hex(), found[:16].hex() + " and other data")
+                break
+        client.sendall(request(DISC, 0, 0, 0))
+    return bytes(plain)
+
+
+def eight(folder):
+    """Eight clients at once over areas so small that checkpoints go on all the time, in both layouts: each reads what it wrote, and what it wrote
+    is stored."""
+    for name, made in (("eight", []), ("eight, layout 2", ["--layout", "2"])):
+        image = os.path.join(folder, f"{name}.img")
+        area = "4194304" if made else "2097152"
+        subprocess.run([NBDJ, "format", image, "--blocks", str(hostile.BLOCKS), "--area", area, *made], check=True, stdout=subprocess.DEVNULL, timeout=60)
+        with Server(folder, name, 8, "--sessions", "8", made=True) as server:
+            with ThreadPoolExecutor(8) as pool:
+                images = list(pool.map(lambda own: works(server, own, random.Random(own)), range(8)))
+            check(f"{name}: the end", (0, ""), ended(server))
+            # Each checkpoint of an area makes two headers, of the next generations.
+            with open(image, "rb") as file:
+                slots = file.read(2 * BLOCK)
+            generation = max(int.from_bytes(slots[at + 9:at + 17], "big") for at in (0, BLOCK))
+            check(f"{name}: ten checkpoints went on", True, generation > 20 or generation)
+            found = stored(server)
+            for own, plain in enumerate(images):
+                check(f"{name}: what client {own} wrote", True, found[own * len(plain):(own + 1) * len(plain)] == plain)
 
 
 def is_silent(client):
@@ -467,6 +524,9 @@ def failing(folder):
         for cookie in (2, 3):
             client.sendall(request(FLUSH, cookie, 0, 0))
             check("staying: a flush", reply(cookie, EIO), take(client, 16))
+        # The order is stopped: nothing more is taken, though nobody asks for it to be stored.
+        client.sendall(request(WRITE, 5, 0, BLOCK) + bytes(BLOCK))
+        check("staying: a write", reply(5, EIO), take(client, 16))
         check("staying: it lives", None, server.process.poll())
         server.process.kill()
         server.process.wait(timeout=60)
@@ -614,8 +674,14 @@ def copied(folder):
 
 
 def main():
+    scenarios = [kills, intervals, sectors, in_turn, eight, beside, shown, asked_to_end, managed, idle, failing, unreadable, told, crowded, unheard, copied]
+    unknown = set(sys.argv[1:]) - {it.__name__ for it in scenarios}
+    if unknown:
+        sys.exit(f"operating.py: there is no scenario {', '.join(sorted(unknown))}")
     with tempfile.TemporaryDirectory() as folder:
-        for scenario in (kills, intervals, sectors, in_turn, beside, shown, asked_to_end, managed, idle, failing, unreadable, told, crowded, unheard, copied):
+        for scenario in scenarios:
+            if sys.argv[1:] and scenario.__name__ not in sys.argv[1:]:
+                continue
             begun = time.monotonic()
             hostile.guarded(scenario, folder)
             print(f"{scenario.__name__}: {time.monotonic() - begun:.1f} s", flush=True)

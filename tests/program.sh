@@ -533,6 +533,83 @@ unchanged 'a bad map over a damaged group' 'nbdj: bad map (6)'
 printf x >>d.img
 unchanged 'a bad header over a bad map' 'nbdj: bad header (8)'
 
+# Each field of a header and of a map with another value, as offset and bytes.
+for row in 'another magic at its first byte|1|00' 'no blocks|24|00' 'a block more|24|11' 'an area of 2 GiB|25|80' \
+    'an area that is no multiple|28|01' 'two areas too many in use|29|02' 'a third first area|30|02' 'a third map slot|31|02' 'blocks past all limits|17|01'; do
+    fresh 16 2097152
+    patch d.img "$(printf '%s' "$row" | cut -d '|' -f 2)" "${row##*|}"
+    unchanged "${row%%|*}" 'nbdj: bad header (8)'
+done
+for row in 'a state behind the last block|4202500|01' 'a state at the end of a map slot|4206591|40'; do
+    fresh 16 2097152
+    patch d.img "$(printf '%s' "$row" | cut -d '|' -f 2)" "${row##*|}"
+    unchanged "${row%%|*}" 'nbdj: bad map (6)'
+done
+# Two areas in use that are both empty.
+fresh 16 2097152
+patch d.img 29 01
+checks 'check of two empty areas' 16 1 0 0 0 0 16
+ends 'two empty areas' 0 "$(text 'commands 0')" '' recover d.img
+# Headers of layout 2, in slot 1 of a device that was upgraded: areas in use, the first area, the map slot, the bytes of an area, the magic,
+# the generation and the blocks; and the generation of the header of layout 1 beside it. Each row has what is found: the layout and the mode,
+# or nothing where the header is bad.
+"$NBDJ" format upgraded.img --blocks 16 --area 4194304 >/dev/null
+"$NBDJ" upgrade upgraded.img >/dev/null
+while IFS='|' read -r offset put layout mode; do
+    cp upgraded.img d.img
+    patch d.img "$offset" "$put"
+    if [ -z "$layout" ]; then
+        unchanged "$put at $offset of an upgraded device" 'nbdj: bad header (8)'
+    else
+        found=$("$NBDJ" check d.img | grep -e layout -e mode -e hole | tr '\n' ' ')
+        is "$put at $offset of an upgraded device" "$([ "$layout" = 1 ] || echo "layout $layout ")mode $mode hole 16 " "$found"
+        ends "recovery of $put at $offset of an upgraded device" 0 "$(text 'commands 0')" '' recover d.img
+    fi
+done <<'ROWS'
+4125|00000000||
+4125|05000000||
+4125|04000000|2|3
+4125|01040000||
+4125|01030000|2|0
+4125|02030000|2|1
+4125|01000200||
+4121|00201000||
+4121|00100000||
+4121|00200800||
+4121|00400000||
+4101|524e4c33||
+4101|524e4c31||
+13|00000002||
+13|00000003|1|0
+4117|00000011||
+4117|00000000||
+ROWS
+# Three areas in use, each with one group: what is changed in one of them, and how many commands there are then, or nothing where a group is
+# damaged. In turn: nothing, the number of the third group, the gate of the second and of the third, an area that isn't in use, and a length
+# that fits an area of layout 1.
+patch upgraded.img 4125 03
+patch upgraded.img 8192 '01 0000000d 0000000000000001 00000001 03 0000000000000000 00000001 00'
+patch upgraded.img 2105344 '01 0000000d 0000000000000002 00000001 03 0000000000000001 00000001 00'
+patch upgraded.img 4202496 '01 0000000d 0000000000000003 00000001 03 0000000000000002 00000001 00'
+while IFS='|' read -r offset put commands; do
+    cp upgraded.img d.img
+    patch d.img "$offset" "$put"
+    if [ -z "$commands" ]; then
+        unchanged "$put at $offset of three areas" 'nbdj: damaged group (12)'
+    else
+        is "$put at $offset of three areas" "commands $commands zero $commands " "$("$NBDJ" check d.img | grep -e commands -e zero | tr '\n' ' ')"
+        ends "recovery of $put at $offset of three areas" 0 "$(text "commands $commands")" '' recover d.img
+    fi
+done <<'ROWS'
+8192|01|3
+4202505|00000004|
+2105344|00000010|
+4202496|00000010|2
+6299648|01ffffff|3
+4202497|001fffef|
+ROWS
+rm -f upgraded.img
+
 # Streams that end early: nothing is written and nothing accepted.
 fresh 16 2097152
 { request 0000 1 1 0 4096; filled 4096 A; } >whole
@@ -886,6 +963,32 @@ for script in "$here"/tests/scripts/*.in; do
     scripts=$((scripts + 1))
 done
 is 'there are scripts' yes "$([ "$scripts" -gt 0 ] && echo yes)"
+
+# A READ of more blocks than there are frames leaves the last ones in memory: of 1,024 blocks that an opening has found, 513 are read one by
+# one over 512 frames. Then the device fails in the next read: blocks 1 and 512 are read from memory, and block 0 isn't.
+{
+    echo 'format 1024 8388608 512'
+    for first in 0 256 512 768; do
+        printf '%s\n' "send 1 put $first 256 41" 'serve 1' 'answer 1' seal append publish rotate 'copy 512' map finish clean
+    done
+    echo 'crash new'
+    for block in $(seq 0 512); do printf '%s\n' "send 1 read $block 1" 'serve 1' 'answer 1'; done
+    echo 'fault read 1'
+    for block in 1 512 0; do printf '%s\n' "send 1 read $block 1" 'serve 1' 'answer 1'; done
+} >input
+run rehearse
+is 'reads of more blocks than frames' '0||513 answer 1 bytes 41' "$status|$errors|$("$NBDJ" rehearse <input | sed -n '/^run/,/^armed/p' | grep -c 'answer 1 bytes 41') answer 1 bytes 41"
+is 'what is in memory then' "$(printf '%s\n' armed 'answer 1 bytes 41' 'answer 1 bytes 41' 'answer 1 error 5')" "$("$NBDJ" rehearse <input | sed -n '/^armed/,$p' | grep -v done)"
+# Three runs of blocks that aren't in memory are three reads of the device, and none once they were read.
+{
+    printf '%s\n' 'format 1024 8388608 512' 'send 1 put 0 256 41' 'serve 1' 'answer 1' seal append publish 'crash new'
+    for range in '1 1' '3 2'; do printf '%s\n' "send 1 read $range" 'serve 1' 'answer 1'; done
+    echo 'fault read 4'
+    for range in '0 8' '0 8' '8 1'; do printf '%s\n' "send 1 read $range" 'serve 1' 'answer 1'; done
+} >input
+is 'a read of three runs' "$(printf '%s\n' armed 'answer 1 bytes 41 41 41 41 41 41 41 41' 'answer 1 bytes 41 41 41 41 41 41 41 41' 'answer 1 error 5')" \
+    "$("$NBDJ" rehearse <input | sed -n '/^armed/,$p' | grep -v done)"
+: >input
 
 # Layout 2 in scripts: areas that would be too small, and how many commands fit a group, whose body has at most the bytes of an area
 # less 18, and 8,388,608: of 7 puts of 1 MiB, one of a block less, and 308 clears of 13 bytes.

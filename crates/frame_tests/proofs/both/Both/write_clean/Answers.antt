@@ -1,7 +1,0 @@
-use Rattle.std.proofs.Common.{ap}
-use Rattle.frame_pool.specs.Pool.{PoolState}
-use Rattle.frame_tests.proofs.Order.{left}
-use Rattle.frame_tests.proofs.both.Both.write_clean.Goals as goal
-
-pub invariant_of-self : goal.invariant_of-self
-invariant_of-self c = record { order = left _ c.args.frame _ _ (ap (λ (pool : PoolState). pool.dirty) c.write_clean.ensures.written) c.args.self.now.order }
