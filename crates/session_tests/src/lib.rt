@@ -3,8 +3,6 @@
 #![tactic(auto)]
 
 #[cfg(test)]
-mod block_tests;
-#[cfg(test)]
 mod export;
 #[cfg(test)]
 mod failing;
