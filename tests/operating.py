@@ -8,6 +8,7 @@ usage: tests/operating.py [SCENARIO ..]          (SCENARIO: the name of one of t
 Prints a line for each check that fails, and last 'N passed, M failed'.
 """
 import bisect
+import contextlib
 import os
 import random
 import re
@@ -27,8 +28,10 @@ from hostile import BLOCK, DISC, FLUSH, MIB, NBDJ, READ, TRIM, WRITE, Server, bl
 
 EIO, SECTOR = 5, 512
 ZEROES = 6
-# The blocks that each of eight clients has for itself, and how often it asks for something.
-OWN_BLOCKS, OWN_REQUESTS = 64, 500
+# The blocks that each of eight clients has for itself, together more than there are frames, and how often it asks for something.
+OWN_BLOCKS, OWN_REQUESTS = 160, 500
+# The blocks that each of eight clients writes round for round, and how often.
+ROUND_BLOCKS, ROUNDS = 16, 20
 FUA = 1
 TOP = os.path.dirname(os.path.dirname(os.path.abspath(__file__)))
 
@@ -495,18 +498,19 @@ def idle(folder):
         server.goes_on("behind an idle client")
 
 
-def limited():
-    """No byte of a file is written behind its headers, as if the disk were full there."""
-    resource.setrlimit(resource.RLIMIT_FSIZE, (8192, 8192))
-    signal.signal(signal.SIGXFSZ, signal.SIG_IGN)
+def limited(count=0):
+    """How a server is run that can write so many bytes of its image behind the headers, and no byte behind them, as if the disk were full."""
 
+    def limit():
+        resource.setrlimit(resource.RLIMIT_FSIZE, (8192 + count, 8192 + count))
+        signal.signal(signal.SIGXFSZ, signal.SIG_IGN)
 
-LIMITED = {"preexec_fn": limited, "restore_signals": False}
+    return {"preexec_fn": limit, "restore_signals": False}
 
 
 def failing(folder):
     """A device that takes no more: what waits is answered EIO, and the server ends, or stays where it is to."""
-    with Server(folder, "failing", 3, **LIMITED) as server, server.shaken() as other, server.shaken() as client:
+    with Server(folder, "failing", 3, **limited()) as server, server.shaken() as other, server.shaken() as client:
         check("failing: a write", True, write(client, 1, BLOCK))
         client.sendall(request(FLUSH, 2, 0, 0))
         check("failing: a flush", reply(2, EIO), take(client, 16))
@@ -517,7 +521,7 @@ def failing(folder):
         wanted = [f"nbdj: {server.image}: write of N bytes at K: File too large (os error 27)", "nbdj: device fault (1)"]
         check("failing: the end", (1, wanted), (status, told))
         check("failing: the image", "commands 0", recovered(server))
-    with Server(folder, "staying", 3, "--on-fault", "stay", **LIMITED) as server, server.shaken() as client:
+    with Server(folder, "staying", 3, "--on-fault", "stay", **limited()) as server, server.shaken() as client:
         check("staying: a write", True, write(client, 1, BLOCK))
         client.sendall(request(WRITE, 4, 0, BLOCK, FUA) + bytes(BLOCK))
         check("staying: a write with FUA", reply(4, EIO), take(client, 16))
@@ -532,6 +536,60 @@ def failing(folder):
         server.process.wait(timeout=60)
         told = server.process.stderr.read().splitlines()
         check("staying: it told once", [True], [line.endswith(": File too large (os error 27)") for line in told])
+
+
+def writes_rounds(client, own):
+    """Writes of the blocks of one client, round for round, each confirmed by a FLUSH, up to a round that isn't; how many were."""
+    first = own * ROUND_BLOCKS
+    for number in range(1, ROUNDS + 1):
+        data = bytes([own * (ROUNDS + 1) + number]) * BLOCK
+        try:
+            for asked in [*(request(WRITE, 1, block * BLOCK, BLOCK) + data for block in range(first, first + ROUND_BLOCKS)), request(FLUSH, 1, 0, 0)]:
+                client.sendall(asked)
+                if take(client, 16) != reply(1):
+                    return number - 1
+        except ConnectionError:
+            return number - 1
+    return ROUNDS
+
+
+def failing_amid_eight(folder):
+    """A device that fails amid eight clients: each is answered or let go, the server ends, and what a FLUSH confirmed is there."""
+    for room in (100_000, 700_000, 1_500_000):
+        with Server(folder, f"failing behind {room}", 8, **limited(room)) as server:
+            with contextlib.ExitStack() as stack, ThreadPoolExecutor(8) as pool:
+                clients = [stack.enter_context(server.shaken()) for _ in range(8)]
+                confirmed = list(pool.map(writes_rounds, clients, range(8)))
+            status, errors = ended(server)
+            check(f"{server.name}: the end", (1, True), (status, errors.endswith("nbdj: device fault (1)\n") or errors))
+            check(f"{server.name}: some rounds aren't confirmed", True, sum(confirmed) < 8 * ROUNDS)
+            number = int(recovered(server).split()[1])
+            check(f"{server.name}: commands", True, number >= sum(confirmed) * ROUND_BLOCKS or (number, confirmed))
+            found = stored(server)
+            for own, least in enumerate(confirmed):
+                for block in range(own * ROUND_BLOCKS, (own + 1) * ROUND_BLOCKS):
+                    data = found[block * BLOCK:(block + 1) * BLOCK]
+                    number = data[0] - own * (ROUNDS + 1) if data[0] else 0
+                    if not least <= number <= ROUNDS or data != data[:1] * BLOCK:
+                        check(f"{server.name}: block {block}", f"a round from {least} on", number)
+
+
+def gathered(folder):
+    """Two clients whose groups are stored together, and then one of them alone: its groups don't wait for the other one for ever."""
+
+    def flushes(client, own, times):
+        for number in range(times):
+            client.sendall(request(WRITE, 2 * number, own * BLOCK, BLOCK) + bytes([number + 1]) * BLOCK + request(FLUSH, 2 * number + 1, 0, 0))
+            if take(client, 32) != reply(2 * number) + reply(2 * number + 1):
+                return number
+        return times
+
+    settings = {"env": {**os.environ, "SLOW_SYNC_US": "4000", "LD_PRELOAD": preloaded(folder, "slow_sync")}}
+    with Server(folder, "gathered", 2, **settings) as server, server.shaken() as one, server.shaken() as other:
+        with ThreadPoolExecutor(2) as pool:
+            together = list(pool.map(lambda it: flushes(*it), [(one, 0, 6), (other, 1, 6)]))
+        check("gathered: both", [6, 6], together)
+        check("gathered: one alone", 12, flushes(one, 0, 12))
 
 
 def preloaded(folder, name):
@@ -674,7 +732,8 @@ def copied(folder):
 
 
 def main():
-    scenarios = [kills, intervals, sectors, in_turn, eight, beside, shown, asked_to_end, managed, idle, failing, unreadable, told, crowded, unheard, copied]
+    scenarios = [kills, intervals, sectors, in_turn, eight, beside, shown, asked_to_end, managed, idle, failing, failing_amid_eight, gathered,
+                 unreadable, told, crowded, unheard, copied]
     unknown = set(sys.argv[1:]) - {it.__name__ for it in scenarios}
     if unknown:
         sys.exit(f"operating.py: there is no scenario {', '.join(sorted(unknown))}")
