@@ -18,7 +18,7 @@ SAMPLE_SECONDS=60
 long='checkpoint_lets_frames_go edge_is_held_before_its_read edge_waits_for_a_frame group_of_seven_puts_of_257_blocks
 no_frame_left_for_bytes read_of_old_bytes_fails_after_an_eviction area_of_half_the_bytes_is_full room_after_each_finish
 two_finishes_and_one_clean upgrade_in_a_checkpoint crash_in_an_upgrade three_areas_wait
-upgrade_behind_a_failed_write'
+upgrade_behind_a_failed_write device_fault_with_two_areas_waiting reads_while_three_areas_wait'
 
 # swept NAME: sweeps the script in the file `input`
 swept() {
