@@ -1,8 +1,8 @@
-ghost use Rattle.std.specs.Prelude.{◌≡◌, ◌≢◌, ◌==◌, ℕ, ◌<◌, ◌↔◌, List, [], length, false, IfErr, IfOk, IsTrue, OnOk, Err, Ok};
+ghost use Rattle.std.specs.Prelude.{◌≡◌, ◌≢◌, ◌==◌, ℕ, ◌+◌, ◌<◌, ◌↔◌, List, [], length, false, IfErr, IfOk, IsTrue, OnOk, Err, Ok};
 ghost use Rattle.checkpoint.specs.Keeper.{faults_by};
 ghost use Rattle.checkpoint.specs.Opening.{IsAtRest, IsOpening, IsPassing, disk_after, faults_after_opening};
 ghost use Rattle.checkpoint.specs.Recovery.{IsRecovered};
-ghost use Rattle.checkpoint.specs.inner.Recovery.{IsBegun, IsRecoveryFault};
+ghost use Rattle.checkpoint.specs.inner.Recovery.{IsBegun, IsRecoveryFault, headers_at};
 ghost use Rattle.checkpoint.specs.Steps.{copied_by, finished_by, left_in};
 ghost use Rattle.checkpoint.specs.declared.fault.KeeperFault.TheVariants as KeeperFault;
 ghost use Rattle.device_image.specs.Keeps.{Keeps};
@@ -76,9 +76,11 @@ impl<D: Disk> Keeper<D> {
         requires begun { IsBegun self.old.phase }
         ensures ok { OnOk result (IsRecovered self.new) }
         ensures sizes { OnOk result (self.new.geometry ≡ self.old.geometry) }
+        ensures generation { OnOk result (self.new.generation ≡ self.old.generation + length self.old.turned + headers_at self.old.used) }
         ensures idle { self.old.phase ≡ One → self.old.used ≡ 0 → (self.new ≡ self.old) × (result ≡ Ok tt) }
         ensures only { IfErr result IsRecoveryFault }
         ensures full { result ≡ Err KeeperFault.NumbersFull → self.new.generation ≡ 18446744073709551615 }
+        ensures lacks { result ≡ Err KeeperFault.NumbersFull → 18446744073709551615 < self.old.generation + length self.old.turned + headers_at self.old.used }
         ensures wanted { result ≡ Err KeeperFault.NumbersFull → self.new.phase ≡ One → self.new.used ≡ 0 → ⊥ }
         ensures extent { D.extent self.new.disk ≡ D.extent self.old.disk }
         ensures faults_ok { OnOk result (D.faults self.new.disk ≡ D.faults self.old.disk) }
@@ -106,9 +108,12 @@ impl<D: Disk> Keeper<D> {
         requires begun { IsBegun self.old.phase }
         ensures ok { OnOk result ((self.new.failed ≡ false) × (self.new.phase ≡ One) × (self.new.turned ≡ []) × (self.new.lefts ≡ [])) }
         ensures sizes { OnOk result (self.new.geometry ≡ self.old.geometry) }
+        ensures used { OnOk result (self.new.used ≡ self.old.used) }
+        ensures generation { OnOk result (self.new.generation ≡ self.old.generation + length self.old.turned) }
         ensures idle { self.old.phase ≡ One → (self.new ≡ self.old) × (result ≡ Ok tt) }
         ensures only { IfErr result IsRecoveryFault }
         ensures full { result ≡ Err KeeperFault.NumbersFull → self.new.generation ≡ 18446744073709551615 }
+        ensures lacks { result ≡ Err KeeperFault.NumbersFull → 18446744073709551615 < self.old.generation + length self.old.turned }
         ensures wanted { result ≡ Err KeeperFault.NumbersFull → self.new.phase ≡ One → ⊥ }
         ensures extent { D.extent self.new.disk ≡ D.extent self.old.disk }
         ensures faults_ok { OnOk result (D.faults self.new.disk ≡ D.faults self.old.disk) }
@@ -135,6 +140,7 @@ impl<D: Disk> Keeper<D> {
         ensures ok { OnOk result (self.new ≡ finished_by self.old self.new.disk self.new.memory) }
         ensures only { IfErr result IsRecoveryFault }
         ensures full { result ≡ Err KeeperFault.NumbersFull → self.new.generation ≡ 18446744073709551615 }
+        ensures last { result ≡ Err KeeperFault.NumbersFull → self.old.generation ≡ 18446744073709551615 }
         ensures wanted { result ≡ Err KeeperFault.NumbersFull → self.new.phase ≡ One → ⊥ }
         ensures extent { D.extent self.new.disk ≡ D.extent self.old.disk }
         ensures faults_ok { OnOk result (D.faults self.new.disk ≡ D.faults self.old.disk) }
