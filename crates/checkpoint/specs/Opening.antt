@@ -63,23 +63,23 @@ StandsAs found content = (image : Image) × (number : ℕ) × StandsFor found im
 abbrev pub IsAsFound : List ℕ → List ℕ → Type 0
 IsAsFound found content = (content ≡ found) ⊎ StandsAs found content
 
--- The first sync of an opening was good: until then a crash left what it could leave at the start, and then nothing but the
--- content found. From then on, at every moment and behind a refusal too, all that a crash may leave is as found.
+-- A sync of an opening was good: until then a crash left what it could leave at the start, and after it nothing but the content
+-- found. From then on, at every moment and after a refusal too, all that a crash may leave is as found.
 pub record IsFixed {D : Type 0} (before : State) (state : D → State) (after : State) (found : List ℕ) : Type 0 where
-  -- the device behind that sync
+  -- the device after that sync
   pub first : D
   pub synced : IsAllSynced (state first)
   pub seen : (state first).seen ≡ found
   pub until_then : LeavesOnly before (state first) (MayLeave before)
   pub from_then : LeavesOnly (state first) after (IsAsFound found)
 
--- The first sync of an opening failed, and with it the opening: the device is as that sync left it, and all that a crash may
+-- No sync of an opening was good, and the opening failed: the device is as a failed sync leaves it, and all that a crash may
 -- leave, or might have left, it could leave at the start.
 abbrev pub IsUnfixed : {D : Type 0} → State → (D → State) → Result (KeeperState D) (KeeperFault × D) → Type 0
 IsUnfixed before state (Ok keeper) = ⊥
 IsUnfixed before state (Err refused) = (refused.0 ≡ DeviceFault) × IsSyncFailed before (state refused.1) × LeavesOnly before (state refused.1) (MayLeave before)
 
--- what a crash may leave from the start of an opening to its end, by its first sync
+-- what a crash may leave from the start of an opening to its end, with a good sync or without one
 abbrev pub IsFixedOrNot : {D : Type 0} → State → (D → State) → Result (KeeperState D) (KeeperFault × D) → List ℕ → Type 0
 IsFixedOrNot before state result found = IsFixed before state (state (disk_after result)) found ⊎ IsUnfixed before state result
 
@@ -142,9 +142,9 @@ IsOutcome state (Ok keeper) found =
     × (keeper.geometry ≡ stands.header.geometry) × (keeper.generation ≡ stands.header.generation + headers_for stands.lists)
 IsOutcome state (Err refused) found = IsOpeningRefused refused.0 found (state refused.1).seen
 
--- A device in this state was opened, and this content was found, which its first sync fixes.
+-- A device in this state was opened, and this content was found, which a good sync fixes.
 pub record IsOpening {D : Type 0} (before : State) (state : D → State) (result : Result (KeeperState D) (KeeperFault × D)) (found : List ℕ) : Type 0 where
   pub fixed : MayLeave before found
   pub outcome : IsOutcome state result found
-  -- what a crash may leave meanwhile, and behind a refusal
+  -- what a crash may leave meanwhile, and after a refusal
   pub crash : IsFixedOrNot before state result found
