@@ -152,6 +152,10 @@ module _ {D : Type 0} where
   sizes_ended (Err fault) old new geometry same is = tt
   sizes_ended (Ok done) old new geometry same is = ap (λ (k : KeeperState D). k.geometry) is ∙ same
 
+  pub generation_ended : {T : Type 0} (result : Result T KeeperFault) (old new : KeeperState D) (generation : ℕ) → old.generation + 1 ≡ generation → OnOk result (new ≡ finished_by old new.disk new.memory) → OnOk result (new.generation ≡ generation)
+  generation_ended (Err fault) old new generation one_more is = tt
+  generation_ended (Ok done) old new generation one_more is = ap (λ (k : KeeperState D). k.generation) is ∙ one_more
+
   -- what an opening leaves once a checkpoint of the one area that was in use has ended
   pub recovered_by : {T : Type 0} (result : Result T KeeperFault) (old new : KeeperState D) (left : ℕ) → OnOk result (new ≡ finished_by old new.disk new.memory) → old.failed ≡ false → old.used ≡ 0 → old.turned ≡ old.count ∷ [] → old.lefts ≡ left ∷ []
       → OnOk result (Remembers new []) → OnOk result (IsRecovered new)

@@ -1,5 +1,5 @@
 -- What an opening finds, and what it leaves.
-use Rattle.std.proofs.Common.{◌≡◌, inl, inr, ⊎_elim, ℕ, ◌<◌, ◌^◌, Option, Some, None, Result, Ok, List, [], ◌∷◌, ◌++◌, length, refl, sym, ◌∙◌, ap, subst, arith}
+use Rattle.std.proofs.Common.{◌≡◌, inl, inr, ⊎_elim, ℕ, zero, suc, ◌+◌, ◌<◌, ◌^◌, Option, Some, None, Result, Ok, List, [], ◌∷◌, ◌++◌, length, refl, sym, ◌∙◌, ap, subst, arith}
 use Rattle.std.proofs.lemmas.List.Sums.{sum_by-cons}
 use Rattle.disk_model.specs.Disk.{State, IsAllSynced, LeavesOnly, MayLeave}
 use Rattle.disk_model.specs.laws.Contents.{leaves_seen}
@@ -9,18 +9,18 @@ use Rattle.image_model.specs.Image.{Image}
 use Rattle.image_model.specs.declared.command.Kind.{Kind}
 use Rattle.image_model.specs.declared.geometry.Geometry.{Geometry}
 use Rattle.journal_format.specs.Area.{AreaState}
-use Rattle.journal_format.specs.GroupList.{IsList, Stand, size_of, sizes_of}
+use Rattle.journal_format.specs.GroupList.{IsList, Stand, next_behind, size_of, sizes_of}
 use Rattle.journal_format.specs.Spelling.{StoredGroup}
 use Rattle.journal_format.specs.laws.OneList.{one_list}
 use Rattle.regions.specs.Layout.{area_at, areas_in, behind}
-use Rattle.device_image.specs.Keeper.{KeeperState, One, PlanState, earlier_of, phase_in, phase_of}
+use Rattle.device_image.specs.Keeper.{KeeperState, One, PlanState, earlier_of, phase_in, phase_of, turned_of}
 use Rattle.device_image.specs.Keeps.{AreHeld, Keeps, behind_lists}
 use Rattle.device_image.specs.Stands.{StandsFor, all_changes, area_of, areas_in_front, next_number}
 use Rattle.device_image.specs.laws.CheckpointBounds.{fronts_many}
 use Rattle.device_image.specs.laws.Frame.{moved_list}
 use Rattle.device_image.specs.laws.Sole.{same_header}
-use Rattle.checkpoint.specs.Opening.{HasLastGeneration, IsAtRest, IsFixedOrNot, IsOpeningRefused, IsRefused, StandsAs, disk_after}
-use Rattle.checkpoint.specs.inner.Recovery.{IsRecoveryFault}
+use Rattle.checkpoint.specs.Opening.{HasLastGeneration, IsAtRest, IsFixedOrNot, IsOpeningRefused, IsRefused, LacksGenerations, StandsAs, disk_after, headers_for, headers_for_last, headers_from}
+use Rattle.checkpoint.specs.inner.Recovery.{IsRecoveryFault, headers_at}
 use Rattle.checkpoint.specs.declared.fault.KeeperFault.{KeeperFault}
 use Rattle.checkpoint.specs.declared.fault.KeeperFault.TheVariants.{NoMemory, DeviceFault, BadMap, NoHeader, BadHeader, NumbersFull, AreaFull, OutOfOrder, DamagedGroup, NotNow, Failed, AreaSmall}
 
@@ -46,7 +46,44 @@ alone : (plans : List PlanState) (n : ℕ) → n ≡ length plans → n ≡ 0 �
 alone [] n many one = refl
 alone (plan ∷ plans) n many one = absurd (omega (arith, many, one))
 
+turned_many : (plans : List PlanState) → length (turned_of plans) ≡ length plans
+turned_many [] = refl
+turned_many (plan ∷ plans) = ap (λ (n : ℕ). suc n) (turned_many plans)
+
+front_many : (sides : List ℕ) (geometry : Geometry) (next : ℕ) (front : List (List StoredGroup)) (plans : List PlanState) (state : State) → AreHeld sides geometry next front (earlier_of plans) state → length front ≡ length plans
+front_many [] geometry next [] [] state held = refl
+front_many [] geometry next [] (plan ∷ plans) state held = absurd held
+front_many [] geometry next (groups ∷ front) plans state held = absurd held
+front_many (side ∷ sides) geometry next [] plans state held = absurd held
+front_many (side ∷ sides) geometry next (groups ∷ front) [] state held = absurd held
+front_many (side ∷ sides) geometry next (groups ∷ front) (plan ∷ plans) state held =
+    ap (λ (n : ℕ). suc n) (front_many sides geometry (next_behind next groups) front plans state held.2)
+
+headers_last : (groups : List StoredGroup) (used : ℕ) → used ≡ sizes_of groups → headers_at used ≡ headers_for_last groups
+headers_last [] used is = ap headers_at is
+headers_last (group ∷ groups) zero is = absurd (omega (arith, is, sum_by-cons size_of group groups))
+headers_last (group ∷ groups) (suc place) is = refl
+
+-- a header for each list in front of the last, and those for the last
+headers_after : (first : List StoredGroup) (front : List (List StoredGroup)) (groups : List StoredGroup) → headers_from first (front ++ groups ∷ []) ≡ length front + 1 + headers_for_last groups
+headers_after first [] groups = omega arith
+headers_after first (next ∷ front) groups = let rest = headers_after next front groups in omega (arith, rest)
+
+headers_all : (front : List (List StoredGroup)) (groups : List StoredGroup) → headers_for (front ++ groups ∷ []) ≡ length front + headers_for_last groups
+headers_all [] groups = omega arith
+headers_all (first ∷ front) groups = let rest = headers_after first front groups in omega (arith, rest)
+
 module _ {D : Type 0} (keeper : KeeperState D) (state : State) (image : Image) (number : ℕ) (keeps : Keeps keeper state image number) where
+  -- the generation after all headers that it takes to empty the journal
+  pub headers_left : keeper.turned ≡ turned_of keeper.memory.plans → keeper.generation + length keeper.turned + headers_at keeper.used ≡ keeps.stands.header.generation + headers_for keeps.stands.lists
+  headers_left turned =
+      let header = keeps.stands.header in
+      let in_turn : length keeper.turned ≡ length keeper.memory.plans = ap length turned ∙ turned_many keeper.memory.plans in
+      let fronts = front_many (areas_in_front header) header.geometry (next_number header.base) keeps.areas.front keeper.memory.plans state keeps.areas.earlier_held in
+      let last = headers_last keeps.areas.groups keeper.used keeps.taken in
+      let all : headers_for keeps.stands.lists ≡ length keeps.areas.front + headers_for_last keeps.areas.groups = ap headers_for keeps.areas.are ∙ headers_all keeps.areas.front keeps.areas.groups in
+      omega (arith, keeps.generation, in_turn, fronts, last, all)
+
   front_empty : keeper.memory.plans ≡ [] → keeps.areas.front ≡ []
   front_empty none =
       let header = keeps.stands.header in
@@ -119,7 +156,7 @@ refused_opening Failed found after refused = refused
 refused_opening AreaSmall found after refused = refused
 
 -- and one of a recovery
-pub refused_recovery : (fault : KeeperFault) (found after : List ℕ) → IsRecoveryFault fault → (fault ≡ NumbersFull → StandsAs found after × HasLastGeneration after × (IsAtRest after → ⊥)) → IsOpeningRefused fault found after
+pub refused_recovery : (fault : KeeperFault) (found after : List ℕ) → IsRecoveryFault fault → (fault ≡ NumbersFull → StandsAs found after × HasLastGeneration after × (IsAtRest after → ⊥) × LacksGenerations found) → IsOpeningRefused fault found after
 refused_recovery NoMemory found after cause full = tt
 refused_recovery DeviceFault found after cause full = tt
 refused_recovery BadMap found after cause full = absurd cause

@@ -55,11 +55,11 @@ abbrev pub IsUpgradeOutcome : {D : Type 0} → (D → State) → Result (KeeperS
 IsUpgradeOutcome state (Ok keeper) found = (image : Image) × StandsFor found image keeper.count × Keeps keeper (state keeper.disk) image keeper.count × (keeper.base ≡ keeper.count)
 IsUpgradeOutcome state (Err refused) found = IsUpgradeRefused refused.0 found (state refused.1).seen
 
--- A device in this state was upgraded, and this content was found, which its first sync fixes.
+-- A device in this state was upgraded, and this content was found, which a good sync fixes.
 pub record IsUpgrade {D : Type 0} (before : State) (state : D → State) (result : Result (KeeperState D) (KeeperFault × D)) (found : List ℕ) : Type 0 where
   pub fixed : MayLeave before found
   pub outcome : IsUpgradeOutcome state result found
-  -- what a crash may leave meanwhile, and behind a refusal
+  -- what a crash may leave meanwhile, and after a refusal
   pub crash : IsFixedOrNot before state result found
 
 -- What a keeper is once its header says layout 2: one change of the header, into the other slot, and no more.

@@ -48,6 +48,7 @@ pub fn load<D: Disk>(alloc: Global, mut disk: D) -> Result<Keeper<D>, (KeeperFau
     ensures honest { D.honest (disk_after result) ↔ D.honest disk }
     ensures works { IfOk result (λ keeper. keeper.failed ≡ false) }
     ensures begun { IfOk result (λ keeper. IsBegun keeper.phase) }
+    ensures turned { IfOk result (λ keeper. keeper.turned ≡ turned_of keeper.memory.plans) }
 
     ensures found { D.honest disk → MatchResult result
         (λ keeper. (image : Image) × Keeps keeper (D.state keeper.disk) image keeper.count)

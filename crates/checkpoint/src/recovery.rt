@@ -1,8 +1,8 @@
-ghost use Rattle.std.specs.Prelude.{◌≡◌, ◌≢◌, ◌==◌, ℕ, ◌<◌, ◌↔◌, List, [], length, false, IfErr, IfOk, IsTrue, OnOk, Err, Ok};
+ghost use Rattle.std.specs.Prelude.{◌≡◌, ◌≢◌, ◌==◌, ℕ, ◌+◌, ◌<◌, ◌↔◌, List, [], length, false, IfErr, IfOk, IsTrue, OnOk, Err, Ok};
 ghost use Rattle.checkpoint.specs.Keeper.{faults_by};
 ghost use Rattle.checkpoint.specs.Opening.{IsAtRest, IsOpening, IsPassing, disk_after, faults_after_opening};
 ghost use Rattle.checkpoint.specs.Recovery.{IsRecovered};
-ghost use Rattle.checkpoint.specs.inner.Recovery.{IsBegun, IsRecoveryFault};
+ghost use Rattle.checkpoint.specs.inner.Recovery.{IsBegun, IsRecoveryFault, headers_at};
 ghost use Rattle.checkpoint.specs.Steps.{copied_by, finished_by, left_in};
 ghost use Rattle.checkpoint.specs.declared.fault.KeeperFault.TheVariants as KeeperFault;
 ghost use Rattle.device_image.specs.Keeps.{Keeps};
@@ -26,13 +26,13 @@ impl<D: Disk> Keeper<D> {
     /// Opens the device, and recovers it: the checkpoints of areas in front of the last are ended one after another, and where
     /// groups are left in the journal another one empties it.
     ///
-    /// The device is synced first. Where one area is in use and its list is empty nothing is written; else the blocks are
-    /// copied up to 256 at a time, in one read and one write. It takes memory for two maps, as each new one is made beside
-    /// the one in force, for what each command of the journal touched and the last touches of the blocks, for 1 MiB while an
-    /// area is scanned, and for one copy, of at most 1 MiB.
+    /// It syncs and reads the device. If one area is in use and its list is empty, nothing is written; otherwise blocks are
+    /// copied, up to 256 in one read and one write. It takes memory for two maps, because each new one is made while the old one
+    /// is in force, for what each command of the journal touched and the last touches of the blocks, for 1 MiB while an area is
+    /// scanned, and for one copy of at most 1 MiB.
     ///
     /// A refusal hands the device back: 7 (no header), 8 (bad header), 6 (bad map) and 12 (damaged group, in an area in
-    /// use), the first of these that applies; 9 (numbers full), where a header of the recovery has no greater generation;
+    /// use), the first of these that applies; 9 (numbers full), if fewer generations are left than the recovery writes headers;
     /// 0 (no memory) and 1 (device fault).
     pub fn open(alloc: Global, disk: D) -> Result<Keeper<D>, (KeeperFault, D)>
         ensures extent { D.extent (disk_after result) ≡ D.extent disk }
@@ -41,9 +41,9 @@ impl<D: Disk> Keeper<D> {
         ensures recovered { IfOk result IsRecovered }
 
         // On an honest device there is a content, one that a crash at the start may leave, that is found: at `Ok` it stands
-        // for an image, which the keeper keeps with an empty journal, and a refusal says what is bad of it. Until the first
-        // sync is good, and where it fails, a crash leaves what it could leave at the start; from then on, at every moment
-        // and behind every refusal, the content found or what stands for the same.
+        // for an image, which the keeper keeps with an empty journal, and each header that was written has the generation after
+        // the one before it; a refusal says what is bad of it. Until a sync is good, and if none is, a crash leaves what it could
+        // leave at the start; from then on, at every moment and after every refusal, the content found or what stands for the same.
         ensures found { D.honest disk → (content : List ℕ) × IsOpening (D.state disk) D.state result content }
 
         // Where nothing is unsynced at the start and the content stands for an image, the keeper keeps that one, only want
@@ -76,9 +76,11 @@ impl<D: Disk> Keeper<D> {
         requires begun { IsBegun self.old.phase }
         ensures ok { OnOk result (IsRecovered self.new) }
         ensures sizes { OnOk result (self.new.geometry ≡ self.old.geometry) }
+        ensures generation { OnOk result (self.new.generation ≡ self.old.generation + length self.old.turned + headers_at self.old.used) }
         ensures idle { self.old.phase ≡ One → self.old.used ≡ 0 → (self.new ≡ self.old) × (result ≡ Ok tt) }
         ensures only { IfErr result IsRecoveryFault }
         ensures full { result ≡ Err KeeperFault.NumbersFull → self.new.generation ≡ 18446744073709551615 }
+        ensures lacks { result ≡ Err KeeperFault.NumbersFull → 18446744073709551615 < self.old.generation + length self.old.turned + headers_at self.old.used }
         ensures wanted { result ≡ Err KeeperFault.NumbersFull → self.new.phase ≡ One → self.new.used ≡ 0 → ⊥ }
         ensures extent { D.extent self.new.disk ≡ D.extent self.old.disk }
         ensures faults_ok { OnOk result (D.faults self.new.disk ≡ D.faults self.old.disk) }
@@ -106,9 +108,12 @@ impl<D: Disk> Keeper<D> {
         requires begun { IsBegun self.old.phase }
         ensures ok { OnOk result ((self.new.failed ≡ false) × (self.new.phase ≡ One) × (self.new.turned ≡ []) × (self.new.lefts ≡ [])) }
         ensures sizes { OnOk result (self.new.geometry ≡ self.old.geometry) }
+        ensures used { OnOk result (self.new.used ≡ self.old.used) }
+        ensures generation { OnOk result (self.new.generation ≡ self.old.generation + length self.old.turned) }
         ensures idle { self.old.phase ≡ One → (self.new ≡ self.old) × (result ≡ Ok tt) }
         ensures only { IfErr result IsRecoveryFault }
         ensures full { result ≡ Err KeeperFault.NumbersFull → self.new.generation ≡ 18446744073709551615 }
+        ensures lacks { result ≡ Err KeeperFault.NumbersFull → 18446744073709551615 < self.old.generation + length self.old.turned }
         ensures wanted { result ≡ Err KeeperFault.NumbersFull → self.new.phase ≡ One → ⊥ }
         ensures extent { D.extent self.new.disk ≡ D.extent self.old.disk }
         ensures faults_ok { OnOk result (D.faults self.new.disk ≡ D.faults self.old.disk) }
@@ -135,6 +140,7 @@ impl<D: Disk> Keeper<D> {
         ensures ok { OnOk result (self.new ≡ finished_by self.old self.new.disk self.new.memory) }
         ensures only { IfErr result IsRecoveryFault }
         ensures full { result ≡ Err KeeperFault.NumbersFull → self.new.generation ≡ 18446744073709551615 }
+        ensures last { result ≡ Err KeeperFault.NumbersFull → self.old.generation ≡ 18446744073709551615 }
         ensures wanted { result ≡ Err KeeperFault.NumbersFull → self.new.phase ≡ One → ⊥ }
         ensures extent { D.extent self.new.disk ≡ D.extent self.old.disk }
         ensures faults_ok { OnOk result (D.faults self.new.disk ≡ D.faults self.old.disk) }

@@ -1,4 +1,5 @@
 pub mod Left
+pub mod Noted
 pub mod Opened
 pub mod Submits
 pub mod Trusted

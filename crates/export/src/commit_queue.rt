@@ -2,6 +2,7 @@
 ghost use Rattle.std.specs.Prelude.{ℕ, List, ◌≡◌, ◌≢◌, ◌+◌, ◌-◌, ◌*◌, ◌/◌, IfErr, IfOk, IfSome, IsErr, OnErr, length, max, slice_range, vec_len};
 ghost use mathlib.Core.List.{IsPrefix};
 ghost use Rattle.disk_model.specs.Disk.{MayLeave};
+ghost use Rattle.export.specs.Noted.{base_of};
 ghost use Rattle.export.specs.inner.Submits.{FitsServed, IsServedFor, IsShownFor, serves_image};
 ghost use Rattle.image_model.specs.Edit.{blocks_met};
 ghost use Rattle.image_model.specs.Image.{apply_all};
@@ -31,20 +32,27 @@ use std::alloc::Global;
 /// Pending commands of more than so many bytes are stored though nobody waits for them.
 const MOST_PENDING_BYTES: u64 = 4_194_304;
 
-/// What of the device is read with no lock held.
+/// A base that the order of an export has noted. Only the queue under the order's lock makes one, so each comes from a moment at which
+/// the order had noted it.
+#[derive(Clone, Copy)]
+pub struct NotedBase {
+    number: u64,
+}
+
+/// What of the device is read without a lock.
 #[derive(Clone, Copy)]
 pub(crate) struct Planned {
     /// The blocks.
     pub span: Span,
     /// The base that the order had noted when they were found missing.
-    pub settled: u64,
+    pub settled: NotedBase,
 }
 
 /// The order of an export, and what its threads ask of one another.
 pub(crate) struct CommitQueue<B: ExportName> {
     order: SharedOrder<B>,
     // The base that the order has noted: the number up to which the frames of written blocks were let go.
-    pub(crate) settled: u64,
+    pub(crate) settled: NotedBase,
     // The frames for blocks.
     frames: u32,
     // The passes that haven't left.
@@ -68,7 +76,7 @@ pub(crate) struct CommitQueue<B: ExportName> {
     // By how much clients that write are slowed down.
     throttle: Throttle,
     ghost blocks: { length order.cache.states ≡ B.geometry.blocks },
-    ghost noted: { settled ≡ order.base },
+    ghost noted: { settled.number ≡ order.base },
 }
 
 impl<B: ExportName> Drop for CommitQueue<B> {
@@ -130,11 +138,11 @@ impl<B: ExportName> CommitQueue<B> {
         requires blocks { length order.cache.states ≡ B.geometry.blocks }
         requires noted { settled ≡ order.base }
         ensures order { result.order ≡ order }
-        ensures settled { result.settled ≡ settled }
+        ensures settled { result.settled.number ≡ settled }
     {
         CommitQueue {
             order,
-            settled,
+            settled: NotedBase { number: settled },
             frames,
             passes,
             wanted: 0,
@@ -173,7 +181,7 @@ impl<B: ExportName> CommitQueue<B> {
         Ok(served)
     }
 
-    /// What of the device is to be read for a READ before it is served; None for another request.
+    /// The span of the device that a READ needs, and the base that the order has noted; None for another request.
     pub(crate) fn plan(&self, request: &Request, terms: &Terms) -> Option<Planned>
         requires { terms.now.geometry ≡ B.geometry }
         ensures planned { IfSome result (λ planned. IsPlanned request.now.head terms.now.geometry terms.now.flags planned.span) }
@@ -188,16 +196,16 @@ impl<B: ExportName> CommitQueue<B> {
 
     /// The blocks of which a write command takes old bytes from the device.
     pub(crate) fn missing_edges(&self, head: &RequestHead) -> MissingEdges {
-        MissingEdges::of(head, self.order.order())
+        MissingEdges::of(head, self.order.order(), self.settled)
     }
 
-    /// Serves a READ with bytes that were read of the device with no lock held. They come back where they may be others than
-    /// those that the blocks have now, or where another block is needed.
+    /// Serves a READ with bytes of the device that were read without locks. They come back if the blocks may have other bytes now, or
+    /// another block is needed.
     ///
-    /// They may be others only where the order has noted another base, and frames were let go with that. For while it is the same, no
-    /// command behind it has touched a block that is data now and isn't in memory: had the last one cleared it, it would be no data,
-    /// and had the last one written it, its frame would be dirty until a clean. So the block is as at that base; and a checkpoint
-    /// writes the places of such blocks alone as a command behind it writes.
+    /// The blocks may have other bytes only if the order has noted another base since, when frames were let go. While the base is the
+    /// same, no command after it has touched a block that is data now and isn't in memory: if the last such command had cleared the
+    /// block it would be no data, and if it had written the block its frame would be dirty until a clean. So the block is as at that
+    /// base; and a checkpoint writes only the places of blocks that a command after the base writes.
     pub(crate) fn serve_over<H: ReadBeside>(
         &mut self,
         alloc: Global,
@@ -212,7 +220,7 @@ impl<B: ExportName> CommitQueue<B> {
         requires planned { IsPlanned request.now.head terms.now.geometry terms.now.flags planned.span }
         requires geometry { terms.now.geometry ≡ B.geometry }
         requires vouched { (read : SpanRead) → H.vouches handle.now read → ∥ B.vouches read ∥₁ }
-        requires given { H.gives handle.now (block_at terms.now.geometry planned.span.first)
+        requires given { H.gives handle.now (base_of planned.settled) (block_at terms.now.geometry planned.span.first)
             (slice_range bytes.items (4096 * (planned.span.first - request.now.head.offset / 4096)) (4096 * (planned.span.end - request.now.head.offset / 4096))) }
         requires size { vec_len bytes ≡ 4096 * blocks_met request.now.head.offset request.now.head.length }
         ensures served { IfOk result (λ served. IsServedFor B.opening B.image (Trusting B.opening B.image B.vouches B.trusted) request.now terms.now.mode pass.old pass.new served) }
@@ -223,7 +231,7 @@ impl<B: ExportName> CommitQueue<B> {
         ensures over { IfOk result (λ served. IsReadOverServed request.now.head planned.span bytes.items self.old.order self.new.order served) }
 
         // Nothing is served of bytes that were read before frames were let go.
-        ensures let_go { planned.settled ≢ self.old.settled → IsErr result }
+        ensures let_go { planned.settled.number ≢ self.old.settled.number → IsErr result }
 
         // Where the bytes come back order and pass are as they were, and the rest of the queue is always.
         ensures unchanged { OnErr result ((self.new.order ≡ self.old.order) × (pass.new ≡ pass.old)) }
@@ -232,7 +240,7 @@ impl<B: ExportName> CommitQueue<B> {
             × (self.new.wish ≡ self.old.wish) × (self.new.is_flushed ≡ self.old.is_flushed) × (self.new.cannot_store ≡ self.old.cannot_store) × (self.new.cannot_copy ≡ self.old.cannot_copy) × (self.new.interval ≡ self.old.interval)
             × (self.new.throttle ≡ self.old.throttle) }
     {
-        if planned.settled != self.settled {
+        if planned.settled.number != self.settled.number {
             return Err(bytes);
         }
         let head = request.head();
@@ -324,8 +332,7 @@ impl<B: ExportName> CommitQueue<B> {
         self.want(number);
     }
 
-    /// Whether more are expected to wait for the next group, and nothing asks for it at once. Where there is one pass, nobody
-    /// else comes.
+    /// Whether more are expected to wait for the next group, and nothing asks for it at once. With one pass nobody else comes.
     pub(crate) fn is_worth_gathering(&self) -> bool {
         self.passes > 1
             && !self.lacks_room
@@ -353,8 +360,8 @@ impl<B: ExportName> CommitQueue<B> {
         }
     }
 
-    /// Wants a checkpoint where a quarter of the frames is dirty; whether it is wanted since now. Where no area waits to be copied,
-    /// these were dirtied since one was last taken into use; where one does, no other comes into use for that.
+    /// Wants a checkpoint if a quarter of the frames is dirty; whether it is wanted from now on. If no area waits to be copied, these
+    /// were dirtied since one was last taken into use; if one does, no other comes into use because of it.
     pub(crate) fn look_at_frames(&mut self) -> bool
         ensures { self.new.settled ≡ self.old.settled }
     {
@@ -545,15 +552,17 @@ impl<B: ExportName> CommitQueue<B> {
         self.order.meet_all(board, keeper, pass)
     }
 
-    /// Lets the frames go whose blocks the image holds. A checkpoint that was wanted is done, and is wanted again where the area
-    /// is full.
+    /// Lets go of the frames whose blocks the image holds. A checkpoint that was wanted is done, and is wanted again if the area is
+    /// full.
     pub(crate) fn clean<D: Disk>(&mut self, board: &Board<B>, keeper: &mut SharedKeeper<B, D>)
-        ensures settled { self.new.settled ≡ keeper.old.keeper.base }
+        ensures settled { self.new.settled.number ≡ keeper.old.keeper.base }
         ensures order { self.new.order ≡ with_clean (record self.old.order { base = max self.old.order.base keeper.old.keeper.base }) keeper.old.keeper.base }
         ensures keeper { keeper.new.keeper ≡ keeper.old.keeper }
     {
         self.order.clean(board, keeper);
-        self.settled = keeper.keeper().base();
+        self.settled = NotedBase {
+            number: keeper.keeper().base(),
+        };
         self.forget_wish();
     }
 

@@ -1,5 +1,6 @@
 //! The blocks of which a write command takes old bytes from the device.
 
+use crate::commit_queue::NotedBase;
 use image_model::BLOCK_BYTES;
 use marks::BoardName;
 use nbd_wire::RequestHead;
@@ -10,16 +11,23 @@ use order_book::Order;
 pub(crate) struct MissingEdges {
     pub first: Option<u64>,
     pub last: Option<u64>,
+    /// The base that the order had noted then.
+    pub settled: NotedBase,
 }
 
 impl MissingEdges {
-    pub(crate) fn of<B: BoardName>(head: &RequestHead, order: &Order<B>) -> MissingEdges {
+    pub(crate) fn of<B: BoardName>(
+        head: &RequestHead,
+        order: &Order<B>,
+        settled: NotedBase,
+    ) -> MissingEdges {
         let end = head.offset.saturating_add(u64::from(head.length));
         let first = missing_at(order, head.offset);
         let last = missing_at(order, end);
         MissingEdges {
             first,
             last: if last == first { None } else { last },
+            settled,
         }
     }
 }

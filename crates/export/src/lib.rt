@@ -22,6 +22,7 @@ mod sync_points;
 mod throttling;
 
 pub use beside::ReadBeside;
+pub use commit_queue::NotedBase;
 pub use export::{Export, OpenDevice};
 pub use laws::{answer_law, opened_device_law};
 pub use name::ExportName;

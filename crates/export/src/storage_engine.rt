@@ -206,7 +206,7 @@ impl<B: ExportName, D: Disk> StorageEngine<B, D> {
 
     /// Lets the frames of a queue go whose blocks map and data hold.
     pub(crate) fn clean(&mut self, queue: &mut CommitQueue<B>, board: &Board<B>)
-        ensures { queue.new.settled ≡ self.old.shared.keeper.base }
+        ensures { queue.new.settled.number ≡ self.old.shared.keeper.base }
     {
         queue.clean(board, &mut self.shared);
     }

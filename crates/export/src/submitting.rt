@@ -1,5 +1,6 @@
 ghost use Rattle.std.specs.Prelude.{◌≡◌, ◌≢◌, ◌⊎◌, ◌≤◌, ◌<◌, ◌-◌, ◌*◌, max, IfNone, IfSome, OnOk, length, slice_range, vec_len};
 ghost use mathlib.Core.List.{IsPrefix};
+ghost use Rattle.export.specs.Noted.{base_of};
 ghost use Rattle.export.specs.Submits.{IsCovered, IsJudged, IsSubmitted};
 ghost use Rattle.export.specs.inner.Submits.{FitsServed, IsServedFor, IsUnserved, IsWaitedFor};
 ghost use Rattle.export.specs.inner.Outcomes.{ComesToImage, FitsOutcome, IsOutcomeFor};
@@ -24,17 +25,16 @@ use disk_model::{DeviceFault, Disk};
 use image_model::BLOCK_BYTES;
 use marks::{Pass, Told};
 use nbd_wire::{Answer, Errno, FLUSH, Reply, Request, SessionFlags};
-use order_book::Span;
 use regions::Regions;
 use request_core::{Action, Blocks, NeedsKeeper, Served, Terms, judge};
 use std::sync::Wait;
 
-/// So often a READ tries to be read beside the locks, before it waits for the keeper.
+/// How often a READ is tried without locks before it waits for the keeper.
 const MOST_TRIES: u32 = 2;
 
 impl<B: ExportName, D: Disk, H: ReadBeside> Export<B, D, H> {
-    /// What all that was accepted by now is answered with a FLUSH: Done where it is durable, and else nothing. It waits for
-    /// nobody and takes no lock.
+    /// The answer to a FLUSH sent now: Done if all that was accepted by now is durable, and otherwise nothing. It waits for nobody and
+    /// takes no lock.
     pub fn flush_now(&self, pass: &mut Pass<B>) -> Option<Answer>
         ensures done { IfSome result (λ answer. (answer ≡ Answer.Done) × (known pass.old ≤ pass.new.accepted) × (pass.new.accepted ≤ pass.new.durable)) }
         ensures none { IfNone result (pass.new.durable < pass.new.accepted) }
@@ -74,12 +74,11 @@ impl<B: ExportName, D: Disk, H: ReadBeside> Export<B, D, H> {
 impl<B: ExportName, D: Disk, H: ReadBeside> Export<B, D, H> {
     /// Serves a request that isn't a DISC, for a pass, to its reply. It may wait: for room, and until what it says is durable.
     ///
-    /// A request that is refused by the rules on requests is answered with their error, and any other one with EIO after a
-    /// device fault, ENOMEM where memory is refused, ENOSPC where no number is left, or what was asked for. When one of these comes
-    /// isn't said.
+    /// A request that the rules on requests refuse gets their error. Any other one gets EIO after a device fault, ENOMEM if memory is
+    /// refused, ENOSPC if no number is left, or what was asked for. The contract doesn't say when each of these comes.
     ///
-    /// Where a read by the second handle fails, the request that it is for is answered EIO, and nothing else changes. So are requests that
-    /// wait to be stored, where memory for that has been refused for a second.
+    /// If a read by the second handle fails, its request gets EIO, and nothing else changes. Requests that wait to be stored get EIO too
+    /// once memory for storing has been refused for a second.
     pub fn submit<R: Wait>(
         &self,
         rt: &R,
@@ -111,7 +110,7 @@ impl<B: ExportName, D: Disk, H: ReadBeside> Export<B, D, H> {
         }
     }
 
-    /// Takes a reply back that isn't needed any more, whose room is used for another READ.
+    /// Takes back a reply that isn't needed any more, and uses its room for another READ.
     pub fn reuse<R: Wait>(&self, rt: &R, reply: Reply) {
         match reply.answer {
             Answer::Bytes(read) => self.keep_room(rt, read.into_bytes()),
@@ -119,7 +118,7 @@ impl<B: ExportName, D: Disk, H: ReadBeside> Export<B, D, H> {
         }
     }
 
-    // Keeps room for another READ, where it is long.
+    // Keeps the room for another READ if it is long.
     fn keep_room<R: Wait>(&self, rt: &R, room: Vec<u8>) {
         if room.len() >= LEAST_KEPT {
             self.buffers.lock(rt).put(room);
@@ -146,7 +145,7 @@ impl<B: ExportName, D: Disk, H: ReadBeside> Export<B, D, H> {
         unreachable!()
     }
 
-    // Serves a request under the order's lock alone, where that can be. Where there is no room for it, some is waited for.
+    // Serves a request under the order's lock alone, if it can. If there is no room for it, it waits for some.
     fn serve_once<R: Wait>(
         &self,
         rt: &R,
@@ -189,8 +188,8 @@ impl<B: ExportName, D: Disk, H: ReadBeside> Export<B, D, H> {
         served
     }
 
-    // Serves a request for which the device is needed: a planned one beside the locks, where that can be, else with the keeper; but not
-    // one that takes old bytes which the second handle can't read.
+    // Serves a request that needs the device: a planned one without locks if it can, and any other one with the keeper. It refuses one
+    // that takes old bytes which the second handle can't read.
     fn serve_missing<R: Wait>(
         &self,
         rt: &R,
@@ -216,8 +215,8 @@ impl<B: ExportName, D: Disk, H: ReadBeside> Export<B, D, H> {
         }
     }
 
-    // Whether the second handle, where there is one, can read the blocks of which a write command takes old bytes. A fault is met here,
-    // and not by the keeper, whose faults stop the export.
+    // Whether the second handle, if there is one, can read the blocks of which a write command takes old bytes. A fault is met here
+    // because the keeper's faults stop the export.
     fn can_read(&self, edges: MissingEdges) -> bool {
         let Some(handle) = &self.beside else {
             return true;
@@ -231,16 +230,16 @@ impl<B: ExportName, D: Disk, H: ReadBeside> Export<B, D, H> {
                 continue;
             }
             let from = Regions::of(&self.geometry).block_from(block);
-            if handle.read_beside(from, &mut bytes).is_err() {
+            if handle.read_beside(edges.settled, from, &mut bytes).is_err() {
                 return false;
             }
         }
         true
     }
 
-    // Serves a READ whose missing blocks are read with no lock held; not where nothing is planned, there is no second handle or no
-    // memory, or what was read isn't enough each time. Where a read fails the READ is answered EIO: it doesn't come to the keeper, whose
-    // faults stop the export.
+    // Serves a READ whose missing blocks are read without locks. None if nothing is planned, there is no second handle or no memory, or
+    // what was read wasn't enough each time. If a read fails the READ gets EIO: the keeper doesn't try it, because its faults stop the
+    // export.
     fn serve_beside<R: Wait>(
         &self,
         rt: &R,
@@ -268,7 +267,7 @@ impl<B: ExportName, D: Disk, H: ReadBeside> Export<B, D, H> {
             return None;
         };
         for _ in 0..MOST_TRIES {
-            let Ok(()) = self.read_span(handle, blocks.first, planned.span, &mut bytes) else {
+            let Ok(()) = self.read_span(handle, blocks.first, planned, &mut bytes) else {
                 return Some(refuse(request, terms, Errno::Io));
             };
             let mut queue = self.queue.lock(rt);
@@ -307,24 +306,27 @@ impl<B: ExportName, D: Disk, H: ReadBeside> Export<B, D, H> {
         vec![in self.alloc; 0; length].ok()
     }
 
-    // Reads the blocks of a span, in one call and with no lock held, to their places behind the first block.
+    // Reads the blocks of a planned span, in one call and without a lock, to their places behind the first block.
     fn read_span(
         &self,
         handle: &H,
         first: u64,
-        span: Span,
+        planned: Planned,
         into: &mut [u8],
     ) -> Result<(), DeviceFault>
-        requires from { first ≤ span.first }
-        requires order { span.first ≤ span.end }
-        requires inside { 4096 * (span.end - first) ≤ length into.old }
-        requires there { span.first < self.now.geometry.blocks }
+        requires from { first ≤ planned.span.first }
+        requires order { planned.span.first ≤ planned.span.end }
+        requires inside { 4096 * (planned.span.end - first) ≤ length into.old }
+        requires there { planned.span.first < self.now.geometry.blocks }
         ensures size { length into.new ≡ length into.old }
-        ensures place { OnOk result (H.gives handle.now (block_at self.now.geometry span.first) (slice_range into.new (4096 * (span.first - first)) (4096 * (span.end - first)))) }
+        ensures place { OnOk result (H.gives handle.now (base_of planned.settled) (block_at self.now.geometry planned.span.first)
+            (slice_range into.new (4096 * (planned.span.first - first)) (4096 * (planned.span.end - first)))) }
     {
+        let span = planned.span;
         let from = (BLOCK_BYTES * (span.first - first)) as usize;
         let end = (BLOCK_BYTES * (span.end - first)) as usize;
         handle.read_beside(
+            planned.settled,
             Regions::of(&self.geometry).block_from(span.first),
             &mut into[from..end],
         )
@@ -366,7 +368,7 @@ impl<B: ExportName, D: Disk, H: ReadBeside> Export<B, D, H> {
             return Answer::Done;
         }
         let mut queue = self.queue.lock(rt);
-        // Who finds it durable by now doesn't wait, and isn't counted.
+        // If it is durable by now, nobody waits, and nobody is counted.
         if self.board.look_durable(pass) >= number {
             return Answer::Done;
         }
@@ -384,7 +386,7 @@ impl<B: ExportName, D: Disk, H: ReadBeside> Export<B, D, H> {
         unreachable!()
     }
 
-    /// Takes a pass for good: no request is submitted for it any more.
+    /// Takes a pass for which no request will be submitted any more.
     pub fn leave<R: Wait>(&self, rt: &R, pass: Pass<B>) -> RetiredPass<B>
         ensures { result ≡ pass }
     {

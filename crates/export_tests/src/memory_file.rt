@@ -1,6 +1,6 @@
 //! A file in memory, which several handles share, and a handle whose reads are held.
 use disk_model::DeviceFault;
-use export::{ExportName, ReadBeside};
+use export::{ExportName, NotedBase, ReadBeside};
 use image_model::Geometry;
 use order_book::{Order, Span};
 use std::fs::{Metadata, OpenFile};
@@ -120,11 +120,16 @@ pub struct HeldHandle<'a, R: Wait + Clock> {
 }
 
 impl<'a, R: Wait + Clock> ReadBeside for HeldHandle<'a, R> {
-    ghost gives = { λ handle offset bytes. Unit {0} };
+    ghost gives = { λ handle asked offset bytes. Unit {0} };
 
     ghost vouches = { λ handle read. Unit {0} };
 
-    fn read_beside(&self, offset: u64, into: &mut [u8]) -> Result<(), DeviceFault> {
+    fn read_beside(
+        &self,
+        _asked: NotedBase,
+        offset: u64,
+        into: &mut [u8],
+    ) -> Result<(), DeviceFault> {
         let Ok(()) = self.file.read_exact_at(into, offset) else {
             return Err(DeviceFault);
         };
@@ -142,7 +147,7 @@ impl<'a, R: Wait + Clock> ReadBeside for HeldHandle<'a, R> {
         _first: u64,
         _span: Span,
         _bytes: &[u8],
-        _asked: u64,
+        _asked: NotedBase,
         _order: &Order<B>,
     ) -> bool {
         true

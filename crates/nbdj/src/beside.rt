@@ -1,6 +1,6 @@
 use crate::server_log::{ServerLog, Topic};
 use disk_model::DeviceFault;
-use export::{ExportName, ReadBeside};
+use export::{ExportName, NotedBase, ReadBeside};
 use image_model::Geometry;
 use order_book::{Order, Span};
 use std::fs::File;
@@ -17,11 +17,16 @@ pub struct SecondHandle<'a, R> {
 
 impl<'a, R: Wait + Clock> ReadBeside for SecondHandle<'a, R> {
     // Nothing is claimed of what a file holds.
-    ghost gives = { λ handle offset bytes. Unit {0} };
+    ghost gives = { λ handle asked offset bytes. Unit {0} };
 
     ghost vouches = { λ handle read. Unit {0} };
 
-    fn read_beside(&self, offset: u64, into: &mut [u8]) -> Result<(), DeviceFault> {
+    fn read_beside(
+        &self,
+        _asked: NotedBase,
+        offset: u64,
+        into: &mut [u8],
+    ) -> Result<(), DeviceFault> {
         match self.file.read_exact_at(into, offset) {
             Ok(()) => Ok(()),
             Err(error) => {
@@ -41,7 +46,7 @@ impl<'a, R: Wait + Clock> ReadBeside for SecondHandle<'a, R> {
         _first: u64,
         _span: Span,
         _bytes: &[u8],
-        _asked: u64,
+        _asked: NotedBase,
         _order: &Order<B>,
     ) -> bool {
         true

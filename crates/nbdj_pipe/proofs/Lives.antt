@@ -114,7 +114,7 @@ module _ {D : Type 0} (state : D → State) (faults : D → ℕ) (honest : D →
       → IsFound ((first_world trusted keeper (image_of trusted given) (faults keeper.disk) frames 1 plain mode).stage.setting) (state start) (state keeper.disk)
   found_of true given is =
       let (content, opening) = found (given refl) in
-      let (image, stands, keeps, base, sizes) = opening.outcome in
+      let (image, stands, keeps, base, sizes, generation) = opening.outcome in
       record { content = content; fixed = opening.fixed; stands = stands; sizes = sizes; seen = keeps.stands; geometry = keeps.sizes; generation = keeps.generation; base = sym base ∙ keeps.from_base; any_moment = each_left (state start) state content opening.fixed (Ok keeper) opening.crash }
   found_of false given is = cc
 

@@ -3,6 +3,6 @@
 pub enum Kept {
     /// Each for which there is a frame that isn't dirty.
     All,
-    /// Memory was refused for one: only those in front of it.
+    /// Some first ones, perhaps none: memory was refused.
     NoMemory,
 }

@@ -25,8 +25,8 @@ use std::fmt::Display;
 use std::io::{Read, Write};
 use std::marker::Brand;
 
-/// Runs a script from `input` on a simulated device, by `docs/SCRIPTS.md`, and answers the exit status: 0 where it is
-/// done, 2 where a line is no step, 1 where an opening or something else is refused.
+/// Runs a script from `input` on a simulated device, by `docs/SCRIPTS.md`, and answers the exit status: 0 if it is done, 2
+/// if a line is no step, 1 if an opening or something else is refused.
 ///
 /// The lines come one by one, and what a line prints is written before the next is read.
 pub fn script<R: Read, W: Write, E: Write>(
@@ -133,8 +133,8 @@ impl Drop for Course {
 }
 
 impl Course {
-    // Carries out the lines of one life of the device, whose board gets its name here; what the next life begins with, where it
-    // ends by a crash or an upgrade.
+    // Carries out the lines of one life of the device, whose board gets its name here, and gives what the next life begins with if
+    // this one ends by a crash or an upgrade.
     fn live<B: BoardName, R: Read, W: Write>(
         self,
         alloc: Global,
@@ -161,7 +161,7 @@ impl Course {
     }
 }
 
-// Prints what the opening found of a device with so many commands, and carries out the lines up to the life's end; none where they
+// Prints what the opening found of a device with so many commands, and carries out the lines up to the life's end; none if they
 // end first.
 fn carry_out_all<B: BoardName, R: Read, W: Write>(
     alloc: Global,
@@ -184,7 +184,7 @@ fn carry_out_all<B: BoardName, R: Read, W: Write>(
     Err(End::Refused(Refusal::StreamFault))
 }
 
-// Carries out the line with this number, and prints what it comes to; how the life ends, where it does.
+// Carries out the line with this number, prints what it comes to, and says how the life ends if it does.
 fn carry_out_line<B: BoardName, W: Write>(
     alloc: Global,
     life: &mut Life<B, SimDisk>,
@@ -208,7 +208,7 @@ fn carry_out_line<B: BoardName, W: Write>(
     Ok(None)
 }
 
-// Carries out a step. Where a stop was met, the device crashes.
+// Carries out a step. If a stop was met, the device crashes.
 fn step<B: BoardName, W: Write>(
     alloc: Global,
     life: &mut Life<B, SimDisk>,
@@ -241,8 +241,8 @@ fn tell<W: Write>(
     }
 }
 
-// The life is over, and the device is opened again where it ends by a crash or an upgrade. The next life begins with what the one
-// before it covers, and more at most.
+// The life is over. If it ends by a crash or an upgrade the device is opened again, and the next life begins with at least what
+// this one covers.
 fn over<B: BoardName, W: Write>(
     alloc: Global,
     life: Life<B, SimDisk>,
@@ -305,8 +305,8 @@ fn begin(alloc: Global, setup: Setup) -> Result<Keeper<SimDisk>, KeeperFault>
     }
 }
 
-// Opens a device after a crash, or makes it one of layout 2. Where an armed crash falls into that, it crashes and is opened once
-// more.
+// Opens a device after a crash, or makes it one of layout 2. If an armed crash falls into that, the device crashes and is opened
+// once more.
 fn open_again<W: Write>(
     alloc: Global,
     disk: SimDisk,

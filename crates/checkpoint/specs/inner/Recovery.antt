@@ -1,4 +1,5 @@
 -- What functions of this crate hand to one another, beside `Recovery`.
+use Rattle.std.specs.Prelude.{ℕ, zero, suc}
 use Rattle.checkpoint.specs.declared.fault.KeeperFault.{KeeperFault}
 use Rattle.checkpoint.specs.declared.fault.KeeperFault.TheVariants.{NoMemory, DeviceFault, BadMap, NoHeader, BadHeader, NumbersFull, AreaFull, OutOfOrder, DamagedGroup, NotNow, Failed, AreaSmall}
 use Rattle.device_image.specs.Keeper.{Phase, One, Copying, Mapped}
@@ -23,3 +24,8 @@ IsRecoveryFault DamagedGroup = ⊥
 IsRecoveryFault NotNow = ⊥
 IsRecoveryFault Failed = ⊥
 IsRecoveryFault AreaSmall = ⊥
+
+-- how many headers it takes to empty an area in which the next gate has this place
+abbrev pub headers_at : ℕ → ℕ
+headers_at zero = 0
+headers_at (suc place) = 2

@@ -1,9 +1,10 @@
-use Rattle.std.proofs.Common.{◌≢◌, refl, sym, ◌∙◌, ap, subst}
+use Rattle.std.proofs.Common.{◌≡◌, ◌≢◌, ◌+◌, ◌<◌, ℕ, List, [], ◌∷◌, length, refl, sym, ◌∙◌, ap, subst, arith}
 use Rattle.std.proofs.lemmas.Result.{IfOk-from_err}
-use Rattle.checkpoint.proofs.Answered.{err_given, both_ways}
+use Rattle.checkpoint.proofs.Answered.{err_given, both_ways, same_answer}
 use Rattle.disk_model.specs.laws.Moments.{begins, goes_on}
 use Rattle.device_image.specs.Keeper.{KeeperState}
 use Rattle.device_image.specs.laws.Kept.{kept_content}
+use Rattle.checkpoint.specs.Steps.{behind_first}
 use Rattle.checkpoint.specs.inner.Recovery.{IsBegun}
 use Rattle.checkpoint.specs.declared.fault.KeeperFault.TheVariants.{DeviceFault}
 use Rattle.device_image.specs.Keeps.{Keeps}
@@ -15,6 +16,8 @@ loop-self-init g c = record {
   works = c.requires.works;
   begun = c.requires.begun;
   sizes = refl;
+  used = refl;
+  generation = refl;
   idle = λ one. refl;
   extent = refl;
   faults = refl;
@@ -22,6 +25,10 @@ loop-self-init g c = record {
   kept = λ honest image number keeps. keeps;
   any_moment = λ honest image number keeps. begins (g.met.D.Disk.sound c.args.self.now.disk honest) (λ content left. kept_content _ _ image number keeps content left);
 }
+
+one_fewer : (turned : List ℕ) → 0 < length turned → length (behind_first turned) + 1 ≡ length turned
+one_fewer [] some = absurd (omega (arith, some))
+one_fewer (first ∷ rest) some = omega arith
 
 pub loop-self-preserved : goal.loop-self-preserved
 loop-self-preserved g c =
@@ -32,6 +39,12 @@ loop-self-preserved g c =
       works = ap (λ (k : KeeperState g.row.D.Denot). k.failed) call.ok ∙ so_far.works;
       begun = subst IsBegun (sym (ap (λ (k : KeeperState g.row.D.Denot). k.phase) call.ok)) (begun_left mid.lefts);
       sizes = ap (λ (k : KeeperState g.row.D.Denot). k.geometry) call.ok ∙ so_far.sizes;
+      used = ap (λ (k : KeeperState g.row.D.Denot). k.used) call.ok ∙ so_far.used;
+      generation =
+          let more = ap (λ (k : KeeperState g.row.D.Denot). k.generation) call.ok in
+          let left = ap (λ (k : KeeperState g.row.D.Denot). length k.turned) call.ok in
+          let one = one_fewer mid.turned (c.loop-self-test.ensures.turning refl).1 in
+          omega (arith, more, left, one, so_far.generation);
       idle = λ one. absurd ((c.loop-self-test.ensures.turning refl).0 (ap (λ (k : KeeperState g.row.D.Denot). k.phase) (so_far.idle one) ∙ one));
       extent = call.extent ∙ so_far.extent;
       faults = call.faults_ok ∙ so_far.faults;
@@ -76,3 +89,18 @@ returns-in_err-end_checkpoint-clause-extent g c =
 pub returns-in_err-end_checkpoint-clause-honest : goal.returns-in_err-end_checkpoint-clause-honest
 returns-in_err-end_checkpoint-clause-honest g c =
     both_ways c.in_err-end_checkpoint.ensures.honest c.loop-self.invariant.honest
+
+pub returns-in_err-end_checkpoint-clause-used : goal.returns-in_err-end_checkpoint-clause-used
+returns-in_err-end_checkpoint-clause-used g c =
+    IfOk-from_err c.from_residual.result _ c.from_residual.ensures.0
+
+pub returns-in_err-end_checkpoint-clause-generation : goal.returns-in_err-end_checkpoint-clause-generation
+returns-in_err-end_checkpoint-clause-generation g c =
+    IfOk-from_err c.from_residual.result _ c.from_residual.ensures.0
+
+pub returns-in_err-end_checkpoint-clause-lacks : goal.returns-in_err-end_checkpoint-clause-lacks
+returns-in_err-end_checkpoint-clause-lacks g c is =
+    let so_far = c.loop-self.invariant in
+    let last = c.in_err-end_checkpoint.ensures.last (sym (same_answer c.from_residual.result c.in_err-end_checkpoint.field-0.0 c.from_residual.ensures.1) ∙ is) in
+    let some = (c.loop-self-test.ensures.turning refl).1 in
+    omega (arith, last, some, so_far.generation)

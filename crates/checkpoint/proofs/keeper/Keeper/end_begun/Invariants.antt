@@ -1,4 +1,4 @@
-use Rattle.std.proofs.Common.{◌≡◌, ◌↔◌, ℕ, false, length}
+use Rattle.std.proofs.Common.{◌≡◌, ◌↔◌, ◌+◌, ℕ, false, length}
 use Rattle.disk_model.specs.Disk.{LeavesOnly}
 use Rattle.image_model.specs.Image.{Image}
 use Rattle.device_image.specs.Keeper.{One}
@@ -12,6 +12,8 @@ invariant-loop-self g l = record {
   works : l.self.failed ≡ false;
   begun : IsBegun l.self.phase;
   sizes : l.self.geometry ≡ l.fn.self.geometry;
+  used : l.self.used ≡ l.fn.self.used;
+  generation : l.self.generation + length l.self.turned ≡ l.fn.self.generation + length l.fn.self.turned;
   idle : l.fn.self.phase ≡ One → l.self ≡ l.fn.self;
   extent : g.D.Disk.extent l.self.disk ≡ g.D.Disk.extent l.fn.self.disk;
   faults : g.D.Disk.faults l.self.disk ≡ g.D.Disk.faults l.fn.self.disk;

@@ -88,6 +88,10 @@ returns-clause-full g c is =
     let unchanged : c.finish.new.self ≡ c.write_map.new.self = subst (λ (r : Given (Unit {0})). IfErr r (λ fault. c.finish.new.self ≡ refused_by fault c.write_map.new.self c.finish.new.self.disk)) is c.finish.ensures.err in
     ap (λ (k : KeeperState g.row.D.Denot). k.generation) unchanged ∙ (c.finish.ensures.full.0 is).2
 
+pub returns-clause-last : goal.returns-clause-last
+returns-clause-last g c is =
+    sym (ap (λ (k : KeeperState g.row.D.Denot). k.generation) c.in_ok-write_map.ensures.ok ∙ ap (λ (k : KeeperState g.row.D.Denot). k.generation) c.in_ok-copy_all.ensures.ok) ∙ (c.finish.ensures.full.0 is).2
+
 pub returns-clause-wanted : goal.returns-clause-wanted
 returns-clause-wanted g c is one =
     let unchanged : c.finish.new.self ≡ c.write_map.new.self = subst (λ (r : Given (Unit {0})). IfErr r (λ fault. c.finish.new.self ≡ refused_by fault c.write_map.new.self c.finish.new.self.disk)) is c.finish.ensures.err in
@@ -124,6 +128,7 @@ returns-in_err-copy_all g c = record {
   ok = ok_none c.from_residual.result _ c.from_residual.ensures.0;
   only = err_given IsRecoveryFault c.from_residual.result c.in_err-copy_all.field-0.0 c.from_residual.ensures.1 c.in_err-copy_all.ensures.only;
   full = λ is. absurd (c.in_err-copy_all.ensures.not_full (sym (same_answer c.from_residual.result c.in_err-copy_all.field-0.0 c.from_residual.ensures.1) ∙ is));
+  last = λ is. absurd (c.in_err-copy_all.ensures.not_full (sym (same_answer c.from_residual.result c.in_err-copy_all.field-0.0 c.from_residual.ensures.1) ∙ is));
   wanted = λ is one. absurd (c.in_err-copy_all.ensures.not_full (sym (same_answer c.from_residual.result c.in_err-copy_all.field-0.0 c.from_residual.ensures.1) ∙ is));
   extent = c.in_err-copy_all.ensures.extent;
   faults_ok = ok_none c.from_residual.result _ c.from_residual.ensures.0;
@@ -157,3 +162,7 @@ pub returns-in_err-write_map-clause-kept_still : goal.returns-in_err-write_map-c
 returns-in_err-write_map-clause-kept_still g c honest image number keeps =
     err_given _ c.from_residual-in_err-write_map.result c.in_err-write_map.field-0.0 c.from_residual-in_err-write_map.ensures.1
     (still_kept g.D.Disk.state (given {T = Unit {0}} c.in_err-write_map.field-0.0) c.copy_all.new.self c.write_map.new.self image number c.in_err-write_map.ensures.err (c.in_ok-copy_all.ensures.kept honest image number keeps))
+
+pub returns-in_err-write_map-clause-last : goal.returns-in_err-write_map-clause-last
+returns-in_err-write_map-clause-last g c is =
+    absurd (c.in_err-write_map.ensures.full (sym (same_answer c.from_residual-in_err-write_map.result c.in_err-write_map.field-0.0 c.from_residual-in_err-write_map.ensures.1) ∙ is))

@@ -1,14 +1,14 @@
-use Rattle.std.proofs.Common.{◌≡◌, ℕ, List, Ok, Err, sym, ◌∙◌, ap, subst}
+use Rattle.std.proofs.Common.{◌≡◌, ◌+◌, ◌<◌, ℕ, List, Ok, Err, sym, ◌∙◌, ap, subst}
 use Rattle.disk_model.specs.Disk.{LeavesOnly}
 use Rattle.disk_model.specs.laws.Contents.{leaves_seen}
 use Rattle.disk_model.specs.laws.Moments.{goes_on, weakens}
 use Rattle.device_image.specs.Keeper.{KeeperState}
 use Rattle.device_image.specs.Keeps.{Keeps}
 use Rattle.device_image.specs.Stands.{StandsFor}
-use Rattle.checkpoint.specs.Opening.{IsAtRest, IsFixedOrNot, IsOpeningRefused}
+use Rattle.checkpoint.specs.Opening.{IsAtRest, IsFixedOrNot, IsOpeningRefused, headers_for}
 use Rattle.checkpoint.specs.declared.fault.KeeperFault.TheVariants.{DeviceFault, NumbersFull}
 use Rattle.checkpoint.proofs.Opened.{keeps_same, passes, stood}
-use Rattle.checkpoint.proofs.Reopened.{empty_base, is_full, recovers, refused_opening, refused_recovery, rests, stood_content}
+use Rattle.checkpoint.proofs.Reopened.{empty_base, headers_left, is_full, recovers, refused_opening, refused_recovery, rests, stood_content}
 use Rattle.checkpoint.proofs.keeper.Keeper.open.Goals as goal
 
 pub returns-in-Ok-recover-clause-found : goal.returns-in-Ok-recover-clause-found
@@ -21,8 +21,9 @@ returns-in-Ok-recover-clause-found g c honest =
     let kept = call.kept trusted found.0 keeper.count found.1 in
     let counted = kept.counted in
     let new = c.recover.new.self in
-    let stands = subst (λ (n : ℕ). (stands : StandsFor (g.D.Disk.state keeper.disk).seen found.0 n) × (new.geometry ≡ stands.header.geometry)) (sym counted)
-    (found.1.stands, call.sizes ∙ found.1.sizes) in (
+    let generation = call.generation ∙ headers_left keeper (g.D.Disk.state keeper.disk) found.0 keeper.count found.1 read.turned in
+    let stands = subst (λ (n : ℕ). (stands : StandsFor (g.D.Disk.state keeper.disk).seen found.0 n) × (new.geometry ≡ stands.header.geometry) × (new.generation ≡ stands.header.generation + headers_for stands.lists)) (sym counted)
+    (found.1.stands, call.sizes ∙ found.1.sizes, generation) in (
       (g.D.Disk.state keeper.disk).seen,
       record {
         fixed = read.fixed honest;
@@ -32,6 +33,7 @@ returns-in-Ok-recover-clause-found g c honest =
           subst (λ (n : ℕ). Keeps new (g.D.Disk.state new.disk) found.0 n) (sym counted) kept,
           empty_base new (g.D.Disk.state new.disk) found.0 keeper.count kept call.ok.phase call.ok.used ∙ sym counted,
           stands.1,
+          stands.2,
         );
         crash = recovers (g.D.Disk.state c.args.disk) g.D.Disk.state (g.D.Disk.state keeper.disk).seen keeper (Ok new) found.0 keeper.count found.1.stands (read.first honest) (call.any_moment trusted found.0 keeper.count found.1);
       },
@@ -90,6 +92,7 @@ returns-in-Err-recover-clause-found g c honest =
               (found.0, keeper.count, found.1.stands, still.stands),
               is_full left (g.D.Disk.state left.disk) found.0 keeper.count still (call.full (ap Err is)),
               λ rest. let at = rests left (g.D.Disk.state left.disk) found.0 keeper.count still rest in call.wanted (ap Err is) at.0 at.1,
+              (found.0, keeper.count, found.1.stands, subst (λ (n : ℕ). 18446744073709551615 < n) (headers_left keeper mid found.0 keeper.count found.1 read.turned) (call.lacks (ap Err is))),
             )));
         crash = subst (λ (disk : g.row.D.Denot). IsFixedOrNot (g.D.Disk.state c.args.disk) g.D.Disk.state (Err (c.in-Err-recover.fault, disk)) mid.seen) (sym c.into_disk.ensures)
             (recovers (g.D.Disk.state c.args.disk) g.D.Disk.state mid.seen keeper (Err (c.in-Err-recover.fault, left.disk)) found.0 keeper.count found.1.stands (read.first honest) (call.any_moment trusted found.0 keeper.count found.1));

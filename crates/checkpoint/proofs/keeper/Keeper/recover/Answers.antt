@@ -1,12 +1,12 @@
-use Rattle.std.proofs.Common.{ap, Err, List, [], ◌∷◌, ◌++◌, ◌∙◌, ◌≡◌, ◌≢◌, arith, ℕ, true, ◌==◌, sym}
+use Rattle.std.proofs.Common.{ap, Err, List, [], ◌∷◌, ◌++◌, ◌+◌, ◌<◌, ◌∙◌, ◌≡◌, ◌≢◌, arith, length, ℕ, zero, suc, false, true, ◌==◌, refl, sym, subst}
 use Rattle.checkpoint.specs.Keeper.{faults_by}
-use Rattle.checkpoint.specs.inner.Recovery.{IsRecoveryFault}
+use Rattle.checkpoint.specs.inner.Recovery.{IsRecoveryFault, headers_at}
 use Rattle.std.proofs.lemmas.Result.{IfOk-from_err, IfOk-weaker, IfErr-weaker}
 use Rattle.checkpoint.proofs.Answered.{err_given, both_ways, ok_apart, same_answer}
 use Rattle.device_image.specs.Keeper.{KeeperState, count_puts, last_turned}
 use Rattle.device_image.specs.Keeps.{Keeps}
 use Rattle.checkpoint.specs.declared.fault.KeeperFault.TheVariants.{DeviceFault}
-use Rattle.checkpoint.proofs.Recovered.{keeps_begun, recovered_by, sizes_ended, still_kept}
+use Rattle.checkpoint.proofs.Recovered.{generation_ended, keeps_begun, recovered_by, sizes_ended, still_kept}
 use Rattle.disk_model.specs.laws.Moments.{goes_on}
 use Rattle.checkpoint.proofs.keeper.Keeper.recover.Goals as goal
 use Rattle.device_image.specs.laws.Counted.{remembers_none}
@@ -225,3 +225,67 @@ returns-then-is_empty-clause-any_moment g c =
 pub returns-then-is_empty-clause-sizes : goal.returns-then-is_empty-clause-sizes
 returns-then-is_empty-clause-sizes g c =
     c.in_ok-end_begun.ensures.sizes
+
+-- an area in which a gate has another place than the first takes two headers
+two_headers : (used : ℕ) → 0 < used → headers_at used ≡ 2
+two_headers zero some = absurd (omega (arith, some))
+two_headers (suc place) some = refl
+
+some_is : (n : ℕ) → false ≡ (n == 0) → 0 < n
+some_is n is = grind (arith, nat_tests)
+
+pub returns-in_err-end_begun-clause-generation : goal.returns-in_err-end_begun-clause-generation
+returns-in_err-end_begun-clause-generation g c =
+    IfOk-from_err c.from_residual.result _ c.from_residual.ensures.0
+
+pub returns-in_err-end_begun-clause-lacks : goal.returns-in_err-end_begun-clause-lacks
+returns-in_err-end_begun-clause-lacks g c is =
+    let lacks = c.in_err-end_begun.ensures.lacks (sym (same_answer c.from_residual.result c.in_err-end_begun.field-0.0 c.from_residual.ensures.1) ∙ is) in
+    omega (arith, lacks)
+
+pub returns-then-is_empty-clause-generation : goal.returns-then-is_empty-clause-generation
+returns-then-is_empty-clause-generation g c =
+    let first = c.in_ok-end_begun.ensures in
+    let none = zero_is c.end_begun.new.self.used (sym c.if-is_empty.true ∙ c.is_empty.ensures.empty) in
+    let no_header : headers_at c.args.self.now.used ≡ 0 = ap headers_at (sym first.used ∙ none) in
+    let so_far = first.generation in
+    omega (arith, so_far, no_header)
+
+pub returns-then-is_empty-clause-lacks : goal.returns-then-is_empty-clause-lacks
+returns-then-is_empty-clause-lacks g c is =
+    absurd (ok_apart _ _ is)
+
+pub returns-in_err-rotate-clause-generation : goal.returns-in_err-rotate-clause-generation
+returns-in_err-rotate-clause-generation g c =
+    IfOk-from_err c.from_residual-in_err-rotate.result _ c.from_residual-in_err-rotate.ensures.0
+
+pub returns-in_err-rotate-clause-lacks : goal.returns-in_err-rotate-clause-lacks
+returns-in_err-rotate-clause-lacks g c is =
+    let first = c.in_ok-end_begun.ensures in
+    let full = c.in_err-rotate.ensures.full.0 (sym (same_answer c.from_residual-in_err-rotate.result c.in_err-rotate.field-0.0 c.from_residual-in_err-rotate.ensures.1) ∙ is) in
+    let last = full.2 in
+    let two = two_headers c.args.self.now.used (subst (λ (n : ℕ). 0 < n) first.used full.1.1) in
+    let so_far = first.generation in
+    omega (arith, last, two, so_far)
+
+pub returns-clause-generation : goal.returns-clause-generation
+returns-clause-generation g c =
+    let first = c.in_ok-end_begun.ensures in
+    let second = c.in_ok-rotate.ensures in
+    let some = some_is c.end_begun.new.self.used (sym c.if-is_empty.false ∙ c.is_empty.ensures.empty) in
+    let two = two_headers c.args.self.now.used (subst (λ (n : ℕ). 0 < n) first.used some) in
+    let so_far = first.generation in
+    let more = ap (λ (k : KeeperState g.row.D.Denot). k.generation) second.ok in
+    generation_ended c.end_checkpoint.result c.rotate.new.self c.end_checkpoint.new.self (c.args.self.now.generation + length c.args.self.now.turned + headers_at c.args.self.now.used)
+    (omega (arith, two, so_far, more)) c.end_checkpoint.ensures.ok
+
+pub returns-clause-lacks : goal.returns-clause-lacks
+returns-clause-lacks g c is =
+    let first = c.in_ok-end_begun.ensures in
+    let second = c.in_ok-rotate.ensures in
+    let some = some_is c.end_begun.new.self.used (sym c.if-is_empty.false ∙ c.is_empty.ensures.empty) in
+    let two = two_headers c.args.self.now.used (subst (λ (n : ℕ). 0 < n) first.used some) in
+    let so_far = first.generation in
+    let more = ap (λ (k : KeeperState g.row.D.Denot). k.generation) second.ok in
+    let last = c.end_checkpoint.ensures.last is in
+    omega (arith, two, so_far, more, last)

@@ -53,7 +53,7 @@ serve_over-requires-clause-vouched g c =
 pub vouch-is_vouched-requires-clause-given : goal.vouch-is_vouched-requires-clause-given
 vouch-is_vouched-requires-clause-given g c =
     let span = c.args.planned.span in
-    given_same (λ (l : List ℕ). g.H.ReadBeside.gives c.args.handle.now (block_at c.args.terms.now.geometry span.first) l) span.first span.end
+    given_same (λ (l : List ℕ). g.H.ReadBeside.gives c.args.handle.now c.args.planned.settled.number (block_at c.args.terms.now.geometry span.first) l) span.first span.end
     (c.args.request.now.head.offset / 4096) c.of.result.first c.args.bytes.items c.deref.result.now
     (sym (c.of.ensures.first ∙ ap (λ (h : RequestHead). h.offset / 4096) c.head-head.ensures)) (sym c.deref.ensures.value) c.requires.given
 

@@ -77,7 +77,7 @@ serve_over-served-requires-clause-geometry g c = c.requires.geometry
 
 pub serve_over-served-requires-clause-given : goal.serve_over-served-requires-clause-given
 serve_over-served-requires-clause-given g c =
-    let own = c.args.self.now.geometry in let span = c.loop.planned.span in let first = c.of-blocks.result.first in let into = c.read_span.new.into in let Gives = g.H.ReadBeside.gives c.in-Some-beside.handle in
+    let own = c.args.self.now.geometry in let span = c.loop.planned.span in let first = c.of-blocks.result.first in let into = c.read_span.new.into in let Gives = g.H.ReadBeside.gives c.in-Some-beside.handle c.loop.planned.settled.number in
     let place : Gives (block_at own span.first) (slice_range into (4096 * (span.first - first)) (4096 * (span.end - first))) = c.in-Ok.ensures.place in
     given Gives own c.args.terms.now.geometry span.first span.end first (c.args.request.now.head.offset / 4096) c.loop.bytes.len into c.loop.bytes.items
     (c.args.self.now.sized ∙ sym c.requires.geometry) (c.of-blocks.ensures.first ∙ ap (λ (h : RequestHead). h.offset / 4096) c.head-head.ensures) (c.read_span.ensures.size ∙ c.deref_mut.ensures.len)
