@@ -8,6 +8,7 @@ mod checkpointing;
 mod commit_queue;
 mod edges;
 mod export;
+mod figures;
 mod flushing;
 mod gathering;
 mod laws;
@@ -23,6 +24,7 @@ mod throttling;
 
 pub use beside::ReadBeside;
 pub use export::{Export, OpenDevice};
+pub use figures::ExportFigures;
 pub use laws::{answer_law, opened_device_law};
 pub use name::ExportName;
 pub use retired::RetiredPass;
