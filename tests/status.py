@@ -320,7 +320,7 @@ def mutated(folder):
 
 def silent(folder):
     """As many clients as are answered at a time say nothing: a further one waits, and the device's clients don't."""
-    with told(folder, "silent") as (server, path):
+    with told(folder, "silent", "--until-eof", stdin=subprocess.PIPE) as (server, path):
         with contextlib.ExitStack() as clients:
             for _ in range(4):
                 client = clients.enter_context(socket.socket(socket.AF_UNIX))
@@ -330,6 +330,11 @@ def silent(folder):
             check("silent: the device's clients don't wait", True, time.monotonic() - began < 1.5)
             check("silent: a further one is answered", "HTTP/1.1 200 OK", ask(path)[0])
             check("silent: it waits for no more than three seconds", True, time.monotonic() - began < 4.5)
+            for _ in range(4):
+                client = clients.enter_context(socket.socket(socket.AF_UNIX))
+                client.connect(path)
+            server.process.stdin.close()
+            check("silent: the end", 0, server.process.wait(timeout=20))
 
 
 def slow(folder):

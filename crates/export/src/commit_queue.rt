@@ -570,7 +570,8 @@ impl<B: ExportName> CommitQueue<B> {
         ensures { self.new.settled ≡ self.old.settled }
     {
         engine.publish(board, &mut self.order);
-        self.notes.publish(self.is_pending());
+        let is_pending = self.is_pending();
+        self.notes.publish(is_pending);
         self.notes.note_journal(engine.journal_use());
         self.waiters.publish();
         if engine.is_filling() {
