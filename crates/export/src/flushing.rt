@@ -148,9 +148,8 @@ impl<B: ExportName, D: Disk, H: ReadBeside> Export<B, D, H> {
         match engine.append(&self.board, group) {
             Ok(stored) => {
                 pace.note(rt, begin);
-                let took = time_since(rt, begin);
+                tell_stored(points, stored, time_since(rt, begin));
                 self.publish(rt, engine);
-                tell_stored(points, stored, took);
                 Flush::Done
             }
             Err(Unstored::NoMemory(group)) => Flush::NoMemory(Some(group)),

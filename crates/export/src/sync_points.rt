@@ -5,8 +5,8 @@ use std::time::Duration;
 pub enum Point {
     /// Before a group is appended, with the keeper's lock taken.
     Append,
-    /// After a group was stored and is durable, with the keeper's lock taken: how many commands it had, its bytes in the journal, and
-    /// how long storing it took.
+    /// After a group was stored and before those that wait for it are told, with the keeper's lock taken: how many commands it had, its
+    /// bytes in the journal, and how long storing it took.
     Stored {
         commands: u64,
         bytes: u64,
