@@ -95,7 +95,17 @@ timed_app modes =
     with_rule (with_rule (with_rule (with_rule (loaded_app modes) sessions_rule) handshake_rule) idle_rule) flush_rule
 
 abbrev pub serve_app : ValueParser → App
-serve_app modes = with_rule (with_rule (with_rule (timed_app modes) on_fault_rule) (flag_rule (codes "until-eof"))) verbose_rule
+serve_app modes = with_rule (with_rule (with_rule (with_rule (timed_app modes) on_fault_rule) (flag_rule (codes "until-eof"))) (option_rule (codes "status"))) verbose_rule
+
+-- the one word that is no option: a server's status socket
+abbrev pub socket_rule : Rule
+socket_rule = record (new_rule (codes "socket")) { value_names = 1; required = true }
+
+abbrev pub json_rule : Rule
+json_rule = record (flag_rule (codes "json")) { is_free = false }
+
+abbrev pub status_app : App
+status_app = with_rule (with_rule (with_rule (with_rule (new_app (codes "status")) socket_rule) json_rule) (flag_rule (codes "watch"))) verbose_rule
 
 abbrev pub recover_app : App
 recover_app = with_rule (with_rule (new_app (codes "recover")) path_rule) verbose_rule
@@ -124,5 +134,5 @@ bare_app =
 -- the whole command line; the modes are the values that `--cache` takes, in `pipe` and in `serve`
 abbrev pub nbdj_app : ValueParser → ValueParser → App
 nbdj_app modes others =
-    with_subcommand (with_subcommand (with_subcommand (with_subcommand (with_subcommand (with_subcommand (with_subcommand bare_app format_app.top) (serve_app others).top)
-    (pipe_app modes).top) recover_app.top) upgrade_app.top) check_app.top) rehearse_app.top
+    with_subcommand (with_subcommand (with_subcommand (with_subcommand (with_subcommand (with_subcommand (with_subcommand (with_subcommand bare_app format_app.top) (serve_app others).top)
+    status_app.top) (pipe_app modes).top) recover_app.top) upgrade_app.top) check_app.top) rehearse_app.top

@@ -1,6 +1,6 @@
 -- Which plan a command line asks for. The values that a subcommand was given are clap's: the words', and for an option
 -- that is left out its default.
-use Rattle.std.specs.Prelude.{ℕ, Bool, true, false, ◌≡◌, ◌≢◌, ◌≤◌, ◌<◌, ◌%◌, ◌⊎◌, ◌*◌, Option, Some, None, List, [], codes}
+use Rattle.std.specs.Prelude.{ℕ, Bool, true, false, ◌≡◌, ◌≢◌, ◌≤◌, ◌<◌, ◌%◌, ◌⊎◌, ◌*◌, Option, Some, None, List, [], codes, option_map}
 use Rattle.std.specs.Str.Parse.{IsNumeral, digits_value, without_leading_plus}
 use Rattle.clap.specs.Words.{Row, Text, first_of, one_of}
 use Rattle.command_line.specs.Seconds.{IsSeconds}
@@ -15,7 +15,9 @@ use Rattle.front_end.specs.declared.plan.Address.{Address}
 use Rattle.front_end.specs.declared.plan.Address.TheVariants.{Tcp, Unix}
 use Rattle.front_end.specs.declared.plan.Course.{Course}
 use Rattle.front_end.specs.declared.plan.Course.TheVariants.{Once, Sweep, Faults}
-use Rattle.front_end.specs.declared.plan.Plan.TheVariants.{Format, Pipe, Serve, Recover, Upgrade, Check, Rehearse, Refuse}
+use Rattle.front_end.specs.declared.plan.StatusForm.{StatusForm}
+use Rattle.front_end.specs.declared.plan.StatusForm.TheVariants.{Lines, Json, Watch}
+use Rattle.front_end.specs.declared.plan.Plan.TheVariants.{Format, Pipe, Serve, Status, Recover, Upgrade, Check, Rehearse, Refuse}
 use Rattle.front_end.specs.declared.refusal.Refusal.TheVariants.{AreaSmall}
 use Rattle.front_end.specs.declared.options.Limits.{Limits}
 use Rattle.front_end.specs.declared.options.OnFault.{OnFault}
@@ -120,6 +122,16 @@ SaysAddress rows (Tcp text) = (first_of (codes "listen") rows ≡ Some text.now)
 SaysAddress rows (Unix path mode) =
     (first_of (codes "unix") rows ≡ Some path.now) × (path.now ≢ []) × IsLeftOut rows (codes "listen") × SaysUnixMode rows mode
 
+-- the figures are told at the socket that --status names, whose path isn't empty; at none where it is left out
+abbrev pub SaysStatusSocket : List Row → Option Text → Type 0
+SaysStatusSocket rows path = (first_of (codes "status") rows ≡ path) × (path ≢ Some [])
+
+-- which of --json and --watch was given, if any
+abbrev pub SaysStatusForm : List Row → StatusForm → Type 0
+SaysStatusForm rows Lines = SaysFlag rows (codes "json") false × SaysFlag rows (codes "watch") false
+SaysStatusForm rows Json = SaysFlag rows (codes "json") true × SaysFlag rows (codes "watch") false
+SaysStatusForm rows Watch = SaysFlag rows (codes "json") false × SaysFlag rows (codes "watch") true
+
 -- which of --sweep and --faults was given, if any
 abbrev pub SaysScriptRuns : List Row → Course → Type 0
 SaysScriptRuns rows Once = SaysFlag rows (codes "sweep") false × SaysFlag rows (codes "faults") false
@@ -136,11 +148,12 @@ IsAsked (Some (name, rows)) (Format path geometry options) =
 IsAsked (Some (name, rows)) (Pipe path options) =
     (name ≡ codes "pipe") × HasPath rows path.now × IsGiven rows (codes "frames") options.frames
     × (first_of (codes "cache") rows ≡ Some (mode_name options.mode))
-IsAsked (Some (name, rows)) (Serve path address options) =
-    (name ≡ codes "serve") × HasPath rows path.now × SaysAddress rows address × IsGiven rows (codes "workers") options.workers
+IsAsked (Some (name, rows)) (Serve path address status options) =
+    (name ≡ codes "serve") × HasPath rows path.now × SaysAddress rows address × SaysStatusSocket rows (option_map (λ path. path.now) status) × IsGiven rows (codes "workers") options.workers
     × IsGiven rows (codes "frames") options.frames × (first_of (codes "cache") rows ≡ Some (mode_name options.mode))
     × SaysLimits rows options.limits × (first_of (codes "on-fault") rows ≡ Some (fault_name options.on_fault))
     × SaysFlag rows (codes "until-eof") options.until_eof
+IsAsked (Some (name, rows)) (Status socket form) = (name ≡ codes "status") × (first_of (codes "socket") rows ≡ Some socket.now) × SaysStatusForm rows form
 IsAsked (Some (name, rows)) (Recover path) = (name ≡ codes "recover") × HasPath rows path.now
 IsAsked (Some (name, rows)) (Upgrade path) = (name ≡ codes "upgrade") × HasPath rows path.now
 IsAsked (Some (name, rows)) (Check path) = (name ≡ codes "check") × HasPath rows path.now

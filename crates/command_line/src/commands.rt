@@ -7,7 +7,7 @@ ghost use Rattle.command_line.specs.inner.Rows.{app_of_row, rule_of_form, rule_o
 
 use clap::builder::ValueParser;
 use clap::{Arg, ArgAction, Command};
-use front_end::{LEAST_FRAMES, MOST_FRAMES, MOST_WORKERS};
+use front_end::{LEAST_FRAMES, MOST_FRAMES, MOST_WORKERS, VERSION};
 use std::alloc::{AllocError, Global};
 
 // The whole command line; the modes and the others are what `--cache` takes, in `pipe` and in `serve`.
@@ -16,6 +16,7 @@ pub fn program<'a>(alloc: Global) -> Result<Command<'a>, AllocError>
 {
     let command = joined(alloc, Ok(bare(alloc)), &FORMAT);
     let command = joined(alloc, command, &SERVE);
+    let command = joined(alloc, command, &STATUS);
     let command = joined(alloc, command, &PIPE);
     let command = joined(alloc, command, &RECOVER);
     let command = joined(alloc, command, &UPGRADE);
@@ -39,7 +40,7 @@ fn bare<'a>(alloc: Global) -> Command<'a>
     ensures { app_of result ≡ bare_app }
 {
     Command::new(alloc, "nbdj")
-        .version("1.0.0")
+        .version(VERSION)
         .propagate_version(true)
         .about("Network Block Device export server over a journalled image")
         .after_help(
@@ -338,6 +339,40 @@ pub static SERVE: SubcommandRow<'static> = SubcommandRow {
             form: Form::Flag,
             tie: Tie::None,
             help: "Ends the sessions and the server, with all stored, once standard input ends",
+        },
+        ArgumentRow {
+            name: "status",
+            form: Form::Text("SOCKET"),
+            tie: Tie::None,
+            help: "The path of a Unix socket at which the server tells its figures over HTTP; see nbdj status",
+        },
+        VERBOSE,
+    ],
+};
+
+static STATUS: SubcommandRow<'static> = SubcommandRow {
+    name: "status",
+    about: "Prints the figures of a running server: clients, rates, latencies, and what a power cut would take",
+    after_help: "Example: nbdj serve d.img --listen 127.0.0.1 --status d.status, and elsewhere: nbdj status d.status --watch\n\nExit status: 0 done; 1 no server answers there, or a fault of stream or memory; 2 a refused command line.",
+    usage: None,
+    arguments: &[
+        ArgumentRow {
+            name: "socket",
+            form: Form::Word("SOCKET"),
+            tie: Tie::None,
+            help: "The socket that serve --status names",
+        },
+        ArgumentRow {
+            name: "json",
+            form: Form::Flag,
+            tie: Tie::Excludes("watch"),
+            help: "Prints the figures as the server sends them: one JSON object",
+        },
+        ArgumentRow {
+            name: "watch",
+            form: Form::Flag,
+            tie: Tie::None,
+            help: "Prints them anew each second, with rates: as a screen on a terminal, otherwise as one line each",
         },
         VERBOSE,
     ],

@@ -2,7 +2,7 @@ ghost use Rattle.std.specs.Prelude.{◌≡◌, ◌≤◌, ◌<◌, ◌*◌, Some
 ghost use Rattle.clap.specs.Words.{first_of, found_of, rows_of, subcommand_of};
 ghost use Rattle.clap.specs.declared.builder.value_parser.ValueParser.{ValueParser};
 ghost use Rattle.command_line.specs.Commands.{nbdj_app};
-ghost use Rattle.command_line.specs.Line.{fault_name, layout_number, mode_name, HasPath, IsAsked, IsInvocation, IsGiven, IsGivenSeconds, SaysAddress, SaysArea, SaysBlocks, SaysLayout, SaysReplaces, SaysScriptRuns, SaysFlag, SaysLimits, SaysUnixMode};
+ghost use Rattle.command_line.specs.Line.{fault_name, layout_number, mode_name, HasPath, IsAsked, IsInvocation, IsGiven, IsGivenSeconds, SaysAddress, SaysArea, SaysBlocks, SaysLayout, SaysReplaces, SaysScriptRuns, SaysFlag, SaysLimits, SaysStatusForm, SaysStatusSocket, SaysUnixMode};
 ghost use Rattle.command_line.specs.Size.{IsSize};
 ghost use Rattle.image_model.specs.declared.layout.Layout.TheVariants as Layout;
 
@@ -14,7 +14,7 @@ use clap::{ArgMatches, Command, Error};
 use export_model::Mode;
 use front_end::{
     Address, Course, FormatOptions, Invocation, Limits, OnFault, PipeOptions, Plan, Refusal,
-    ServeOptions,
+    ServeOptions, StatusForm,
 };
 use image_model::{BLOCK_BYTES, Geometry, LEAST_AREA_BYTES, Layout, MOST_AREA_BYTES, MOST_BLOCKS};
 use std::alloc::{AllocError, Global};
@@ -51,6 +51,7 @@ fn asked<'a>(alloc: Global, name: &str, matches: &ArgMatches<'a>) -> Result<Plan
     match name {
         "format" => format(alloc, matches),
         "serve" => serve(alloc, matches),
+        "status" => status(alloc, matches),
         "pipe" => pipe(alloc, matches),
         "recover" => Ok(Plan::Recover {
             path: path(alloc, matches)?,
@@ -262,16 +263,57 @@ fn serve<'a>(alloc: Global, matches: &ArgMatches<'a>) -> Result<Plan<'a>, Error>
     let limits = limits(alloc, matches)?;
     let on_fault = on_fault(alloc, matches)?;
     let until_eof = flag(matches, "until-eof");
+    let status = status_socket(alloc, matches)?;
     match ServeOptions::new(frames, mode, workers, limits, on_fault, until_eof) {
         Some(options) => Ok(Plan::Serve {
             path,
             address,
+            status,
             options,
         }),
         None => Err(serve_fault(
             alloc,
             "--frames: the frames are 512 to 65536, the workers 1 to 16, and the handshake takes 1 second or more",
         )),
+    }
+}
+
+// Where the figures of a server are told, where they are.
+fn status_socket<'a>(
+    alloc: Global,
+    matches: &ArgMatches<'a>,
+) -> Result<Option<&'a str>, Error>
+    ensures { IfOk result (λ path. SaysStatusSocket (rows_of (found_of matches.now)) (option_map (λ text. text.now) path)) }
+{
+    match text(matches, "status") {
+        None => Ok(None),
+        Some("") => Err(serve_fault(
+            alloc,
+            "invalid value '' for '--status <SOCKET>': the path of a socket isn't empty",
+        )),
+        Some(path) => Ok(Some(path)),
+    }
+}
+
+fn status<'a>(alloc: Global, matches: &ArgMatches<'a>) -> Result<Plan<'a>, Error>
+    ensures { IfOk result (IsAsked (Some (codes "status", rows_of (found_of matches.now)))) }
+{
+    let form = status_form(alloc, matches)?;
+    match text(matches, "socket") {
+        Some(socket) => Ok(Plan::Status { socket, form }),
+        None => Err(fault(alloc, "no SOCKET")),
+    }
+}
+
+// How figures are printed, as at most one of two options says.
+fn status_form(alloc: Global, matches: &ArgMatches<'_>) -> Result<StatusForm, Error>
+    ensures { IfOk result (SaysStatusForm (rows_of (found_of matches.now))) }
+{
+    match (flag(matches, "json"), flag(matches, "watch")) {
+        (false, false) => Ok(StatusForm::Lines),
+        (true, false) => Ok(StatusForm::Json),
+        (false, true) => Ok(StatusForm::Watch),
+        (true, true) => Err(fault(alloc, "one of --json and --watch at a time")),
     }
 }
 

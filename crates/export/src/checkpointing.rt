@@ -25,8 +25,8 @@ enum Hold {
     Ended,
 }
 
-// The time since then, where it can be told.
-fn time_since<R: Clock>(rt: &R, began: Option<Instant>) -> Option<Duration> {
+/// The time since then, where it can be told.
+pub(crate) fn time_since<R: Clock>(rt: &R, began: Option<Instant>) -> Option<Duration> {
     began?.elapsed(rt).ok()
 }
 
@@ -162,7 +162,10 @@ impl<B: ExportName, D: Disk, H: ReadBeside> Export<B, D, H> {
             match engine.rotate() {
                 Ok(()) => {
                     // What didn't fit the last one is stored at once.
-                    self.queue.lock(rt).find_empty();
+                    let mut queue = self.queue.lock(rt);
+                    queue.find_empty();
+                    queue.note_journal(engine.journal_use());
+                    drop(queue);
                     self.signals.work.notify_one();
                     return Hold::Rotated;
                 }
@@ -188,7 +191,10 @@ impl<B: ExportName, D: Disk, H: ReadBeside> Export<B, D, H> {
             Err(fault) => return self.refused(rt, fault),
         };
         if let CopyStep::LetGo { waiting: _ } = step {
-            engine.clean(&mut self.queue.lock(rt), &self.board);
+            let mut queue = self.queue.lock(rt);
+            engine.clean(&mut queue, &self.board);
+            queue.note_journal(engine.journal_use());
+            drop(queue);
             self.signals.settled.notify_all();
             self.signals.notify(true, true);
         }

@@ -1,5 +1,5 @@
 //! What lies under the order's lock.
-ghost use Rattle.std.specs.Prelude.{ℕ, List, ◌≡◌, ◌≢◌, ◌+◌, ◌-◌, ◌*◌, ◌/◌, IfErr, IfOk, IfSome, IsErr, OnErr, length, max, slice_range, vec_len};
+ghost use Rattle.std.specs.Prelude.{ℕ, List, ◌≡◌, ◌≢◌, ◌+◌, ◌-◌, ◌*◌, ◌/◌, IfErr, IfOk, IfSome, IsErr, OnErr, length, max, slice_range, sum, vec_len};
 ghost use mathlib.Core.List.{IsPrefix};
 ghost use Rattle.disk_model.specs.Disk.{MayLeave};
 ghost use Rattle.export.specs.Noted.{base_of};
@@ -16,10 +16,11 @@ ghost use Rattle.shared_store.specs.Parts.{StandsWithin};
 
 use crate::beside::ReadBeside;
 use crate::edges::MissingEdges;
+use crate::figures::{Notes, QueueFigures};
 use crate::gathering::Waiters;
 use crate::name::ExportName;
 use crate::settling::FlushInterval;
-use crate::storage_engine::StorageEngine;
+use crate::storage_engine::{JournalUse, StorageEngine};
 use crate::throttling::Throttle;
 use disk_model::Disk;
 use marks::{Board, Pass};
@@ -28,6 +29,7 @@ use order_book::{OrderFault, Span};
 use request_core::{Blocks, NeedsKeeper, Served, Terms, plan_read};
 use shared_store::{SealedGroup, SharedKeeper, SharedOrder};
 use std::alloc::Global;
+use std::time::Instant;
 
 /// Pending commands of more than so many bytes are stored though nobody waits for them.
 const MOST_PENDING_BYTES: u64 = 4_194_304;
@@ -75,6 +77,8 @@ pub(crate) struct CommitQueue<B: ExportName> {
     interval: FlushInterval,
     // By how much clients that write are slowed down.
     throttle: Throttle,
+    // What is told of all this.
+    notes: Notes,
     ghost blocks: { length order.cache.states ≡ B.geometry.blocks },
     ghost noted: { settled.number ≡ order.base },
 }
@@ -96,6 +100,7 @@ impl<B: ExportName> Drop for CommitQueue<B> {
             cannot_copy: _,
             interval: _,
             throttle: _,
+            notes: _,
         } = self;
     }
 }
@@ -134,6 +139,7 @@ impl<B: ExportName> CommitQueue<B> {
         frames: u32,
         passes: usize,
         settled: u64,
+        journal: JournalUse,
     ) -> CommitQueue<B>
         requires blocks { length order.cache.states ≡ B.geometry.blocks }
         requires noted { settled ≡ order.base }
@@ -155,6 +161,7 @@ impl<B: ExportName> CommitQueue<B> {
             cannot_copy: false,
             interval: FlushInterval::endless(),
             throttle: Throttle::new(),
+            notes: Notes::new(journal),
         }
     }
 
@@ -238,7 +245,7 @@ impl<B: ExportName> CommitQueue<B> {
         ensures rest { (self.new.frames ≡ self.old.frames) × (self.new.passes ≡ self.old.passes) × (self.new.wanted ≡ self.old.wanted)
             × (self.new.waiters ≡ self.old.waiters) × (self.new.is_full ≡ self.old.is_full) × (self.new.lacks_room ≡ self.old.lacks_room)
             × (self.new.wish ≡ self.old.wish) × (self.new.is_flushed ≡ self.old.is_flushed) × (self.new.cannot_store ≡ self.old.cannot_store) × (self.new.cannot_copy ≡ self.old.cannot_copy) × (self.new.interval ≡ self.old.interval)
-            × (self.new.throttle ≡ self.old.throttle) }
+            × (self.new.throttle ≡ self.old.throttle) × (self.new.notes ≡ self.old.notes) }
     {
         if planned.settled.number != self.settled.number {
             return Err(bytes);
@@ -479,11 +486,57 @@ impl<B: ExportName> CommitQueue<B> {
         self.passes == 0
     }
 
-    /// Takes the longest beginning of what is pending as a group.
-    pub(crate) fn seal(&mut self, board: &Board<B>) -> Result<Option<SealedGroup<B>>, OrderFault>
+    /// A command was accepted after this moment.
+    pub(crate) fn note_pending(&mut self, began: Instant)
+        ensures { self.new.settled ≡ self.old.settled }
+    {
+        if self.is_pending() {
+            self.notes.note_pending(began);
+        }
+    }
+
+    /// How much of the journal is used now.
+    pub(crate) fn note_journal(&mut self, journal: JournalUse)
+        ensures settled { self.new.settled ≡ self.old.settled }
+        ensures order { self.new.order ≡ self.old.order }
+    {
+        self.notes.note_journal(journal);
+    }
+
+    /// The figures of the order and of what it noted.
+    pub(crate) fn figures(&self) -> QueueFigures
+        ensures base { result.base ≡ self.now.order.base }
+        ensures commands { result.pending_commands ≡ self.now.order.mark - self.now.order.durable }
+        ensures bytes { result.pending_bytes ≡ sum self.now.order.bodies }
+        ensures dirty { result.dirty_frames ≡ length self.now.order.cache.blocks.dirty }
+    {
+        let order = self.order.order();
+        let dirty = u64::from(order.dirty_blocks());
+        let held = order.held_blocks() as u64;
+        QueueFigures {
+            base: self.settled,
+            pending_commands: order.mark().saturating_sub(order.durable()),
+            pending_bytes: order.backlog_bytes(),
+            oldest: self.notes.oldest(),
+            dirty_frames: dirty,
+            clean_frames: held.saturating_sub(dirty),
+            free_frames: u64::from(self.frames).saturating_sub(held),
+            journal: self.notes.journal(),
+        }
+    }
+
+    /// Takes the longest beginning of what is pending as a group, at this moment.
+    pub(crate) fn seal(
+        &mut self,
+        board: &Board<B>,
+        now: Option<Instant>,
+    ) -> Result<Option<SealedGroup<B>>, OrderFault>
         ensures { self.new.settled ≡ self.old.settled }
     {
         let sealed = self.order.seal(board)?;
+        if sealed.is_some() {
+            self.notes.seal(now);
+        }
         if self.order.order().sealed() == self.order.order().mark() {
             self.waiters.seal();
         }
@@ -524,6 +577,9 @@ impl<B: ExportName> CommitQueue<B> {
         ensures { self.new.settled ≡ self.old.settled }
     {
         engine.publish(board, &mut self.order);
+        let is_pending = self.is_pending();
+        self.notes.publish(is_pending);
+        self.notes.note_journal(engine.journal_use());
         self.waiters.publish();
         if engine.is_filling() {
             self.wish_checkpoint();

@@ -164,14 +164,16 @@ impl<B: ExportName, D: Disk, H: ReadBeside> Export<B, D, H> {
         } = device;
         match open_parts::<B, D>(alloc, blank, &keeper, frames, workers) {
             Ok((board, seat, order, passes, last)) => {
-                let settled = keeper.base();
+                let (settled, geometry) = (keeper.base(), keeper.geometry());
+                let engine = StorageEngine::new(SharedKeeper::new(keeper, seat));
+                let journal = engine.journal_use();
                 let made = Export {
                     alloc,
                     board,
-                    geometry: keeper.geometry(),
+                    geometry,
                     mode,
-                    engine: Mutex::new(StorageEngine::new(SharedKeeper::new(keeper, seat))),
-                    queue: Mutex::new(CommitQueue::new(order, frames, workers, settled)),
+                    engine: Mutex::new(engine),
+                    queue: Mutex::new(CommitQueue::new(order, frames, workers, settled, journal)),
                     beside,
                     buffers: Mutex::new(BufferPool::new(alloc)),
                     signals: Signals::new(),

@@ -1,10 +1,11 @@
 use crate::beside::ReadBeside;
 use crate::commit_queue::CommitQueue;
+use crate::checkpointing::time_since;
 use crate::export::Export;
 use crate::gathering::Pace;
 use crate::name::ExportName;
 use crate::shortage::Retries;
-use crate::storage_engine::StorageEngine;
+use crate::storage_engine::{StorageEngine, StoredGroup};
 use crate::sync_points::{Point, SyncPoints};
 use disk_model::Disk;
 use shared_store::{SealedGroup, Unstored};
@@ -124,7 +125,7 @@ impl<B: ExportName, D: Disk, H: ReadBeside> Export<B, D, H> {
             let _woken = self.signals.work.wait_timeout(rt, queue, left);
             return Flush::Waited;
         }
-        match queue.seal(&self.board) {
+        match queue.seal(&self.board, Instant::now(rt).ok()) {
             Ok(Some(group)) => {
                 pace.seal();
                 Flush::Sealed(group)
@@ -145,8 +146,9 @@ impl<B: ExportName, D: Disk, H: ReadBeside> Export<B, D, H> {
         let begin = Instant::now(rt).ok();
         points.reach(Point::Append);
         match engine.append(&self.board, group) {
-            Ok(()) => {
+            Ok(stored) => {
                 pace.note(rt, begin);
+                tell_stored(points, stored, time_since(rt, begin));
                 self.publish(rt, engine);
                 Flush::Done
             }
@@ -175,6 +177,17 @@ impl<B: ExportName, D: Disk, H: ReadBeside> Export<B, D, H> {
     pub(crate) fn fail<R: Wait>(&self, rt: &R) {
         self.queue.lock(rt).stop();
         self.signals.notify_all();
+    }
+}
+
+// Tells of a group that was stored, where its time can be told.
+fn tell_stored<G: SyncPoints>(points: &mut G, stored: StoredGroup, took: Option<Duration>) {
+    if let Some(took) = took {
+        points.reach(Point::Stored {
+            commands: stored.commands,
+            bytes: stored.bytes,
+            took,
+        });
     }
 }
 

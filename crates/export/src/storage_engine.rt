@@ -50,6 +50,24 @@ pub(crate) enum CopyStep {
     LetGo { waiting: u8 },
 }
 
+/// What was stored as one group.
+#[derive(Clone, Copy)]
+pub(crate) struct StoredGroup {
+    pub commands: u64,
+    pub bytes: u64,
+}
+
+/// How much of the journal is used.
+#[derive(Clone, Copy)]
+pub(crate) struct JournalUse {
+    pub areas: u8,
+    pub area_bytes: u64,
+    /// Areas that wait to be copied.
+    pub waiting: u8,
+    /// The bytes of groups in the area after those.
+    pub last_used: u64,
+}
+
 /// The keeper of an export with its seat, and how much of its areas is used.
 pub(crate) struct StorageEngine<B: ExportName, D: Disk> {
     shared: SharedKeeper<B, D>,
@@ -126,11 +144,25 @@ impl<B: ExportName, D: Disk> StorageEngine<B, D> {
         &mut self,
         board: &Board<B>,
         sealed: SealedGroup<B>,
-    ) -> Result<(), Unstored<B>> {
-        let bytes = bytes_of(sealed.group());
+    ) -> Result<StoredGroup, Unstored<B>> {
+        let group = sealed.group();
+        let stored = StoredGroup {
+            commands: group.commands().len() as u64,
+            bytes: bytes_of(group),
+        };
         self.shared.append(board, sealed)?;
-        self.used = self.used.saturating_add(bytes);
-        Ok(())
+        self.used = self.used.saturating_add(stored.bytes);
+        Ok(stored)
+    }
+
+    /// How much of the journal is used.
+    pub(crate) fn journal_use(&self) -> JournalUse {
+        JournalUse {
+            areas: self.shared.keeper().geometry().areas(),
+            area_bytes: self.area_bytes(),
+            waiting: self.waiting,
+            last_used: self.used,
+        }
     }
 
     /// Takes the next area into use.

@@ -5,6 +5,13 @@ use std::time::Duration;
 pub enum Point {
     /// Before a group is appended, with the keeper's lock taken.
     Append,
+    /// After a group was stored and before those that wait for it are told, with the keeper's lock taken: how many commands it had, its
+    /// bytes in the journal, and how long storing it took.
+    Stored {
+        commands: u64,
+        bytes: u64,
+        took: Duration,
+    },
     /// Before a step of a checkpoint, with no lock held.
     Step,
     /// After a checkpoint, with no lock held; not where its time can't be told.

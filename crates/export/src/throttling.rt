@@ -8,7 +8,7 @@ use disk_model::Disk;
 use image_model::BLOCK_BYTES;
 use std::rt::Clock;
 use std::sync::{CondvarTimeouts, Wait};
-use std::time::Duration;
+use std::time::{Duration, Instant};
 
 /// So many microseconds is a client slowed down for a write of one block where 15 of 16 frames are dirty. It is nothing up to 14 of 16,
 /// and grows without end towards the last frame.
@@ -59,17 +59,30 @@ impl Throttle {
 }
 
 impl<B: ExportName, D: Disk, H: ReadBeside> Export<B, D, H> {
-    /// Has a client wait that has written so many bytes, for 10 ms at most, where more than seven eighths of the frames are dirty.
-    pub fn throttle<R: Wait + Clock>(&self, rt: &R, bytes: u32) {
+    /// Has a client wait that has written so many bytes, for 10 ms at most, where more than seven eighths of the frames are dirty;
+    /// for how long it did, where that can be told. The write was accepted after `began`, where that is known.
+    pub fn throttle<R: Wait + Clock>(
+        &self,
+        rt: &R,
+        bytes: u32,
+        began: Option<Instant>,
+    ) -> Option<Duration> {
         let blocks = u64::from(bytes).saturating_add(BLOCK_BYTES - 1) / BLOCK_BYTES;
         let mut queue = self.queue.lock(rt);
-        let micros = queue.throttle(blocks);
-        if micros > 0 {
-            // Frames that are let go end it.
-            let _woken = self
-                .signals
-                .settled
-                .wait_timeout(rt, queue, Duration::from_micros(micros));
+        if let Some(began) = began {
+            queue.note_pending(began);
         }
+        let micros = queue.throttle(blocks);
+        if micros == 0 {
+            return None;
+        }
+        let start = Instant::now(rt).ok();
+        // Frames that are let go end it.
+        let woken = self
+            .signals
+            .settled
+            .wait_timeout(rt, queue, Duration::from_micros(micros));
+        drop(woken);
+        start?.elapsed(rt).ok()
     }
 }

@@ -9,9 +9,12 @@ mod pipe_options;
 mod plan;
 mod refusal;
 
+/// The version of the program.
+pub const VERSION: &str = "1.1.0";
+
 pub use format_options::FormatOptions;
 pub use limits::{LEAST_FRAMES, MOST_FRAMES};
 pub use options::{Limits, MOST_WORKERS, OnFault, ServeOptions};
 pub use pipe_options::PipeOptions;
-pub use plan::{Address, Course, Invocation, Plan};
+pub use plan::{Address, Course, Invocation, Plan, StatusForm};
 pub use refusal::Refusal;

@@ -24,6 +24,17 @@ pub enum Course {
     Faults,
 }
 
+/// How the figures of a server are printed.
+#[derive(Clone, Copy, PartialEq, Eq)]
+pub enum StatusForm {
+    /// Once, in lines for people.
+    Lines,
+    /// Once, as the JSON that the server sends.
+    Json,
+    /// Anew each second, with rates.
+    Watch,
+}
+
 /// What a command line asks for, and whether what happens is told on standard error.
 #[derive(Clone, Copy)]
 pub struct Invocation<'a> {
@@ -45,11 +56,17 @@ pub enum Plan<'a> {
         path: &'a str,
         options: PipeOptions,
     },
-    /// Serves clients over sockets.
+    /// Serves clients over sockets, and tells its figures at a socket of their own, where there is one.
     Serve {
         path: &'a str,
         address: Address<'a>,
+        status: Option<&'a str>,
         options: ServeOptions,
+    },
+    /// Asks a server at its status socket for its figures.
+    Status {
+        socket: &'a str,
+        form: StatusForm,
     },
     /// Opens the device, which recovers it, and says the number of its last command.
     Recover {

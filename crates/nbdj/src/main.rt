@@ -5,11 +5,16 @@ ghost use Rattle.std.specs.Prelude.{ℕ};
 ghost use Rattle.nbdj_pipe.specs.Plan.{Suits};
 
 mod beside;
+mod meter;
 mod server_log;
 mod serving;
+mod status_client;
+mod status_socket;
 mod teller;
+mod timed_file;
 
 use crate::serving::serve_at;
+use crate::status_client::ask;
 use crate::teller::Teller;
 use clap::error::ErrorKind;
 use command_line::line;
@@ -80,13 +85,14 @@ where
         Plan::Serve {
             path,
             address,
+            status,
             options,
         } => match open(rt, path) {
             Ok(opened) => {
                 // Where the system has no second handle left reads wait for the first one.
                 let beside = opened.file.try_clone().ok();
                 let (disk, _locks) = disk_of(rt, teller, opened, path);
-                serve_at(rt, threads, teller, path, disk, beside, address, options)
+                serve_at(rt, threads, teller, path, disk, beside, address, status, options)
             }
             Err(fault) => no_file(rt, teller, path, fault),
         },
@@ -102,6 +108,7 @@ where
                 open_for_reading(rt, path),
             )
         }
+        Plan::Status { socket, form } => ask(rt, threads, teller, socket, form),
         Plan::Rehearse { course } => run_script(rt, course),
         Plan::Refuse { path, refusal } => match try_fresh(rt, path) {
             Ok(()) => exit_status(Err(refusal), &mut rt.stderr()),

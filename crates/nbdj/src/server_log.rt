@@ -1,9 +1,11 @@
 //! What `serve` tells on standard error while it works. A thread of its own writes it, so that nobody waits for who reads it.
 
+use crate::meter::micros_of;
+use crate::status_socket::{ANSWERERS, StatusSocket};
 use export::{Point, SyncPoints};
 use nbd_wire::SessionFlags;
 use negotiation::End;
-use server::{Event, Log, Traffic};
+use server::{Event, Log, Traffic, Watched};
 use std::alloc::{AllocError, Global};
 use std::fmt::{self, Display, Formatter};
 use std::io::Write;
@@ -185,6 +187,8 @@ pub struct ServerLog<'a, R> {
     lines: &'a LogLines,
     path: &'a str,
     is_verbose: bool,
+    // Where figures are told; they are counted only then.
+    status: Option<&'a StatusSocket<'a>>,
 }
 
 impl<'a, R: Wait + Clock> ServerLog<'a, R> {
@@ -194,12 +198,14 @@ impl<'a, R: Wait + Clock> ServerLog<'a, R> {
         lines: &'a LogLines,
         path: &'a str,
         is_verbose: bool,
+        status: Option<&'a StatusSocket<'a>>,
     ) -> ServerLog<'a, R> {
         ServerLog {
             rt,
             lines,
             path,
             is_verbose,
+            status,
         }
     }
 
@@ -249,6 +255,44 @@ impl<'a, R: Wait + Clock> ServerLog<'a, R> {
         );
     }
 
+    // Counts what a thread of the export has done.
+    fn count_point(&self, at: Point) {
+        let Some(status) = self.status else {
+            return;
+        };
+        match at {
+            Point::Stored {
+                commands,
+                bytes,
+                took,
+            } => status.meter.groups.note(commands, bytes, micros_of(took)),
+            Point::Copied { blocks, took } => {
+                status.meter.checkpoints.note(blocks, 0, micros_of(took));
+            }
+            Point::NoMemory => status.meter.shortages.add(1),
+            Point::Append | Point::Step | Point::Answered => {}
+        }
+    }
+
+    // Counts what has happened to a client.
+    fn count_event(&self, event: &Event<'_>) {
+        let Some(status) = self.status else {
+            return;
+        };
+        match event {
+            Event::Came { .. } => status.meter.came.add(1),
+            Event::Left { .. } => status.meter.left.add(1),
+            Event::Served {
+                client,
+                head,
+                refused,
+                took,
+                delay,
+            } => status.meter.note_served(*client, head, *refused, *took, *delay),
+            _ => {}
+        }
+    }
+
     fn tell_end(&self, client: u64, end: Result<(), End>, traffic: Traffic) {
         let Traffic {
             requests,
@@ -268,6 +312,7 @@ impl<'a, R: Wait + Clock> ServerLog<'a, R> {
 // It holds no thread.
 impl<'a, R: Wait + Clock> SyncPoints for ServerLog<'a, R> {
     fn reach(&mut self, at: Point) {
+        self.count_point(at);
         match at {
             Point::Copied { blocks, took } => self.tell(
                 Topic::Copied,
@@ -277,13 +322,14 @@ impl<'a, R: Wait + Clock> SyncPoints for ServerLog<'a, R> {
                 Topic::NoMemory,
                 "no memory to store what was written, which is tried again",
             ),
-            Point::Append | Point::Step | Point::Answered => {}
+            Point::Stored { .. } | Point::Append | Point::Step | Point::Answered => {}
         }
     }
 }
 
 impl<'a, R: Wait + Clock> Log for ServerLog<'a, R> {
     fn note(&self, event: Event<'_>) {
+        self.count_event(&event);
         match event {
             Event::Came { client, from } => {
                 self.tell(
@@ -309,11 +355,35 @@ impl<'a, R: Wait + Clock> Log for ServerLog<'a, R> {
                     format_args!("client {client} agreed on {}", agreed(flags)),
                 );
             }
+            Event::Served { .. } => {}
             Event::Left {
                 client,
                 end,
                 traffic,
             } => self.tell_end(client, end, traffic),
+        }
+    }
+
+    fn is_timed(&self) -> bool {
+        self.status.is_some()
+    }
+
+    fn answerers(&self) -> u32 {
+        match self.status {
+            Some(_) => ANSWERERS,
+            None => 0,
+        }
+    }
+
+    fn answer<W: Watched>(&self, watched: &W) {
+        if let Some(status) = self.status {
+            status.answer(self.rt, watched);
+        }
+    }
+
+    fn end_answers(&self) {
+        if let Some(status) = self.status {
+            status.end();
         }
     }
 }

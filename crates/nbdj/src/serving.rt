@@ -1,8 +1,11 @@
 //! The sockets of a server.
 
 use crate::beside::SecondHandle;
+use crate::meter::Meter;
 use crate::server_log::{LogLines, ServerLog};
+use crate::status_socket::StatusSocket;
 use crate::teller::Teller;
+use crate::timed_file::TimedFile;
 use disk_model::{Disk, FileDisk};
 use export::OpenDevice;
 use front_end::{Address, Refusal, ServeOptions};
@@ -30,31 +33,106 @@ pub fn serve_at<R: Threads + Wait + Clock + Copy + Send + Sync + Drop + 'static>
     disk: FileDisk<ToldFile<'_, File>>,
     beside: Option<File>,
     address: Address<'_>,
+    status: Option<&str>,
     options: ServeOptions,
 ) -> u8 {
-    let Ok(lines) = LogLines::start(rt, threads) else {
-        return exit_status(Err(Refusal::NoMemory), &mut rt.stderr());
+    let outcome = match status {
+        None => serve_logged(rt, threads, teller, path, disk, beside, None, address, options),
+        Some(at) => serve_told(rt, threads, teller, path, disk, beside, at, address, options),
     };
-    let log = ServerLog::new(threads, &lines, path, teller.is_verbose());
+    exit_status(outcome, &mut rt.stderr())
+}
+
+// Serves a device whose figures are told at a socket.
+fn serve_told<R: Threads + Wait + Clock + Copy + Send + Sync + Drop + 'static>(
+    rt: &HostRuntime,
+    threads: &R,
+    teller: Teller,
+    path: &str,
+    disk: FileDisk<ToldFile<'_, File>>,
+    beside: Option<File>,
+    status: &str,
+    address: Address<'_>,
+    options: ServeOptions,
+) -> Result<(), Refusal> {
+    let Ok(meter) = Meter::new(rt.alloc(), rt) else {
+        return Err(Refusal::NoMemory);
+    };
+    let socket = open_status(rt, teller, path, status, &meter)?;
+    let told = Some(&socket);
+    let outcome = serve_logged(
+        rt, threads, teller, path, disk, beside, told, address, options,
+    );
+    // If it can't be removed the next server replaces it.
+    let _ = fs::remove_file(rt, status);
+    outcome
+}
+
+// The socket where figures are told, to nobody but the server's own user.
+fn open_status<'a>(
+    rt: &HostRuntime,
+    teller: Teller,
+    image: &'a str,
+    path: &str,
+    meter: &'a Meter,
+) -> Result<StatusSocket<'a>, Refusal> {
+    let opened = match bind_unix(rt, path, Some(0o600)) {
+        Ok(listener) => StatusSocket::new(rt.alloc(), listener, image, meter),
+        Err(error) => Err(error),
+    };
+    match opened {
+        Ok(socket) => Ok(socket),
+        Err(error) => Err(no_socket(teller, path, &error)),
+    }
+}
+
+// Opens the device and serves it, with a log.
+fn serve_logged<R: Threads + Wait + Clock + Copy + Send + Sync + Drop + 'static>(
+    rt: &HostRuntime,
+    threads: &R,
+    teller: Teller,
+    path: &str,
+    disk: FileDisk<ToldFile<'_, File>>,
+    beside: Option<File>,
+    status: Option<&StatusSocket<'_>>,
+    address: Address<'_>,
+    options: ServeOptions,
+) -> Result<(), Refusal> {
+    let Ok(lines) = LogLines::start(rt, threads) else {
+        return Err(Refusal::NoMemory);
+    };
+    let log = ServerLog::new(threads, &lines, path, teller.is_verbose(), status);
     let beside = match beside {
         Some(file) => Some(SecondHandle { file, log }),
         None => None,
     };
-    let outcome = match open_device(rt, log, disk, beside) {
+    let size = disk.size();
+    let file = TimedFile {
+        file: disk.into_file(),
+        rt: *rt,
+        syncs: match status {
+            Some(socket) => Some(&socket.meter.syncs),
+            None => None,
+        },
+    };
+    let outcome = match open_device(rt, log, FileDisk::new(file, size), beside) {
         Ok(device) => listen(rt, threads, teller, log, device, address, options),
         Err(refusal) => Err(refusal),
     };
     log.finish();
-    exit_status(outcome, &mut rt.stderr())
+    outcome
 }
+
+// The device of a server.
+type ServedDisk<'a> = FileDisk<TimedFile<'a, ToldFile<'a, File>>>;
 
 // Opens a device, and tells how many commands that has recovered.
 fn open_device<'a, 'b, R: Wait + Clock>(
     rt: &HostRuntime,
     log: ServerLog<'b, R>,
-    disk: FileDisk<ToldFile<'a, File>>,
+    disk: ServedDisk<'a>,
     beside: Option<SecondHandle<'b, R>>,
-) -> Result<OpenDevice<FileDisk<ToldFile<'a, File>>, SecondHandle<'b, R>>, Refusal> {
+) -> Result<OpenDevice<ServedDisk<'a>, SecondHandle<'b, R>>, Refusal> {
     let mut disk = disk;
     let base = if log.is_verbose() {
         base_of(&mut disk)
@@ -86,7 +164,7 @@ fn listen<R: Threads + Wait + Clock + Copy + Send + Sync + Drop + 'static>(
     threads: &R,
     teller: Teller,
     log: ServerLog<'_, R>,
-    device: OpenDevice<FileDisk<ToldFile<'_, File>>, SecondHandle<'_, R>>,
+    device: OpenDevice<ServedDisk<'_>, SecondHandle<'_, R>>,
     address: Address<'_>,
     options: ServeOptions,
 ) -> Result<(), Refusal> {
@@ -116,7 +194,7 @@ fn open_socket(
         },
         Address::Unix { path, mode } => match bind_unix(rt, path, mode) {
             Ok(listener) => match tell(rt, path) {
-                Ok(()) => Ok(listener),
+                Ok(()) => Ok(Listener::Unix(listener)),
                 Err(_) => {
                     let _ = fs::remove_file(rt, path);
                     Err(Refusal::StreamFault)
@@ -159,7 +237,7 @@ fn host_alone(address: &str) -> Option<&str> {
 }
 
 // A socket with a file, which takes the place of one that nobody listens on, and has this mode where one is said.
-fn bind_unix(rt: &HostRuntime, path: &str, mode: Option<u32>) -> io::Result<Listener> {
+fn bind_unix(rt: &HostRuntime, path: &str, mode: Option<u32>) -> io::Result<UnixListener> {
     let listener = match UnixListener::bind(rt, path) {
         Err(error) if error.kind() == ErrorKind::AddrInUse && is_abandoned(rt, path) => {
             fs::remove_file(rt, path)?;
@@ -173,7 +251,7 @@ fn bind_unix(rt: &HostRuntime, path: &str, mode: Option<u32>) -> io::Result<List
             return Err(error);
         }
     }
-    Ok(Listener::Unix(listener))
+    Ok(listener)
 }
 
 // Whether a file is a socket that nobody listens on.

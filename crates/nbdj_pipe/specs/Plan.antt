@@ -1,7 +1,7 @@
 use Rattle.std.specs.Prelude.{ℕ, ◌≡◌}
 use Rattle.front_end.specs.declared.pipe_options.PipeOptions.{PipeOptions}
 use Rattle.front_end.specs.declared.plan.Plan.{Plan}
-use Rattle.front_end.specs.declared.plan.Plan.TheVariants.{Format, Pipe, Serve, Recover, Upgrade, Check, Rehearse, Refuse}
+use Rattle.front_end.specs.declared.plan.Plan.TheVariants.{Format, Pipe, Serve, Status, Recover, Upgrade, Check, Rehearse, Refuse}
 use Rattle.image_model.specs.Geometry.{device_bytes_of}
 use Rattle.image_model.specs.declared.geometry.Geometry.{Geometry}
 
@@ -10,7 +10,8 @@ use Rattle.image_model.specs.declared.geometry.Geometry.{Geometry}
 abbrev pub Suits : Plan → ℕ → Type 0
 Suits (Format path geometry options) extent = extent ≡ device_bytes_of geometry.blocks geometry.area
 Suits (Pipe path options) extent = Unit {0}
-Suits (Serve path address options) extent = ⊥
+Suits (Serve path address status options) extent = ⊥
+Suits (Status socket form) extent = ⊥
 Suits (Recover path) extent = Unit {0}
 Suits (Upgrade path) extent = Unit {0}
 Suits (Check path) extent = Unit {0}
@@ -21,7 +22,8 @@ Suits (Refuse path refusal) extent = ⊥
 abbrev pub IfPipe : Plan → (PipeOptions → Type 0) → Type 0
 IfPipe (Format path geometry options) P = Unit {0}
 IfPipe (Pipe path options) P = P options
-IfPipe (Serve path address options) P = Unit {0}
+IfPipe (Serve path address status options) P = Unit {0}
+IfPipe (Status socket form) P = Unit {0}
 IfPipe (Recover path) P = Unit {0}
 IfPipe (Upgrade path) P = Unit {0}
 IfPipe (Check path) P = Unit {0}
@@ -32,7 +34,8 @@ IfPipe (Refuse path refusal) P = Unit {0}
 abbrev pub IfCheck : Plan → Type 0 → Type 0
 IfCheck (Format path geometry options) P = Unit {0}
 IfCheck (Pipe path options) P = Unit {0}
-IfCheck (Serve path address options) P = Unit {0}
+IfCheck (Serve path address status options) P = Unit {0}
+IfCheck (Status socket form) P = Unit {0}
 IfCheck (Recover path) P = Unit {0}
 IfCheck (Upgrade path) P = Unit {0}
 IfCheck (Check path) P = P
@@ -43,7 +46,8 @@ IfCheck (Refuse path refusal) P = Unit {0}
 abbrev pub IfFormat : Plan → (Geometry → Type 0) → Type 0
 IfFormat (Format path geometry options) P = P geometry
 IfFormat (Pipe path options) P = Unit {0}
-IfFormat (Serve path address options) P = Unit {0}
+IfFormat (Serve path address status options) P = Unit {0}
+IfFormat (Status socket form) P = Unit {0}
 IfFormat (Recover path) P = Unit {0}
 IfFormat (Upgrade path) P = Unit {0}
 IfFormat (Check path) P = Unit {0}
@@ -54,7 +58,8 @@ IfFormat (Refuse path refusal) P = Unit {0}
 abbrev pub IfRecover : Plan → Type 0 → Type 0
 IfRecover (Format path geometry options) P = Unit {0}
 IfRecover (Pipe path options) P = Unit {0}
-IfRecover (Serve path address options) P = Unit {0}
+IfRecover (Serve path address status options) P = Unit {0}
+IfRecover (Status socket form) P = Unit {0}
 IfRecover (Recover path) P = P
 IfRecover (Upgrade path) P = Unit {0}
 IfRecover (Check path) P = Unit {0}
@@ -65,7 +70,8 @@ IfRecover (Refuse path refusal) P = Unit {0}
 abbrev pub IfUpgrade : Plan → Type 0 → Type 0
 IfUpgrade (Format path geometry options) P = Unit {0}
 IfUpgrade (Pipe path options) P = Unit {0}
-IfUpgrade (Serve path address options) P = Unit {0}
+IfUpgrade (Serve path address status options) P = Unit {0}
+IfUpgrade (Status socket form) P = Unit {0}
 IfUpgrade (Recover path) P = Unit {0}
 IfUpgrade (Upgrade path) P = P
 IfUpgrade (Check path) P = Unit {0}

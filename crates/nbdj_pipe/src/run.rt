@@ -58,6 +58,7 @@ pub fn perform<D: Disk + Drop, R: Read, W: Write, E: Write>(
         Plan::Recover { path: _ } => recover(alloc, disk, output),
         Plan::Upgrade { path: _ } => upgrade(alloc, disk, output),
         Plan::Serve { .. }
+        | Plan::Status { .. }
         | Plan::Check { path: _ }
         | Plan::Rehearse { .. }
         | Plan::Refuse { .. } => unreachable!(),

@@ -213,6 +213,11 @@ impl<B: BoardName> Order<B> {
         self.cache.dirty_blocks()
     }
 
+    /// How many frames hold a block, a clean or a dirty one. No clause says the number.
+    pub fn held_blocks(&self) -> usize {
+        self.cache.held_blocks()
+    }
+
     /// Refuses all commands from now on.
     pub fn stop(&mut self)
         ensures { self.new ≡ record self.old { stopped = true } }

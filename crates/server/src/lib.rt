@@ -11,6 +11,6 @@ mod worker;
 
 pub use client::Client;
 pub use listener::Listener;
-pub use log::{Event, Log, Traffic};
+pub use log::{Event, Log, Traffic, Watched};
 pub use request_handler::RequestHandler;
 pub use serving::serve;

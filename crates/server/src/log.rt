@@ -1,7 +1,9 @@
 use crate::client::Client;
-use nbd_wire::SessionFlags;
+use export::ExportFigures;
+use nbd_wire::{Errno, RequestHead, SessionFlags};
 use negotiation::End;
 use std::io;
+use std::time::Duration;
 
 /// What a session has asked for.
 #[derive(Clone, Copy)]
@@ -34,6 +36,15 @@ pub enum Event<'a> {
         client: u64,
         flags: SessionFlags,
     },
+    /// A request has its answer, this long after it was read. It is told only where `Log::is_timed` holds.
+    Served {
+        client: u64,
+        head: RequestHead,
+        refused: Option<Errno>,
+        took: Duration,
+        /// For how long of that it was slowed down; None where it wasn't.
+        delay: Option<Duration>,
+    },
     /// A session is over: its client ended it, or it ended for the reason in `end`.
     Left {
         client: u64,
@@ -42,12 +53,41 @@ pub enum Event<'a> {
     },
 }
 
-/// Who is told what happens.
-pub trait Log {
-    fn note(&self, event: Event<'_>);
+/// A server's export, of which figures are read while it serves.
+pub trait Watched {
+    fn figures(&self) -> ExportFigures;
 }
 
-/// Nobody is told.
+/// Who is told what happens, and who answers those that ask for figures.
+pub trait Log {
+    fn note(&self, event: Event<'_>);
+
+    /// Whether each request is timed and told.
+    fn is_timed(&self) -> bool;
+
+    /// How many threads answer those that ask for figures.
+    fn answerers(&self) -> u32;
+
+    /// What each of those threads does, until `end_answers`.
+    fn answer<W: Watched>(&self, watched: &W);
+
+    /// Ends those threads: no client will be served any more.
+    fn end_answers(&self);
+}
+
+/// Nobody is told, and nobody answers.
 impl Log for () {
     fn note(&self, _event: Event<'_>) {}
+
+    fn is_timed(&self) -> bool {
+        false
+    }
+
+    fn answerers(&self) -> u32 {
+        0
+    }
+
+    fn answer<W: Watched>(&self, _watched: &W) {}
+
+    fn end_answers(&self) {}
 }

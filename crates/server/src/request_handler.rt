@@ -13,13 +13,14 @@ use export_model::Mode;
 use image_model::Geometry;
 use marks::Pass;
 use nbd_wire::{
-    BLOCK_STATUS, CommandFlags, FLUSH, READ, Reply, Request, RequestHead, SessionFlags, WRITE,
+    Answer, BLOCK_STATUS, CommandFlags, FLUSH, READ, Reply, Request, RequestHead, SessionFlags,
+    TRIM, WRITE, WRITE_ZEROES,
 };
 use negotiation::Serve;
 use std::cell::Cell;
 use std::rt::Clock;
 use std::sync::Wait;
-use std::time::Duration;
+use std::time::{Duration, Instant};
 
 /// Where a client's requests are submitted to an export.
 #[derive(Drop)]
@@ -68,9 +69,15 @@ impl<'a, B: ExportName, D: Disk, H: ReadBeside, R: Wait + Clock, L: Log> Serve<P
     fn serve(&self, pass: &mut Pass<B>, request: Request, flags: &SessionFlags) -> Reply {
         let head = request.head();
         self.count(&request, flags);
+        let began = if self.log.is_timed() {
+            Instant::now(self.rt).ok()
+        } else {
+            None
+        };
         let reply = self.export.submit(self.rt, pass, request, flags);
-        if head.kind == WRITE && !self.may_wait(&head) {
-            self.export.throttle(self.rt, head.length);
+        let delay = self.slow_down(&head, began);
+        if let Some(began) = began {
+            self.tell_served(head, &reply, began, delay);
         }
         reply
     }
@@ -88,6 +95,43 @@ impl<'a, B: ExportName, D: Disk, H: ReadBeside, R: Wait + Clock, L: Log> Request
     R,
     L,
 > {
+    // Slows a client down that writes faster than the journal is copied; for how long, where it did. It also notes since when a
+    // command may be pending that was answered before it was stored.
+    fn slow_down(&self, head: &RequestHead, began: Option<Instant>) -> Option<Duration> {
+        if self.may_wait(head) {
+            return None;
+        }
+        match (head.kind, began) {
+            (WRITE, _) => self.export.throttle(self.rt, head.length, began),
+            (TRIM | WRITE_ZEROES, Some(began)) => {
+                self.export.note_pending(self.rt, began);
+                None
+            }
+            _ => None,
+        }
+    }
+
+    // Tells of a request that has its answer.
+    fn tell_served(
+        &self,
+        head: RequestHead,
+        reply: &Reply,
+        began: Instant,
+        delay: Option<Duration>,
+    ) {
+        let refused = match &reply.answer {
+            Answer::Refused(errno) => Some(*errno),
+            _ => None,
+        };
+        self.log.note(Event::Served {
+            client: self.number,
+            head,
+            refused,
+            took: began.elapsed(self.rt).unwrap_or(Duration::ZERO),
+            delay,
+        });
+    }
+
     // Counts a request, and tells of the first one.
     fn count(&self, request: &Request, flags: &SessionFlags) {
         let mut traffic = self.traffic.get();

@@ -273,7 +273,13 @@ where
     // The flusher ends once all passes have left.
     for _ in started..server.options.workers {
         if let Some((_slot, pass)) = server.pool.take_pass(server.rt) {
-            server.pool.retire(server.rt, server.export, pass);
+            server.retire(pass);
+        }
+    }
+    // Where not as many can be made, fewer ask for figures at a time.
+    for _ in 0..server.watch.answerers() {
+        if !start(scope, server, Task::Answer) {
+            break;
         }
     }
     started > 0

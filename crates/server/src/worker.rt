@@ -3,10 +3,10 @@ ghost use Rattle.server.specs.declared.worker.Sessions.TheVariants as Sessions;
 
 use crate::client::{Client, Input, Output, WatchedOutput};
 use crate::client_registry::ClientRegistry;
-use crate::log::{Event, Log, Traffic};
+use crate::log::{Event, Log, Traffic, Watched};
 use crate::request_handler::RequestHandler;
 use disk_model::Disk;
-use export::{Export, ExportName, ReadBeside, RetiredPass, SyncPoints};
+use export::{Export, ExportFigures, ExportName, ReadBeside, RetiredPass, SyncPoints};
 use front_end::{OnFault, ServeOptions};
 use marks::Pass;
 use negotiation::{End, serve_session};
@@ -50,6 +50,8 @@ pub(crate) struct WorkerPool<'a, B: ExportName> {
     // That of the end, which the others join.
     last: Mutex<RetiredPass<B>>,
     sessions: Mutex<Sessions>,
+    // The passes that weren't retired yet.
+    unretired: Mutex<usize>,
 }
 
 impl<'a, B: ExportName> WorkerPool<'a, B> {
@@ -66,12 +68,14 @@ impl<'a, B: ExportName> WorkerPool<'a, B> {
         } else {
             Sessions::Left(sessions)
         };
+        let unretired = passes.len();
         WorkerPool {
             alloc,
             registry,
             passes: Mutex::new(passes),
             last: Mutex::new(last),
             sessions: Mutex::new(sessions),
+            unretired: Mutex::new(unretired),
         }
     }
 
@@ -84,15 +88,27 @@ impl<'a, B: ExportName> WorkerPool<'a, B> {
         }
     }
 
-    /// Takes a pass for good.
+    /// Takes a pass for good; whether it was the last one.
     pub(crate) fn retire<D: Disk, H: ReadBeside, R: Wait>(
         &self,
         rt: &R,
         export: &Export<B, D, H>,
         pass: Pass<B>,
-    ) {
+    ) -> bool {
         let left = export.leave(rt, pass);
         export.join(&mut self.last.lock(rt), left);
+        let mut unretired = self.unretired.lock(rt);
+        *unretired = unretired.saturating_sub(1);
+        *unretired == 0
+    }
+
+    /// The figures of an export, which the pass of the end learns of.
+    pub(crate) fn figures<D: Disk, H: ReadBeside, R: Wait + Clock>(
+        &self,
+        rt: &R,
+        export: &Export<B, D, H>,
+    ) -> ExportFigures {
+        export.figures(rt, &mut self.last.lock(rt))
     }
 
     /// The pass of the end.
@@ -119,6 +135,21 @@ pub(crate) enum Task {
     Flush,
     Checkpoint,
     Work,
+    /// Answers those that ask for figures.
+    Answer,
+}
+
+impl<'a, B: ExportName, D: Disk, H: ReadBeside, R: Wait + Clock, G> Watched for Server<
+    'a,
+    B,
+    D,
+    H,
+    R,
+    G,
+> {
+    fn figures(&self) -> ExportFigures {
+        self.pool.figures(self.rt, self.export)
+    }
 }
 
 /// What the threads of a server have in common.
@@ -152,6 +183,7 @@ impl<'a, B: ExportName, D: Disk, H: ReadBeside, R: Wait + Clock, G: SyncPoints +
             }
             Task::Checkpoint => self.export.checkpointer(self.rt, &mut watch),
             Task::Work => self.work(),
+            Task::Answer => self.watch.answer(self),
         }
     }
 
@@ -175,7 +207,14 @@ impl<'a, B: ExportName, D: Disk, H: ReadBeside, R: Wait + Clock, G: SyncPoints +
                 }
             }
         }
-        self.pool.retire(self.rt, self.export, pass);
+        self.retire(pass);
+    }
+
+    /// Takes a pass for good. With the last one nobody asks for figures any more.
+    pub(crate) fn retire(&self, pass: Pass<B>) {
+        if self.pool.retire(self.rt, self.export, pass) {
+            self.watch.end_answers();
+        }
     }
 
     // Serves a client in a slot, and stores what is pending before the client is let go.

@@ -66,6 +66,11 @@ impl Cache {
         self.held.dirty_blocks()
     }
 
+    /// How many frames hold a block, a clean or a dirty one. No clause says the number.
+    pub fn held_blocks(&self) -> usize {
+        self.held.held_blocks()
+    }
+
     /// Whether so many blocks from the first one on find frames, beside the blocks that are dirty.
     pub fn has_frames(&self, first: u64, count: u64) -> bool
         requires range { first + count ≤ length self.now.states }

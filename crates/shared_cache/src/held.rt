@@ -275,6 +275,11 @@ impl Held {
         self.pool.dirty_frames()
     }
 
+    // How many blocks are held, clean ones and dirty ones.
+    pub fn held_blocks(&self) -> usize {
+        self.frames.len()
+    }
+
     // Writes the blocks from the first one on, for whose frames there is room.
     pub fn put_all(&mut self, number: u64, first: u64, blocks: &[[u8; 4096]])
         requires range { first + length blocks.now < 2 ^ 64 }

@@ -11,4 +11,5 @@ returns c =
     let four = joins c.joined-command-3.result c.joined-command-4.result _ _ three c.joined-command-4.ensures in
     let five = joins c.joined-command-4.result c.joined-command-5.result _ _ four c.joined-command-5.ensures in
     let six = joins c.joined-command-5.result c.joined-command-6.result _ _ five c.joined-command-6.ensures in
-    IfOk-weaker c.joined.result _ _ (λ whole made. (_, _, made)) (joins c.joined-command-6.result c.joined.result _ _ six c.joined.ensures)
+    let seven = joins c.joined-command-6.result c.joined-command-7.result _ _ six c.joined-command-7.ensures in
+    IfOk-weaker c.joined.result _ _ (λ whole made. (_, _, made)) (joins c.joined-command-7.result c.joined.result _ _ seven c.joined.ensures)

@@ -1,0 +1,60 @@
+//! As much of HTTP/1.1 as it takes to answer a GET.
+
+use httparse::Status;
+use httparse::spans::{EMPTY_HEADER_SPAN, parse_request};
+use std::alloc::{AllocError, Global};
+
+/// The most bytes of a request's head.
+pub const MOST_REQUEST_BYTES: usize = 4_096;
+
+/// What is asked for.
+#[derive(Clone, Copy, PartialEq, Eq, Debug)]
+pub enum Route {
+    /// The figures in Prometheus' text format.
+    Metrics,
+    /// The figures as JSON.
+    Status,
+    /// A path that names nothing.
+    Unknown,
+    /// A method other than GET.
+    BadMethod,
+    /// No request of HTTP/1.x.
+    Malformed,
+    /// More bytes, or more fields, than are read.
+    TooLong,
+}
+
+/// What the bytes that have come ask for; none while the head isn't whole.
+pub fn route_of(bytes: &[u8]) -> Option<Route> {
+    let mut headers = [EMPTY_HEADER_SPAN; 32];
+    match parse_request(bytes, &mut headers) {
+        Ok(Status::Complete(head)) => {
+            if bytes.get(head.method.start..head.method.end) != Some(b"GET".as_slice()) {
+                return Some(Route::BadMethod);
+            }
+            let path = bytes.get(head.path.start..head.path.end).unwrap_or(b"");
+            Some(match path {
+                b"/metrics" => Route::Metrics,
+                b"/status" => Route::Status,
+                _ => Route::Unknown,
+            })
+        }
+        Ok(Status::Partial) if bytes.len() < MOST_REQUEST_BYTES => None,
+        Ok(Status::Partial) => Some(Route::TooLong),
+        Err(httparse::Error::TooManyHeaders) => Some(Route::TooLong),
+        Err(_) => Some(Route::Malformed),
+    }
+}
+
+/// A whole response with this body, after which the connection ends.
+pub fn response(
+    alloc: Global,
+    status: &str,
+    content_type: &str,
+    body: &str,
+) -> Result<String, AllocError> {
+    format!(in alloc;
+        "HTTP/1.1 {status}\r\nContent-Type: {content_type}\r\nContent-Length: {}\r\nConnection: close\r\n\r\n{body}",
+        body.len()
+    )
+}
