@@ -422,6 +422,18 @@ def managed(folder):
     done = subprocess.run([script, os.path.join(folder, "none.img"), "--unix", "none.sock"], env=settings["env"], stdin=subprocess.DEVNULL, capture_output=True,
                           text=True, timeout=20)
     check("nbdj-server of a missing image", (1, "nbdj: cannot open"), (done.returncode, done.stderr.splitlines()[-1][:17]))
+    statuses = {early_signal(script, os.path.join(folder, "killed.img"), settings["env"], millis) for millis in range(0, 40, 2) for _ in range(4)}
+    # (the signal itself ends the shell before it has read the script's first lines)
+    check("nbdj-server: a signal to the group right after the start", set(), statuses - {0, -signal.SIGTERM})
+
+
+def early_signal(script, image, environment, millis):
+    """The status of nbdj-server, and of what it started, if its group gets a signal so early."""
+    server = subprocess.Popen([script, image, "--unix", f"{image}.sock"], env=environment, stdin=subprocess.DEVNULL, stdout=subprocess.DEVNULL,
+                              stderr=subprocess.DEVNULL, start_new_session=True, preexec_fn=heed_signals)
+    time.sleep(millis / 1000)
+    os.killpg(server.pid, signal.SIGTERM)
+    return server.wait(timeout=20)
 
 
 def idle(folder):
