@@ -11,7 +11,7 @@ mod refusal;
 
 pub use format_options::FormatOptions;
 pub use limits::{LEAST_FRAMES, MOST_FRAMES};
-pub use options::{Limits, MOST_WORKERS, OnFault, ServeOptions};
+pub use options::{Limits, MOST_WORKERS, OnFault, ServeOptions, WhenFull};
 pub use pipe_options::PipeOptions;
 pub use plan::{Address, Course, Invocation, Plan};
 pub use refusal::Refusal;

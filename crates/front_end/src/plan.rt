@@ -25,14 +25,14 @@ pub enum Course {
 }
 
 /// What a command line asks for, and whether what happens is told on standard error.
-#[derive(Clone, Copy)]
+#[derive(Drop)]
 pub struct Invocation<'a> {
     pub plan: Plan<'a>,
     pub is_verbose: bool,
 }
 
 /// What is to be done. A path names a device's file, which the caller opens or makes.
-#[derive(Clone, Copy)]
+#[derive(Drop)]
 pub enum Plan<'a> {
     /// Makes the device an image of holes.
     Format {
@@ -45,15 +45,17 @@ pub enum Plan<'a> {
         path: &'a str,
         options: PipeOptions,
     },
-    /// Serves clients over sockets.
+    /// Serves clients over sockets: at these addresses, or where there is none at the sockets that the process was handed.
     Serve {
         path: &'a str,
-        address: Address<'a>,
+        addresses: Vec<Address<'a>>,
         options: ServeOptions,
     },
     /// Opens the device, which recovers it, and says the number of its last command.
     Recover {
         path: &'a str,
+        /// Whether it is said as JSON.
+        is_json: bool,
     },
     /// Opens the device, which recovers it, and makes it one of layout 2.
     Upgrade {
@@ -62,6 +64,8 @@ pub enum Plan<'a> {
     /// Says what the device holds, which is read alone.
     Check {
         path: &'a str,
+        /// Whether it is said as JSON.
+        is_json: bool,
     },
     /// Runs a script from standard input on a simulated device.
     Rehearse {

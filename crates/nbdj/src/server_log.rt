@@ -1,12 +1,13 @@
 //! What `serve` tells on standard error while it works. A thread of its own writes it, so that nobody waits for who reads it.
 
 use export::{Point, SyncPoints};
+use front_end::WhenFull;
 use nbd_wire::SessionFlags;
 use negotiation::End;
 use server::{Event, Log, Traffic};
 use std::alloc::{AllocError, Global};
 use std::fmt::{self, Display, Formatter};
-use std::io::Write;
+use std::io::{self, Write};
 use std::mem;
 use std::rt::Clock;
 use std::sync::{Arc, Condvar, CondvarTimeouts, Mutex, Wait};
@@ -63,7 +64,10 @@ impl Topic {
 
     // Whether it is told though nobody has asked for `--verbose`: something is amiss.
     fn is_urgent(self) -> bool {
-        matches!(self, Topic::Unread | Topic::NoMemory | Topic::Unaccepted)
+        matches!(
+            self,
+            Topic::Full | Topic::Unread | Topic::NoMemory | Topic::Unaccepted
+        )
     }
 }
 
@@ -185,6 +189,8 @@ pub struct ServerLog<'a, R> {
     lines: &'a LogLines,
     path: &'a str,
     is_verbose: bool,
+    // What is printed on standard output once clients are served, and by whom.
+    announcement: Option<(HostRuntime, &'a str)>,
 }
 
 impl<'a, R: Wait + Clock> ServerLog<'a, R> {
@@ -200,6 +206,15 @@ impl<'a, R: Wait + Clock> ServerLog<'a, R> {
             lines,
             path,
             is_verbose,
+            announcement: None,
+        }
+    }
+
+    /// The same, with what is printed once clients are served.
+    pub fn with_announcement(self, host: &HostRuntime, text: &'a str) -> ServerLog<'a, R> {
+        ServerLog {
+            announcement: Some((*host, text)),
+            ..self
         }
     }
 
@@ -283,6 +298,15 @@ impl<'a, R: Wait + Clock> SyncPoints for ServerLog<'a, R> {
 }
 
 impl<'a, R: Wait + Clock> Log for ServerLog<'a, R> {
+    fn announce(&self) -> io::Result<()> {
+        let Some((host, text)) = self.announcement else {
+            return Ok(());
+        };
+        let mut output = io::writer(&host);
+        output.write_all(text.as_bytes())?;
+        output.flush()
+    }
+
     fn note(&self, event: Event<'_>) {
         match event {
             Event::Came { client, from } => {
@@ -291,10 +315,14 @@ impl<'a, R: Wait + Clock> Log for ServerLog<'a, R> {
                     format_args!("client {client} came from {from}"),
                 );
             }
-            Event::Full { workers } => {
+            Event::Full { workers, when_full } => {
+                let way = match when_full {
+                    WhenFull::Wait => "wait",
+                    WhenFull::Refuse => "are refused",
+                };
                 self.tell(
                     Topic::Full,
-                    format_args!("all {workers} workers have a client, and further ones wait"),
+                    format_args!("all {workers} workers have a client, and further ones {way}"),
                 );
             }
             Event::Unaccepted { error } => {

@@ -89,7 +89,10 @@ pub const PIPE: Plan<'static> = Plan::Pipe {
     },
 };
 
-pub const RECOVER: Plan<'static> = Plan::Recover { path: "" };
+pub const RECOVER: Plan<'static> = Plan::Recover {
+    path: "",
+    is_json: false,
+};
 
 // Adds a request to a stream.
 pub fn send(

@@ -1,4 +1,5 @@
 use crate::client::Client;
+use front_end::WhenFull;
 use nbd_wire::SessionFlags;
 use negotiation::End;
 use std::io;
@@ -21,9 +22,10 @@ pub enum Event<'a> {
         client: u64,
         from: &'a Client,
     },
-    /// All workers have a client.
+    /// A client has come while all workers have one, and waits or is refused.
     Full {
         workers: u32,
+        when_full: WhenFull,
     },
     /// A client couldn't be accepted.
     Unaccepted {
@@ -44,10 +46,17 @@ pub enum Event<'a> {
 
 /// Who is told what happens.
 pub trait Log {
+    /// Clients are served from now on: all threads are there. If this can't be told the server ends.
+    fn announce(&self) -> io::Result<()>;
+
     fn note(&self, event: Event<'_>);
 }
 
 /// Nobody is told.
 impl Log for () {
+    fn announce(&self) -> io::Result<()> {
+        Ok(())
+    }
+
     fn note(&self, _event: Event<'_>) {}
 }
