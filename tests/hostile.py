@@ -175,14 +175,14 @@ def dropped(client):
 
 
 def silent(folder):
-    """64 clients say nothing, four at a time for 2 seconds each: the good one comes after them."""
-    with Server(folder, "silent", 4, "--handshake-timeout", "2") as server:
+    """64 clients say nothing, four at a time for a second each, since others wait: the good one comes after them."""
+    with Server(folder, "silent", 4) as server:
         clients = [server.connect(120) for _ in range(64)]
         begun = time.monotonic()
         # The good one waits in the same queue, behind them.
         server.goes_on("64 silent clients", 120)
         waited = time.monotonic() - begun
-        check("64 silent clients: the good one waited 30 to 100 seconds", True, 30 <= waited <= 100 or waited)
+        check("64 silent clients: the good one waited 14 to 60 seconds", True, 14 <= waited <= 60 or waited)
         # Each was greeted and then let go.
         ends = [take(client, 19) for client in clients]
         check("64 silent clients: each is greeted and let go", 64, sum(1 for end in ends if len(end) == 18 and end[:8] == b"NBDMAGIC"))

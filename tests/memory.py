@@ -560,11 +560,13 @@ def serve_refused(call):
 
 
 def judge_served(status, errors, talks, image):
-    """One client at most is refused something; the server goes on, or ends for want of memory; what was flushed is there."""
+    """One client at most is refused something; the server goes on, or ends for want of memory before it says that it listens; what was
+    flushed is there."""
     errors = "\n".join(line for line in errors.splitlines() if not line.endswith(TRIES_AGAIN))
     harmed = [it for it in talks if it[0]]
     if status == 1 and errors == "nbdj: no memory (0)":
-        pass
+        if talks:
+            return "it said that it listens, and then that it has no memory"
     elif status != 0 or errors or len(harmed) > 1 or any(1 < it[0] < 9 for it in harmed):
         return f"status {status}, {errors}, clients {talks}"
     blocks = max(first + count for first, count in SENT)
@@ -620,12 +622,13 @@ def serve_short(call):
     with subprocess.Popen(words, stdin=subprocess.PIPE, stdout=subprocess.PIPE, stderr=subprocess.PIPE, env=environment) as server:
         amiss, stored = "", False
         try:
-            if server.stdout.readline().startswith(b"listening"):
+            listening = server.stdout.readline().startswith(b"listening")
+            if listening:
                 with ThreadPoolExecutor(3) as clients:
                     stored = any(clients.map(talk_while_short, [path] * 3))
             errors = server.communicate(timeout=40)[1].decode().splitlines()
             told = [line for line in errors if not line.endswith(TRIES_AGAIN)]
-            if (server.returncode, told) not in [(0, []), (1, ["nbdj: no memory (0)"]), (1, ["nbdj: device fault (1)"])]:
+            if (server.returncode, told, listening) not in [(0, [], True), (1, ["nbdj: no memory (0)"], False), (1, ["nbdj: device fault (1)"], True)]:
                 amiss = f"status {server.returncode}, {errors}"
         except (subprocess.TimeoutExpired, TimeoutError) as error:
             server.kill()

@@ -1,7 +1,8 @@
 #!/usr/bin/env python3
 """How `serve` of the built program NBDJ begins, goes on and ends, as who runs it sees it: what a kill leaves, also of sectors that clients
-write beside one another and of blocks that they write by turns, eight clients at once beside plain bytes, clients beside a slow device, an end that is asked for, dead clients, a
-device that fails, a sector that can't be read, what is told, and a log that nobody reads.
+write beside one another and of blocks that they write by turns, eight clients at once beside plain bytes, clients beside a slow device, an
+end that is asked for, dead clients, a device that fails, a sector that can't be read, what is told, more clients than workers, silent
+handshakes, several listeners, sockets that it is started with, and a log that nobody reads.
 
 usage: tests/operating.py [SCENARIO ..]          (SCENARIO: the name of one of the functions below that `main` lists; by default all)
 
@@ -482,6 +483,18 @@ def managed(folder):
     done = subprocess.run([script, os.path.join(folder, "none.img"), "--unix", "none.sock"], env=settings["env"], stdin=subprocess.DEVNULL, capture_output=True,
                           text=True, timeout=20)
     check("nbdj-server of a missing image", (1, "nbdj: cannot open"), (done.returncode, done.stderr.splitlines()[-1][:17]))
+    statuses = {early_signal(script, os.path.join(folder, "killed.img"), settings["env"], millis) for millis in range(0, 40, 2) for _ in range(4)}
+    # (the signal itself ends the shell before it has read the script's first lines)
+    check("nbdj-server: a signal to the group right after the start", set(), statuses - {0, -signal.SIGTERM})
+
+
+def early_signal(script, image, environment, millis):
+    """The status of nbdj-server, and of what it started, if its group gets a signal so early."""
+    server = subprocess.Popen([script, image, "--unix", f"{image}.sock"], env=environment, stdin=subprocess.DEVNULL, stdout=subprocess.DEVNULL,
+                              stderr=subprocess.DEVNULL, start_new_session=True, preexec_fn=heed_signals)
+    time.sleep(millis / 1000)
+    os.killpg(server.pid, signal.SIGTERM)
+    return server.wait(timeout=20)
 
 
 def idle(folder):
@@ -647,7 +660,7 @@ def unreadable(folder):
 
 
 def told(folder):
-    """What a server tells of two clients that share one worker, and of the one that waits."""
+    """What a server tells of two clients that come one after the other."""
     with Server(folder, "told", 1, "--verbose") as server:
         with server.shaken() as client:
             check("told: a write", True, write(client, 1, 2 * BLOCK))
@@ -655,7 +668,7 @@ def told(folder):
             check("told: a read", reply(2), take(client, 16 + BLOCK)[:16])
             client.sendall(request(DISC, 3, 0, 0))
             check("told: the end of the first session", b"", take(client, 1))
-        # (of each kind there is a line a second, and of busy workers one a minute)
+        # (of each kind there is a line a second)
         time.sleep(1.2)
         with server.connect() as client:
             client.sendall(hostile.LONG_HANDSHAKE + request(FLUSH, 1, 0, 0))
@@ -669,14 +682,152 @@ def told(folder):
         check("what is told", [f"nbdj: {server.image}: {line}" for line in (
             "recovered 0 commands in T s",
             "client 1 came from A",
-            "all 1 workers have a client, and further ones wait",
             "client 1 agreed on simple replies",
             "client 1 left after 2 requests, 4096 bytes read and 8192 written",
             "client 2 came from A",
-            "1 lines left out",
             "client 2 agreed on structured replies and base:allocation",
             "client 2 was gone, or its session ended from here, after 1 requests, 0 bytes read and 0 written",
         )], lines)
+
+
+def refused_when_full(folder):
+    """With `--when-full refuse` a client that comes while each worker has one is let go before any byte, and served once a worker is free."""
+    with Server(folder, "refusing", 1, "--when-full", "refuse") as server:
+        for _ in range(2):
+            with server.shaken() as client:
+                for _ in range(3):
+                    with server.connect(5) as other:
+                        check("refusing: a client too many", b"", take(other, 1))
+                check("refusing: the client that is served", True, write(client, 1, BLOCK))
+                client.sendall(request(DISC, 9, 0, 0))
+                check("refusing: the end of its session", b"", take(client, 1))
+        server.process.kill()
+        server.process.wait(timeout=60)
+        lines = server.process.stderr.read().splitlines()
+    check("refusing: what is told, once a minute", [f"nbdj: {server.image}: all 1 workers have a client, and further ones are refused"], lines)
+
+
+def is_open(client):
+    """Whether a connection on which nothing is due is still open."""
+    client.setblocking(False)
+    try:
+        return client.recv(1) != b""
+    except BlockingIOError:
+        return True
+
+
+def silent_handshakes(folder):
+    """A client that doesn't finish its handshake keeps its worker from another one for a second at most, and for longer if nobody waits."""
+    for way, words in (("wait", ()), ("refuse", ("--when-full", "refuse"))):
+        with Server(folder, f"unshaken-{way}", 2, *words) as server:
+            silent = [server.connect() for _ in range(2)]
+            check(f"{way}: both are greeted", [18, 18], [len(take(client, 18)) for client in silent])
+            if way == "refuse":
+                with server.connect(5) as early:
+                    check("refuse: a client within the second", b"", take(early, 1))
+                time.sleep(1.2)
+            # (without the rule it would be 30 seconds)
+            with server.shaken(15) as client:
+                check(f"{way}: a client beside silent ones", True, write(client, 1, BLOCK))
+                check(f"{way}: one of them gave up its worker", [False, True], sorted(map(is_open, silent)))
+                client.sendall(request(DISC, 9, 0, 0))
+                check(f"{way}: the end of its session", b"", take(client, 1))
+            server.goes_on(f"{way}: silent handshakes")
+    with Server(folder, "unhurried", 1) as server, server.connect() as client:
+        client.sendall(hostile.FLAGS)
+        time.sleep(2.5)
+        client.sendall(hostile.HANDSHAKE[len(hostile.FLAGS):])
+        check("unhurried: a slow handshake for which nobody waits", 104, len(take(client, 104)))
+        check("unhurried: a write", True, write(client, 1, BLOCK))
+
+
+def converses(client):
+    """Whether a connection is greeted, and a client on it is served once it has shaken hands."""
+    with client:
+        client.settimeout(20)
+        client.sendall(hostile.HANDSHAKE + request(FLUSH, 7, 0, 0) + request(DISC, 8, 0, 0))
+        found = take(client, 18 + 32 + 34 + 20 + 16 + 1)
+        return (found[:8], found[104:]) == (b"NBDMAGIC", reply(7)) or found
+
+
+def unix_client(path):
+    client = socket.socket(socket.AF_UNIX)
+    client.connect(path)
+    return client
+
+
+def many_listeners(folder):
+    """Several addresses and sockets at once: a line for each, clients at each, and the files gone at the end."""
+    image, paths = os.path.join(folder, "many.img"), [os.path.join(folder, name) for name in ("one.sock", "two.sock")]
+    subprocess.run([NBDJ, "format", image, "--size", "16M"], check=True, stdout=subprocess.DEVNULL, timeout=60)
+    words = ["--unix", paths[0], "--listen", "127.0.0.1:0", "--unix", paths[1], "--listen", "127.0.0.1:0", "--unix-mode", "0600"]
+    with subprocess.Popen([NBDJ, "serve", image, *words, "--until-eof"], stdin=subprocess.PIPE, stdout=subprocess.PIPE, stderr=subprocess.PIPE, text=True) as server:
+        said = [server.stdout.readline().rstrip("\n").partition(" ") for _ in range(4)]
+        check("many: what is said, addresses first", (["listening"] * 4, paths), ([it[0] for it in said], [it[2] for it in said[2:]]))
+        for _ in range(2):
+            for port in (int(it[2]) for it in said[:2]):
+                check("many: a client of an address", True, converses(socket.create_connection(("127.0.0.1", port))))
+            for path in paths:
+                check("many: a client of a socket", True, converses(unix_client(path)))
+        check("many: the modes", ["0o600", "0o600"], [oct(os.stat(path).st_mode & 0o777) for path in paths])
+        server.stdin.close()
+        check("many: the end", (0, ""), (server.wait(timeout=20), server.stderr.read()))
+        check("many: the files are gone", [False, False], [os.path.exists(path) for path in paths])
+    words = ["--listen", "127.0.0.1:0", "--unix", paths[0], "--unix", os.path.join(folder, "none", "three.sock")]
+    done = subprocess.run([NBDJ, "serve", image, *words], stdin=subprocess.DEVNULL, capture_output=True, text=True, timeout=20)
+    check("many: one that can't be made", (1, "", [f"nbdj: {words[-1]}: No such file or directory (os error 2)", "nbdj: stream fault (21)"], False),
+          (done.returncode, done.stdout, done.stderr.splitlines(), os.path.exists(paths[0])))
+
+
+def start_with(sockets, *words, program=(NBDJ, "serve"), environment=None):
+    """Starts a server with listening sockets at the descriptors from 3 on, as systemd does."""
+    def place():
+        heed_signals()
+        copies = [os.dup(it.fileno()) for it in sockets]
+        for at, copy in enumerate(copies):
+            os.dup2(copy, 3 + at)
+
+    script = 'LISTEN_PID=$$ LISTEN_FDS=$0 exec "$@"'
+    return subprocess.Popen(["sh", "-c", script, str(len(sockets)), *program, *words], stdin=subprocess.PIPE, stdout=subprocess.PIPE, stderr=subprocess.PIPE,
+                            text=True, close_fds=False, preexec_fn=place, env=environment)
+
+
+def activated(folder):
+    """Sockets that the server is started with: clients that come early are served, and so are those that come while it starts anew."""
+    image, path = os.path.join(folder, "activated.img"), os.path.join(folder, "activated.sock")
+    subprocess.run([NBDJ, "format", image, "--size", "16M"], check=True, stdout=subprocess.DEVNULL, timeout=60)
+    with socket.create_server(("127.0.0.1", 0)) as tcp, socket.socket(socket.AF_UNIX) as unix:
+        unix.bind(path)
+        unix.listen()
+        port = tcp.getsockname()[1]
+        # (systemd's own sockets don't block)
+        tcp.setblocking(False)
+        for turn in range(2):
+            early = [socket.create_connection(("127.0.0.1", port)), unix_client(path)]
+            with start_with([tcp, unix], image, "--until-eof") as server:
+                check(f"activated {turn}: what is said", [f"listening {port}\n", f"listening {path}\n"], [server.stdout.readline() for _ in range(2)])
+                check(f"activated {turn}: early clients", [True, True], [converses(client) for client in early])
+                check(f"activated {turn}: later clients", [True, True], [converses(socket.create_connection(("127.0.0.1", port))), converses(unix_client(path))])
+                server.stdin.close()
+                check(f"activated {turn}: the end", (0, ""), (server.wait(timeout=20), server.stderr.read()))
+            check(f"activated {turn}: the socket's file stays", True, os.path.exists(path))
+        script, environment = os.path.join(TOP, "packaging", "nbdj-server"), {**os.environ, "NBDJ": NBDJ}
+        with start_with([tcp], image, program=(script,), environment=environment) as server:
+            check("activated, by nbdj-server: a client", True, converses(socket.create_connection(("127.0.0.1", port))))
+            server.terminate()
+            check("activated, by nbdj-server: the end", (0, ""), (server.wait(timeout=20), server.stderr.read()))
+        for words in (("--listen", "127.0.0.1:0"), ("--unix", f"{path}.other")):
+            with start_with([tcp], image, *words) as server:
+                said = server.communicate(timeout=20)
+                check(f"activated: {words[0]} is refused", (2, "", "error: --listen and --unix can't be used with the sockets of LISTEN_FDS"),
+                      (server.returncode, said[0], said[1].splitlines()[0]))
+        environment = {**os.environ, "LISTEN_PID": "1", "LISTEN_FDS": "1"}
+        done = subprocess.run([NBDJ, "serve", image], env=environment, stdin=subprocess.DEVNULL, capture_output=True, text=True, timeout=20)
+        check("activated: sockets for another process", (2, "error: one of --listen <ADDR> and --unix <SOCKET> is wanted"), (done.returncode, done.stderr.splitlines()[0]))
+    with open(image, "rb") as file, start_with([file], image) as server:
+        said = server.communicate(timeout=20)
+        check("activated: a descriptor that is no socket", (1, ["nbdj: LISTEN_FDS: Socket operation on non-socket (os error 88)", "nbdj: stream fault (21)"]),
+              (server.returncode, said[1].splitlines()))
 
 
 def crowded(folder):
@@ -733,7 +884,7 @@ def copied(folder):
 
 def main():
     scenarios = [kills, intervals, sectors, in_turn, eight, beside, shown, asked_to_end, managed, idle, failing, failing_amid_eight, gathered,
-                 unreadable, told, crowded, unheard, copied]
+                 unreadable, told, refused_when_full, silent_handshakes, many_listeners, activated, crowded, unheard, copied]
     unknown = set(sys.argv[1:]) - {it.__name__ for it in scenarios}
     if unknown:
         sys.exit(f"operating.py: there is no scenario {', '.join(sorted(unknown))}")

@@ -66,7 +66,6 @@ refused 'frames too few' pipe new.img --frames 511
 refused 'frames too many' pipe new.img --frames 65537
 refused 'unknown cache mode' pipe new.img --cache unsafe
 refused 'serve without an address' serve new.img
-refused 'serve at two addresses' serve new.img --listen 127.0.0.1:0 --unix new.img
 for workers in 0 17 -1 many; do
     refused "workers '$workers'" serve new.img --listen 127.0.0.1:0 --workers="$workers"
 done
@@ -88,6 +87,9 @@ done
 refused 'the mode of no socket' serve new.img --listen 127.0.0.1:0 --unix-mode 0660
 for way in '' Exit leave; do
     refused "'$way' on a fault" serve new.img --listen 127.0.0.1:0 --on-fault="$way"
+done
+for way in '' Wait close; do
+    refused "'$way' when each worker has a client" serve new.img --listen 127.0.0.1:0 --when-full="$way"
 done
 refused 'a value of until-eof' serve new.img --listen 127.0.0.1:0 --until-eof=yes
 refused 'an empty path of a socket' serve new.img --unix ''
@@ -1038,26 +1040,37 @@ wait $!
 is 'the end of the script' 0 $?
 exec 4<&-
 
-# Installed into a folder, also by a relative path with a space, and as a package; and what the unit for systemd runs, in a shell.
+# Installed into a folder, also by a relative path with a space, and as a package; and what the unit for systemd runs, with a socket.
 "$here/tools/install" --prefix 'in stalled'
 is 'the installed program' "nbdj $version" "$('in stalled/bin/nbdj' --version)"
 is 'the installed completion' yes "$([ -s 'in stalled/share/bash-completion/completions/nbdj' ] && echo yes)"
 unit='in stalled/lib/systemd/system/nbdj@.service'
 is 'the program of the unit' "ExecStart=\"$folder/in stalled/bin/nbdj-server\"" "$(sed -n 's/^\(ExecStart="[^"]*"\) .*/\1/p' "$unit")"
+is 'the installed unit of the socket' 'ListenStream=/run/nbdj-%i/socket' "$(grep ListenStream= "${unit%.service}.socket")"
 fresh 16 2097152
 mkdir run
-: >printed
-timeout 20 sh -c "exec $(sed -n 's/^ExecStart=//p' "$unit" | sed "s|/run/nbdj-%i|$folder/run|; s|/var/lib/nbdj/%i.img|$folder/d.img|")" >printed 2>errors &
-serving=$!
-tries=0
-until [ -s printed ] || [ "$tries" -eq 200 ]; do
-    sleep 0.05
-    tries=$((tries + 1))
-done
-is 'the unit: it listens' "listening $folder/run/socket" "$(cat printed)"
-kill "$serving"
-wait "$serving"
-is 'the unit: the end' "0|nbdj: $folder/d.img: recovered 0 commands|no" "$?|$(sed 's/ in .*//' errors)|$([ -e run/socket ] && echo yes || echo no)"
+if command -v systemd-socket-activate >/dev/null; then
+    timeout 20 systemd-socket-activate -l "$folder/run/socket" \
+        sh -c "exec $(sed -n 's/^ExecStart=//p' "$unit" | sed "s|/var/lib/nbdj/%i.img|$folder/d.img|")" >printed 2>errors &
+    serving=$!
+    is 'the unit: a client' NBDMAGIC "$(python3 -c '
+import socket, sys, time
+client = socket.socket(socket.AF_UNIX)
+client.settimeout(15)
+for _ in range(200):
+    try:
+        client.connect(sys.argv[1])
+        break
+    except OSError:
+        time.sleep(0.05)
+print(client.recv(8).decode())' "$folder/run/socket")"
+    is 'the unit: it listens' "listening $folder/run/socket" "$(cat printed)"
+    kill "$serving"
+    wait "$serving"
+    is 'the unit: the end' "0|nbdj: $folder/d.img: recovered 0 commands|yes" "$?|$(sed -n 's/ in [0-9].*//; /: recovered /p' errors)|$([ -e run/socket ] && echo yes || echo no)"
+else
+    skipped 'what the unit runs' 'systemd-socket-activate is not installed'
+fi
 if command -v systemd-analyze >/dev/null; then
     cp "$unit" nbdj@data.service
     sed -i 's|^ExecStart="[^"]*"|ExecStart=/bin/true|' nbdj@data.service

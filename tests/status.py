@@ -23,7 +23,7 @@ import time
 
 import hostile
 from hostile import BLOCK, DISC, FLUSH, FRAMES, MIB, NBDJ, READ, TRIM, WRITE, ZEROES, Server, check, request, take
-from operating import EIO, LIMITED, reply
+from operating import EIO, limited, reply
 from operating import slow as slow_device
 
 EINVAL = 22
@@ -357,7 +357,7 @@ def slow(folder):
 
 def faulty(folder):
     """After a fault of the device a server that stays still tells its figures."""
-    with told(folder, "faulty", "--on-fault", "stay", **LIMITED) as (server, path):
+    with told(folder, "faulty", "--on-fault", "stay", **limited()) as (server, path):
         with server.shaken() as client:
             write(client, 1, 0, bytes(BLOCK))
             check("faulty: a flush", reply(2, EIO), sent(client, FLUSH, 2, 0, 0))

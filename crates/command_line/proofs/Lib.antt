@@ -1,3 +1,4 @@
+mod Addresses
 mod Builders
 mod Given
 mod Intervals

@@ -2,7 +2,7 @@
 use Rattle.std.specs.Prelude.{true, false, Some, [], ◌∷◌, codes}
 use Rattle.clap.specs.Words.{App, Rule, Text, new_app, new_rule, with_rule, with_subcommand}
 use Rattle.clap.specs.Simple.{on_top}
-use Rattle.clap.specs.declared.builder.action.ArgAction.TheVariants.{SetTrue}
+use Rattle.clap.specs.declared.builder.action.ArgAction.TheVariants.{Append, SetTrue}
 use Rattle.clap.specs.declared.builder.value_parser.ValueParser.{ValueParser}
 use Rattle.clap.specs.declared.builder.value_parser.ValueParser.TheVariants as parser
 
@@ -13,6 +13,10 @@ path_rule = record (new_rule (codes "path")) { value_names = 1; required = true 
 -- an option `--NAME VALUE`, which takes any value
 abbrev pub option_rule : Text → Rule
 option_rule name = record (new_rule name) { long = Some name; value_names = 1 }
+
+-- an option `--NAME VALUE` that may be given more than once
+abbrev pub repeated_rule : Text → Rule
+repeated_rule name = record (option_rule name) { action = Some Append }
 
 -- an option `--NAME` without a value
 abbrev pub flag_rule : Text → Rule
@@ -54,18 +58,21 @@ format_app =
 abbrev pub pipe_app : ValueParser → App
 pipe_app modes = with_rule (with_rule (with_rule (with_rule (new_app (codes "pipe")) path_rule) frames_rule) (cache_rule modes)) verbose_rule
 
--- where clients arrive; the one that isn't free has a say in whether the other may be given
+-- where clients arrive; the one that isn't free has a say in whether another is given
 abbrev pub listen_rule : Rule
-listen_rule = record (option_rule (codes "listen")) { is_free = false }
+listen_rule = repeated_rule (codes "listen")
 
 abbrev pub unix_rule : Rule
-unix_rule = option_rule (codes "unix")
+unix_rule = repeated_rule (codes "unix")
 
 abbrev pub unix_mode_rule : Rule
 unix_mode_rule = record (option_rule (codes "unix-mode")) { is_free = false }
 
 abbrev pub workers_rule : Rule
 workers_rule = record (option_rule (codes "workers")) { parser = Some (parser.Unsigned 1 16); defaults = codes "4" ∷ [] }
+
+abbrev pub when_full_rule : Rule
+when_full_rule = record (option_rule (codes "when-full")) { defaults = codes "wait" ∷ [] }
 
 abbrev pub sessions_rule : Rule
 sessions_rule = record (option_rule (codes "sessions")) { parser = Some (parser.Unsigned 0 18446744073709551615); defaults = codes "0" ∷ [] }
@@ -88,7 +95,7 @@ abbrev pub on_fault_rule : Rule
 on_fault_rule = record (option_rule (codes "on-fault")) { defaults = codes "exit" ∷ [] }
 
 abbrev pub loaded_app : ValueParser → App
-loaded_app modes = with_rule (with_rule (with_rule served_app workers_rule) frames_rule) (cache_rule modes)
+loaded_app modes = with_rule (with_rule (with_rule (with_rule served_app workers_rule) when_full_rule) frames_rule) (cache_rule modes)
 
 abbrev pub timed_app : ValueParser → App
 timed_app modes =
@@ -108,13 +115,13 @@ abbrev pub status_app : App
 status_app = with_rule (with_rule (with_rule (with_rule (new_app (codes "status")) socket_rule) json_rule) (flag_rule (codes "watch"))) verbose_rule
 
 abbrev pub recover_app : App
-recover_app = with_rule (with_rule (new_app (codes "recover")) path_rule) verbose_rule
+recover_app = with_rule (with_rule (with_rule (new_app (codes "recover")) path_rule) (flag_rule (codes "json"))) verbose_rule
 
 abbrev pub upgrade_app : App
 upgrade_app = with_rule (with_rule (new_app (codes "upgrade")) path_rule) verbose_rule
 
 abbrev pub check_app : App
-check_app = with_rule (with_rule (new_app (codes "check")) path_rule) verbose_rule
+check_app = with_rule (with_rule (with_rule (new_app (codes "check")) path_rule) (flag_rule (codes "json"))) verbose_rule
 
 abbrev pub rehearse_app : App
 rehearse_app = with_rule (with_rule (with_rule (new_app (codes "rehearse")) (flag_rule (codes "sweep"))) (flag_rule (codes "faults"))) verbose_rule

@@ -1,8 +1,8 @@
 -- Which plan a command line asks for. The values that a subcommand was given are clap's: the words', and for an option
 -- that is left out its default.
-use Rattle.std.specs.Prelude.{ℕ, Bool, true, false, ◌≡◌, ◌≢◌, ◌≤◌, ◌<◌, ◌%◌, ◌⊎◌, ◌*◌, Option, Some, None, List, [], codes, option_map}
+use Rattle.std.specs.Prelude.{ℕ, Bool, true, false, ◌≡◌, ◌≢◌, ◌≤◌, ◌<◌, ◌%◌, ◌⊎◌, ◌*◌, Option, Some, None, List, [], codes, option_map, ◌++◌, All, map, unwrap_or}
 use Rattle.std.specs.Str.Parse.{IsNumeral, digits_value, without_leading_plus}
-use Rattle.clap.specs.Words.{Row, Text, first_of, one_of}
+use Rattle.clap.specs.Words.{Row, Text, all_of, first_of, one_of}
 use Rattle.command_line.specs.Seconds.{IsSeconds}
 use Rattle.command_line.specs.Size.{IsSize}
 use Rattle.image_model.specs.declared.layout.Layout.{Layout}
@@ -22,6 +22,8 @@ use Rattle.front_end.specs.declared.refusal.Refusal.TheVariants.{AreaSmall}
 use Rattle.front_end.specs.declared.options.Limits.{Limits}
 use Rattle.front_end.specs.declared.options.OnFault.{OnFault}
 use Rattle.front_end.specs.declared.options.OnFault.TheVariants.{Exit, Stay}
+use Rattle.front_end.specs.declared.options.WhenFull.{WhenFull}
+use Rattle.front_end.specs.declared.options.WhenFull.TheVariants as full
 
 -- the option was given this number, in decimal digits
 pub record IsGiven (rows : List Row) (name : Text) (number : ℕ) : Type 0 where
@@ -105,6 +107,10 @@ abbrev pub fault_name : OnFault → Text
 fault_name Exit = codes "exit"
 fault_name Stay = codes "stay"
 
+abbrev pub full_name : WhenFull → Text
+full_name full.Wait = codes "wait"
+full_name full.Refuse = codes "refuse"
+
 -- how many sessions there are, and how long each waits
 abbrev pub SaysLimits : List Row → Limits → Type 0
 SaysLimits rows limits =
@@ -116,11 +122,23 @@ abbrev pub SaysUnixMode : List Row → Option ℕ → Type 0
 SaysUnixMode rows None = IsLeftOut rows (codes "unix-mode")
 SaysUnixMode rows (Some mode) = IsGivenOctal rows (codes "unix-mode") mode × (mode ≤ 511)
 
--- clients arrive where --listen says, or else --unix, which isn't empty, and the other is left out
-abbrev pub SaysAddress : List Row → Address → Type 0
-SaysAddress rows (Tcp text) = (first_of (codes "listen") rows ≡ Some text.now) × IsLeftOut rows (codes "unix")
-SaysAddress rows (Unix path mode) =
-    (first_of (codes "unix") rows ≡ Some path.now) × (path.now ≢ []) × IsLeftOut rows (codes "listen") × SaysUnixMode rows mode
+-- the values that an option was given, in order
+abbrev pub values_given : Text → List Row → List Text
+values_given name rows = unwrap_or (all_of name rows) []
+
+-- a place where clients arrive: whether it is a Unix socket, its address or its path, and the mode of its file
+abbrev pub Place : Type 0
+Place = Bool × Text × Option ℕ
+
+abbrev pub place_of : Address → Place
+place_of (Tcp text) = (false, text.now, None)
+place_of (Unix path mode) = (true, path.now, mode)
+
+-- clients arrive at each address of --listen and then at each socket of --unix, in order; no socket's path is empty, and --unix-mode holds for all
+abbrev pub SaysAddresses : List Row → List Address → Type 0
+SaysAddresses rows addresses =
+    (mode : Option ℕ) × SaysUnixMode rows mode × All (λ path. path ≢ []) (values_given (codes "unix") rows)
+    × (map place_of addresses ≡ map (λ text. (false, text, None)) (values_given (codes "listen") rows) ++ map (λ path. (true, path, mode)) (values_given (codes "unix") rows))
 
 -- the figures are told at the socket that --status names, whose path isn't empty; at none where it is left out
 abbrev pub SaysStatusSocket : List Row → Option Text → Type 0
@@ -148,15 +166,16 @@ IsAsked (Some (name, rows)) (Format path geometry options) =
 IsAsked (Some (name, rows)) (Pipe path options) =
     (name ≡ codes "pipe") × HasPath rows path.now × IsGiven rows (codes "frames") options.frames
     × (first_of (codes "cache") rows ≡ Some (mode_name options.mode))
-IsAsked (Some (name, rows)) (Serve path address status options) =
-    (name ≡ codes "serve") × HasPath rows path.now × SaysAddress rows address × SaysStatusSocket rows (option_map (λ path. path.now) status) × IsGiven rows (codes "workers") options.workers
+IsAsked (Some (name, rows)) (Serve path addresses status options) =
+    (name ≡ codes "serve") × HasPath rows path.now × SaysAddresses rows addresses.items × SaysStatusSocket rows (option_map (λ path. path.now) status) × IsGiven rows (codes "workers") options.workers
     × IsGiven rows (codes "frames") options.frames × (first_of (codes "cache") rows ≡ Some (mode_name options.mode))
     × SaysLimits rows options.limits × (first_of (codes "on-fault") rows ≡ Some (fault_name options.on_fault))
+    × (first_of (codes "when-full") rows ≡ Some (full_name options.when_full))
     × SaysFlag rows (codes "until-eof") options.until_eof
 IsAsked (Some (name, rows)) (Status socket form) = (name ≡ codes "status") × (first_of (codes "socket") rows ≡ Some socket.now) × SaysStatusForm rows form
-IsAsked (Some (name, rows)) (Recover path) = (name ≡ codes "recover") × HasPath rows path.now
+IsAsked (Some (name, rows)) (Recover path is_json) = (name ≡ codes "recover") × HasPath rows path.now × SaysFlag rows (codes "json") is_json
 IsAsked (Some (name, rows)) (Upgrade path) = (name ≡ codes "upgrade") × HasPath rows path.now
-IsAsked (Some (name, rows)) (Check path) = (name ≡ codes "check") × HasPath rows path.now
+IsAsked (Some (name, rows)) (Check path is_json) = (name ≡ codes "check") × HasPath rows path.now × SaysFlag rows (codes "json") is_json
 IsAsked (Some (name, rows)) (Rehearse course) = (name ≡ codes "rehearse") × SaysScriptRuns rows course
 IsAsked (Some (name, rows)) (Refuse path refusal) = (name ≡ codes "format") × HasPath rows path.now × SaysSmallAreas rows × (refusal ≡ AreaSmall)
 

@@ -112,7 +112,9 @@ pub enum Form<'a> {
     ShortFlag(char),
     // `--NAME VALUE`, of any value.
     Text(&'a str),
-    // The same, with what stands for it where it is left out.
+    // The same, which may be given more than once.
+    Texts(&'a str),
+    // The like of a text, with what stands for it where it is left out.
     TextOr(&'a str, &'a str),
     // `--NAME VALUE`, of these values.
     Value(&'a str, ValueParser<'a>),
@@ -156,6 +158,9 @@ fn untied<'a>(alloc: Global, row: &ArgumentRow<'a>) -> Arg<'a>
         Form::Flag => flag(argument, row.name),
         Form::ShortFlag(letter) => flag(argument, row.name).short(letter),
         Form::Text(value_name) => option(argument, row.name, value_name),
+        Form::Texts(value_name) => {
+            option(argument, row.name, value_name).action(ArgAction::Append)
+        }
         Form::TextOr(value_name, usual) => {
             option(argument, row.name, value_name).default_value(usual)
         }
@@ -218,6 +223,13 @@ const VERBOSE: ArgumentRow<'static> = ArgumentRow {
     help: "Tells on standard error what happens, and why something can't be done",
 };
 
+const JSON: ArgumentRow<'static> = ArgumentRow {
+    name: "json",
+    form: Form::Flag,
+    tie: Tie::None,
+    help: "Prints one line of JSON in place of the lines for people",
+};
+
 // There are two ways to say how large an image is.
 pub static FORMAT: SubcommandRow<'static> = SubcommandRow {
     name: "format",
@@ -268,39 +280,45 @@ pub static FORMAT: SubcommandRow<'static> = SubcommandRow {
     ],
 };
 
-// There are two ways to say where clients arrive.
+// There are three ways to say where clients arrive: the third is to start it with sockets.
 pub static SERVE: SubcommandRow<'static> = SubcommandRow {
     name: "serve",
     about: "Serves the image to clients of the Network Block Device protocol",
-    after_help: "Example: nbdj serve d.img --listen 127.0.0.1:10809\n\nIt prints `listening PORT`, or `listening SOCKET`, once clients can come. A kill is as a power cut: every write that a FLUSH, or a FUA reply, has confirmed stays. nbdj-server runs it so that a signal loses no other write either.\n\nExit status: 0 ended as asked; 1 a fault of file, image, address, device or memory; 2 a refused command line; 4 a file or a device in use.",
+    after_help: "Example: nbdj serve d.img --listen 127.0.0.1:10809\n\n--listen and --unix may be given more than once, and together. Without them it serves at the sockets that LISTEN_FDS counts. For each socket it prints `listening PORT`, or `listening SOCKET`, once clients can come. A kill is as a power cut: every write that a FLUSH, or a FUA reply, has confirmed stays. nbdj-server runs it so that a signal loses no other write either.\n\nExit status: 0 ended as asked; 1 a fault of file, image, address, device or memory; 2 a refused command line; 4 a file or a device in use.",
     usage: Some(
-        "nbdj serve [OPTIONS] --listen <ADDR> <PATH>\n       nbdj serve [OPTIONS] --unix <SOCKET> <PATH>",
+        "nbdj serve [OPTIONS] --listen <ADDR> <PATH>\n       nbdj serve [OPTIONS] --unix <SOCKET> <PATH>\n       nbdj serve [OPTIONS] <PATH>",
     ),
     arguments: &[
         PATH,
         ArgumentRow {
             name: "listen",
-            form: Form::Text("ADDR"),
-            tie: Tie::Excludes("unix"),
-            help: "The address to listen on, as 127.0.0.1, ::1 or 127.0.0.1:10810; without a port 10809, and the system picks port 0",
+            form: Form::Texts("ADDR"),
+            tie: Tie::None,
+            help: "An address to listen on, as 127.0.0.1, ::1 or 127.0.0.1:10810; without a port 10809, and the system picks port 0",
         },
         ArgumentRow {
             name: "unix",
-            form: Form::Text("SOCKET"),
+            form: Form::Texts("SOCKET"),
             tie: Tie::None,
             help: "The path of a Unix socket, which is made and at the end removed; one that nobody listens on is replaced",
         },
         ArgumentRow {
             name: "unix-mode",
             form: Form::Text("MODE"),
-            tie: Tie::Excludes("listen"),
-            help: "Who may connect to the Unix socket, as the mode of its file in octal, 0 to 777, as 0660; by default what the umask leaves",
+            tie: Tie::Requires("unix"),
+            help: "Who may connect to each Unix socket, as the mode of its file in octal, 0 to 777, as 0660; by default what the umask leaves",
         },
         ArgumentRow {
             name: "workers",
             form: Form::ValueOr("W", "4", ValueParser::Unsigned(1, MOST_WORKERS)),
             tie: Tie::None,
-            help: "Clients that are served at a time, further ones wait: 1 to 16",
+            help: "Clients that are served at a time: 1 to 16",
+        },
+        ArgumentRow {
+            name: "when-full",
+            form: Form::TextOr("WAY", "wait"),
+            tie: Tie::None,
+            help: "While each worker has a client, `wait` lets further ones wait, `refuse` closes their connections",
         },
         FRAMES,
         CACHE,
@@ -391,7 +409,7 @@ static RECOVER: SubcommandRow<'static> = SubcommandRow {
     about: "Recovers the device and prints the number of its last command",
     after_help: "Example: nbdj recover d.img\n\nThe journal is copied into the image and is empty then. A kill or a power cut loses nothing.\n\nExit status: 0 done; 1 a fault of file, image, device or memory; 2 a refused command line; 4 a file or a device in use.",
     usage: None,
-    arguments: &[PATH, VERBOSE],
+    arguments: &[PATH, JSON, VERBOSE],
 };
 
 static UPGRADE: SubcommandRow<'static> = SubcommandRow {
@@ -407,7 +425,7 @@ static CHECK: SubcommandRow<'static> = SubcommandRow {
     about: "Prints what the device holds, and writes nothing",
     after_help: "Example: nbdj check d.img\n\nA kill or a power cut changes nothing.\n\nExit status: 0 the image is whole; 1 a fault of file, device or memory; 2 a refused command line; 3 the image is bad; 4 a file or a device in use.",
     usage: None,
-    arguments: &[PATH, VERBOSE],
+    arguments: &[PATH, JSON, VERBOSE],
 };
 
 static REHEARSE: SubcommandRow<'static> = SubcommandRow {

@@ -7,4 +7,4 @@ mod seconds;
 mod size;
 
 pub use clap::Error as LineFault;
-pub use parse::line;
+pub use parse::{address_fault, line};

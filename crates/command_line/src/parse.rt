@@ -1,9 +1,10 @@
-ghost use Rattle.std.specs.Prelude.{◌≡◌, ◌≤◌, ◌<◌, ◌*◌, Some, IfOk, MatchOption, codes, map, option_map};
+ghost use Rattle.std.specs.Prelude.{◌≡◌, ◌≢◌, ◌≤◌, ◌<◌, ◌*◌, true, [], All, Some, IfOk, MatchOption, codes, map, option_map};
 ghost use Rattle.clap.specs.Words.{first_of, found_of, rows_of, subcommand_of};
 ghost use Rattle.clap.specs.declared.builder.value_parser.ValueParser.{ValueParser};
 ghost use Rattle.command_line.specs.Commands.{nbdj_app};
-ghost use Rattle.command_line.specs.Line.{fault_name, layout_number, mode_name, HasPath, IsAsked, IsInvocation, IsGiven, IsGivenSeconds, SaysAddress, SaysArea, SaysBlocks, SaysLayout, SaysReplaces, SaysScriptRuns, SaysFlag, SaysLimits, SaysStatusForm, SaysStatusSocket, SaysUnixMode};
+ghost use Rattle.command_line.specs.Line.{fault_name, layout_number, mode_name, HasPath, IsAsked, IsInvocation, IsGiven, IsGivenSeconds, SaysArea, SaysBlocks, SaysLayout, SaysReplaces, SaysScriptRuns, SaysFlag, SaysLimits, SaysStatusForm, SaysStatusSocket, SaysUnixMode, full_name, SaysAddresses, values_given};
 ghost use Rattle.command_line.specs.Size.{IsSize};
+ghost use Rattle.front_end.specs.declared.plan.Address.TheVariants.{Tcp, Unix};
 ghost use Rattle.image_model.specs.declared.layout.Layout.TheVariants as Layout;
 
 use crate::commands::{FORMAT, SERVE, program, subcommand};
@@ -14,10 +15,22 @@ use clap::{ArgMatches, Command, Error};
 use export_model::Mode;
 use front_end::{
     Address, Course, FormatOptions, Invocation, Limits, OnFault, PipeOptions, Plan, Refusal,
-    ServeOptions, StatusForm,
+    ServeOptions, StatusForm, WhenFull,
 };
 use image_model::{BLOCK_BYTES, Geometry, LEAST_AREA_BYTES, Layout, MOST_AREA_BYTES, MOST_BLOCKS};
 use std::alloc::{AllocError, Global};
+
+/// The fault of a `serve` that says where clients arrive though it was handed sockets, or that neither says it nor was.
+pub fn address_fault(alloc: Global, has_sockets: bool) -> Error {
+    serve_fault(
+        alloc,
+        if has_sockets {
+            "--listen and --unix can't be used with the sockets of LISTEN_FDS"
+        } else {
+            "one of --listen <ADDR> and --unix <SOCKET> is wanted"
+        },
+    )
+}
 
 /// Reads a command line, the program's name first. Texts of help and version come as errors too.
 ///
@@ -55,12 +68,14 @@ fn asked<'a>(alloc: Global, name: &str, matches: &ArgMatches<'a>) -> Result<Plan
         "pipe" => pipe(alloc, matches),
         "recover" => Ok(Plan::Recover {
             path: path(alloc, matches)?,
+            is_json: flag(matches, "json"),
         }),
         "upgrade" => Ok(Plan::Upgrade {
             path: path(alloc, matches)?,
         }),
         "check" => Ok(Plan::Check {
             path: path(alloc, matches)?,
+            is_json: flag(matches, "json"),
         }),
         "rehearse" => Ok(Plan::Rehearse {
             course: course(alloc, matches)?,
@@ -256,18 +271,21 @@ fn serve<'a>(alloc: Global, matches: &ArgMatches<'a>) -> Result<Plan<'a>, Error>
     ensures { IfOk result (IsAsked (Some (codes "serve", rows_of (found_of matches.now)))) }
 {
     let path = path(alloc, matches)?;
-    let address = address(alloc, matches)?;
+    let addresses = addresses(alloc, matches)?;
     let workers = number(alloc, matches, "workers")?;
     let frames = number(alloc, matches, "frames")?;
     let mode = mode(alloc, matches)?;
     let limits = limits(alloc, matches)?;
     let on_fault = on_fault(alloc, matches)?;
+    let when_full = when_full(alloc, matches)?;
     let until_eof = flag(matches, "until-eof");
     let status = status_socket(alloc, matches)?;
-    match ServeOptions::new(frames, mode, workers, limits, on_fault, until_eof) {
+    match ServeOptions::new(
+        frames, mode, workers, limits, on_fault, when_full, until_eof,
+    ) {
         Some(options) => Ok(Plan::Serve {
             path,
-            address,
+            addresses,
             status,
             options,
         }),
@@ -353,25 +371,52 @@ fn flush_millis(alloc: Global, matches: &ArgMatches<'_>) -> Result<u64, Error>
     ))
 }
 
-// Where clients arrive, as one of two options says.
-fn address<'a>(alloc: Global, matches: &ArgMatches<'a>) -> Result<Address<'a>, Error>
-    ensures { IfOk result (SaysAddress (rows_of (found_of matches.now))) }
+// Where clients arrive: at each address, and then at each socket.
+fn addresses<'a>(alloc: Global, matches: &ArgMatches<'a>) -> Result<Vec<Address<'a>>, Error>
+    ensures { IfOk result (λ addresses. SaysAddresses (rows_of (found_of matches.now)) addresses.items) }
 {
-    match (text(matches, "listen"), text(matches, "unix")) {
-        (Some(address), None) => Ok(Address::Tcp(address)),
-        (None, Some("")) => Err(serve_fault(
+    let mode = unix_mode(alloc, matches)?;
+    let sockets = texts(alloc, matches, "unix")?;
+    if !have_names(&sockets) {
+        return Err(serve_fault(
             alloc,
             "invalid value '' for '--unix <SOCKET>': the path of a socket isn't empty",
-        )),
-        (None, Some(path)) => Ok(Address::Unix {
-            path,
-            mode: unix_mode(alloc, matches)?,
-        }),
-        _ => Err(serve_fault(
-            alloc,
-            "one of --listen <ADDR> and --unix <SOCKET> is wanted",
-        )),
+        ));
     }
+    let listens = texts(alloc, matches, "listen")?;
+    let mut addresses = tcp_addresses(alloc, &listens)?;
+    let unix = unix_addresses(alloc, &sockets, mode)?;
+    addresses.extend_from_slice(&unix)?;
+    Ok(addresses)
+}
+
+// Whether no path is empty.
+fn have_names(sockets: &[&str]) -> bool
+    ensures { result ≡ true → All (λ path. path.now ≢ []) sockets.now }
+{
+    sockets.iter().all(|path| !path.is_empty())
+}
+
+fn tcp_addresses<'a>(alloc: Global, listens: &[&'a str]) -> Result<Vec<Address<'a>>, AllocError>
+    ensures { IfOk result (λ made. made.items ≡ map (λ address. Tcp address) listens.now) }
+{
+    listens
+        .iter()
+        .map(|address| Address::Tcp(*address))
+        .collect(alloc)
+}
+
+fn unix_addresses<'a>(
+    alloc: Global,
+    sockets: &[&'a str],
+    mode: Option<u32>,
+) -> Result<Vec<Address<'a>>, AllocError>
+    ensures { IfOk result (λ made. made.items ≡ map (λ path. Unix path mode) sockets.now) }
+{
+    sockets
+        .iter()
+        .map(|path| Address::Unix { path: *path, mode })
+        .collect(alloc)
 }
 
 // The bits that a mode of a file has for its owner, its group and others.
@@ -402,6 +447,19 @@ fn on_fault(alloc: Global, matches: &ArgMatches<'_>) -> Result<OnFault, Error>
         _ => Err(serve_fault(
             alloc,
             "invalid value for '--on-fault <WAY>': it is exit or stay",
+        )),
+    }
+}
+
+fn when_full(alloc: Global, matches: &ArgMatches<'_>) -> Result<WhenFull, Error>
+    ensures { IfOk result (λ way. first_of (codes "when-full") (rows_of (found_of matches.now)) ≡ Some (full_name way)) }
+{
+    match text(matches, "when-full") {
+        Some("wait") => Ok(WhenFull::Wait),
+        Some("refuse") => Ok(WhenFull::Refuse),
+        _ => Err(serve_fault(
+            alloc,
+            "invalid value for '--when-full <WAY>': it is wait or refuse",
         )),
     }
 }
@@ -442,6 +500,20 @@ fn text<'a>(matches: &ArgMatches<'a>, name: &str) -> Option<&'a str>
     ensures { first_of name.now (rows_of (found_of matches.now)) ≡ option_map (λ text. text.now) result }
 {
     matches.get_str(name)
+}
+
+// The texts that an option was given, in order.
+fn texts<'a>(
+    alloc: Global,
+    matches: &ArgMatches<'a>,
+    name: &str,
+) -> Result<Vec<&'a str>, AllocError>
+    ensures { IfOk result (λ texts. map (λ text. text.now) texts.items ≡ values_given name.now (rows_of (found_of matches.now))) }
+{
+    match matches.get_strs(name) {
+        Some(texts) => Vec::from_slice(alloc, texts),
+        None => Ok(Vec::new(alloc)),
+    }
 }
 
 // The number that an option was given.

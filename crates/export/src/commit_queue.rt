@@ -514,7 +514,7 @@ impl<B: ExportName> CommitQueue<B> {
         let dirty = u64::from(order.dirty_blocks());
         let held = order.held_blocks() as u64;
         QueueFigures {
-            base: self.settled,
+            base: self.settled.number,
             pending_commands: order.mark().saturating_sub(order.durable()),
             pending_bytes: order.backlog_bytes(),
             oldest: self.notes.oldest(),

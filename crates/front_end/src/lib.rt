@@ -14,7 +14,7 @@ pub const VERSION: &str = "1.1.0";
 
 pub use format_options::FormatOptions;
 pub use limits::{LEAST_FRAMES, MOST_FRAMES};
-pub use options::{Limits, MOST_WORKERS, OnFault, ServeOptions};
+pub use options::{Limits, MOST_WORKERS, OnFault, ServeOptions, WhenFull};
 pub use pipe_options::PipeOptions;
 pub use plan::{Address, Course, Invocation, Plan, StatusForm};
 pub use refusal::Refusal;

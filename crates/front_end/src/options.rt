@@ -16,6 +16,15 @@ pub enum OnFault {
     Stay,
 }
 
+/// What becomes of a client while each worker has one.
+#[derive(Clone, Copy, PartialEq, Eq)]
+pub enum WhenFull {
+    /// It waits for a worker.
+    Wait,
+    /// Its connection is closed at once.
+    Refuse,
+}
+
 /// How many sessions a server has, and how long it waits in them.
 #[derive(Clone, Copy)]
 pub struct Limits {
@@ -68,6 +77,7 @@ pub struct ServeOptions {
     pub workers: u32,
     pub limits: Limits,
     pub on_fault: OnFault,
+    pub when_full: WhenFull,
     /// Whether the server ends once its standard input does.
     pub until_eof: bool,
     ghost frames_few: { frames ≤ 65536 },
@@ -84,12 +94,13 @@ impl ServeOptions {
         workers: u64,
         limits: Limits,
         on_fault: OnFault,
+        when_full: WhenFull,
         until_eof: bool,
     ) -> Option<ServeOptions>
         ensures { MatchOption result
             ((512 ≤ frames) × (frames ≤ 65536) × (0 < workers) × (workers ≤ 16) × (0 < limits.handshake_seconds) → ⊥)
             (λ options. (512 ≤ frames) × (0 < limits.handshake_seconds) × (options.frames ≡ frames) × (options.mode ≡ mode) × (options.workers ≡ workers)
-            × (options.limits ≡ limits) × (options.on_fault ≡ on_fault) × (options.until_eof ≡ until_eof)) }
+            × (options.limits ≡ limits) × (options.on_fault ≡ on_fault) × (options.when_full ≡ when_full) × (options.until_eof ≡ until_eof)) }
     {
         if !(LEAST_FRAMES..=MOST_FRAMES).contains(&frames) {
             return None;
@@ -103,6 +114,7 @@ impl ServeOptions {
             workers: workers as u32,
             limits,
             on_fault,
+            when_full,
             until_eof,
         })
     }

@@ -36,14 +36,14 @@ pub enum StatusForm {
 }
 
 /// What a command line asks for, and whether what happens is told on standard error.
-#[derive(Clone, Copy)]
+#[derive(Drop)]
 pub struct Invocation<'a> {
     pub plan: Plan<'a>,
     pub is_verbose: bool,
 }
 
 /// What is to be done. A path names a device's file, which the caller opens or makes.
-#[derive(Clone, Copy)]
+#[derive(Drop)]
 pub enum Plan<'a> {
     /// Makes the device an image of holes.
     Format {
@@ -56,10 +56,11 @@ pub enum Plan<'a> {
         path: &'a str,
         options: PipeOptions,
     },
-    /// Serves clients over sockets, and tells its figures at a socket of their own, where there is one.
+    /// Serves clients over sockets: at these addresses, or at the sockets that the process was handed if there is none. Its figures are
+    /// told at a socket of their own, if there is one.
     Serve {
         path: &'a str,
-        address: Address<'a>,
+        addresses: Vec<Address<'a>>,
         status: Option<&'a str>,
         options: ServeOptions,
     },
@@ -71,6 +72,8 @@ pub enum Plan<'a> {
     /// Opens the device, which recovers it, and says the number of its last command.
     Recover {
         path: &'a str,
+        /// Whether it is said as JSON.
+        is_json: bool,
     },
     /// Opens the device, which recovers it, and makes it one of layout 2.
     Upgrade {
@@ -79,6 +82,8 @@ pub enum Plan<'a> {
     /// Says what the device holds, which is read alone.
     Check {
         path: &'a str,
+        /// Whether it is said as JSON.
+        is_json: bool,
     },
     /// Runs a script from standard input on a simulated device.
     Rehearse {

@@ -1,5 +1,6 @@
 //! Files whose blocks are there before they are wanted.
 
+use crate::progress::Progress;
 use std::io;
 use std::os::unix::fs::FileExt;
 
@@ -11,21 +12,6 @@ static ZEROES: [u8; PIECE] = [0; PIECE];
 
 // So many pieces are 1 MiB.
 const TOLD: u64 = 32;
-
-/// Tells how far a long work is, where standard error is a terminal.
-#[derive(Clone, Copy)]
-pub(crate) struct Progress<'a> {
-    pub(crate) rt: &'a HostRuntime,
-    pub(crate) shows: bool,
-}
-
-impl Progress<'_> {
-    fn show(&self, done: u64, count: u64, end: &str) {
-        if self.shows {
-            let _ = eprint!(self.rt; "\rnbdj: {done} of {count} MiB written{end}");
-        }
-    }
-}
 
 /// Writes so many zeroes at an offset of a file.
 pub(crate) fn fill<F: FileExt>(
@@ -43,9 +29,9 @@ pub(crate) fn fill<F: FileExt>(
             offset.saturating_add(done),
         )?;
         if piece % TOLD == 0 {
-            progress.show(piece / TOLD, pieces.div_ceil(TOLD), "");
+            progress.show(piece / TOLD, pieces.div_ceil(TOLD));
         }
     }
-    progress.show(pieces.div_ceil(TOLD), pieces.div_ceil(TOLD), "\n");
+    progress.finish(pieces.div_ceil(TOLD));
     Ok(())
 }

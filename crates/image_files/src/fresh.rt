@@ -1,9 +1,10 @@
 use crate::devices::Locks;
 use crate::files::{Place, Wanted};
-use crate::filling::{Progress, fill};
+use crate::filling::fill;
+use crate::progress::Progress;
 use std::cell::Cell;
 use std::fs::{File, Metadata, OpenFile};
-use std::io::{self, IsTerminal};
+use std::io;
 use std::os::unix::fs::{FileExt, MetadataExt};
 
 // The unit in which the system tells how much of a file is allocated.
@@ -81,9 +82,10 @@ impl FreshFile {
     }
 
     fn allocate(&self) -> io::Result<()> {
-        let progress = Progress {
-            rt: &self.rt,
-            shows: self.fills_all() && self.rt.stderr().is_terminal(),
+        let progress = if self.fills_all() {
+            Progress::new(&self.rt)
+        } else {
+            Progress::silent(&self.rt)
         };
         fill(&self.file, 0, self.wanted.allocated, &progress)?;
         OpenFile::sync_all(&self.file)
@@ -98,10 +100,7 @@ impl FreshFile {
         if metadata.len() == 0 || missing == 0 {
             return Ok(());
         }
-        let silent = Progress {
-            rt: &self.rt,
-            shows: false,
-        };
+        let silent = Progress::silent(&self.rt);
         // (no sync: what was only cached goes at once)
         let tried = fill(&self.file, metadata.len(), missing, &silent);
         OpenFile::set_len(&self.file, metadata.len())?;

@@ -7,6 +7,7 @@ mod devices;
 mod files;
 mod filling;
 mod fresh;
+mod progress;
 mod streams;
 mod told;
 

@@ -5,6 +5,7 @@ ghost use Rattle.std.specs.Prelude.{ℕ};
 ghost use Rattle.nbdj_pipe.specs.Plan.{Suits};
 
 mod beside;
+mod handed;
 mod meter;
 mod server_log;
 mod serving;
@@ -17,7 +18,7 @@ use crate::serving::serve_at;
 use crate::status_client::ask;
 use crate::teller::Teller;
 use clap::error::ErrorKind;
-use command_line::line;
+use command_line::{address_fault, line};
 use disk_model::{Disk, FileDisk};
 use front_end::{Course, FormatOptions, Invocation, Plan};
 use image_files::{
@@ -76,30 +77,37 @@ where
     R: Threads + Wait + Clock + Copy + Send + Sync + Drop + 'static,
 {
     let teller = Teller::new(rt, &invocation);
-    match invocation.plan {
+    match &invocation.plan {
         Plan::Format {
             path,
             geometry,
             options,
-        } => format(rt, teller, path, geometry, options),
+        } => format(rt, teller, path, *geometry, *options),
         Plan::Serve {
             path,
-            address,
+            addresses,
             status,
             options,
-        } => match open(rt, path) {
-            Ok(opened) => {
-                // Where the system has no second handle left reads wait for the first one.
-                let beside = opened.file.try_clone().ok();
-                let (disk, _locks) = disk_of(rt, teller, opened, path);
-                serve_at(rt, threads, teller, path, disk, beside, address, status, options)
+        } => {
+            let has_sockets = handed::count(rt) > 0;
+            if has_sockets != addresses.is_empty() {
+                let _ = address_fault(rt.alloc(), has_sockets).print(rt);
+                return 2;
             }
-            Err(fault) => no_file(rt, teller, path, fault),
-        },
-        Plan::Pipe { path, .. } | Plan::Recover { path } | Plan::Upgrade { path } => {
+            match open(rt, path) {
+                Ok(opened) => {
+                    // Where the system has no second handle left reads wait for the first one.
+                    let beside = opened.file.try_clone().ok();
+                    let (disk, _locks) = disk_of(rt, teller, opened, path);
+                    serve_at(rt, threads, teller, path, disk, beside, addresses, *status, *options)
+                }
+                Err(fault) => no_file(rt, teller, path, fault),
+            }
+        }
+        Plan::Pipe { path, .. } | Plan::Recover { path, .. } | Plan::Upgrade { path } => {
             run_opened(rt, teller, &invocation.plan, path, open(rt, path))
         }
-        Plan::Check { path } => {
+        Plan::Check { path, .. } => {
             run_opened(
                 rt,
                 teller,
@@ -108,10 +116,10 @@ where
                 open_for_reading(rt, path),
             )
         }
-        Plan::Status { socket, form } => ask(rt, threads, teller, socket, form),
-        Plan::Rehearse { course } => run_script(rt, course),
+        Plan::Status { socket, form } => ask(rt, threads, teller, socket, *form),
+        Plan::Rehearse { course } => run_script(rt, *course),
         Plan::Refuse { path, refusal } => match try_fresh(rt, path) {
-            Ok(()) => exit_status(Err(refusal), &mut rt.stderr()),
+            Ok(()) => exit_status(Err(*refusal), &mut rt.stderr()),
             Err(fault) => no_file(rt, teller, path, fault),
         },
     }

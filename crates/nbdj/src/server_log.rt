@@ -3,12 +3,13 @@
 use crate::meter::micros_of;
 use crate::status_socket::{ANSWERERS, StatusSocket};
 use export::{Point, SyncPoints};
+use front_end::WhenFull;
 use nbd_wire::SessionFlags;
 use negotiation::End;
 use server::{Event, Log, Traffic, Watched};
 use std::alloc::{AllocError, Global};
 use std::fmt::{self, Display, Formatter};
-use std::io::Write;
+use std::io::{self, Write};
 use std::mem;
 use std::rt::Clock;
 use std::sync::{Arc, Condvar, CondvarTimeouts, Mutex, Wait};
@@ -65,7 +66,10 @@ impl Topic {
 
     // Whether it is told though nobody has asked for `--verbose`: something is amiss.
     fn is_urgent(self) -> bool {
-        matches!(self, Topic::Unread | Topic::NoMemory | Topic::Unaccepted)
+        matches!(
+            self,
+            Topic::Full | Topic::Unread | Topic::NoMemory | Topic::Unaccepted
+        )
     }
 }
 
@@ -189,6 +193,8 @@ pub struct ServerLog<'a, R> {
     is_verbose: bool,
     // Where figures are told; they are counted only then.
     status: Option<&'a StatusSocket<'a>>,
+    // What is printed on standard output once clients are served, and by whom.
+    announcement: Option<(HostRuntime, &'a str)>,
 }
 
 impl<'a, R: Wait + Clock> ServerLog<'a, R> {
@@ -206,6 +212,15 @@ impl<'a, R: Wait + Clock> ServerLog<'a, R> {
             path,
             is_verbose,
             status,
+            announcement: None,
+        }
+    }
+
+    /// The same, with what is printed once clients are served.
+    pub fn with_announcement(self, host: &HostRuntime, text: &'a str) -> ServerLog<'a, R> {
+        ServerLog {
+            announcement: Some((*host, text)),
+            ..self
         }
     }
 
@@ -328,6 +343,15 @@ impl<'a, R: Wait + Clock> SyncPoints for ServerLog<'a, R> {
 }
 
 impl<'a, R: Wait + Clock> Log for ServerLog<'a, R> {
+    fn announce(&self) -> io::Result<()> {
+        let Some((host, text)) = self.announcement else {
+            return Ok(());
+        };
+        let mut output = io::writer(&host);
+        output.write_all(text.as_bytes())?;
+        output.flush()
+    }
+
     fn note(&self, event: Event<'_>) {
         self.count_event(&event);
         match event {
@@ -337,10 +361,14 @@ impl<'a, R: Wait + Clock> Log for ServerLog<'a, R> {
                     format_args!("client {client} came from {from}"),
                 );
             }
-            Event::Full { workers } => {
+            Event::Full { workers, when_full } => {
+                let way = match when_full {
+                    WhenFull::Wait => "wait",
+                    WhenFull::Refuse => "are refused",
+                };
                 self.tell(
                     Topic::Full,
-                    format_args!("all {workers} workers have a client, and further ones wait"),
+                    format_args!("all {workers} workers have a client, and further ones {way}"),
                 );
             }
             Event::Unaccepted { error } => {

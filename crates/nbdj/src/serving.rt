@@ -1,6 +1,7 @@
 //! The sockets of a server.
 
 use crate::beside::SecondHandle;
+use crate::handed;
 use crate::meter::Meter;
 use crate::server_log::{LogLines, ServerLog};
 use crate::status_socket::StatusSocket;
@@ -13,9 +14,9 @@ use header_slots::read_current;
 use image_files::ToldFile;
 use nbdj_pipe::exit_status;
 use server::{Listener, serve};
-use std::fmt::Display;
+use std::fmt::{Display, Write};
 use std::fs::{self, File, Permissions};
-use std::io::{self, ErrorKind, Write};
+use std::io::{self, ErrorKind};
 use std::net::TcpListener;
 use std::os::unix::fs::{FileTypeExt, PermissionsExt};
 use std::os::unix::net::{UnixListener, UnixStream};
@@ -24,7 +25,7 @@ use std::sync::Wait;
 use std::thread::Threads;
 use std::time::{Duration, Instant};
 
-// Opens a device, serves it at an address, and gives the exit status.
+// Opens a device, serves it at each address, or where there is none at the sockets that were handed over, and gives the exit status.
 pub fn serve_at<R: Threads + Wait + Clock + Copy + Send + Sync + Drop + 'static>(
     rt: &HostRuntime,
     threads: &R,
@@ -32,13 +33,13 @@ pub fn serve_at<R: Threads + Wait + Clock + Copy + Send + Sync + Drop + 'static>
     path: &str,
     disk: FileDisk<ToldFile<'_, File>>,
     beside: Option<File>,
-    address: Address<'_>,
+    addresses: &[Address<'_>],
     status: Option<&str>,
     options: ServeOptions,
 ) -> u8 {
     let outcome = match status {
-        None => serve_logged(rt, threads, teller, path, disk, beside, None, address, options),
-        Some(at) => serve_told(rt, threads, teller, path, disk, beside, at, address, options),
+        None => serve_logged(rt, threads, teller, path, disk, beside, None, addresses, options),
+        Some(at) => serve_told(rt, threads, teller, path, disk, beside, at, addresses, options),
     };
     exit_status(outcome, &mut rt.stderr())
 }
@@ -52,7 +53,7 @@ fn serve_told<R: Threads + Wait + Clock + Copy + Send + Sync + Drop + 'static>(
     disk: FileDisk<ToldFile<'_, File>>,
     beside: Option<File>,
     status: &str,
-    address: Address<'_>,
+    addresses: &[Address<'_>],
     options: ServeOptions,
 ) -> Result<(), Refusal> {
     let Ok(meter) = Meter::new(rt.alloc(), rt) else {
@@ -61,7 +62,7 @@ fn serve_told<R: Threads + Wait + Clock + Copy + Send + Sync + Drop + 'static>(
     let socket = open_status(rt, teller, path, status, &meter)?;
     let told = Some(&socket);
     let outcome = serve_logged(
-        rt, threads, teller, path, disk, beside, told, address, options,
+        rt, threads, teller, path, disk, beside, told, addresses, options,
     );
     // If it can't be removed the next server replaces it.
     let _ = fs::remove_file(rt, status);
@@ -95,7 +96,7 @@ fn serve_logged<R: Threads + Wait + Clock + Copy + Send + Sync + Drop + 'static>
     disk: FileDisk<ToldFile<'_, File>>,
     beside: Option<File>,
     status: Option<&StatusSocket<'_>>,
-    address: Address<'_>,
+    addresses: &[Address<'_>],
     options: ServeOptions,
 ) -> Result<(), Refusal> {
     let Ok(lines) = LogLines::start(rt, threads) else {
@@ -116,7 +117,7 @@ fn serve_logged<R: Threads + Wait + Clock + Copy + Send + Sync + Drop + 'static>
         },
     };
     let outcome = match open_device(rt, log, FileDisk::new(file, size), beside) {
-        Ok(device) => listen(rt, threads, teller, log, device, address, options),
+        Ok(device) => listen(rt, threads, teller, log, device, addresses, options),
         Err(refusal) => Err(refusal),
     };
     log.finish();
@@ -158,50 +159,105 @@ fn base_of<D: Disk>(disk: &mut D) -> Option<u64> {
     Some(header.base)
 }
 
-// Listens at an address, and serves the clients that arrive there.
+// Listens, and serves the clients that arrive.
 fn listen<R: Threads + Wait + Clock + Copy + Send + Sync + Drop + 'static>(
     rt: &HostRuntime,
     threads: &R,
     teller: Teller,
     log: ServerLog<'_, R>,
     device: OpenDevice<ServedDisk<'_>, SecondHandle<'_, R>>,
-    address: Address<'_>,
+    addresses: &[Address<'_>],
     options: ServeOptions,
 ) -> Result<(), Refusal> {
-    let listener = open_socket(rt, teller, address)?;
-    let input = rt.stdin();
-    let (outcome, _disk) = serve(threads, rt.alloc(), device, listener, input, options, log);
-    if let Address::Unix { path, .. } = address {
+    let mut made = Made {
+        rt: *rt,
+        listeners: Vec::new(rt.alloc()),
+        said: String::new(rt.alloc()),
+        files: Vec::new(rt.alloc()),
+    };
+    let opened = if addresses.is_empty() {
+        made.take_handed(teller)
+    } else {
+        made.open_all(teller, addresses)
+    };
+    let outcome = match opened {
+        Ok(()) => {
+            let log = log.with_announcement(rt, made.said.as_str());
+            let (outcome, _disk) = serve(
+                threads,
+                rt.alloc(),
+                device,
+                made.listeners,
+                rt.stdin(),
+                options,
+                log,
+            );
+            outcome
+        }
+        Err(refusal) => Err(refusal),
+    };
+    for file in made.files {
         // Where it can't be removed, the next server replaces it.
-        let _ = fs::remove_file(rt, path);
+        let _ = fs::remove_file(rt, file);
     }
     outcome
 }
 
-// A socket at an address, once it is said where it listens.
-fn open_socket(
-    rt: &HostRuntime,
-    teller: Teller,
-    address: Address<'_>,
-) -> Result<Listener, Refusal> {
-    match address {
-        Address::Tcp(address) => match bind_tcp(rt, address) {
-            Ok((listener, port)) => match tell(rt, port) {
-                Ok(()) => Ok(listener),
-                Err(_) => Err(Refusal::StreamFault),
+// Sockets at which clients arrive.
+#[derive(Drop)]
+struct Made<'a> {
+    rt: HostRuntime,
+    listeners: Vec<Listener>,
+    // A line for each of them, which says where it listens.
+    said: String,
+    // The files of those that were made.
+    files: Vec<&'a str>,
+}
+
+impl<'a> Made<'a> {
+    // Makes a socket at each address.
+    fn open_all(&mut self, teller: Teller, addresses: &[Address<'a>]) -> Result<(), Refusal> {
+        for address in addresses {
+            self.open(teller, *address)?;
+        }
+        Ok(())
+    }
+
+    fn open(&mut self, teller: Teller, address: Address<'a>) -> Result<(), Refusal> {
+        let rt = &self.rt;
+        match address {
+            Address::Tcp(address) => match bind_tcp(rt, address) {
+                Ok((listener, port)) => self.add(Listener::from(listener), port),
+                Err(error) => Err(no_socket(teller, address, &error)),
             },
-            Err(error) => Err(no_socket(teller, address, &error)),
-        },
-        Address::Unix { path, mode } => match bind_unix(rt, path, mode) {
-            Ok(listener) => match tell(rt, path) {
-                Ok(()) => Ok(Listener::Unix(listener)),
-                Err(_) => {
-                    let _ = fs::remove_file(rt, path);
-                    Err(Refusal::StreamFault)
+            Address::Unix { path, mode } => match bind_unix(rt, path, mode) {
+                Ok(listener) => {
+                    self.files.push(path).ok().ok_or(Refusal::NoMemory)?;
+                    self.add(Listener::from(listener), path)
                 }
+                Err(error) => Err(no_socket(teller, path, &error)),
             },
-            Err(error) => Err(no_socket(teller, path, &error)),
-        },
+        }
+    }
+
+    // Takes the sockets that the process was started with.
+    fn take_handed(&mut self, teller: Teller) -> Result<(), Refusal> {
+        for at in 0..handed::count(&self.rt) {
+            match handed::take(&self.rt, at) {
+                Ok((listener, said)) => self.add(listener, said)?,
+                Err(error) => {
+                    return Err(no_socket(teller, "LISTEN_FDS", &error));
+                }
+            }
+        }
+        Ok(())
+    }
+
+    fn add<T: Display + Drop>(&mut self, listener: Listener, said: T) -> Result<(), Refusal> {
+        if writeln!(self.said, "listening {said}").is_err() {
+            return Err(Refusal::NoMemory);
+        }
+        self.listeners.push(listener).ok().ok_or(Refusal::NoMemory)
     }
 }
 
@@ -215,13 +271,13 @@ fn no_socket(teller: Teller, address: &str, error: &io::Error) -> Refusal {
 const USUAL_PORT: u16 = 10809;
 
 // A socket at an address, and the port that it has.
-fn bind_tcp(rt: &HostRuntime, address: &str) -> io::Result<(Listener, u16)> {
+fn bind_tcp(rt: &HostRuntime, address: &str) -> io::Result<(TcpListener, u16)> {
     let listener = match host_alone(address) {
         Some(host) => TcpListener::bind(rt, (host, USUAL_PORT))?,
         None => TcpListener::bind(rt, address)?,
     };
     let port = listener.local_addr()?.port();
-    Ok((Listener::Tcp(listener), port))
+    Ok((listener, port))
 }
 
 // The host of an address that says no port: it has no colon, or more than one outside brackets.
@@ -266,11 +322,4 @@ fn is_abandoned(rt: &HostRuntime, path: &str) -> bool {
         Ok(_) => false,
         Err(error) => error.kind() == ErrorKind::ConnectionRefused,
     }
-}
-
-// Says where it listens.
-fn tell<T: Display + Drop>(rt: &HostRuntime, label: T) -> io::Result<()> {
-    let mut output = io::writer(rt);
-    writeln!(output, "listening {label}")?;
-    output.flush()
 }

@@ -14,7 +14,8 @@ use checkpoint::{Keeper, Report};
 use disk_model::Disk;
 use front_end::{Plan, Refusal};
 use image_model::{Geometry, Layout};
-use std::alloc::Global;
+use serde_json::{Value, json};
+use std::alloc::{AllocError, Global};
 use std::fmt::Display;
 use std::io;
 use std::io::{Read, Write};
@@ -49,17 +50,17 @@ pub fn perform<D: Disk + Drop, R: Read, W: Write, E: Write>(
     // A check only reads.
     ensures checked { IfCheck plan.now (D.honest disk → IsOnlyRead (D.state disk) (D.state result.1)) }
 {
-    if let Plan::Check { path: _ } = *plan {
-        return check(alloc, disk, output, errors);
+    if let Plan::Check { path: _, is_json } = *plan {
+        return check(alloc, disk, is_json, output, errors);
     }
     let (outcome, disk) = match *plan {
         Plan::Format { geometry, .. } => format(alloc, disk, geometry, output),
         Plan::Pipe { path: _, options } => pipe(alloc, disk, options, input, output),
-        Plan::Recover { path: _ } => recover(alloc, disk, output),
+        Plan::Recover { path: _, is_json } => recover(alloc, disk, is_json, output),
         Plan::Upgrade { path: _ } => upgrade(alloc, disk, output),
         Plan::Serve { .. }
         | Plan::Status { .. }
-        | Plan::Check { path: _ }
+        | Plan::Check { .. }
         | Plan::Rehearse { .. }
         | Plan::Refuse { .. } => unreachable!(),
     };
@@ -119,16 +120,44 @@ fn format<D: Disk, W: Write>(
     }
 }
 
-fn recover<D: Disk, W: Write>(alloc: Global, disk: D, output: &mut W) -> (Result<(), Refusal>, D)
+fn recover<D: Disk, W: Write>(
+    alloc: Global,
+    disk: D,
+    is_json: bool,
+    output: &mut W,
+) -> (Result<(), Refusal>, D)
     ensures { IsRecoveryCarriedOut D.state D.faults D.extent D.honest disk result.1 result.0 }
 {
     match Keeper::open(alloc, disk) {
         Ok(keeper) => {
-            let result = print_count("commands", keeper.count(), output);
+            let result = print_recovered(alloc, keeper.count(), is_json, output);
             (result, keeper.into_disk())
         }
         Err((fault, disk)) => (Err(Refusal::from(fault)), disk),
     }
+}
+
+// Prints the number of the last command.
+fn print_recovered<W: Write>(
+    alloc: Global,
+    commands: u64,
+    is_json: bool,
+    output: &mut W,
+) -> Result<(), Refusal>
+    ensures { IsPrinted result }
+{
+    if !is_json {
+        return print_count("commands", commands, output);
+    }
+    match json_line(alloc, json!(in alloc; {"commands": commands})) {
+        Ok(line) => print(output, line),
+        // A line for which there is no memory can't be printed.
+        Err(_) => Err(Refusal::StreamFault),
+    }
+}
+
+fn json_line(alloc: Global, value: Result<Value, AllocError>) -> Result<String, AllocError> {
+    value?.to_string(alloc)
 }
 
 fn upgrade<D: Disk, W: Write>(alloc: Global, disk: D, output: &mut W) -> (Result<(), Refusal>, D)
@@ -147,12 +176,14 @@ fn upgrade<D: Disk, W: Write>(alloc: Global, disk: D, output: &mut W) -> (Result
 fn check<D: Disk, W: Write, E: Write>(
     alloc: Global,
     mut disk: D,
+    is_json: bool,
     output: &mut W,
     errors: &mut E,
 ) -> (u8, D)
     ensures { D.honest disk → IsOnlyRead (D.state disk) (D.state result.1) }
 {
     let outcome = match Keeper::inspect(alloc, &mut disk) {
+        Ok(report) if is_json => print_json(alloc, &report, output),
         Ok(report) => print_report(&report, output),
         Err(fault) => Err(Refusal::from(fault)),
     };
@@ -183,6 +214,24 @@ fn print_report<W: Write>(report: &Report, output: &mut W) -> Result<(), Refusal
         print_count(name, count, output)?;
     }
     Ok(())
+}
+
+fn print_json<W: Write>(alloc: Global, report: &Report, output: &mut W) -> Result<(), Refusal> {
+    print(output, json_line(alloc, report_json(alloc, report))?)
+}
+
+// What the lines of a report say, and the layout always.
+fn report_json(alloc: Global, report: &Report) -> Result<Value, AllocError> {
+    json!(in alloc; {
+        "layout": if report.layout == Layout::Two { 2 } else { 1 },
+        "blocks": report.blocks,
+        "mode": report.in_front,
+        "base": report.base,
+        "commands": report.commands,
+        "data": report.data_blocks,
+        "zero": report.zero_blocks,
+        "hole": report.hole_blocks
+    })
 }
 
 // The lines of a report that hold a count.

@@ -3,42 +3,84 @@ use std::io;
 use std::net::{TcpListener, TcpStream};
 use std::os::fd::OwnedFd;
 use std::os::unix::net::{UnixListener, UnixStream};
+use std::time::Duration;
 
-/// A socket at which clients arrive.
+// Milliseconds after which a wait at a shared listener ends, so that the end of the server is seen.
+const LONGEST_WAIT: u64 = 200;
+
 #[derive(Drop)]
-pub enum Listener {
+enum Socket {
     Tcp(TcpListener),
     Unix(UnixListener),
 }
 
+/// A socket at which clients arrive.
+#[derive(Drop)]
+pub struct Listener {
+    socket: Socket,
+    // Whether another process has it too, and goes on with it after the server's end.
+    is_shared: bool,
+}
+
+impl From<TcpListener> for Listener {
+    fn from(listener: TcpListener) -> Listener {
+        Listener {
+            socket: Socket::Tcp(listener),
+            is_shared: false,
+        }
+    }
+}
+
+impl From<UnixListener> for Listener {
+    fn from(listener: UnixListener) -> Listener {
+        Listener {
+            socket: Socket::Unix(listener),
+            is_shared: false,
+        }
+    }
+}
+
 impl Listener {
-    /// Waits for the next client.
+    /// The same listener, which another process has too: the end of the server doesn't shut it.
+    pub fn shared(self) -> Listener {
+        Listener {
+            is_shared: true,
+            ..self
+        }
+    }
+
+    /// Waits for the next client. At a shared listener the wait may end without one.
     pub(crate) fn accept(&self) -> io::Result<Client> {
-        match self {
-            Listener::Tcp(listener) => {
+        match &self.socket {
+            Socket::Tcp(listener) => {
                 let (stream, _) = listener.accept()?;
                 // A reply is sent at once, though it is short.
                 stream.set_nodelay(true)?;
                 Ok(Client::Tcp(stream))
             }
-            Listener::Unix(listener) => {
+            Socket::Unix(listener) => {
                 let (stream, _) = listener.accept()?;
                 Ok(Client::Unix(stream))
             }
         }
     }
 
-    /// The same socket, as one that can be shut.
-    pub(crate) fn shutdown_handle(&self) -> io::Result<Client> {
-        match self {
-            Listener::Tcp(listener) => {
+    /// The same socket, as one whose shutting wakes who waits at it. A shared one isn't shut: its waits are short.
+    pub(crate) fn shutdown_handle(&self) -> io::Result<Option<Client>> {
+        let handle = match &self.socket {
+            Socket::Tcp(listener) => {
                 let socket = OwnedFd::from(listener.try_clone()?);
-                Ok(Client::Tcp(TcpStream::from(socket)))
+                Client::Tcp(TcpStream::from(socket))
             }
-            Listener::Unix(listener) => {
+            Socket::Unix(listener) => {
                 let socket = OwnedFd::from(listener.try_clone()?);
-                Ok(Client::Unix(UnixStream::from(socket)))
+                Client::Unix(UnixStream::from(socket))
             }
+        };
+        if !self.is_shared {
+            return Ok(Some(handle));
         }
+        handle.limit_wait(Some(Duration::from_millis(LONGEST_WAIT)))?;
+        Ok(None)
     }
 }

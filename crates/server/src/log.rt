@@ -1,5 +1,6 @@
 use crate::client::Client;
 use export::ExportFigures;
+use front_end::WhenFull;
 use nbd_wire::{Errno, RequestHead, SessionFlags};
 use negotiation::End;
 use std::io;
@@ -23,9 +24,10 @@ pub enum Event<'a> {
         client: u64,
         from: &'a Client,
     },
-    /// All workers have a client.
+    /// A client has come while all workers have one, and waits or is refused.
     Full {
         workers: u32,
+        when_full: WhenFull,
     },
     /// A client couldn't be accepted.
     Unaccepted {
@@ -60,6 +62,9 @@ pub trait Watched {
 
 /// Who is told what happens, and who answers those that ask for figures.
 pub trait Log {
+    /// Clients are served from now on: all threads are there. If this can't be told the server ends.
+    fn announce(&self) -> io::Result<()>;
+
     fn note(&self, event: Event<'_>);
 
     /// Whether each request is timed and told.
@@ -77,6 +82,10 @@ pub trait Log {
 
 /// Nobody is told, and nobody answers.
 impl Log for () {
+    fn announce(&self) -> io::Result<()> {
+        Ok(())
+    }
+
     fn note(&self, _event: Event<'_>) {}
 
     fn is_timed(&self) -> bool {

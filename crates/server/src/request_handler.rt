@@ -20,6 +20,7 @@ use negotiation::Serve;
 use std::cell::Cell;
 use std::rt::Clock;
 use std::sync::Wait;
+use std::sync::atomic::{AtomicBool, Ordering};
 use std::time::{Duration, Instant};
 
 /// Where a client's requests are submitted to an export.
@@ -37,6 +38,8 @@ pub struct RequestHandler<'a, B: ExportName, D: Disk, H: ReadBeside, R: Wait + C
     pub idle_limit: Option<Duration>,
     // Whether what is written to the client is replies.
     pub is_replying: &'a Cell<bool>,
+    // Whether its handshake is over, for other threads.
+    pub has_agreed: &'a AtomicBool,
 }
 
 impl<'a, B: ExportName, D: Disk, H: ReadBeside, R: Wait + Clock, L: Log> Serve<Pass<B>>
@@ -62,6 +65,7 @@ impl<'a, B: ExportName, D: Disk, H: ReadBeside, R: Wait + Clock, L: Log> Serve<P
 
     fn handshake_is_over(&self) {
         self.is_replying.set(true);
+        self.has_agreed.store(true, Ordering::SeqCst);
         // Where the limit can't be changed, that of the handshake stays.
         let _ = self.client.limit_wait(self.idle_limit);
     }

@@ -24,9 +24,9 @@ use std::rt::Clock;
 use std::sync::{Arc, Wait};
 use std::thread::{self, Scope, Threads};
 
-/// Serves the clients that arrive at a socket from a device that was opened, and gives the device back once the server has come
+/// Serves the clients that arrive at sockets from a device that was opened, and gives the device back once the server has come
 /// to its end: as many sessions have ended as the options say, `input` has ended where they say so, or a call of the device has
-/// failed. `watch` is told what happens, and may hold the threads. Refusals 0 (no memory, and nobody was served), 1 (device fault, or
+/// failed. `watch` is told once all threads are there, and what happens, and may hold the threads. Refusals 0 (no memory, and nobody was served), 1 (device fault, or
 /// not all is stored) and 21 (the socket). When it ends, and with which of them, isn't said.
 ///
 /// Where the device is trusted, whatever a crash at some moment of it may have left stands for the image that was found after a
@@ -36,7 +36,7 @@ pub fn serve<D, H, R, I, G>(
     rt: &R,
     alloc: Global,
     device: OpenDevice<D, H>,
-    listener: Listener,
+    listeners: Vec<Listener>,
     input: I,
     options: ServeOptions,
     watch: G,
@@ -55,7 +55,7 @@ where
     ensures faults { OnOk result.0 (D.faults result.1 ≡ D.faults device.keeper.disk) }
 {
     opened_device_law::<D>();
-    match open_registry(rt, alloc, listener, input, &options) {
+    match open_registry(rt, alloc, listeners, input, &options) {
         Ok(registry) => serve_over::<Brand, D, H, R, G>(
             rt, alloc, device, &registry, options, watch,
         ),
@@ -68,7 +68,7 @@ where
 fn open_registry<R, I>(
     rt: &R,
     alloc: Global,
-    listener: Listener,
+    listeners: Vec<Listener>,
     input: I,
     options: &ServeOptions,
 ) -> Result<Arc<ClientRegistry, Global>, Refusal>
@@ -76,7 +76,7 @@ where
     R: Threads + Wait + Clock + Copy + Send + Drop + 'static,
     I: Read + Send + Drop + 'static,
 {
-    let registry = new_registry(alloc, listener, options.workers)?;
+    let registry = new_registry(alloc, listeners, options.workers)?;
     if options.until_eof {
         let own = *rt;
         let Ok(closed) = Arc::try_clone(&registry) else {
@@ -91,10 +91,10 @@ where
 
 fn new_registry(
     alloc: Global,
-    listener: Listener,
-    slots: u32,
+    listeners: Vec<Listener>,
+    workers: u32,
 ) -> Result<Arc<ClientRegistry, Global>, Refusal> {
-    match ClientRegistry::new(alloc, listener, slots) {
+    match ClientRegistry::new(alloc, listeners, workers) {
         Ok(registry) => Arc::new(alloc, registry).ok().ok_or(Refusal::NoMemory),
         Err(error) if error.kind() == ErrorKind::OutOfMemory => Err(Refusal::NoMemory),
         Err(_) => Err(Refusal::StreamFault),
@@ -146,23 +146,21 @@ where
     match open_export::<B, D, H>(alloc, device, &options) {
         Ok((export, passes, last)) => {
             let pool = WorkerPool::new(alloc, registry, passes, last, options.limits.sessions);
-            let (has_served, mut last) = serve_clients(rt, pool, &export, options, watch);
+            let (served, mut last) = serve_clients(rt, pool, &export, options, watch);
             let (disk, is_stored) = export.close(&mut last);
             let has_failed = disk.failures() != failures;
-            (end_of(has_served, has_failed, is_stored), disk)
+            (end_of(served, has_failed, is_stored), disk)
         }
         Err(disk) => (Err(Refusal::NoMemory), disk),
     }
 }
 
-// What a server has come to: whether there was a worker, whether a call of the device has failed, and whether all is stored.
-fn end_of(has_served: bool, has_failed: bool, is_stored: bool) -> Result<(), Refusal>
+// What a server has come to: why it couldn't begin, whether a call of the device has failed, and whether all is stored.
+fn end_of(served: Result<(), Refusal>, has_failed: bool, is_stored: bool) -> Result<(), Refusal>
     ensures stored { OnOk result (IsTrue is_stored) }
     ensures works { OnOk result (has_failed ≡ false) }
 {
-    if !has_served {
-        return Err(Refusal::NoMemory);
-    }
+    served?;
     if has_failed || !is_stored {
         return Err(Refusal::DeviceFault);
     }
@@ -200,14 +198,14 @@ where
     )
 }
 
-// Serves clients until all threads have ended; whether there was a worker at all, and the pass of the end.
+// Serves clients until all threads have ended; why it couldn't begin, and the pass of the end.
 fn serve_clients<B, D, H, R, G>(
     rt: &R,
     pool: WorkerPool<'_, B>,
     export: &Export<B, D, H>,
     options: ServeOptions,
     watch: G,
-) -> (bool, RetiredPass<B>)
+) -> (Result<(), Refusal>, RetiredPass<B>)
 where
     B: ExportName + Send + Sync,
     D: Disk + Send,
@@ -225,12 +223,12 @@ where
         options,
         watch,
     };
-    let has_served = run_threads(rt, &server);
-    (has_served, pool.into_last())
+    let served = run_threads(rt, &server);
+    (served, pool.into_last())
 }
 
-// Workers beside a flusher and a checkpointer, until all have ended; whether there was a worker at all.
-fn run_threads<B, D, H, R, G>(rt: &R, server: &Server<'_, B, D, H, R, G>) -> bool
+// Workers beside a flusher, a checkpointer and a thread for each listener, until all have ended.
+fn run_threads<B, D, H, R, G>(rt: &R, server: &Server<'_, B, D, H, R, G>) -> Result<(), Refusal>
 where
     B: ExportName + Send + Sync,
     D: Disk + Send,
@@ -245,9 +243,39 @@ where
     )
 }
 
-// Starts the threads; whether a worker is among them. Where not as many can be made, fewer clients are served at a time, and
-// nobody without a flusher, for whose end the checkpointer waits.
+// Starts the threads, and tells that clients are served. If not as many workers can be started, fewer clients are served at a time;
+// without any other thread, nobody is.
 fn start_threads<'s, E, B, D, H, R, G>(
+    scope: &Scope<'s, E>,
+    server: &'s Server<'s, B, D, H, R, G>,
+) -> Result<(), Refusal>
+where
+    B: ExportName + Send + Sync + 's,
+    D: Disk + Send + 's,
+    H: ReadBeside + Send + Sync + 's,
+    R: Wait + Clock + Sync + 's,
+    G: SyncPoints + Log + Copy + Send + Sync + 's,
+{
+    if !start_workers(scope, server) {
+        return Err(Refusal::NoMemory);
+    }
+    let registry = server.pool.registry();
+    for at in 0..registry.doors() {
+        if !start(scope, server, Task::Accept(at)) {
+            registry.close(server.rt);
+            return Err(Refusal::NoMemory);
+        }
+    }
+    if server.watch.announce().is_err() {
+        registry.close(server.rt);
+        return Err(Refusal::StreamFault);
+    }
+    Ok(())
+}
+
+// Starts a flusher, a checkpointer and workers; whether a worker is among them. There is none without a flusher, for whose end the
+// checkpointer waits.
+fn start_workers<'s, E, B, D, H, R, G>(
     scope: &Scope<'s, E>,
     server: &'s Server<'s, B, D, H, R, G>,
 ) -> bool
@@ -272,8 +300,8 @@ where
     }
     // The flusher ends once all passes have left.
     for _ in started..server.options.workers {
-        if let Some((_slot, pass)) = server.pool.take_pass(server.rt) {
-            server.retire(pass);
+        if let Some((slot, pass)) = server.pool.take_pass(server.rt) {
+            server.retire(slot, pass);
         }
     }
     // Where not as many can be made, fewer ask for figures at a time.

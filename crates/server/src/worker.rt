@@ -2,18 +2,19 @@ ghost use Rattle.std.specs.Prelude.{◌≡◌, ℕ, ◌-◌, true, nat_lt};
 ghost use Rattle.server.specs.declared.worker.Sessions.TheVariants as Sessions;
 
 use crate::client::{Client, Input, Output, WatchedOutput};
-use crate::client_registry::ClientRegistry;
+use crate::client_registry::{ClientRegistry, Session};
 use crate::log::{Event, Log, Traffic, Watched};
 use crate::request_handler::RequestHandler;
 use disk_model::Disk;
 use export::{Export, ExportFigures, ExportName, ReadBeside, RetiredPass, SyncPoints};
-use front_end::{OnFault, ServeOptions};
+use front_end::{OnFault, ServeOptions, WhenFull};
 use marks::Pass;
 use negotiation::{End, serve_session};
 use std::alloc::Global;
 use std::cell::Cell;
+use std::io::ErrorKind;
 use std::rt::Clock;
-use std::sync::{Arc, Mutex, Wait};
+use std::sync::{Mutex, Wait};
 
 // How many sessions may still begin.
 #[derive(Drop)]
@@ -88,13 +89,15 @@ impl<'a, B: ExportName> WorkerPool<'a, B> {
         }
     }
 
-    /// Takes a pass for good; whether it was the last one.
+    /// Takes a pass for good, from the worker of a slot that takes no more clients; whether it was the last one.
     pub(crate) fn retire<D: Disk, H: ReadBeside, R: Wait>(
         &self,
         rt: &R,
         export: &Export<B, D, H>,
+        slot: usize,
         pass: Pass<B>,
     ) -> bool {
+        self.registry.retire(rt, slot);
         let left = export.leave(rt, pass);
         export.join(&mut self.last.lock(rt), left);
         let mut unretired = self.unretired.lock(rt);
@@ -109,6 +112,11 @@ impl<'a, B: ExportName> WorkerPool<'a, B> {
         export: &Export<B, D, H>,
     ) -> ExportFigures {
         export.figures(rt, &mut self.last.lock(rt))
+    }
+
+    /// Where the clients arrive.
+    pub(crate) fn registry(&self) -> &'a ClientRegistry {
+        self.registry
     }
 
     /// The pass of the end.
@@ -137,6 +145,8 @@ pub(crate) enum Task {
     Work,
     /// Answers those that ask for figures.
     Answer,
+    // Accepts the clients of the listener at this place.
+    Accept(usize),
 }
 
 impl<'a, B: ExportName, D: Disk, H: ReadBeside, R: Wait + Clock, G> Watched for Server<
@@ -184,11 +194,46 @@ impl<'a, B: ExportName, D: Disk, H: ReadBeside, R: Wait + Clock, G: SyncPoints +
             Task::Checkpoint => self.export.checkpointer(self.rt, &mut watch),
             Task::Work => self.work(),
             Task::Answer => self.watch.answer(self),
+            Task::Accept(at) => self.accept(at),
+        }
+    }
+
+    // Accepts the clients of a listener until the registry is closed.
+    fn accept(&self, at: usize) {
+        let registry = self.pool.registry;
+        for _ in self.rt.forever() {
+            if registry.is_closed() {
+                break;
+            }
+            match registry.accept(at) {
+                Ok(client) => self.bring(client),
+                Err(error) if error.kind() == ErrorKind::WouldBlock || registry.is_closed() => {}
+                Err(error) => {
+                    self.watch.note(Event::Unaccepted { error: &error });
+                    registry.pause(self.rt);
+                }
+            }
+        }
+    }
+
+    // Brings a client to a worker: at once if one is free, and else as the options say.
+    fn bring(&self, client: Client) {
+        let registry = self.pool.registry;
+        if let Err(client) = registry.offer(self.rt, client) {
+            let ServeOptions {
+                workers,
+                when_full,
+                ..
+            } = self.options;
+            self.watch.note(Event::Full { workers, when_full });
+            if when_full == WhenFull::Wait {
+                registry.hand_over(self.rt, client);
+            }
         }
     }
 
     // Serves one client after another in a slot of the registry, until that is closed or no session may begin any more. A session
-    // that ends by a refusal, and a client that couldn't be accepted, count, and are no end.
+    // that ends by a refusal counts, and is no end.
     fn work(&self) {
         let Some((slot, mut pass)) = self.pool.take_pass(self.rt) else {
             return;
@@ -198,40 +243,27 @@ impl<'a, B: ExportName, D: Disk, H: ReadBeside, R: Wait + Clock, G: SyncPoints +
             if registry.is_closed() || !self.pool.begin(self.rt) {
                 break;
             }
-            match registry.accept() {
-                Ok(client) => self.receive(slot, &mut pass, client),
-                Err(_) if registry.is_closed() => {}
-                Err(error) => {
-                    self.watch.note(Event::Unaccepted { error: &error });
-                    registry.pause(self.rt);
-                }
+            if let Some(session) = registry.next_session(self.rt, self.pool.alloc, slot) {
+                self.receive(&mut pass, &session);
+                registry.leave(self.rt, slot);
             }
         }
-        self.retire(pass);
+        self.retire(slot, pass);
     }
 
     /// Takes a pass for good. With the last one nobody asks for figures any more.
-    pub(crate) fn retire(&self, pass: Pass<B>) {
-        if self.pool.retire(self.rt, self.export, pass) {
+    pub(crate) fn retire(&self, slot: usize, pass: Pass<B>) {
+        if self.pool.retire(self.rt, self.export, slot, pass) {
             self.watch.end_answers();
         }
     }
 
-    // Serves a client in a slot, and stores what is pending before the client is let go.
-    fn receive(&self, slot: usize, pass: &mut Pass<B>, client: Client) {
-        let registry = self.pool.registry;
-        let Some((client, number)) = registry.admit(self.rt, self.pool.alloc, slot, client) else {
-            return;
-        };
+    // Serves a client, and stores what is pending before the client is let go.
+    fn receive(&self, pass: &mut Pass<B>, session: &Session) {
         self.watch.note(Event::Came {
-            client: number,
-            from: &client,
+            client: session.number,
+            from: &session.client,
         });
-        if registry.is_full(self.rt) {
-            self.watch.note(Event::Full {
-                workers: self.options.workers,
-            });
-        }
         let told = Told {
             traffic: Cell::new(Traffic {
                 requests: 0,
@@ -240,24 +272,18 @@ impl<'a, B: ExportName, D: Disk, H: ReadBeside, R: Wait + Clock, G: SyncPoints +
             }),
             is_replying: Cell::new(false),
         };
-        let end = self.serve_client(pass, &client, number, &told);
+        let end = self.serve_client(pass, session, &told);
         let _settled = self.export.settle(self.rt, pass);
         self.watch.note(Event::Left {
-            client: number,
+            client: session.number,
             end,
             traffic: told.traffic.get(),
         });
-        registry.leave(self.rt, slot);
     }
 
     // Serves a client from the first byte to the last.
-    fn serve_client(
-        &self,
-        pass: &mut Pass<B>,
-        client: &Client,
-        number: u64,
-        told: &Told,
-    ) -> Result<(), End> {
+    fn serve_client(&self, pass: &mut Pass<B>, session: &Session, told: &Told) -> Result<(), End> {
+        let client = &session.client;
         let limits = self.options.limits;
         let Ok(()) = client.limit_wait(limits.handshake()) else {
             return Err(End::IoFault);
@@ -266,11 +292,12 @@ impl<'a, B: ExportName, D: Disk, H: ReadBeside, R: Wait + Clock, G: SyncPoints +
             rt: self.rt,
             export: self.export,
             client,
-            number,
+            number: session.number,
             traffic: &told.traffic,
             log: self.watch,
             idle_limit: limits.idle(),
             is_replying: &told.is_replying,
+            has_agreed: &session.has_agreed,
         };
         let mut output = WatchedOutput {
             inner: Output(client),

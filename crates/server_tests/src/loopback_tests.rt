@@ -6,7 +6,7 @@ use checkpoint::Keeper;
 use disk_model::SimDisk;
 use export::{OpenDevice, Point, SyncPoints};
 use export_model::Mode;
-use front_end::{Limits, OnFault, Refusal, ServeOptions};
+use front_end::{Limits, OnFault, Refusal, ServeOptions, WhenFull};
 use image_model::Geometry;
 use nbd_wire::CommandFlags;
 use server::{Event, Listener, Log, serve};
@@ -61,6 +61,10 @@ impl<'a, R: Clock> SyncPoints for Gate<'a, R> {
 }
 
 impl<'a, R: Clock> Log for Gate<'a, R> {
+    fn announce(&self) -> io::Result<()> {
+        Ok(())
+    }
+
     fn note(&self, _event: Event<'_>) {}
 }
 
@@ -136,15 +140,23 @@ fn run<R: Threads + Wait + Clock + Copy + Send + Sync + Drop + 'static>(
         idle_seconds: 0,
         flush_millis: 0,
     };
-    let options = ServeOptions::new(512, Mode::Writeback, 2, limits, OnFault::Stay, false)?;
+    let options = ServeOptions::new(
+        512,
+        Mode::Writeback,
+        2,
+        limits,
+        OnFault::Stay,
+        WhenFull::Wait,
+        false,
+    )?;
     let device = fresh(alloc)?;
-    let listener = Listener::Tcp(socket);
+    let listeners = Vec::from_array(alloc, [Listener::from(socket)]).ok()?;
     // (the server's input doesn't end before it does)
     let (_ending, input) = UnixStream::pair(rt).ok()?;
     let gate = Gate { rt: threads, seen };
     thread::scope(thread::scope_env(), threads, move |scope| {
         let Ok(server) = scope.spawn(move || serve(
-            threads, alloc, device, listener, input, options, gate,
+            threads, alloc, device, listeners, input, options, gate,
         )) else {
             return None;
         };

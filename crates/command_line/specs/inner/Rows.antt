@@ -1,11 +1,11 @@
 -- What the rows of subcommands and arguments say.
 use Rattle.std.specs.Prelude.{ℕ, Some, [], ◌∷◌, List, true, false}
 use Rattle.clap.specs.Words.{App, Rule, new_app, new_rule, with_rule}
-use Rattle.command_line.specs.Commands.{flag_rule, option_rule}
+use Rattle.command_line.specs.Commands.{flag_rule, option_rule, repeated_rule}
 use Rattle.command_line.specs.declared.commands.ArgumentRow.{ArgumentRow}
 use Rattle.command_line.specs.declared.commands.SubcommandRow.{SubcommandRow}
 use Rattle.command_line.specs.declared.commands.Form.{Form}
-use Rattle.command_line.specs.declared.commands.Form.TheVariants.{Word, Flag, ShortFlag, Text, TextOr, Value, ValueOr}
+use Rattle.command_line.specs.declared.commands.Form.TheVariants.{Word, Flag, ShortFlag, Text, Texts, TextOr, Value, ValueOr}
 use Rattle.command_line.specs.declared.commands.Tie.{Tie}
 use Rattle.command_line.specs.declared.commands.Tie.TheVariants as tie
 
@@ -15,6 +15,7 @@ rule_of_form name (Word value_name) = record (new_rule name) { value_names = 1; 
 rule_of_form name Flag = flag_rule name
 rule_of_form name (ShortFlag letter) = record (flag_rule name) { short = Some letter }
 rule_of_form name (Text value_name) = option_rule name
+rule_of_form name (Texts value_name) = repeated_rule name
 rule_of_form name (TextOr value_name usual) = record (option_rule name) { defaults = usual.now ∷ [] }
 rule_of_form name (Value value_name values) = record (option_rule name) { parser = Some values }
 rule_of_form name (ValueOr value_name usual values) = record (option_rule name) { parser = Some values; defaults = usual.now ∷ [] }

@@ -8,7 +8,7 @@ returns-in-Ok g c =
     let opened = c.in-Ok.ensures in
     record {
       given = Ok c.in-Ok.keeper;
-      told = c.print_count-result.ensures;
+      told = c.print_recovered-result.ensures;
       is_left = is;
       size = rw is opened.extent;
       trusted = rw is opened.honest;
