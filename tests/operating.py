@@ -676,9 +676,15 @@ def told(folder):
             client.shutdown(socket.SHUT_WR)
             while client.recv(MIB):
                 pass
+        # (a thread of the server writes the lines, when it comes to that)
+        late = threading.Timer(20, server.process.kill)
+        late.start()
+        lines = [server.process.stderr.readline() for _ in range(7)]
+        late.cancel()
         server.process.kill()
         server.process.wait(timeout=60)
-        lines = [re.sub(r"\d+\.\d+ s$", "T s", re.sub(r"127\.0\.0\.1:\d+", "A", line)) for line in server.process.stderr.read().splitlines()]
+        lines = "".join([*lines, server.process.stderr.read()]).splitlines()
+        lines = [re.sub(r"\d+\.\d+ s$", "T s", re.sub(r"127\.0\.0\.1:\d+", "A", line)) for line in lines]
         check("what is told", [f"nbdj: {server.image}: {line}" for line in (
             "recovered 0 commands in T s",
             "client 1 came from A",
