@@ -297,10 +297,7 @@ fn serve<'a>(alloc: Global, matches: &ArgMatches<'a>) -> Result<Plan<'a>, Error>
 }
 
 // Where the figures of a server are told, where they are.
-fn status_socket<'a>(
-    alloc: Global,
-    matches: &ArgMatches<'a>,
-) -> Result<Option<&'a str>, Error>
+fn status_socket<'a>(alloc: Global, matches: &ArgMatches<'a>) -> Result<Option<&'a str>, Error>
     ensures { IfOk result (λ path. SaysStatusSocket (rows_of (found_of matches.now)) (option_map (λ text. text.now) path)) }
 {
     match text(matches, "status") {

@@ -9,9 +9,7 @@ use Rattle.nbd_wire.specs.declared.error.Errno.{Errno}
 use Rattle.nbd_wire.specs.declared.error.Errno.TheVariants.{Io, NoMemory}
 use Rattle.nbd_wire.specs.declared.message.Answer.TheVariants.{Refused}
 use Rattle.nbd_wire.specs.declared.message.SessionFlags.{SessionFlags}
-use Rattle.request_core.specs.Serving.{ready_for}
 use Rattle.request_core.specs.declared.serving.Served.{Served}
-use Rattle.export_model.specs.Log.{is_flush}
 use Rattle.export_model.specs.declared.action.Action.{Action}
 use Rattle.export_model.specs.declared.action.Action.TheVariants.{Serve}
 use Rattle.export_model.specs.declared.step.Mode.{Mode}

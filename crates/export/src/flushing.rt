@@ -1,6 +1,6 @@
 use crate::beside::ReadBeside;
-use crate::commit_queue::CommitQueue;
 use crate::checkpointing::time_since;
+use crate::commit_queue::CommitQueue;
 use crate::export::Export;
 use crate::gathering::Pace;
 use crate::name::ExportName;

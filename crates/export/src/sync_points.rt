@@ -15,7 +15,10 @@ pub enum Point {
     /// Before a step of a checkpoint, with no lock held.
     Step,
     /// After a checkpoint, with no lock held; not where its time can't be told.
-    Copied { blocks: u64, took: Duration },
+    Copied {
+        blocks: u64,
+        took: Duration,
+    },
     /// A step that stores groups or copies the journal was refused memory, with no lock held; reached once until such a step is taken.
     NoMemory,
     /// After a reply was written.

@@ -150,7 +150,10 @@ pub fn metrics_text(
     let mut lines = Lines {
         text: String::new(alloc),
     };
-    writeln!(lines.text, "# HELP nbdj_build_info The version of the server, and its image.")?;
+    writeln!(
+        lines.text,
+        "# HELP nbdj_build_info The version of the server, and its image."
+    )?;
     writeln!(lines.text, "# TYPE nbdj_build_info gauge")?;
     writeln!(
         lines.text,

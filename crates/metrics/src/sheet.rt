@@ -87,8 +87,14 @@ fn age<'a>(name: &'a str, help: &'a str) -> Family<'a> {
 
 /// Writes all figures down.
 pub fn write_figures<S: Sheet>(sheet: &mut S, figures: &Figures) -> Result<(), AllocError> {
-    sheet.figure(age("uptime", "Time since the server started."), figures.uptime_micros)?;
-    sheet.figure(gauge("clients", "Clients that are connected."), figures.clients)?;
+    sheet.figure(
+        age("uptime", "Time since the server started."),
+        figures.uptime_micros,
+    )?;
+    sheet.figure(
+        gauge("clients", "Clients that are connected."),
+        figures.clients,
+    )?;
     sheet.figure(
         counter("connections", "Clients that have come."),
         figures.clients_total,
@@ -171,7 +177,10 @@ fn write_pending<S: Sheet>(sheet: &mut S, figures: &Figures) -> Result<(), Alloc
         pending.bytes,
     )?;
     sheet.figure(
-        age("pending_age", "Age of the oldest of those commands, at most."),
+        age(
+            "pending_age",
+            "Age of the oldest of those commands, at most.",
+        ),
         pending.oldest_micros,
     )
 }
@@ -189,9 +198,15 @@ fn write_groups<S: Sheet>(
         counter("group_commands", "Commands in those groups."),
         groups.items,
     )?;
-    sheet.figure(counter("group_bytes", "Bytes of those groups."), groups.bytes)?;
     sheet.figure(
-        time("group_append", "Time that storing those groups took, with syncs."),
+        counter("group_bytes", "Bytes of those groups."),
+        groups.bytes,
+    )?;
+    sheet.figure(
+        time(
+            "group_append",
+            "Time that storing those groups took, with syncs.",
+        ),
         groups.micros,
     )?;
     sheet.figure(counter("syncs", "Syncs of the device."), syncs.count)?;
@@ -200,7 +215,10 @@ fn write_groups<S: Sheet>(
 
 fn write_journal<S: Sheet>(sheet: &mut S, figures: &Figures) -> Result<(), AllocError> {
     let journal = &figures.journal;
-    sheet.figure(gauge("journal_areas", "Areas of the journal."), journal.areas)?;
+    sheet.figure(
+        gauge("journal_areas", "Areas of the journal."),
+        journal.areas,
+    )?;
     sheet.figure(
         gauge(
             "journal_areas_in_use",
@@ -234,14 +252,20 @@ fn write_journal<S: Sheet>(sheet: &mut S, figures: &Figures) -> Result<(), Alloc
 fn write_checkpoints<S: Sheet>(sheet: &mut S, figures: &Figures) -> Result<(), AllocError> {
     let checkpoints = &figures.checkpoints;
     sheet.figure(
-        counter("checkpoints", "Journal areas that were copied into the image."),
+        counter(
+            "checkpoints",
+            "Journal areas that were copied into the image.",
+        ),
         checkpoints.count,
     )?;
     sheet.figure(
         counter("checkpoint_blocks", "Blocks that were copied."),
         checkpoints.items,
     )?;
-    sheet.figure(time("checkpoint", "Time that those copies took."), checkpoints.micros)?;
+    sheet.figure(
+        time("checkpoint", "Time that those copies took."),
+        checkpoints.micros,
+    )?;
     let delays = &figures.delays;
     sheet.figure(
         counter(
@@ -250,7 +274,10 @@ fn write_checkpoints<S: Sheet>(sheet: &mut S, figures: &Figures) -> Result<(), A
         ),
         delays.count,
     )?;
-    sheet.figure(time("write_delay", "Time by which they were slowed down."), delays.micros)
+    sheet.figure(
+        time("write_delay", "Time by which they were slowed down."),
+        delays.micros,
+    )
 }
 
 fn write_numbers<S: Sheet>(sheet: &mut S, figures: &Figures) -> Result<(), AllocError> {
@@ -263,11 +290,17 @@ fn write_numbers<S: Sheet>(sheet: &mut S, figures: &Figures) -> Result<(), Alloc
         numbers.base,
     )?;
     sheet.figure(
-        gauge("accepted_number", "Number of the last command that was accepted."),
+        gauge(
+            "accepted_number",
+            "Number of the last command that was accepted.",
+        ),
         numbers.accepted,
     )?;
     sheet.figure(
-        gauge("durable_number", "Number of the last command that is stored with all before it."),
+        gauge(
+            "durable_number",
+            "Number of the last command that is stored with all before it.",
+        ),
         numbers.durable,
     )
 }

@@ -99,7 +99,9 @@ where
                     // Where the system has no second handle left reads wait for the first one.
                     let beside = opened.file.try_clone().ok();
                     let (disk, _locks) = disk_of(rt, teller, opened, path);
-                    serve_at(rt, threads, teller, path, disk, beside, addresses, *status, *options)
+                    serve_at(
+                        rt, threads, teller, path, disk, beside, addresses, *status, *options,
+                    )
                 }
                 Err(fault) => no_file(rt, teller, path, fault),
             }

@@ -5,9 +5,7 @@ use metrics::{
     Command, Counter, Failure, Figures, FrameFigures, JournalFigures, NumberFigures,
     PendingFigures, RequestFigures, RequestTally, WorkTally,
 };
-use nbd_wire::{
-    BLOCK_STATUS, Errno, FLUSH, READ, RequestHead, TRIM, WRITE, WRITE_ZEROES,
-};
+use nbd_wire::{BLOCK_STATUS, Errno, FLUSH, READ, RequestHead, TRIM, WRITE, WRITE_ZEROES};
 use std::alloc::{AllocError, Global};
 use std::rt::Clock;
 use std::time::{Duration, Instant};

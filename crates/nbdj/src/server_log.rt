@@ -303,7 +303,9 @@ impl<'a, R: Wait + Clock> ServerLog<'a, R> {
                 refused,
                 took,
                 delay,
-            } => status.meter.note_served(*client, head, *refused, *took, *delay),
+            } => status
+                .meter
+                .note_served(*client, head, *refused, *took, *delay),
             _ => {}
         }
     }

@@ -38,8 +38,12 @@ pub fn serve_at<R: Threads + Wait + Clock + Copy + Send + Sync + Drop + 'static>
     options: ServeOptions,
 ) -> u8 {
     let outcome = match status {
-        None => serve_logged(rt, threads, teller, path, disk, beside, None, addresses, options),
-        Some(at) => serve_told(rt, threads, teller, path, disk, beside, at, addresses, options),
+        None => serve_logged(
+            rt, threads, teller, path, disk, beside, None, addresses, options,
+        ),
+        Some(at) => serve_told(
+            rt, threads, teller, path, disk, beside, at, addresses, options,
+        ),
     };
     exit_status(outcome, &mut rt.stderr())
 }

@@ -9,10 +9,9 @@ use std::fmt::{self, Display, Formatter};
 use std::io::{self, ErrorKind, IsTerminal, Read, Write};
 use std::os::unix::net::UnixStream;
 use std::rt::Clock;
-use std::str;
 use std::sync::Wait;
-use std::thread;
 use std::time::Duration;
+use std::{str, thread};
 
 // The request.
 const REQUEST: &str = "GET /status HTTP/1.1\r\nHost: nbdj\r\nConnection: close\r\n\r\n";
@@ -233,7 +232,9 @@ fn write_command<W: Write>(
     let count = member(figures, "/requests", command);
     let bytes = member(figures, "/request_bytes", command);
     let micros = match figures.pointer("/request_duration_microseconds") {
-        Some(latencies) => latencies.get(command).map_or(0, |latency| number(latency, "/total")),
+        Some(latencies) => latencies
+            .get(command)
+            .map_or(0, |latency| number(latency, "/total")),
         None => 0,
     };
     write!(
@@ -311,7 +312,10 @@ fn write_space<W: Write>(output: &mut W, figures: &Value) -> io::Result<()> {
     writeln!(
         output,
         "journal      {} {} of {}, {} of {} areas",
-        Bar { part: used, whole: all },
+        Bar {
+            part: used,
+            whole: all
+        },
         Bytes(used),
         Bytes(all),
         number(figures, "/journal_areas_in_use"),

@@ -110,7 +110,12 @@ impl<'a> StatusSocket<'a> {
             Route::Metrics => {
                 let figures = self.meter.figures(rt, &watched.figures());
                 let body = metrics_text(alloc, VERSION, self.image, &figures)?;
-                response(alloc, "200 OK", "text/plain; version=0.0.4; charset=utf-8", &body)
+                response(
+                    alloc,
+                    "200 OK",
+                    "text/plain; version=0.0.4; charset=utf-8",
+                    &body,
+                )
             }
             Route::Status => {
                 let figures = self.meter.figures(rt, &watched.figures());

@@ -149,14 +149,8 @@ pub(crate) enum Task {
     Accept(usize),
 }
 
-impl<'a, B: ExportName, D: Disk, H: ReadBeside, R: Wait + Clock, G> Watched for Server<
-    'a,
-    B,
-    D,
-    H,
-    R,
-    G,
-> {
+impl<'a, B: ExportName, D: Disk, H: ReadBeside, R: Wait + Clock, G> Watched
+    for Server<'a, B, D, H, R, G> {
     fn figures(&self) -> ExportFigures {
         self.pool.figures(self.rt, self.export)
     }
