@@ -1,25 +1,19 @@
-//! Tests of an export that threads share. They stand beside it, since a crate with tests is proved twice.
+//! Tests of an order and of an export that threads share. They stand beside these crates, since a crate with tests is proved twice.
 #![tactic(auto)]
 
 #[cfg(test)]
 mod beside_tests;
 #[cfg(test)]
-mod fault_tests;
-#[cfg(test)]
 mod flush_tests;
-#[cfg(test)]
-mod gather_tests;
-#[cfg(test)]
-mod load_tests;
 #[cfg(test)]
 mod memory_file;
 #[cfg(test)]
-mod part_tests;
+mod order_tests;
 #[cfg(test)]
 mod pass_tests;
 #[cfg(test)]
-mod plain_tests;
-#[cfg(test)]
 mod requests;
+#[cfg(test)]
+mod step_tests;
 #[cfg(test)]
 mod threads;

@@ -222,7 +222,7 @@ fn share<B: ExportName + Send + Sync, R: Threads + Wait + Clock + Sync>(
 }
 
 #[test]
-fn two_threads_share_the_order(rt: HostRuntime) {
+fn two_threads_share_an_export(rt: HostRuntime) {
     let device = fresh(rt.alloc(), 64, 2_097_152).expect(&rt, "a device over holes");
     let (written, number, kept) = share::<Brand, _>(&rt, rt.alloc(), device).expect(
         &rt,

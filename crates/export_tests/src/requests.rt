@@ -16,7 +16,7 @@ const PLAIN: SessionFlags = SessionFlags {
 };
 
 // A formatted device, all holes.
-fn formatted(alloc: Global, blocks: u64, area: u32) -> Option<SimDisk> {
+pub fn formatted(alloc: Global, blocks: u64, area: u32) -> Option<SimDisk> {
     let geometry = Geometry::new(blocks, area)?;
     let mut disk = SimDisk::new(alloc, geometry.device_bytes()).ok()?;
     Keeper::format(alloc, &mut disk, geometry).ok()?;
@@ -26,26 +26,6 @@ fn formatted(alloc: Global, blocks: u64, area: u32) -> Option<SimDisk> {
 // A device over holes that was opened.
 pub fn fresh(alloc: Global, blocks: u64, area: u32) -> Option<OpenDevice<SimDisk, ()>> {
     OpenDevice::open(alloc, formatted(alloc, blocks, area)?, None).ok()
-}
-
-// The like of a device of layout 2, whose areas have half of so many bytes.
-pub fn fresh_halved(alloc: Global, blocks: u64, area: u32) -> Option<OpenDevice<SimDisk, ()>> {
-    match Keeper::upgrade(alloc, formatted(alloc, blocks, area)?) {
-        Ok(keeper) => OpenDevice::open(alloc, keeper.into_disk(), None).ok(),
-        Err(_) => None,
-    }
-}
-
-// The like of a device that stops at its k-th call, those of the opening counted.
-pub fn fresh_that_stops(
-    alloc: Global,
-    blocks: u64,
-    area: u32,
-    k: u64,
-) -> Option<OpenDevice<SimDisk, ()>> {
-    let mut disk = formatted(alloc, blocks, area)?;
-    disk.stop_at(k);
-    OpenDevice::open(alloc, disk, None).ok()
 }
 
 // A byte of a block in a round, which differs from place to place, from block to block and from round to round. In round 0
@@ -85,28 +65,6 @@ fn write_of(alloc: Global, block: u64, round: u64) -> Option<Request>
             cookie: block,
             offset: 4096 * block,
             length: 4096,
-        },
-        bytes,
-    ))
-}
-
-// The byte that is written alone.
-const CHANGED: u8 = 0x5a;
-
-// A WRITE of one byte of a block.
-fn write_of_byte(alloc: Global, block: u64, place: u64) -> Option<Request>
-    requires block { block < 2 ^ 24 }
-    requires place { place < 4096 }
-    ensures { IfSome result (λ request. request.head.kind ≢ 2) }
-{
-    let bytes = vec![in alloc; CHANGED; 1].ok()?;
-    Some(Request::new(
-        RequestHead {
-            flags: 0,
-            kind: WRITE,
-            cookie: block,
-            offset: 4096 * block + place,
-            length: 1,
         },
         bytes,
     ))
@@ -187,24 +145,6 @@ pub fn write_block<B: ExportName, D: Disk, H: ReadBeside, R: Wait>(
     is_done(&export.submit(rt, pass, request, &PLAIN).answer)
 }
 
-// Writes one byte of a block; whether it was answered Ok.
-pub fn write_byte<B: ExportName, D: Disk, H: ReadBeside, R: Wait>(
-    rt: &R,
-    alloc: Global,
-    export: &Export<B, D, H>,
-    pass: &mut Pass<B>,
-    block: u64,
-    place: u64,
-) -> bool
-    requires block { block < 2 ^ 24 }
-    requires place { place < 4096 }
-{
-    let Some(request) = write_of_byte(alloc, block, place) else {
-        return false;
-    };
-    is_done(&export.submit(rt, pass, request, &PLAIN).answer)
-}
-
 // Trims a block; whether it was answered Ok.
 pub fn trim_block<B: ExportName, D: Disk, H: ReadBeside, R: Wait>(
     rt: &R,
@@ -277,51 +217,4 @@ pub fn has_block<D: Disk>(keeper: &mut Keeper<D>, block: u64, first: u64, last: 
         }
     }
     false
-}
-
-// Whether these are the bytes of a block in round 1 but for the one that was written alone.
-fn are_changed(block: u64, changed: u64, bytes: &[u8]) -> bool {
-    for place in 0..bytes.len() {
-        let wanted = if place as u64 == changed {
-            CHANGED
-        } else {
-            byte_at(block, 1, place)
-        };
-        if bytes[place] != wanted {
-            return false;
-        }
-    }
-    bytes.len() == 4096
-}
-
-// Whether a READ of a block gives its bytes of round 1 but for that one.
-pub fn reads_changed<B: ExportName, D: Disk, H: ReadBeside, R: Wait>(
-    rt: &R,
-    alloc: Global,
-    export: &Export<B, D, H>,
-    pass: &mut Pass<B>,
-    block: u64,
-    changed: u64,
-) -> bool
-    requires { block < 2 ^ 24 }
-{
-    match export
-        .submit(rt, pass, read_of(alloc, block), &PLAIN)
-        .answer
-    {
-        Answer::Bytes(read) => are_changed(block, changed, read.bytes()),
-        _ => false,
-    }
-}
-
-// Whether the image of an opened device has a block's bytes of round 1 but for that one.
-pub fn has_changed_block(keeper: &mut Keeper<SimDisk>, block: u64, changed: u64) -> bool {
-    if block >= keeper.geometry().blocks {
-        return false;
-    }
-    let mut into = [0; 4096];
-    let Ok(()) = keeper.read_base(block, &mut into) else {
-        return false;
-    };
-    are_changed(block, changed, &into)
 }
