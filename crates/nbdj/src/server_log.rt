@@ -193,8 +193,6 @@ pub struct ServerLog<'a, R> {
     is_verbose: bool,
     // Where figures are told; they are counted only then.
     status: Option<&'a StatusSocket<'a>>,
-    // What is printed on standard output once clients are served, and by whom.
-    announcement: Option<(HostRuntime, &'a str)>,
 }
 
 impl<'a, R: Wait + Clock> ServerLog<'a, R> {
@@ -212,15 +210,6 @@ impl<'a, R: Wait + Clock> ServerLog<'a, R> {
             path,
             is_verbose,
             status,
-            announcement: None,
-        }
-    }
-
-    /// The same, with what is printed once clients are served.
-    pub fn with_announcement(self, host: &HostRuntime, text: &'a str) -> ServerLog<'a, R> {
-        ServerLog {
-            announcement: Some((*host, text)),
-            ..self
         }
     }
 
@@ -326,16 +315,24 @@ impl<'a, R: Wait + Clock> ServerLog<'a, R> {
     }
 }
 
+/// What a server is watched by: its log, and what is printed on standard output once clients are served.
+#[derive(Clone, Copy)]
+pub struct ServerWatch<'a, 'b, R> {
+    pub host: HostRuntime,
+    pub log: ServerLog<'a, R>,
+    pub announcement: &'b str,
+}
+
 // It holds no thread.
-impl<'a, R: Wait + Clock> SyncPoints for ServerLog<'a, R> {
+impl<'a, 'b, R: Wait + Clock> SyncPoints for ServerWatch<'a, 'b, R> {
     fn reach(&mut self, at: Point) {
-        self.count_point(at);
+        self.log.count_point(at);
         match at {
-            Point::Copied { blocks, took } => self.tell(
+            Point::Copied { blocks, took } => self.log.tell(
                 Topic::Copied,
                 format_args!("checkpoint of {blocks} blocks in {}", Seconds(took)),
             ),
-            Point::NoMemory => self.tell(
+            Point::NoMemory => self.log.tell(
                 Topic::NoMemory,
                 "no memory to store what was written, which is tried again",
             ),
@@ -344,21 +341,18 @@ impl<'a, R: Wait + Clock> SyncPoints for ServerLog<'a, R> {
     }
 }
 
-impl<'a, R: Wait + Clock> Log for ServerLog<'a, R> {
+impl<'a, 'b, R: Wait + Clock> Log for ServerWatch<'a, 'b, R> {
     fn announce(&self) -> io::Result<()> {
-        let Some((host, text)) = self.announcement else {
-            return Ok(());
-        };
-        let mut output = io::writer(&host);
-        output.write_all(text.as_bytes())?;
+        let mut output = io::writer(&self.host);
+        output.write_all(self.announcement.as_bytes())?;
         output.flush()
     }
 
     fn note(&self, event: Event<'_>) {
-        self.count_event(&event);
+        self.log.count_event(&event);
         match event {
             Event::Came { client, from } => {
-                self.tell(
+                self.log.tell(
                     Topic::Came,
                     format_args!("client {client} came from {from}"),
                 );
@@ -368,19 +362,19 @@ impl<'a, R: Wait + Clock> Log for ServerLog<'a, R> {
                     WhenFull::Wait => "wait",
                     WhenFull::Refuse => "are refused",
                 };
-                self.tell(
+                self.log.tell(
                     Topic::Full,
                     format_args!("all {workers} workers have a client, and further ones {way}"),
                 );
             }
             Event::Unaccepted { error } => {
-                self.tell(
+                self.log.tell(
                     Topic::Unaccepted,
                     format_args!("a client can't be accepted: {error}"),
                 );
             }
             Event::Agreed { client, flags } => {
-                self.tell(
+                self.log.tell(
                     Topic::Agreed,
                     format_args!("client {client} agreed on {}", agreed(flags)),
                 );
@@ -390,29 +384,29 @@ impl<'a, R: Wait + Clock> Log for ServerLog<'a, R> {
                 client,
                 end,
                 traffic,
-            } => self.tell_end(client, end, traffic),
+            } => self.log.tell_end(client, end, traffic),
         }
     }
 
     fn is_timed(&self) -> bool {
-        self.status.is_some()
+        self.log.status.is_some()
     }
 
     fn answerers(&self) -> u32 {
-        match self.status {
+        match self.log.status {
             Some(_) => ANSWERERS,
             None => 0,
         }
     }
 
     fn answer<W: Watched>(&self, watched: &W) {
-        if let Some(status) = self.status {
-            status.answer(self.rt, watched);
+        if let Some(status) = self.log.status {
+            status.answer(self.log.rt, watched);
         }
     }
 
     fn end_answers(&self) {
-        if let Some(status) = self.status {
+        if let Some(status) = self.log.status {
             status.end();
         }
     }

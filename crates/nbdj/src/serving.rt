@@ -3,7 +3,7 @@
 use crate::beside::SecondHandle;
 use crate::handed;
 use crate::meter::Meter;
-use crate::server_log::{LogLines, ServerLog};
+use crate::server_log::{LogLines, ServerLog, ServerWatch};
 use crate::status_socket::StatusSocket;
 use crate::teller::Teller;
 use crate::timed_file::TimedFile;
@@ -184,23 +184,33 @@ fn listen<R: Threads + Wait + Clock + Copy + Send + Sync + Drop + 'static>(
     } else {
         made.open_all(teller, addresses)
     };
+    let Made {
+        listeners,
+        said,
+        files,
+        ..
+    } = made;
     let outcome = match opened {
         Ok(()) => {
-            let log = log.with_announcement(rt, made.said.as_str());
+            let watch = ServerWatch {
+                host: *rt,
+                log,
+                announcement: said.as_str(),
+            };
             let (outcome, _disk) = serve(
                 threads,
                 rt.alloc(),
                 device,
-                made.listeners,
+                listeners,
                 rt.stdin(),
                 options,
-                log,
+                watch,
             );
             outcome
         }
         Err(refusal) => Err(refusal),
     };
-    for file in made.files {
+    for file in files {
         // Where it can't be removed, the next server replaces it.
         let _ = fs::remove_file(rt, file);
     }
