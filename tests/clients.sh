@@ -190,6 +190,22 @@ PYTHON
         PATH="$(dirname "$(command -v "$python")"):$PATH" quiet nbdsh --base-allocation -u "$uri" -c "$(cat commands.py)")|$(paste -s -d '|' output)"
 }
 
+# handed: libnbd makes the socket and starts the server, as a service manager would.
+handed() {
+    { [ -n "$python" ] && has nbdsh; } || return
+    rm -f handed.img
+    is 'handed: an image' 0 "$(quiet "$NBDJ" format handed.img --size 4M --area 4M)"
+    cat >commands.py <<PYTHON
+h.connect_systemd_socket_activation(["$NBDJ", "serve", "handed.img", "--sessions", "1"])
+h.pwrite(b"handed", 4093)
+h.flush()
+print(h.get_size(), h.pread(8, 4092) == b"\\0handed\\0")
+h.shutdown()
+PYTHON
+    is 'handed: libnbd starts the server' '0|4194304 True' "$(
+        PATH="$(dirname "$(command -v "$python")"):$PATH" quiet nbdsh -c "$(cat commands.py)")|$(grep -v '^listening ' output)"
+}
+
 # Whole images in and out, with what the export then says is data; over one connection and over four.
 copies() {
     if has nbdcopy; then
@@ -716,6 +732,7 @@ file_system() {
         same "the file $k of the tree" tree/below/file_$k out
     done
 }
+handed
 if has nbdfuse && has mke2fs && has debugfs; then
     if [ -w /dev/fuse ]; then
         file_system
