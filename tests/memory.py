@@ -526,8 +526,9 @@ def judge_sent(answers, found):
     return f"of the WRITEs without an answer these are there: {unknown}" if unknown != sorted(unknown, reverse=True) else ""
 
 
-# How a line ends that tells of memory which is refused while something is stored.
-TRIES_AGAIN = ": no memory to store what was written, which is tried again"
+# A line that a server may tell while it goes on: of memory that is refused while something is stored, and of a client that comes before the
+# one before it is let go.
+GOES_ON = re.compile(r"nbdj: [^:]*: (no memory to store what was written, which is tried again|all \d+ workers have a client, and further ones wait|\d+ lines left out)")
 
 
 def serve_refused(call):
@@ -562,7 +563,7 @@ def serve_refused(call):
 def judge_served(status, errors, talks, image):
     """One client at most is refused something; the server goes on, or ends for want of memory before it says that it listens; what was
     flushed is there."""
-    errors = "\n".join(line for line in errors.splitlines() if not line.endswith(TRIES_AGAIN))
+    errors = "\n".join(line for line in errors.splitlines() if not GOES_ON.fullmatch(line))
     harmed = [it for it in talks if it[0]]
     if status == 1 and errors == "nbdj: no memory (0)":
         if talks:
@@ -627,7 +628,7 @@ def serve_short(call):
                 with ThreadPoolExecutor(3) as clients:
                     stored = any(clients.map(talk_while_short, [path] * 3))
             errors = server.communicate(timeout=40)[1].decode().splitlines()
-            told = [line for line in errors if not line.endswith(TRIES_AGAIN)]
+            told = [line for line in errors if not GOES_ON.fullmatch(line)]
             if (server.returncode, told, listening) not in [(0, [], True), (1, ["nbdj: no memory (0)"], False), (1, ["nbdj: device fault (1)"], True)]:
                 amiss = f"status {server.returncode}, {errors}"
         except (subprocess.TimeoutExpired, TimeoutError) as error:
