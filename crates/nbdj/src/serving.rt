@@ -92,14 +92,14 @@ fn open_status<'a>(
 }
 
 // Opens the device and serves it, with a log.
-fn serve_logged<R: Threads + Wait + Clock + Copy + Send + Sync + Drop + 'static>(
+fn serve_logged<'a, R: Threads + Wait + Clock + Copy + Send + Sync + Drop + 'static>(
     rt: &HostRuntime,
-    threads: &R,
+    threads: &'a R,
     teller: Teller,
-    path: &str,
-    disk: FileDisk<ToldFile<'_, File>>,
+    path: &'a str,
+    disk: FileDisk<ToldFile<'a, File>>,
     beside: Option<File>,
-    status: Option<&StatusSocket<'_>>,
+    status: Option<&'a StatusSocket<'a>>,
     addresses: &[Address<'_>],
     options: ServeOptions,
 ) -> Result<(), Refusal> {
