@@ -9,7 +9,7 @@ use export_model::Mode;
 use front_end::{Limits, OnFault, Refusal, ServeOptions, WhenFull};
 use image_model::Geometry;
 use nbd_wire::CommandFlags;
-use server::{Event, Listener, Log, serve};
+use server::{Event, Listener, Log, Watched, serve};
 use std::alloc::{AllocError, Global};
 use std::io::{self, ErrorKind};
 use std::net::{Ipv4Addr, SocketAddr, TcpListener, TcpStream};
@@ -66,6 +66,18 @@ impl<'a, R: Clock> Log for Gate<'a, R> {
     }
 
     fn note(&self, _event: Event<'_>) {}
+
+    fn is_timed(&self) -> bool {
+        false
+    }
+
+    fn answerers(&self) -> u32 {
+        0
+    }
+
+    fn answer<W: Watched>(&self, _watched: &W) {}
+
+    fn end_answers(&self) {}
 }
 
 impl<'a, R: Clock> Gate<'a, R> {
