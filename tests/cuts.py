@@ -66,7 +66,7 @@ def cut_streams():
 
 
 def scripts():
-    """A script that comes byte by byte, one whose input fails, and one whose output takes so many bytes alone."""
+    """A script that arrives byte by byte, one whose input fails, and one whose output accepts only N bytes."""
     check("a script byte by byte", (0, PRINTED, b""), run(["rehearse"], [bytes([it]) for it in SCRIPT]))
     for room in (0, 1, 4, 5, 30, len(PRINTED) - 1):
 
